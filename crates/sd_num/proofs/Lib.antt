@@ -1,0 +1,3 @@
+mod Rows
+pub mod Drift
+pub mod Digits

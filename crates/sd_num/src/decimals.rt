@@ -1,0 +1,82 @@
+ghost use Rattle.std.specs.Prelude.{not, position, ◌≡◌, ◌≤◌, ◌<◌, ◌^◌, length, IsTrue, Some, None, nat_lt, if◌then◌else◌};
+ghost use Rattle.std.specs.List.{list_all};
+ghost use Rattle.sd_num.specs.Decimals.{number, number_of_digits, is_digit, value};
+
+use crate::NumFault;
+
+/// How many digits fit a `u64` whatever they are.
+const SAFE_DIGITS: usize = 19;
+
+/// Reads a number of decimal digits, or says the first fault in the order of `NumFault`.
+pub fn read_u64(bytes: &[u8]) -> Result<u64, NumFault>
+    ensures { result ≡ number bytes.now }
+{
+    if bytes.len() <= SAFE_DIGITS {
+        read_short(bytes)
+    } else {
+        read_long(bytes)
+    }
+}
+
+/// Reads digits too few to overflow, in one pass.
+fn read_short(bytes: &[u8]) -> Result<u64, NumFault>
+    requires { length bytes.now ≤ 19 }
+    ensures { result ≡ number bytes.now }
+{
+    let mut value = 0u64;
+    for (place, byte) in bytes.iter().enumerate() {
+        if !byte.is_ascii_digit() {
+            return Err(NumFault::NotDigit(place));
+        }
+        value = value * 10 + u64::from(*byte - b'0');
+    }
+    match bytes {
+        [] => Err(NumFault::Empty),
+        [b'0', _, ..] => Err(NumFault::LeadingZero),
+        _ => Ok(value),
+    }
+}
+
+/// Reads bytes whose number may exceed a `u64`.
+fn read_long(bytes: &[u8]) -> Result<u64, NumFault>
+    requires { 0 < length bytes.now }
+    ensures { result ≡ number bytes.now }
+{
+    match first_other(bytes) {
+        Some(place) => Err(NumFault::NotDigit(place)),
+        None => read_digits(bytes),
+    }
+}
+
+/// The place of the first byte that is no digit.
+fn first_other(bytes: &[u8]) -> Option<usize>
+    ensures { result ≡ position (λ b. not (is_digit b)) bytes.now }
+{
+    bytes.iter().position(|byte| !byte.is_ascii_digit())
+}
+
+/// Reads digits that may be too many.
+fn read_digits(bytes: &[u8]) -> Result<u64, NumFault>
+    requires { IsTrue (list_all is_digit bytes.now) }
+    ensures { result ≡ number_of_digits bytes.now }
+{
+    if let [b'0', _, ..] = bytes {
+        return Err(NumFault::LeadingZero);
+    }
+    match value_of(bytes) {
+        Some(value) => Ok(value),
+        None => Err(NumFault::TooLarge),
+    }
+}
+
+/// The value of digits, where a `u64` holds it.
+fn value_of(bytes: &[u8]) -> Option<u64>
+    requires { IsTrue (list_all is_digit bytes.now) }
+    ensures { result ≡ (if nat_lt (value bytes.now) (2 ^ 64) then Some (value bytes.now) else None) }
+{
+    let mut value = 0u64;
+    for byte in bytes {
+        value = value.checked_mul(10)?.checked_add(u64::from(*byte - b'0'))?;
+    }
+    Some(value)
+}
