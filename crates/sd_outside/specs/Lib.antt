@@ -1,0 +1,10 @@
+pub mod Causes
+pub mod Fronts
+pub mod Texts
+pub mod TextsView
+pub mod MemShelf
+pub mod MemShelfView
+pub mod MemSink
+pub mod MemSinkView
+pub mod NoFaultShelf
+pub mod System

@@ -1,0 +1,19 @@
+use Rattle.std.specs.Prelude.{◌≤◌, vec_len}
+use Rattle.std.specs.Vec.{vec_capacity}
+use Rattle.sd_outside.specs.MemSink.{Kept}
+use Rattle.sd_outside.specs.declared.mem_sink.MemSink.TheInside.{Inside}
+
+-- the fields, with the vectors as the lists of their items
+abbrev pub kept_of : Inside → Kept
+kept_of s = record {
+  bytes = s.bytes.items;
+  room = s.room;
+  failing = s.failing.items;
+  calls = s.calls;
+  faults = s.faults;
+}
+
+-- the room is never passed, and its memory is there
+pub record IsMemSink (s : Inside) : Type 0 where
+  pub within : vec_len s.bytes ≤ s.room
+  pub has_room : s.room ≤ vec_capacity s.bytes

@@ -1,0 +1,144 @@
+ghost use Rattle.std.specs.Prelude.{◌≡◌, ◌+◌, ◌≤◌, ◌++◌, ◌||◌, [], Some, length, take, vec_len, IfOk, OnOk, OnErr, is_some, is_err, nat_lt};
+ghost use Rattle.std.specs.Vec.{vec_capacity};
+ghost use Rattle.std.specs.Io.KnownBytes.{Appends};
+ghost use Rattle.sd_outside.specs.Causes.{HasCause, faults_after, raised};
+ghost use Rattle.sd_outside.specs.Fronts.{WritesFront};
+ghost use Rattle.sd_outside.specs.MemSink.{added_count, kept_in, listed_count, room_left};
+
+use crate::shelf::Failed;
+use crate::sink::Sink;
+use sd_num::NoMemory;
+use std::alloc::Global;
+use std::marker::Model;
+
+/// Bytes in memory, with a room that is never passed. The writes that are listed fail, and so
+/// does each whose bytes exceed the room that is left.
+#[derive(Drop)]
+pub struct MemSink {
+    bytes: Vec<u8>,
+    room: usize,
+    failing: Vec<(u64, usize)>,
+    calls: u64,
+    faults: u64,
+}
+
+impl Model for MemSink {
+    ghost use Rattle.sd_outside.specs.MemSink.{Kept};
+
+    ghost Value = { Kept };
+
+    ghost use Rattle.sd_outside.specs.MemSinkView.{kept_of, IsMemSink};
+
+    ghost view = { kept_of };
+
+    ghost invariant = { IsMemSink };
+}
+
+/// How many bytes a call keeps, where it is listed.
+fn kept_at(failing: &[(u64, usize)], call: u64) -> Option<usize>
+    ensures { result ≡ kept_in failing.now call }
+{
+    for (number, count) in failing {
+        if *number == call {
+            return Some(*count);
+        }
+    }
+    None
+}
+
+/// Adds bytes for which there is room.
+fn append(bytes: &mut Vec<u8>, more: &[u8])
+    requires { vec_len bytes.old + length more.now ≤ vec_capacity bytes.old }
+    ensures items { bytes.new.items ≡ bytes.old.items ++ more.now }
+    ensures len { vec_len bytes.new ≡ vec_len bytes.old + length more.now }
+    ensures capacity { vec_capacity bytes.old ≤ vec_capacity bytes.new }
+{
+    match bytes.extend_from_slice(more) {
+        Ok(()) => {}
+        Err(_) => unreachable!(),
+    }
+}
+
+impl MemSink {
+    /// Takes its memory for `room` bytes here; no write takes memory. An entry of `failing` is the
+    /// number of a write, from 1, and how many of its first bytes that write adds before it fails.
+    /// Of two entries with one number the first counts.
+    pub fn new(alloc: Global, room: usize, failing: Vec<(u64, usize)>) -> Result<MemSink, NoMemory>
+        ensures bytes { IfOk result (λ s. s.bytes ≡ []) }
+        ensures room { IfOk result (λ s. s.room ≡ room) }
+        ensures failing { IfOk result (λ s. s.failing ≡ failing.items) }
+        ensures calls { IfOk result (λ s. s.calls ≡ 0) }
+        ensures faults { IfOk result (λ s. s.faults ≡ 0) }
+    {
+        match Vec::with_capacity(alloc, room) {
+            Ok(bytes) => Ok(MemSink {
+                bytes,
+                room,
+                failing,
+                calls: 0,
+                faults: 0,
+            }),
+            Err(_) => Err(NoMemory),
+        }
+    }
+
+    /// All bytes so far.
+    pub fn bytes(&self) -> &[u8]
+        ensures { result.now ≡ self.now.bytes }
+    {
+        self.bytes.as_slice()
+    }
+}
+
+impl Sink for MemSink {
+    ghost written = { λ s. Some s.bytes };
+
+    ghost faults = { λ s. s.faults };
+
+    fn write(&mut self, bytes: &[u8]) -> Result<(), Failed>
+        // It fails exactly where it is listed or its bytes exceed the room that is left.
+        ensures exactly { is_err result ≡ (is_some (listed_count self.old)
+            || nat_lt (room_left self.old) (length bytes.now)) }
+        ensures bytes { self.new.bytes ≡ self.old.bytes ++ take (added_count self.old bytes.now) bytes.now }
+        ensures all { OnOk result (Appends (Some self.old.bytes) (Some self.new.bytes) bytes.now) }
+        ensures front { OnErr result (WritesFront (Some self.old.bytes) (Some self.new.bytes) bytes.now) }
+        ensures cause { HasCause self.old.faults self.new.faults result }
+
+        ensures calls { self.new.calls ≡ raised self.old.calls }
+        ensures faults { self.new.faults ≡ faults_after self.old.faults result }
+        ensures same_room { self.new.room ≡ self.old.room }
+        ensures same_failing { self.new.failing ≡ self.old.failing }
+    {
+        self.calls = self.calls.saturating_add(1);
+        let left = self.room - self.bytes.len();
+        let listed = kept_at(&self.failing, self.calls);
+        let count = listed.unwrap_or(bytes.len()).min(bytes.len().min(left));
+        append(&mut self.bytes, &bytes[..count]);
+        if listed.is_some() || left < bytes.len() {
+            self.faults = self.faults.saturating_add(1);
+            return Err(Failed);
+        }
+        Ok(())
+    }
+}
+
+#[cfg(test)]
+mod tests {
+    use super::*;
+    use std::test::Fail;
+
+    #[test]
+    fn keeps_fronts(rt: HostRuntime) -> Result<(), Fail> {
+        let failing = Vec::from_slice(rt.alloc(), &[(2, 3), (2, 0), (3, 9)])?;
+        let mut sink = MemSink::new(rt.alloc(), 10, failing)?;
+        sink.write(b"ab")?;
+        assert_eq!(rt; sink.write(b"cdefg"), Err(Failed));
+        assert_eq!(rt; sink.bytes(), b"abcde".as_slice());
+        assert_eq!(rt; sink.write(b"f"), Err(Failed));
+        assert_eq!(rt; sink.bytes(), b"abcdef".as_slice());
+        assert_eq!(rt; sink.write(b"ghijk"), Err(Failed));
+        assert_eq!(rt; sink.bytes(), b"abcdefghij".as_slice());
+        assert_eq!(rt; sink.faults, 3);
+        Ok(())
+    }
+}

@@ -1,0 +1,106 @@
+ghost use Rattle.std.specs.Prelude.{◌≡◌, None, OnOk, OnErr};
+ghost use Rattle.std.specs.Io.KnownBytes.{Appends};
+ghost use Rattle.sd_outside.specs.Causes.{HasCause, faults_after};
+ghost use Rattle.sd_outside.specs.Fronts.{WritesFront};
+
+use crate::again::write_whole;
+use crate::shelf::Failed;
+use crate::sink::Sink;
+use std::io::Write;
+use std::marker::Model;
+
+/// A writer of the system, as standard output. It tells nothing of what it holds. It never
+/// flushes, so the writer is one that keeps nothing back.
+#[derive(Drop)]
+pub struct StdSink<W: Write> {
+    writer: W,
+    faults: u64,
+}
+
+impl<W: Write> Model for StdSink<W> {
+    ghost use Rattle.sd_outside.specs.System.{Counted};
+
+    ghost Value = { Counted };
+
+    ghost view = { λ s. record { taken = W.contents s.writer; faults = s.faults } };
+}
+
+impl<W: Write> StdSink<W> {
+    pub fn new(writer: W) -> StdSink<W>
+        ensures { ⟦<StdSink<W> as Sink>⟧.faults result ≡ 0 }
+    {
+        StdSink { writer, faults: 0 }
+    }
+}
+
+impl<W: Write> Sink for StdSink<W> {
+    ghost written = { λ s. None };
+
+    ghost faults = { λ s. s.faults };
+
+    fn write(&mut self, bytes: &[u8]) -> Result<(), Failed>
+        ensures all { OnOk result (Appends None None bytes.now) }
+        ensures front { OnErr result (WritesFront None None bytes.now) }
+        // The writer itself, where its type tells what it holds.
+        ensures writer_all { OnOk result (Appends self.old.taken self.new.taken bytes.now) }
+        ensures writer_front { OnErr result (WritesFront self.old.taken self.new.taken bytes.now) }
+
+        ensures cause { HasCause self.old.faults self.new.faults result }
+        ensures faults { self.new.faults ≡ faults_after self.old.faults result }
+    {
+        let written = write_whole(&mut self.writer, bytes);
+        if written.is_err() {
+            self.faults = self.faults.saturating_add(1);
+        }
+        written
+    }
+}
+
+#[cfg(test)]
+mod tests {
+    use super::*;
+    use std::io;
+    use std::io::{Error, ErrorKind};
+    use std::test::Fail;
+
+    /// Takes two bytes a call. The first call is interrupted, and the fourth fails.
+    #[derive(Drop)]
+    struct Limping {
+        calls: u32,
+        taken: Vec<u8>,
+    }
+
+    impl Write for Limping {
+        fn write(&mut self, bytes: &[u8]) -> io::Result<usize> {
+            self.calls = self.calls.saturating_add(1);
+            match self.calls {
+                1 => Err(Error::from(ErrorKind::Interrupted)),
+                4 => Err(Error::from(ErrorKind::BrokenPipe)),
+                _ => {
+                    let count = bytes.len().min(2);
+                    self.taken.extend_from_slice(&bytes[..count])?;
+                    Ok(count)
+                }
+            }
+        }
+
+        fn flush(&mut self) -> io::Result<()> {
+            Ok(())
+        }
+    }
+
+    #[test]
+    fn writes_on_and_counts_a_fault(rt: HostRuntime) -> Result<(), Fail> {
+        let mut sink = StdSink::new(Limping {
+            calls: 0,
+            taken: Vec::new(rt.alloc()),
+        });
+        sink.write(b"abc")?;
+        assert_eq!(rt; sink.write(b"de"), Err(Failed));
+        assert_eq!(rt; sink.faults, 1);
+        sink.write(b"f")?;
+        assert_eq!(rt; sink.writer.taken.as_slice(), b"abcf".as_slice());
+        assert_eq!(rt; sink.faults, 1);
+        Ok(())
+    }
+}
