@@ -1,0 +1,7 @@
+pub mod LineLaws
+pub mod AnswerLaws
+mod Found
+mod Judged
+mod Ranges
+mod Left
+mod Counted

@@ -1,0 +1,5 @@
+pub mod Lines
+pub mod Limits
+pub mod Findings
+pub mod Buffered
+pub mod Reader

@@ -1,0 +1,25 @@
+use Rattle.std.specs.Prelude.{◌≡◌, ℕ, ◌+◌, ◌^◌, Bool, ◌&&◌, nat_le, nat_lt, List, length, Option, Result, Ok, Err, if◌then◌else◌, ⊤}
+use Rattle.std.specs.Borrow.{Bor}
+use Rattle.std.specs.Option.{option_copied}
+use Rattle.sd_stream.specs.declared.faults.StreamFault.{StreamFault}
+use Rattle.sd_stream.specs.declared.faults.StreamFault.TheVariants.{ReadFault, LongLine, Limit}
+use Rattle.sd_stream.specs.Lines.{line_len, next_of}
+
+-- the next 4097 bytes stand within the first 2 ^ 32 of the text, of which `before` bytes stand before them, and hold no newline
+abbrev pub is_long : ℕ → List ℕ → Bool
+is_long before text = nat_le (before + 4097) (2 ^ 32) && nat_lt 4096 (line_len text)
+
+-- the text has more than 2 ^ 32 bytes, and its next line, newline included, does not end within the first 2 ^ 32
+abbrev pub is_past : ℕ → List ℕ → Bool
+is_past before text = nat_lt (2 ^ 32) (before + length text) && nat_lt (2 ^ 32) (before + line_len text + 1)
+
+-- what the next line of the text that is left is, or why it is refused
+unfoldable pub answer_of : ℕ → List ℕ → Result (Option (List ℕ)) StreamFault
+answer_of before text = if is_long before text then Err LongLine else if is_past before text then Err Limit else Ok (next_of text)
+
+-- a call answers what is expected, or that the outside failed
+abbrev pub Answers : Result (Option (List ℕ)) StreamFault → Result (Option (Bor (List ℕ))) StreamFault → Type 0
+Answers expected (Ok line) = expected ≡ Ok (option_copied line)
+Answers expected (Err ReadFault) = ⊤
+Answers expected (Err LongLine) = expected ≡ Err LongLine
+Answers expected (Err Limit) = expected ≡ Err Limit
