@@ -1,0 +1,48 @@
+-- What stands before the first space is the first field.
+use Rattle.std.proofs.Common.{◌≡◌, ℕ, ◌+◌, ◌<◌, Bool, true, false, cond, not, eqb, List, [], ◌∷◌, length, get_or, take, Some, None, Err, refl, sym, ap, ◌∙◌, arith, one-add, take_all, ltb-false}
+use Rattle.std.specs.Prelude.{nat_lt}
+use Rattle.std.specs.List.{position, position_or_len}
+use Rattle.sd_sched.specs.Lines.{fields, with_front, first_field, is_word, event_of_line}
+use Rattle.sd_sched.specs.declared.LineFault.TheVariants.{UnknownWord}
+use Rattle.sd_sched.proofs.Cuts.{some_field}
+use Rattle.sd_sched.proofs.ByWord.{no_word}
+
+-- the bytes before the first space
+before_space : (bytes : List ℕ) → take (position_or_len (λ byte. eqb byte 32) bytes) bytes ≡ first_field bytes
+before_space [] = refl
+before_space (byte ∷ bytes) = go (eqb byte 32) (before_space bytes)
+  where
+    go : (space : Bool) → take (position_or_len (λ b. eqb b 32) bytes) bytes ≡ first_field bytes → take (cond (not space) (1 + position_or_len (λ b. eqb b 32) bytes) 0) (byte ∷ bytes) ≡ cond space [] (byte ∷ first_field bytes)
+    go true later = refl
+    go false later = rw one-add (ap (λ (bs : List ℕ). byte ∷ bs) later)
+
+-- where there is a space
+pub first_to_space : (bytes : List ℕ) (end : ℕ) → position (λ byte. eqb byte 32) bytes ≡ Some end → take end bytes ≡ first_field bytes
+first_to_space bytes end found = go (nat_lt (position_or_len (λ byte. eqb byte 32) bytes) (length bytes)) found
+  where
+    go : (inside : Bool) → cond inside (Some (position_or_len (λ byte. eqb byte 32) bytes)) None ≡ Some end → take end bytes ≡ first_field bytes
+    go true found = let same : position_or_len (λ byte. eqb byte 32) bytes ≡ end = cc in rw (← same) (before_space bytes)
+    go false found = absurd (cc)
+
+-- where there is none
+pub first_is_all : (bytes : List ℕ) → position (λ byte. eqb byte 32) bytes ≡ None → bytes ≡ first_field bytes
+first_is_all bytes none = sym (take_all (position_or_len (λ byte. eqb byte 32) bytes) bytes (ltb-false _ (length bytes) (go (nat_lt (position_or_len (λ byte. eqb byte 32) bytes) (length bytes)) none))) ∙ before_space bytes
+  where
+    go : (inside : Bool) → cond inside (Some (position_or_len (λ byte. eqb byte 32) bytes)) None ≡ None → inside ≡ false
+    go true none = absurd (cc)
+    go false none = refl
+
+-- the fields begin with what stands before the first space
+pub first_of_fields : (bytes : List ℕ) → get_or (fields bytes) 0 [] ≡ first_field bytes
+first_of_fields [] = refl
+first_of_fields (byte ∷ bytes) = go (eqb byte 32) (fields bytes) (some_field bytes) (first_of_fields bytes)
+  where
+    go : (space : Bool) (fs : List (List ℕ)) → 0 < length fs → get_or fs 0 [] ≡ first_field bytes → get_or (cond space ([] ∷ fs) (with_front byte fs)) 0 [] ≡ cond space [] (byte ∷ first_field bytes)
+    go true fs some first = refl
+    go false [] some first = absurd (omega arith)
+    go false (f ∷ fs) some first = ap (λ (bs : List ℕ). byte ∷ bs) first
+
+-- a line whose first field is no word of the schedule
+pub unknown_first : (bytes : List ℕ) → is_word (first_field bytes) ≡ false → event_of_line bytes ≡ Err UnknownWord
+unfolding event_of_line is_word
+unknown_first bytes none = no_word (fields bytes) (some_field bytes) (rw (first_of_fields bytes) none)
