@@ -1,0 +1,5 @@
+pub mod Accepted
+pub mod Standing
+pub mod Contained
+pub mod Known
+mod Rows

@@ -1,0 +1,30 @@
+ghost use Rattle.std.specs.Prelude.{◌≡◌, IfOk, IsTrue};
+ghost use Rattle.sd_solo.specs.Histories.{is_known};
+ghost use Rattle.sd_solo.specs.Lines.{solo_event, knows};
+
+use sd_sched::{Event, LineFault, first_field, read_line};
+
+/// The event of a line, or why it is none. Four words are known here, and a line with another word
+/// is `UnknownWord` whatever its fields.
+#[tactic(auto, unfolding(crate::specs::Lines::solo_event))]
+pub fn read_solo_line(line: &[u8]) -> Result<Event, LineFault>
+    ensures event { result ≡ solo_event line.now }
+    ensures known { IfOk result (λ e. IsTrue (is_known e)) }
+{
+    if is_known_word(first_field(line)) {
+        read_line(line)
+    } else {
+        Err(LineFault::UnknownWord)
+    }
+}
+
+/// Whether a word is one of the four that are known here.
+#[tactic(auto, unfolding(crate::specs::Lines::knows))]
+fn is_known_word(word: &[u8]) -> bool
+    ensures { result ≡ knows word.now }
+{
+    match word {
+        b"start" | b"fix" | b"ask" | b"end" => true,
+        _ => false,
+    }
+}
