@@ -1,0 +1,5 @@
+pub mod Stepping
+pub mod Writing
+pub mod Reading
+pub mod Coming
+pub mod Commands

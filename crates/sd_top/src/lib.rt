@@ -1,0 +1,63 @@
+//! The whole work of the program, over any shelf and any sink.
+#![tactic(auto)]
+
+mod lines;
+mod reasons;
+mod solo;
+mod stop;
+mod taking;
+#[cfg(test)]
+mod tests;
+mod top;
+
+use sd_sched::LineFault;
+use sd_solo::SoloFault;
+pub use top::run;
+
+/// How a run ended. The order of the variants is the exit code of the program.
+#[derive(Clone, Copy, Debug, PartialEq, Eq)]
+pub enum Status {
+    /// The work ended.
+    Done,
+    /// A plan was refused.
+    PlanRefused,
+    /// The words are not in the table.
+    Usage,
+    /// A file, a line or an event was refused.
+    InputRefused,
+    /// A file could not be begun or read.
+    ShelfFault,
+    /// The output could not be written.
+    SinkFault,
+    /// Memory could not be had.
+    Memory,
+    /// The schedule ended, and a premise broke or an alarm was due.
+    Broken,
+}
+
+impl Status {
+    ghost use Rattle.std.specs.Prelude.{◌≡◌};
+    ghost use Rattle.sd_top.specs.Stops.{code_of};
+
+    /// The exit code, 0 to 7.
+    pub fn code(self) -> u8
+        ensures { result ≡ code_of self }
+    {
+        self as u8
+    }
+}
+
+/// Why a schedule is refused.
+#[derive(Clone, Copy, Debug, PartialEq, Eq)]
+pub enum ScheduleFault {
+    /// The line has more than 4096 bytes.
+    LongLine,
+    /// The text has more than 2^32 bytes, and the line does not end within them.
+    Limit,
+    /// The line is no line of a schedule.
+    Line(LineFault),
+    /// The event is refused after those before it.
+    Event(SoloFault),
+    /// The text ends before an `end`.
+    NoEnd,
+}

@@ -1,0 +1,34 @@
+ghost use Rattle.std.specs.Prelude.{◌≡◌, [], ◌∷◌, IfOk, string_bytes, codes, decimal};
+ghost use Rattle.sd_num.specs.Texts.{text_of};
+ghost use Rattle.sd_solo.specs.Histories.{report_text};
+ghost use Rattle.sd_top.specs.Reasons.{refused_text};
+
+use crate::ScheduleFault;
+use sd_clock::Report;
+use std::alloc::{AllocError, Global};
+
+/// The line of a report that is due at a line of the schedule.
+pub fn report_line(alloc: Global, line: u32, report: Report) -> Result<String, AllocError>
+    ensures { IfOk result (λ s. string_bytes s ≡ report_text line report) }
+{
+    let clock = report.clock;
+    let eps = report.eps;
+    let text = format!(in alloc; "report {line} 0 {clock} {eps}\n")?;
+    Ok(text)
+}
+
+/// The last line of a schedule that has ended.
+pub fn done_line(alloc: Global, events: u32, reports: u32) -> Result<String, AllocError>
+    ensures { IfOk result (λ s. string_bytes s ≡ text_of (codes "done" ∷ decimal events ∷ decimal reports ∷ [])) }
+{
+    let text = format!(in alloc; "done {events} {reports}\n")?;
+    Ok(text)
+}
+
+/// The last line of a schedule that is refused at a line.
+pub fn refused_line(alloc: Global, line: u32, fault: ScheduleFault) -> Result<String, AllocError>
+    ensures { IfOk result (λ s. string_bytes s ≡ refused_text line fault) }
+{
+    let text = format!(in alloc; "input schedule {line} {fault}\n")?;
+    Ok(text)
+}

@@ -1,0 +1,307 @@
+ghost use Rattle.std.specs.Prelude.{◌≡◌, ◌≤◌, false, IfOk};
+
+use super::*;
+use sd_outside::{MemShelf, MemSink};
+use std::alloc::Global;
+use std::process::Abort;
+use std::test::Fail;
+
+/// A start, an ask five microseconds later and an end.
+const PLAIN: &str = "start 1000000 0 0 1000000 500\nask 6000000 0 5000000\nend 6000000\n";
+
+/// The bytes that a run writes, with its status.
+fn run_words(
+    alloc: Global,
+    words: &[&str],
+    shelf: &mut MemShelf,
+    failing: Vec<(u64, usize)>,
+) -> Result<(Status, MemSink), Fail>
+    requires { shelf.old.begun ≡ false }
+{
+    let mut list = Vec::new(alloc);
+    for word in words {
+        list.push(String::from_str(alloc, word)?)?;
+    }
+    let mut out = MemSink::new(alloc, 10_000, failing)?;
+    let status = run(alloc, list.as_slice(), shelf, &mut out);
+    Ok((status, out))
+}
+
+/// A shelf that holds a text under the name `schedule`.
+fn shelf_with(alloc: Global, text: &[u8], piece: usize, failing: &[u64]) -> Result<MemShelf, Fail>
+    requires { 1 ≤ piece }
+    ensures { IfOk result (λ shelf. shelf.begun ≡ false) }
+{
+    let mut files = Vec::new(alloc);
+    files.push((
+        String::from_str(alloc, "schedule")?,
+        Vec::from_slice(alloc, text)?,
+    ))?;
+    Ok(MemShelf::new(files, piece, Vec::from_slice(alloc, failing)?))
+}
+
+/// One schedule over a shelf in memory: what is written and answered.
+fn assert_run(
+    rt: &(impl Abort + AllocGlobal),
+    schedule: &[u8],
+    piece: usize,
+    output: &str,
+    status: Status,
+) -> Result<(), Fail>
+    requires { 1 ≤ piece }
+{
+    let alloc = rt.alloc();
+    let mut shelf = shelf_with(alloc, schedule, piece, &[])?;
+    let (answer, out) = run_words(alloc, &["solo", "schedule"], &mut shelf, Vec::new(alloc))?;
+    assert_eq!(rt; answer, status, "{output:?} in pieces of {piece}");
+    assert_eq!(rt;
+        out.bytes(),
+        output.as_bytes(),
+        "{output:?} in pieces of {piece}"
+    );
+    Ok(())
+}
+
+#[test]
+fn rows_in_any_pieces(rt: HostRuntime) -> Result<(), Fail> {
+    let start = "start 1000000 0 0 1000000 500\n";
+    let cases = [
+        // plain growth, and without the last newline
+        (
+            "ask 6000000 0 5000000\nend 6000000\n",
+            "report 2 0 6000000 2500\ndone 3 1\n",
+            Status::Done,
+        ),
+        (
+            "ask 6000000 0 5000000\nend 6000000",
+            "report 2 0 6000000 2500\ndone 3 1\n",
+            Status::Done,
+        ),
+        // ask at once
+        (
+            "ask 1000000 0 0\nend 1000000\n",
+            "report 2 0 1000000 1500\ndone 3 1\n",
+            Status::Done,
+        ),
+        // growth rounds up
+        (
+            "ask 6000000 0 1\nend 6000000\n",
+            "report 2 0 1000001 1501\ndone 3 1\n",
+            Status::Done,
+        ),
+        (
+            "ask 6000000 0 5000\nend 6000000\n",
+            "report 2 0 1005000 1501\ndone 3 1\n",
+            Status::Done,
+        ),
+        (
+            "ask 6000000 0 5001\nend 6000000\n",
+            "report 2 0 1005001 1502\ndone 3 1\n",
+            Status::Done,
+        ),
+        // growth at the limit
+        (
+            "ask 1152921504606846976 0 1152921504606846976\nend 1152921504606846976\n",
+            "report 2 0 1152921504607846976 230584300922870\ndone 3 1\n",
+            Status::Done,
+        ),
+        // a fix sets the estimate anew
+        (
+            "fix 2000000 0 7 3 4\nask 2000000 0 8\nend 2000000\n",
+            "report 3 0 4 1005\ndone 4 1\n",
+            Status::Done,
+        ),
+        // number out of form
+        (
+            "ask 6000000 0 1152921504606846977\nend 6000000\n",
+            "input schedule 2 Number 3\n",
+            Status::InputRefused,
+        ),
+        (
+            "ask 6000000 0 05\nend 6000000\n",
+            "input schedule 2 Number 3\n",
+            Status::InputRefused,
+        ),
+        // end missing or twice
+        (
+            "ask 6000000 0 5000000\n",
+            "report 2 0 6000000 2500\ninput schedule 3 NoEnd\n",
+            Status::InputRefused,
+        ),
+        (
+            "ask 6000000 0 5000000\nend 6000000\nend 6000000\n",
+            "report 2 0 6000000 2500\ninput schedule 4 AfterEnd\n",
+            Status::InputRefused,
+        ),
+        // refusals in order
+        (
+            "start 1000000 0 0 0 0\n",
+            "input schedule 2 StartedTwice\n",
+            Status::InputRefused,
+        ),
+        (
+            "fix 999999 0 6 0 0\n",
+            "input schedule 2 TimeFalls\n",
+            Status::InputRefused,
+        ),
+        (
+            "fix 1000000 0 5 0 0\nask 1000000 0 4\n",
+            "input schedule 3 CounterFalls\n",
+            Status::InputRefused,
+        ),
+        (
+            "ask 0 1 0\n",
+            "input schedule 2 UnknownDevice\n",
+            Status::InputRefused,
+        ),
+        // a word that one device alone does not know is unknown whatever its fields
+        (
+            "tick 6000000 0 5000000\n",
+            "input schedule 2 UnknownWord\n",
+            Status::InputRefused,
+        ),
+        (
+            "tick\n",
+            "input schedule 2 UnknownWord\n",
+            Status::InputRefused,
+        ),
+        (
+            "ask 6000000 0\n",
+            "input schedule 2 FieldCount\n",
+            Status::InputRefused,
+        ),
+        ("\n", "input schedule 2 UnknownWord\n", Status::InputRefused),
+    ];
+    for (others, output, status) in cases {
+        let mut schedule = String::from_str(rt.alloc(), start)?;
+        schedule.push_str(others)?;
+        for piece in [1, 7, 4096, 8192] {
+            assert_run(&rt, schedule.as_bytes(), piece, output, status)?;
+        }
+    }
+    Ok(())
+}
+
+#[test]
+fn rows_without_a_start(rt: HostRuntime) -> Result<(), Fail> {
+    let cases = [
+        ("", "input schedule 1 NoEnd\n"),
+        ("ask 5 0 5\n", "input schedule 1 NotStarted\n"),
+        ("start 5 1 5 0 0\n", "input schedule 1 UnknownDevice\n"),
+        (
+            "start 5 0 5 0 0\nfix 4 0 6 0 0\n",
+            "input schedule 2 TimeFalls\n",
+        ),
+        (
+            "start 5 0 5 0 0\nstart 5 0 5 0 0\n",
+            "input schedule 2 StartedTwice\n",
+        ),
+    ];
+    for (schedule, output) in cases {
+        for piece in [1, 7, 4096, 8192] {
+            assert_run(
+                &rt,
+                schedule.as_bytes(),
+                piece,
+                output,
+                Status::InputRefused,
+            )?;
+        }
+    }
+    Ok(())
+}
+
+#[test]
+fn long_lines(rt: HostRuntime) -> Result<(), Fail> {
+    for (length, output) in [
+        (4096, "input schedule 1 UnknownWord\n"),
+        (4097, "input schedule 1 LongLine\n"),
+    ] {
+        let mut schedule = vec![in rt.alloc(); b'x'; length]?;
+        schedule.push(b'\n')?;
+        for piece in [1, 7, 4096, 8192] {
+            assert_run(
+                &rt,
+                schedule.as_slice(),
+                piece,
+                output,
+                Status::InputRefused,
+            )?;
+        }
+    }
+    Ok(())
+}
+
+#[test]
+fn reads_no_further_than_a_refused_line_needs(rt: HostRuntime) -> Result<(), Fail> {
+    let mut schedule = vec![in rt.alloc(); b'y'; 20_002]?;
+    schedule.as_mut_slice()[..2].copy_from_slice(b"x\n");
+    let mut shelf = shelf_with(rt.alloc(), schedule.as_slice(), 8192, &[3])?;
+    let words = ["solo", "schedule"];
+    let (status, out) = run_words(rt.alloc(), &words, &mut shelf, Vec::new(rt.alloc()))?;
+    assert_eq!(rt; status, Status::InputRefused);
+    assert_eq!(rt; out.bytes(), b"input schedule 1 UnknownWord\n".as_slice());
+    assert!(rt; shelf.left().len() >= 11_810);
+    Ok(())
+}
+
+#[test]
+fn each_call_of_the_shelf_fails(rt: HostRuntime) -> Result<(), Fail> {
+    for call in 1..=8u64 {
+        let mut shelf = shelf_with(rt.alloc(), PLAIN.as_bytes(), 12, &[call])?;
+        let words = ["solo", "schedule"];
+        let (status, out) = run_words(rt.alloc(), &words, &mut shelf, Vec::new(rt.alloc()))?;
+        let output = if call < 7 {
+            ""
+        } else {
+            "report 2 0 6000000 2500\n"
+        };
+        assert_eq!(rt; status, Status::ShelfFault, "call {call}");
+        assert_eq!(rt; out.bytes(), output.as_bytes(), "call {call}");
+    }
+    // a third call that fails in pieces of 30 bytes, and a name that is not held
+    for (name, call) in [("schedule", 3), ("other", 4)] {
+        let mut shelf = shelf_with(rt.alloc(), PLAIN.as_bytes(), 30, &[call])?;
+        let words = ["solo", name];
+        let (status, out) = run_words(rt.alloc(), &words, &mut shelf, Vec::new(rt.alloc()))?;
+        assert_eq!(rt; status, Status::ShelfFault, "{name}");
+        assert_eq!(rt; out.bytes(), b"".as_slice(), "{name}");
+    }
+    Ok(())
+}
+
+#[test]
+fn each_write_fails(rt: HostRuntime) -> Result<(), Fail> {
+    let words = ["solo", "schedule"];
+    for (write, kept, output) in [
+        (1, 3, "rep"),
+        (1, 9, "report 2 "),
+        (2, 3, "report 2 0 6000000 2500\ndon"),
+    ] {
+        let failing = Vec::from_slice(rt.alloc(), &[(write, kept)])?;
+        let mut shelf = shelf_with(rt.alloc(), PLAIN.as_bytes(), 8192, &[])?;
+        let (status, out) = run_words(rt.alloc(), &words, &mut shelf, failing)?;
+        assert_eq!(rt; status, Status::SinkFault);
+        assert_eq!(rt; out.bytes(), output.as_bytes());
+    }
+    Ok(())
+}
+
+#[test]
+fn other_words_are_usage(rt: HostRuntime) -> Result<(), Fail> {
+    let cases: [&[&str]; 6] = [
+        &[],
+        &["solo"],
+        &["schedule", "solo"],
+        &["Solo", "schedule"],
+        &["solo", "schedule", "schedule"],
+        &["plan", "topology"],
+    ];
+    for words in cases {
+        let mut shelf = shelf_with(rt.alloc(), PLAIN.as_bytes(), 8192, &[])?;
+        let (status, out) = run_words(rt.alloc(), words, &mut shelf, Vec::new(rt.alloc()))?;
+        assert_eq!(rt; status, Status::Usage);
+        assert_eq!(rt; out.bytes(), b"usage: sundial solo SCHEDULE\n".as_slice());
+    }
+    Ok(())
+}

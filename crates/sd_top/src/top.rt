@@ -1,0 +1,72 @@
+ghost use Rattle.std.specs.Prelude.{◌≡◌, ◌⊎◌, false, List, ℕ, All, IsTrue, IfSome, Some, map, string_bytes};
+ghost use Rattle.sd_outside.specs.Causes.{Rose};
+ghost use Rattle.sd_stream.specs.Reader.{IsNear};
+ghost use Rattle.sd_solo.specs.Promises.{ReportsContain};
+ghost use Rattle.sd_top.specs.Words.{Command, command_of, files_of};
+ghost use Rattle.sd_top.specs.Outcome.{MeetsOutcome, Meets, IsRight, refused_part_of, held_text, solo_outcome, usage_outcome, refused_part};
+
+use crate::Status;
+use crate::solo::replay_solo;
+use crate::stop::Stop;
+use sd_outside::{Shelf, Sink};
+use std::alloc::Global;
+
+/// Does the work of the words that follow the program's name.
+#[tactic(auto, unfolding(crate::specs::Outcome::outcome))]
+pub fn run<S: Shelf, O: Sink>(alloc: Global, words: &[String], shelf: &mut S, out: &mut O) -> Status
+    requires fresh { S.begun shelf.old ≡ false }
+    requires serves { All (λ name. IsTrue (S.serves shelf.old name)) (files_of (command_of (map string_bytes words.now))) }
+    // The bytes and the status are the outcome's. A run that is stopped has written whole lines of
+    // it, and some front of it where that was by the sink.
+    ensures outcome { MeetsOutcome (S.held shelf.old) (map string_bytes words.now) (O.written out.old) (O.written out.new) result }
+    // A schedule that is refused was read no further than 8192 bytes past the start of its line.
+    ensures near { result ≡ Status.InputRefused → IfSome (S.held shelf.old) (λ held. IsNear (Some (refused_part_of (command_of (map string_bytes words.now)) held)) (S.rest shelf.new)) }
+    // The outside is blamed only where it failed in this call.
+    ensures shelf { result ≡ Status.ShelfFault → Rose (S.faults shelf.old) (S.faults shelf.new) }
+    ensures sink { result ≡ Status.SinkFault → Rose (O.faults out.old) (O.faults out.new) }
+    // A right schedule is done where nothing fails and memory is there.
+    ensures complete { IfSome (S.held shelf.old) (λ held. IsRight (command_of (map string_bytes words.now)) held
+        → (Rose (S.faults shelf.old) (S.faults shelf.new) → ⊥) → (Rose (O.faults out.old) (O.faults out.new) → ⊥) → (result ≡ Status.Done) ⊎ (result ≡ Status.Memory)) }
+    // Whatever the events, a report made while clock and oscillator are honest has its reference time inside.
+    ensures contained { ReportsContain }
+{
+    match words {
+        [command, schedule] if command.as_str() == "solo" => solo(
+            alloc,
+            schedule.as_str(),
+            shelf,
+            out,
+        ),
+        _ => usage(out),
+    }
+}
+
+/// Runs the schedule of one device.
+fn solo<S: Shelf, O: Sink>(alloc: Global, schedule: &str, shelf: &mut S, out: &mut O) -> Status
+    requires { IsTrue (S.serves shelf.old schedule.now) }
+    ensures outcome { IfSome (S.held shelf.old) (λ held. Meets (solo_outcome (held_text held schedule.now)) (O.written out.old) (O.written out.new) result) }
+    ensures near { result ≡ Status.InputRefused → IfSome (S.held shelf.old) (λ held. IsNear (Some (refused_part (held_text held schedule.now))) (S.rest shelf.new)) }
+    ensures shelf { result ≡ Status.ShelfFault → Rose (S.faults shelf.old) (S.faults shelf.new) }
+    ensures sink { result ≡ Status.SinkFault → Rose (O.faults out.old) (O.faults out.new) }
+{
+    match shelf.begin(schedule) {
+        Ok(()) => {}
+        Err(_) => return Stop::Shelf.status(),
+    }
+    match replay_solo(alloc, shelf, out) {
+        Ok(status) => status,
+        Err(stop) => stop.status(),
+    }
+}
+
+/// Writes the usage line.
+fn usage<O: Sink>(out: &mut O) -> Status
+    ensures outcome { Meets usage_outcome (O.written out.old) (O.written out.new) result }
+    ensures status { (result ≡ Status.Usage) ⊎ (result ≡ Status.SinkFault) }
+    ensures sink { result ≡ Status.SinkFault → Rose (O.faults out.old) (O.faults out.new) }
+{
+    match out.write(b"usage: sundial solo SCHEDULE\n") {
+        Ok(()) => Status::Usage,
+        Err(_) => Status::SinkFault,
+    }
+}
