@@ -3,3 +3,4 @@ pub mod Writing
 pub mod Reading
 pub mod Coming
 pub mod Commands
+pub mod Migrating

@@ -1,9 +1,12 @@
 -- What a run writes and answers, as a function of its words and the held texts.
-use Rattle.std.specs.Prelude.{length, IfSome, ◌≡◌, ℕ, Bool, true, List, [], ◌∷◌, take, nat_eq, Option, None, Some, unwrap_or, codes, IsTrue}
+use Rattle.std.specs.Prelude.{length, IfSome, ◌≡◌, ℕ, Bool, true, List, [], ◌∷◌, take, nat_eq, Option, None, Some, unwrap_or, codes, IsTrue, Ok}
+use Rattle.sd_stream.specs.Reader.{IsNear}
+use Rattle.sd_topo.specs.Network.{Network}
 use Rattle.std.specs.Io.KnownBytes.{Appends}
 use Rattle.sd_outside.specs.Fronts.{WritesFront}
 use Rattle.sd_top.specs.Words.{Command, command_of}
-use Rattle.sd_top.specs.Words.Command.{Solo}
+use Rattle.sd_top.specs.Words.Command.{Solo, Migrate}
+use Rattle.sd_top.specs.Migration.{topology_of, MeetsMigration}
 use Rattle.sd_top.specs.Schedules.{text_behind, reading, written_for, status_for}
 use Rattle.sd_top.specs.declared.Status.{Status}
 use Rattle.sd_top.specs.declared.Status.TheVariants.{Done, PlanRefused, Usage, InputRefused, ShelfFault, SinkFault, Memory, Broken}
@@ -20,15 +23,7 @@ abbrev pub held_text : (List ℕ → Option (List ℕ)) → List ℕ → List �
 held_text held name = unwrap_or (held name) []
 
 abbrev pub usage_outcome : Outcome
-usage_outcome = record { bytes = codes "usage: sundial solo SCHEDULE\n"; status = Usage }
-
-abbrev pub outcome_of : Option Command → (List ℕ → Option (List ℕ)) → Outcome
-outcome_of None held = usage_outcome
-outcome_of (Some (Solo schedule)) held = solo_outcome (held_text held schedule)
-
--- the bytes and the status of the words over the held texts
-unfoldable pub outcome : List (List ℕ) → (List ℕ → Option (List ℕ)) → Outcome
-outcome words held = outcome_of (command_of words) held
+usage_outcome = record { bytes = codes "usage: sundial solo SCHEDULE | migrate TOPOLOGY\n"; status = Usage }
 
 -- whole lines: nothing, or what ends with a newline
 abbrev pub are_lines : List ℕ → Bool
@@ -55,16 +50,28 @@ Meets o old new Broken = Appends old new o.bytes × (Broken ≡ o.status)
 abbrev pub refused_part : List ℕ → List ℕ
 refused_part text = text_behind (length (reading text).events) text
 
--- the same of the schedule of a command
-abbrev pub refused_part_of : Option Command → (List ℕ → Option (List ℕ)) → List ℕ
-refused_part_of None held = []
-refused_part_of (Some (Solo schedule)) held = refused_part (held_text held schedule)
+-- a schedule that is refused was read no further than needed, whatever is left of it
+abbrev pub NearRefusal : Option Command → (List ℕ → Option (List ℕ)) → Option (List ℕ) → Type 0
+NearRefusal None held rest = Unit {0}
+NearRefusal (Some (Solo schedule)) held rest = IsNear (Some (refused_part (held_text held schedule))) rest
+NearRefusal (Some (Migrate topology)) held rest = Unit {0}
 
--- the words are a command's, and its schedule has no line that is refused
+-- the words are a command's, and none of its files is refused
 abbrev pub IsRight : Option Command → (List ℕ → Option (List ℕ)) → Type 0
 IsRight None held = ⊥
 IsRight (Some (Solo schedule)) held = (reading (held_text held schedule)).refused ≡ None
+IsRight (Some (Migrate topology)) held = (net : Network) × (topology_of (held_text held topology) ≡ Ok net)
 
--- what the words write and answer, where the texts are told
+-- what a command writes and answers over the held texts
+abbrev pub MeetsCommand : Option Command → (List ℕ → Option (List ℕ)) → Option (List ℕ) → Option (List ℕ) → Status → Type 0
+MeetsCommand None held old new status = Meets usage_outcome old new status
+MeetsCommand (Some (Solo schedule)) held old new status = Meets (solo_outcome (held_text held schedule)) old new status
+MeetsCommand (Some (Migrate topology)) held old new status = MeetsMigration (topology_of (held_text held topology)) old new status
+
+-- what the words write and answer over the held texts
+unfoldable pub MeetsWords : List (List ℕ) → (List ℕ → Option (List ℕ)) → Option (List ℕ) → Option (List ℕ) → Status → Type 0
+MeetsWords words held old new status = MeetsCommand (command_of words) held old new status
+
+-- the same where the texts are told
 abbrev pub MeetsOutcome : Option (List ℕ → Option (List ℕ)) → List (List ℕ) → Option (List ℕ) → Option (List ℕ) → Status → Type 0
-MeetsOutcome held words old new status = IfSome held (λ texts. Meets (outcome words texts) old new status)
+MeetsOutcome held words old new status = IfSome held (λ texts. MeetsWords words texts old new status)

@@ -2,7 +2,10 @@
 #![tactic(auto)]
 
 mod lines;
+mod loading;
+mod migrate;
 mod reasons;
+mod send;
 mod solo;
 mod stop;
 mod taking;
@@ -12,6 +15,7 @@ mod top;
 
 use sd_sched::LineFault;
 use sd_solo::SoloFault;
+use sd_topo::TopoFault;
 pub use top::run;
 
 /// How a run ended. The order of the variants is the exit code of the program.
@@ -60,4 +64,13 @@ pub enum ScheduleFault {
     Event(SoloFault),
     /// The text ends before an `end`.
     NoEnd,
+}
+
+/// Why the file of a topology is refused.
+#[derive(Debug, Drop, PartialEq, Eq)]
+pub enum TopologyFault {
+    /// The text has more than 2^26 bytes.
+    TooLong,
+    /// The text is no topology.
+    Text(TopoFault),
 }

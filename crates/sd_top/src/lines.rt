@@ -2,8 +2,9 @@ ghost use Rattle.std.specs.Prelude.{◌≡◌, [], ◌∷◌, IfOk, string_bytes
 ghost use Rattle.sd_num.specs.Texts.{text_of};
 ghost use Rattle.sd_solo.specs.Histories.{report_text};
 ghost use Rattle.sd_top.specs.Reasons.{refused_text};
+ghost use Rattle.sd_top.specs.Migration.{refused_topology};
 
-use crate::ScheduleFault;
+use crate::{ScheduleFault, TopologyFault};
 use sd_clock::Report;
 use std::alloc::{AllocError, Global};
 
@@ -30,5 +31,13 @@ pub fn refused_line(alloc: Global, line: u32, fault: ScheduleFault) -> Result<St
     ensures { IfOk result (λ s. string_bytes s ≡ refused_text line fault) }
 {
     let text = format!(in alloc; "input schedule {line} {fault}\n")?;
+    Ok(text)
+}
+
+/// The line of a topology that is refused.
+pub fn refused_topology_line(alloc: Global, fault: &TopologyFault) -> Result<String, AllocError>
+    ensures { IfOk result (λ s. string_bytes s ≡ refused_topology fault.now) }
+{
+    let text = format!(in alloc; "input topology {fault}\n")?;
     Ok(text)
 }

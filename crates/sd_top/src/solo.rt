@@ -13,6 +13,7 @@ ghost use Rattle.sd_top.specs.Steps.{Adds, Makes, Last, end_step, step_of, step_
 ghost use Rattle.sd_top.specs.Stops.{status_in, is_final};
 
 use crate::lines::{done_line, refused_line, report_line};
+use crate::send::send;
 use crate::stop::Stop;
 use crate::taking::{Taken, take_step};
 use crate::{ScheduleFault, Status};
@@ -102,19 +103,6 @@ fn print<O: Sink>(
             send(out, line.as_bytes())
         }
         None => Ok(()),
-    }
-}
-
-/// Writes bytes by one write.
-fn send<O: Sink>(out: &mut O, bytes: &[u8]) -> Result<(), Stop>
-    ensures writes { Adds bytes.now (O.written out.old) (O.written out.new) result }
-    ensures sink { OnErr result (Rose (O.faults out.old) (O.faults out.new)) }
-    ensures only { IfErr result (λ why. why ≡ Stop.Sink) }
-    ensures later { O.faults out.old ≤ O.faults out.new }
-{
-    match out.write(bytes) {
-        Ok(()) => Ok(()),
-        Err(_) => Err(Stop::Sink),
     }
 }
 

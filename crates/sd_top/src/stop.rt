@@ -2,7 +2,6 @@ ghost use Rattle.std.specs.Prelude.{◌≡◌};
 
 use crate::Status;
 use sd_num::NoMemory;
-use sd_outside::Failed;
 use std::alloc::AllocError;
 
 /// What stops a run from outside, before its work has ended.
@@ -37,6 +36,16 @@ impl From<AllocError> for Stop {
     ghost from_gives = { λ error stop. stop ≡ Memory };
 
     fn from(_error: AllocError) -> Stop {
+        Stop::Memory
+    }
+}
+
+impl From<NoMemory> for Stop {
+    ghost use Rattle.sd_top.specs.declared.stop.Stop.TheVariants.{Memory};
+
+    ghost from_gives = { λ error stop. stop ≡ Memory };
+
+    fn from(_error: NoMemory) -> Stop {
         Stop::Memory
     }
 }

@@ -1,5 +1,7 @@
 ghost use Rattle.std.specs.Prelude.{◌≡◌, ◌≤◌, false, IfOk};
 
+mod migrate;
+
 use super::*;
 use sd_outside::{MemShelf, MemSink};
 use std::alloc::Global;
@@ -27,14 +29,14 @@ fn run_words(
     Ok((status, out))
 }
 
-/// A shelf that holds a text under the name `schedule`.
+/// A shelf that holds a text under the name `file`.
 fn shelf_with(alloc: Global, text: &[u8], piece: usize, failing: &[u64]) -> Result<MemShelf, Fail>
     requires { 1 ≤ piece }
     ensures { IfOk result (λ shelf. shelf.begun ≡ false) }
 {
     let mut files = Vec::new(alloc);
     files.push((
-        String::from_str(alloc, "schedule")?,
+        String::from_str(alloc, "file")?,
         Vec::from_slice(alloc, text)?,
     ))?;
     Ok(MemShelf::new(files, piece, Vec::from_slice(alloc, failing)?))
@@ -52,7 +54,7 @@ fn assert_run(
 {
     let alloc = rt.alloc();
     let mut shelf = shelf_with(alloc, schedule, piece, &[])?;
-    let (answer, out) = run_words(alloc, &["solo", "schedule"], &mut shelf, Vec::new(alloc))?;
+    let (answer, out) = run_words(alloc, &["solo", "file"], &mut shelf, Vec::new(alloc))?;
     assert_eq!(rt; answer, status, "{output:?} in pieces of {piece}");
     assert_eq!(rt;
         out.bytes(),
@@ -237,7 +239,7 @@ fn reads_no_further_than_a_refused_line_needs(rt: HostRuntime) -> Result<(), Fai
     let mut schedule = vec![in rt.alloc(); b'y'; 20_002]?;
     schedule.as_mut_slice()[..2].copy_from_slice(b"x\n");
     let mut shelf = shelf_with(rt.alloc(), schedule.as_slice(), 8192, &[3])?;
-    let words = ["solo", "schedule"];
+    let words = ["solo", "file"];
     let (status, out) = run_words(rt.alloc(), &words, &mut shelf, Vec::new(rt.alloc()))?;
     assert_eq!(rt; status, Status::InputRefused);
     assert_eq!(rt; out.bytes(), b"input schedule 1 UnknownWord\n".as_slice());
@@ -249,7 +251,7 @@ fn reads_no_further_than_a_refused_line_needs(rt: HostRuntime) -> Result<(), Fai
 fn each_call_of_the_shelf_fails(rt: HostRuntime) -> Result<(), Fail> {
     for call in 1..=8u64 {
         let mut shelf = shelf_with(rt.alloc(), PLAIN.as_bytes(), 12, &[call])?;
-        let words = ["solo", "schedule"];
+        let words = ["solo", "file"];
         let (status, out) = run_words(rt.alloc(), &words, &mut shelf, Vec::new(rt.alloc()))?;
         let output = if call < 7 {
             ""
@@ -260,7 +262,7 @@ fn each_call_of_the_shelf_fails(rt: HostRuntime) -> Result<(), Fail> {
         assert_eq!(rt; out.bytes(), output.as_bytes(), "call {call}");
     }
     // a third call that fails in pieces of 30 bytes, and a name that is not held
-    for (name, call) in [("schedule", 3), ("other", 4)] {
+    for (name, call) in [("file", 3), ("other", 4)] {
         let mut shelf = shelf_with(rt.alloc(), PLAIN.as_bytes(), 30, &[call])?;
         let words = ["solo", name];
         let (status, out) = run_words(rt.alloc(), &words, &mut shelf, Vec::new(rt.alloc()))?;
@@ -272,7 +274,7 @@ fn each_call_of_the_shelf_fails(rt: HostRuntime) -> Result<(), Fail> {
 
 #[test]
 fn each_write_fails(rt: HostRuntime) -> Result<(), Fail> {
-    let words = ["solo", "schedule"];
+    let words = ["solo", "file"];
     for (write, kept, output) in [
         (1, 3, "rep"),
         (1, 9, "report 2 "),
@@ -289,19 +291,25 @@ fn each_write_fails(rt: HostRuntime) -> Result<(), Fail> {
 
 #[test]
 fn other_words_are_usage(rt: HostRuntime) -> Result<(), Fail> {
-    let cases: [&[&str]; 6] = [
+    let cases: [&[&str]; 9] = [
         &[],
         &["solo"],
         &["schedule", "solo"],
         &["Solo", "schedule"],
         &["solo", "schedule", "schedule"],
         &["plan", "topology"],
+        &["migrate"],
+        &["migrate", "file", "file"],
+        &["file", "migrate"],
     ];
     for words in cases {
         let mut shelf = shelf_with(rt.alloc(), PLAIN.as_bytes(), 8192, &[])?;
         let (status, out) = run_words(rt.alloc(), words, &mut shelf, Vec::new(rt.alloc()))?;
         assert_eq!(rt; status, Status::Usage);
-        assert_eq!(rt; out.bytes(), b"usage: sundial solo SCHEDULE\n".as_slice());
+        assert_eq!(rt;
+            out.bytes(),
+            b"usage: sundial solo SCHEDULE | migrate TOPOLOGY\n".as_slice()
+        );
     }
     Ok(())
 }

@@ -3,16 +3,18 @@ ghost use Rattle.sd_outside.specs.Causes.{Rose};
 ghost use Rattle.sd_stream.specs.Reader.{IsNear};
 ghost use Rattle.sd_solo.specs.Promises.{ReportsContain};
 ghost use Rattle.sd_top.specs.Words.{Command, command_of, files_of};
-ghost use Rattle.sd_top.specs.Outcome.{MeetsOutcome, Meets, IsRight, refused_part_of, held_text, solo_outcome, usage_outcome, refused_part};
+ghost use Rattle.sd_top.specs.Migration.{topology_of, MeetsMigration};
+ghost use Rattle.sd_top.specs.Outcome.{MeetsOutcome, Meets, IsRight, NearRefusal, held_text, solo_outcome, usage_outcome, refused_part};
 
 use crate::Status;
+use crate::migrate::migrate_topology;
 use crate::solo::replay_solo;
 use crate::stop::Stop;
 use sd_outside::{Shelf, Sink};
 use std::alloc::Global;
 
 /// Does the work of the words that follow the program's name.
-#[tactic(auto, unfolding(crate::specs::Outcome::outcome))]
+#[tactic(auto, unfolding(crate::specs::Outcome::MeetsWords))]
 pub fn run<S: Shelf, O: Sink>(alloc: Global, words: &[String], shelf: &mut S, out: &mut O) -> Status
     requires fresh { S.begun shelf.old ≡ false }
     requires serves { All (λ name. IsTrue (S.serves shelf.old name)) (files_of (command_of (map string_bytes words.now))) }
@@ -20,11 +22,11 @@ pub fn run<S: Shelf, O: Sink>(alloc: Global, words: &[String], shelf: &mut S, ou
     // it, and some front of it where that was by the sink.
     ensures outcome { MeetsOutcome (S.held shelf.old) (map string_bytes words.now) (O.written out.old) (O.written out.new) result }
     // A schedule that is refused was read no further than 8192 bytes past the start of its line.
-    ensures near { result ≡ Status.InputRefused → IfSome (S.held shelf.old) (λ held. IsNear (Some (refused_part_of (command_of (map string_bytes words.now)) held)) (S.rest shelf.new)) }
+    ensures near { result ≡ Status.InputRefused → IfSome (S.held shelf.old) (λ held. NearRefusal (command_of (map string_bytes words.now)) held (S.rest shelf.new)) }
     // The outside is blamed only where it failed in this call.
     ensures shelf { result ≡ Status.ShelfFault → Rose (S.faults shelf.old) (S.faults shelf.new) }
     ensures sink { result ≡ Status.SinkFault → Rose (O.faults out.old) (O.faults out.new) }
-    // A right schedule is done where nothing fails and memory is there.
+    // Right files are done where nothing fails and memory is there.
     ensures complete { IfSome (S.held shelf.old) (λ held. IsRight (command_of (map string_bytes words.now)) held
         → (Rose (S.faults shelf.old) (S.faults shelf.new) → ⊥) → (Rose (O.faults out.old) (O.faults out.new) → ⊥) → (result ≡ Status.Done) ⊎ (result ≡ Status.Memory)) }
     // Whatever the events, a report made while clock and oscillator are honest has its reference time inside.
@@ -34,6 +36,12 @@ pub fn run<S: Shelf, O: Sink>(alloc: Global, words: &[String], shelf: &mut S, ou
         [command, schedule] if command.as_str() == "solo" => solo(
             alloc,
             schedule.as_str(),
+            shelf,
+            out,
+        ),
+        [command, topology] if command.as_str() == "migrate" => migrate(
+            alloc,
+            topology.as_str(),
             shelf,
             out,
         ),
@@ -59,13 +67,30 @@ fn solo<S: Shelf, O: Sink>(alloc: Global, schedule: &str, shelf: &mut S, out: &m
     }
 }
 
+/// Writes a topology again with version 2.
+fn migrate<S: Shelf, O: Sink>(alloc: Global, topology: &str, shelf: &mut S, out: &mut O) -> Status
+    requires { IsTrue (S.serves shelf.old topology.now) }
+    ensures outcome { IfSome (S.held shelf.old) (λ held. MeetsMigration (topology_of (held_text held topology.now)) (O.written out.old) (O.written out.new) result) }
+    ensures shelf { result ≡ Status.ShelfFault → Rose (S.faults shelf.old) (S.faults shelf.new) }
+    ensures sink { result ≡ Status.SinkFault → Rose (O.faults out.old) (O.faults out.new) }
+{
+    match shelf.begin(topology) {
+        Ok(()) => {}
+        Err(_) => return Stop::Shelf.status(),
+    }
+    match migrate_topology(alloc, shelf, out) {
+        Ok(status) => status,
+        Err(stop) => stop.status(),
+    }
+}
+
 /// Writes the usage line.
 fn usage<O: Sink>(out: &mut O) -> Status
     ensures outcome { Meets usage_outcome (O.written out.old) (O.written out.new) result }
     ensures status { (result ≡ Status.Usage) ⊎ (result ≡ Status.SinkFault) }
     ensures sink { result ≡ Status.SinkFault → Rose (O.faults out.old) (O.faults out.new) }
 {
-    match out.write(b"usage: sundial solo SCHEDULE\n") {
+    match out.write(b"usage: sundial solo SCHEDULE | migrate TOPOLOGY\n") {
         Ok(()) => Status::Usage,
         Err(_) => Status::SinkFault,
     }

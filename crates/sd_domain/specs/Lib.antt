@@ -1,0 +1,6 @@
+pub mod Domains
+pub mod NumberSets
+pub mod NumberSetView
+pub mod Failures
+pub mod FailureView
+pub mod Within

@@ -1,0 +1,169 @@
+//! Which domain holds what.
+ghost use Rattle.std.specs.Prelude.{◌≡◌, ◌<◌, length, IsTrue, IfSome, find};
+ghost use Rattle.std.specs.List.{list_all};
+ghost use Rattle.sd_num.specs.Lists.{ascends, has, below};
+ghost use Rattle.sd_topo.specs.Topologies.{network};
+ghost use Rattle.sd_domain.specs.Domains as domains;
+ghost use Rattle.sd_domain.specs.Domains.{IsDomain};
+ghost use Rattle.sd_domain.specs.Failures.{things_of};
+ghost use Rattle.sd_domain.specs.Within.{has_all};
+
+use crate::{DomainId, Failure};
+use sd_topo::Topology;
+
+/// Whether numbers, which ascend, have one among them.
+fn lists(numbers: &[u32], number: u32) -> bool
+    requires { IsTrue (ascends numbers.now) }
+    ensures { result ≡ has numbers.now number }
+{
+    numbers.binary_search(&number).is_ok()
+}
+
+/// Whether the domain has the device.
+pub fn holds_device(topo: &Topology, f: DomainId, d: u32) -> bool
+    requires { IsDomain (network topo.now) f }
+    ensures { result ≡ domains.holds_device (network topo.now) f d }
+{
+    match f {
+        DomainId::Listed(k) => lists(topo.domain_devices(k), d),
+        DomainId::Device(e) => e == d,
+        DomainId::Link(_) => false,
+    }
+}
+
+/// Whether the domain has the link.
+pub fn holds_link(topo: &Topology, f: DomainId, l: u32) -> bool
+    requires { IsDomain (network topo.now) f }
+    ensures { result ≡ domains.holds_link (network topo.now) f l }
+{
+    match f {
+        DomainId::Listed(k) => lists(topo.domain_links(k), l),
+        DomainId::Device(_) => false,
+        DomainId::Link(m) => m == l,
+    }
+}
+
+/// Whether numbers, which ascend, have all of others among them.
+fn lists_all(numbers: &[u32], others: &[u32]) -> bool
+    requires { IsTrue (ascends numbers.now) }
+    ensures { result ≡ list_all (has numbers.now) others.now }
+{
+    others.iter().all(|number| lists(numbers, *number))
+}
+
+/// Whether a listed domain has all that has failed.
+fn is_within(topo: &Topology, k: u32, failed: &Failure) -> bool
+    requires { k < length (network topo.now).domains }
+    ensures { result ≡ has_all (network topo.now) failed.now (DomainId.Listed k) }
+{
+    lists_all(topo.domain_devices(k), failed.devices())
+        && lists_all(topo.domain_links(k), failed.links())
+}
+
+/// The first listed domain that has all that has failed.
+fn first_listed(topo: &Topology, failed: &Failure) -> Option<u32>
+    ensures first { result ≡ find (λ k. has_all (network topo.now) failed.now (DomainId.Listed k))
+        (below (length (network topo.now).domains)) }
+    ensures listed { IfSome result (λ k. k < length (network topo.now).domains) }
+{
+    for k in 0..topo.domains() {
+        if is_within(topo, k, failed) {
+            return Some(k);
+        }
+    }
+    None
+}
+
+/// The first domain of one thing alone that has all that has failed. Where nothing has failed,
+/// this is the first device, since each topology has one.
+fn first_alone(topo: &Topology, failed: &Failure) -> Option<DomainId>
+    ensures first { result ≡ find (has_all (network topo.now) failed.now)
+        (domains.alone (network topo.now)) }
+    ensures domain { IfSome result (IsDomain (network topo.now)) }
+{
+    let links = failed.links();
+    match failed.devices() {
+        [] => match links {
+            [] => Some(DomainId::Device(0)),
+            [l] => (*l < topo.links()).then_some(DomainId::Link(*l)),
+            _ => None,
+        },
+        [d] if links.is_empty() => (*d < topo.devices()).then_some(DomainId::Device(*d)),
+        _ => None,
+    }
+}
+
+/// The first domain that has all that has failed; of nothing, the first of all.
+pub fn within_one(topo: &Topology, failed: &Failure) -> Option<DomainId>
+    ensures first { result ≡ domains.within_one (network topo.now) (things_of failed.now) }
+    ensures domain { IfSome result (IsDomain (network topo.now)) }
+{
+    match first_listed(topo, failed) {
+        Some(k) => Some(DomainId::Listed(k)),
+        None => first_alone(topo, failed),
+    }
+}
+
+#[cfg(test)]
+mod tests {
+    use super::*;
+    use crate::DomainId::{Device, Link, Listed};
+    use sd_topo::{Thing, read_topology};
+    use std::test::Fail;
+
+    /// Three devices, two links, and two listed domains: a, b and ab; b and bc.
+    const TEXT: &str = r#"
+        version = 1
+        ppm = 200
+        grain = 1000
+        period = 100
+        tick = 50
+        loss = 1
+        depth = 3
+        roots = ["a"]
+        device = [{ name = "a" }, { name = "b" }, { name = "c" }]
+        link = [
+            { name = "ab", ends = ["a", "b"], min = 1, max = 2 },
+            { name = "bc", ends = ["b", "c"], min = 1, max = 2 },
+        ]
+        domain = [
+            { name = "one", devices = ["b", "a"], links = ["ab"] },
+            { name = "two", devices = ["b"], links = ["bc"] },
+        ]
+    "#;
+
+    #[test]
+    fn things_lie_in_their_first_domain(rt: HostRuntime) -> Result<(), Fail> {
+        let topo = read_topology(rt.alloc(), TEXT.as_bytes())?;
+        assert_eq!(rt; topo.devices(), 3);
+        assert_eq!(rt; topo.links(), 2);
+        let mut failed = Failure::new(rt.alloc(), &topo)?;
+        assert_eq!(rt; within_one(&topo, &failed), Some(Listed(0)));
+        failed.add(Thing::Device(1));
+        assert_eq!(rt; within_one(&topo, &failed), Some(Listed(0)));
+        failed.add(Thing::Link(1));
+        assert_eq!(rt; within_one(&topo, &failed), Some(Listed(1)));
+        failed.add(Thing::Device(0));
+        assert_eq!(rt; within_one(&topo, &failed), None);
+        assert!(rt; failed.contains_device(0) && failed.contains_link(1));
+        assert!(rt; !failed.contains_device(2) && !failed.contains_link(0));
+        failed.clear();
+        failed.add(Thing::Device(2));
+        failed.add(Thing::Device(2));
+        assert_eq!(rt; within_one(&topo, &failed), Some(Device(2)));
+        Ok(())
+    }
+
+    #[test]
+    fn domains_hold_their_things(rt: HostRuntime) -> Result<(), Fail> {
+        let topo = read_topology(rt.alloc(), TEXT.as_bytes())?;
+        assert_eq!(rt; topo.devices(), 3);
+        assert_eq!(rt; topo.links(), 2);
+        assert_eq!(rt; topo.domains(), 2);
+        assert!(rt; holds_device(&topo, Listed(0), 0) && !holds_device(&topo, Listed(1), 0));
+        assert!(rt; holds_link(&topo, Listed(1), 1) && !holds_link(&topo, Listed(0), 1));
+        assert!(rt; holds_device(&topo, Device(2), 2) && !holds_device(&topo, Link(1), 1));
+        assert!(rt; holds_link(&topo, Link(1), 1) && !holds_link(&topo, Device(1), 1));
+        Ok(())
+    }
+}

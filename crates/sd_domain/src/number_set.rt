@@ -1,0 +1,116 @@
+//! A set of small numbers that takes its memory when it is made.
+ghost use Rattle.std.specs.Prelude.{◌≡◌, ℕ, ◌<◌, false, not, ◌&&◌, nat_eq, length, slice_index_or, All, IfOk};
+ghost use Rattle.std.specs.List.{IsDistinct};
+ghost use Rattle.std.specs.FinSet as set;
+ghost use Rattle.sd_num.specs.Lists.{has};
+
+use sd_num::NoMemory;
+use std::alloc::Global;
+use std::marker::Model;
+
+/// A set of numbers below a bound. Only `new` takes memory.
+#[derive(Drop)]
+pub(crate) struct NumberSet {
+    /// Whether each number is in the set.
+    marks: Vec<bool>,
+    /// The numbers in the set, in the order in which they came, so that they are listed and
+    /// cleared with no look at the others.
+    numbers: Vec<u32>,
+}
+
+impl Model for NumberSet {
+    ghost use Rattle.sd_domain.specs.NumberSets.{Numbers, numbers_code};
+
+    ghost Value = { Numbers };
+
+    ghost coded = { numbers_code };
+
+    ghost use Rattle.sd_domain.specs.NumberSetView.{numbers_seen, IsNumberSet};
+
+    ghost view = { numbers_seen };
+
+    ghost invariant = { IsNumberSet };
+}
+
+/// Takes the marks of some numbers away.
+fn unmark(marks: &mut [bool], numbers: &[u32])
+    requires { All (λ n. n < length marks.old) numbers.now }
+    ensures { (k : ℕ) → slice_index_or marks.new k false
+        ≡ (slice_index_or marks.old k false && not (has numbers.now k)) }
+{
+    for number in numbers {
+        marks[*number as usize] = false;
+    }
+}
+
+impl NumberSet {
+    /// The empty set, with room for the numbers below `bound`.
+    pub(crate) fn new(alloc: Global, bound: u32) -> Result<NumberSet, NoMemory>
+        ensures { IfOk result (λ s. s ≡ record { members = set.empty; bound = bound }) }
+    {
+        let bound = bound as usize;
+        let Ok(marks) = vec![in alloc; false; bound] else {
+            return Err(NoMemory);
+        };
+        let Ok(numbers) = Vec::with_capacity(alloc, bound) else {
+            return Err(NoMemory);
+        };
+        Ok(NumberSet { marks, numbers })
+    }
+
+    /// Adds a number, which may be there already.
+    pub(crate) fn insert(&mut self, number: u32)
+        requires { number < self.old.bound }
+        ensures { self.new ≡ record self.old { members = set.insert self.old.members number } }
+    {
+        if !self.marks[number as usize] {
+            self.marks[number as usize] = true;
+            self.numbers.push_reserved(number);
+        }
+    }
+
+    /// Takes all numbers out, in the time that these take.
+    pub(crate) fn clear(&mut self)
+        ensures { self.new ≡ record self.old { members = set.empty } }
+    {
+        unmark(&mut self.marks, &self.numbers);
+        self.numbers.clear();
+    }
+
+    /// Whether a number is in the set. None beyond the bound is.
+    pub(crate) fn contains(&self, number: u32) -> bool
+        ensures { result ≡ set.contains self.now.members number }
+    {
+        self.marks.get(number as usize).copied().unwrap_or(false)
+    }
+
+    /// The numbers in the set, each once.
+    pub(crate) fn as_slice(&self) -> &[u32]
+        ensures all { set.from_list result.now ≡ self.now.members }
+        ensures distinct { IsDistinct nat_eq result.now }
+    {
+        self.numbers.as_slice()
+    }
+}
+
+#[cfg(test)]
+mod tests {
+    use super::*;
+    use std::test::Fail;
+
+    #[test]
+    fn numbers_come_and_go(rt: HostRuntime) -> Result<(), Fail> {
+        let mut set = NumberSet::new(rt.alloc(), 4)?;
+        set.insert(3);
+        set.insert(1);
+        set.insert(3);
+        assert_eq!(rt; set.as_slice(), [3, 1].as_slice());
+        assert!(rt; set.contains(1) && set.contains(3));
+        assert!(rt; !set.contains(0) && !set.contains(4));
+        set.clear();
+        assert!(rt; !set.contains(1) && !set.contains(3));
+        set.insert(0);
+        assert_eq!(rt; set.as_slice(), [0].as_slice());
+        Ok(())
+    }
+}

@@ -1,0 +1,11 @@
+use Rattle.std.proofs.Common.{◌≡◌, sym, subst, refl}
+use Rattle.sd_topo.specs.declared.Side.TheVariants.{Root}
+use Rattle.sd_topo.specs.Network.{Network, side_of}
+use Rattle.sd_topo.specs.Seen.{device_seen}
+use Rattle.sd_topo.proofs.Tables.{at_value}
+use Rattle.sd_topo.proofs.topology.Topology.side.Goals as goal
+
+pub returns : goal.returns
+returns c =
+    let told = at_value device_seen (λ device. device.side) (λ value. value.side) (λ e. refl) Root c.tables.inside.devices.entries c.args.d _ c.index.ensures in
+    sym (subst (λ (net : Network). side_of net c.args.d ≡ c.index.result.now.side) c.tables.view_is told)

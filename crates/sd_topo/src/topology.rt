@@ -1,0 +1,284 @@
+//! A topology, and what it answers of its devices, links and domains.
+ghost use Rattle.std.specs.Prelude.{◌≡◌};
+ghost use Rattle.sd_topo.specs.Network.{IsNetwork};
+
+use crate::copy::{copy_numbers, copy_table};
+use crate::{Delay, LinkEntry, Params, Side};
+use indexmap::IndexMap;
+use sd_num::{Bounds, NoMemory, Rates};
+use std::alloc::Global;
+use std::marker::Model;
+
+/// What a device has beside its name.
+#[derive(Clone, Copy)]
+pub(crate) struct Station {
+    pub(crate) side: Side,
+    pub(crate) rates: Rates,
+}
+
+/// What a listed domain has beside its name: numbers, ascending.
+#[derive(Drop)]
+pub(crate) struct Group {
+    pub(crate) devices: Vec<u32>,
+    pub(crate) links: Vec<u32>,
+}
+
+/// The tables of a topology; names are found by hashing.
+#[derive(Drop)]
+pub(crate) struct Tables {
+    pub(crate) version: u32,
+    pub(crate) params: Params,
+    pub(crate) devices: IndexMap<String, Station>,
+    pub(crate) links: IndexMap<String, LinkEntry>,
+    pub(crate) domains: IndexMap<String, Group>,
+    pub(crate) roots: Vec<u32>,
+    pub(crate) longest_delay: u64,
+}
+
+impl Model for Tables {
+    ghost use Rattle.std.specs.Prelude.{◌≡◌};
+    ghost use Rattle.sd_topo.specs.Network.{Network};
+
+    ghost Value = { Network };
+
+    ghost use Rattle.sd_topo.specs.Network.{greatest_delay};
+    ghost use Rattle.sd_topo.specs.Seen.{network_seen};
+
+    ghost view = { network_seen };
+
+    ghost invariant = { λ t. t.longest_delay ≡ greatest_delay (network_seen t) };
+}
+
+/// A datacenter: devices, links with the delays of both directions, and listed fault domains,
+/// each kind numbered from 0 in the order of its text.
+#[derive(Drop)]
+pub struct Topology {
+    tables: Tables,
+    pub ghost is_network: { IsNetwork tables },
+}
+
+impl Topology {
+    ghost use Rattle.std.specs.Prelude.{◌≡◌, ◌<◌, length, IsTrue, IfOk};
+    ghost use Rattle.sd_topo.specs.Network.{rates_of, link_of, delay_of, bounds_of, is_end, greatest_delay, side_of, device_names, link_names, domain_names, name_at, domain_of, number_in};
+    ghost use Rattle.sd_topo.specs.Topologies.{network};
+
+    /// 1 or 2.
+    pub fn version(&self) -> u32
+        ensures { result ≡ (network self.now).version }
+    {
+        let tables = &self.tables;
+        tables.version
+    }
+
+    /// The numbers of the keys at the top; the rates are those of a device that names none.
+    pub fn params(&self) -> Params
+        ensures { result ≡ (network self.now).params }
+    {
+        let tables = &self.tables;
+        tables.params
+    }
+
+    /// How many devices there are.
+    pub fn devices(&self) -> u32
+        ensures { result ≡ length (network self.now).devices }
+    {
+        let tables = &self.tables;
+        tables.devices.len() as u32
+    }
+
+    /// How many links there are.
+    pub fn links(&self) -> u32
+        ensures { result ≡ length (network self.now).links }
+    {
+        let tables = &self.tables;
+        tables.links.len() as u32
+    }
+
+    /// How many domains are listed.
+    pub fn domains(&self) -> u32
+        ensures { result ≡ length (network self.now).domains }
+    {
+        let tables = &self.tables;
+        tables.domains.len() as u32
+    }
+
+    /// The name of a device.
+    pub fn device_name(&self, d: u32) -> &str
+        requires { d < length (network self.now).devices }
+        ensures { result.now ≡ name_at (device_names (network self.now)) d }
+    {
+        let tables = &self.tables;
+        match tables.devices.get_index(d as usize) {
+            Some((name, _)) => name.as_str(),
+            None => unreachable!(),
+        }
+    }
+
+    /// The name of a link.
+    pub fn link_name(&self, l: u32) -> &str
+        requires { l < length (network self.now).links }
+        ensures { result.now ≡ name_at (link_names (network self.now)) l }
+    {
+        let tables = &self.tables;
+        match tables.links.get_index(l as usize) {
+            Some((name, _)) => name.as_str(),
+            None => unreachable!(),
+        }
+    }
+
+    /// The name of a listed domain.
+    pub fn domain_name(&self, f: u32) -> &str
+        requires { f < length (network self.now).domains }
+        ensures { result.now ≡ name_at (domain_names (network self.now)) f }
+    {
+        let tables = &self.tables;
+        match tables.domains.get_index(f as usize) {
+            Some((name, _)) => name.as_str(),
+            None => unreachable!(),
+        }
+    }
+
+    /// Where the planner may place a device.
+    pub fn side(&self, d: u32) -> Side
+        requires { d < length (network self.now).devices }
+        ensures { result ≡ side_of (network self.now) d }
+    {
+        let tables = &self.tables;
+        tables.devices[d as usize].side
+    }
+
+    /// The rates of a device's own oscillator.
+    pub fn rates(&self, d: u32) -> Rates
+        requires { d < length (network self.now).devices }
+        ensures { result ≡ rates_of (network self.now) d }
+    {
+        let tables = &self.tables;
+        tables.devices[d as usize].rates
+    }
+
+    /// The ends of a link, and its delays both ways.
+    pub fn link(&self, l: u32) -> LinkEntry
+        requires { l < length (network self.now).links }
+        ensures { result ≡ link_of (network self.now) l }
+    {
+        let tables = &self.tables;
+        tables.links[l as usize]
+    }
+
+    /// The delays of a link's direction towards a receiver, which is one of its ends.
+    pub fn delay(&self, l: u32, receiver: u32) -> Delay
+        requires range { l < length (network self.now).links }
+        requires end { IsTrue (is_end (link_of (network self.now) l) receiver) }
+        ensures { result ≡ delay_of (network self.now) l receiver }
+    {
+        let link = self.link(l);
+        if receiver == link.end_b {
+            Delay {
+                min: link.min,
+                max: link.max,
+            }
+        } else {
+            Delay {
+                min: link.back_min,
+                max: link.back_max,
+            }
+        }
+    }
+
+    /// How a message that came over a link to a receiver is corrected.
+    pub fn bounds(&self, l: u32, receiver: u32) -> Bounds
+        requires range { l < length (network self.now).links }
+        requires end { IsTrue (is_end (link_of (network self.now) l) receiver) }
+        ensures { result ≡ bounds_of (network self.now) l receiver }
+    {
+        let delay = self.delay(l, receiver);
+        sd_num::bounds_of(delay.min, delay.max)
+    }
+
+    /// The devices of a listed domain, ascending.
+    pub fn domain_devices(&self, f: u32) -> &[u32]
+        requires { f < length (network self.now).domains }
+        ensures { result.now ≡ (domain_of (network self.now) f).devices }
+    {
+        let tables = &self.tables;
+        let group = &tables.domains[f as usize];
+        group.devices.as_slice()
+    }
+
+    /// The links of a listed domain, ascending.
+    pub fn domain_links(&self, f: u32) -> &[u32]
+        requires { f < length (network self.now).domains }
+        ensures { result.now ≡ (domain_of (network self.now) f).links }
+    {
+        let tables = &self.tables;
+        let group = &tables.domains[f as usize];
+        group.links.as_slice()
+    }
+
+    /// The candidates for root and backup root, in order.
+    pub fn roots(&self) -> &[u32]
+        ensures { result.now ≡ (network self.now).roots }
+    {
+        let tables = &self.tables;
+        tables.roots.as_slice()
+    }
+
+    /// The number of the device with a name.
+    pub fn number_of(&self, name: &str) -> Option<u32>
+        ensures { result ≡ number_in (device_names (network self.now)) name.now }
+    {
+        let tables = &self.tables;
+        match tables.devices.get_index_of(name) {
+            Some(number) => Some(number as u32),
+            None => None,
+        }
+    }
+
+    /// The number of the link with a name.
+    pub fn link_number(&self, name: &str) -> Option<u32>
+        ensures { result ≡ number_in (link_names (network self.now)) name.now }
+    {
+        let tables = &self.tables;
+        match tables.links.get_index_of(name) {
+            Some(number) => Some(number as u32),
+            None => None,
+        }
+    }
+
+    /// A topology that answers the same, in the given memory.
+    pub fn copy(&self, alloc: Global) -> Result<Topology, NoMemory>
+        ensures { IfOk result (λ topo. network topo ≡ network self.now) }
+    {
+        let tables = &self.tables;
+        let devices = copy_table(alloc, &tables.devices)?;
+        let links = copy_table(alloc, &tables.links)?;
+        let domains = copy_table(alloc, &tables.domains)?;
+        let roots = copy_numbers(alloc, tables.roots.as_slice())?;
+        let tables = Tables {
+            version: tables.version,
+            params: tables.params,
+            devices,
+            links,
+            domains,
+            roots,
+            longest_delay: tables.longest_delay,
+        };
+        Ok(over_tables(tables))
+    }
+
+    /// The greatest delay of a link in either direction, in picoseconds; 0 where there is no link.
+    pub fn greatest_delay(&self) -> u64
+        ensures { result ≡ greatest_delay (network self.now) }
+    {
+        let tables = &self.tables;
+        tables.longest_delay
+    }
+}
+
+/// A topology over its tables.
+pub(crate) fn over_tables(tables: Tables) -> Topology
+    requires { IsNetwork tables }
+    ensures { result.tables ≡ tables }
+{
+    Topology { tables }
+}
