@@ -1,0 +1,45 @@
+-- The plan of the fabric speaks of every network of its size.
+use Rattle.std.proofs.Common.{◌≡◌, ℕ, ◌<◌, List, [], ◌∷◌, Option, Some, refl, sym, subst, arith, length, All}
+use Rattle.std.specs.Prelude.{IfSome}
+use Rattle.std.proofs.lemmas.List.Elements.{All-nil, All-cons}
+use Rattle.sd_topo.specs.Network.{Network}
+use Rattle.sd_topo.proofs.Lists.{each_of}
+use Rattle.sd_plan.specs.Examples.{fabric_plan, hop, row}
+use Rattle.sd_plan.specs.Plans.{Fits, IsHop, IsRow}
+use Rattle.sd_plan.specs.declared.Hop.{Hop}
+use Rattle.sd_plan.specs.declared.PlanRow.{PlanRow}
+
+-- a row whose two hops are there
+both : (net : Network) (primary backup : Hop) → IsHop net primary → IsHop net backup → IsRow net (Some (record { primary = primary; backup = Some backup }))
+both net primary backup one two = (one, λ h is. subst (λ (found : Option Hop). IfSome found (IsHop net)) is two)
+
+-- a hop below given bounds
+within : (net : Network) (parent link devices links : ℕ) → length net.devices ≡ devices → length net.links ≡ links → parent < devices → link < links → IsHop net (hop parent link)
+within net parent link devices links is are p l = (subst (λ (n : ℕ). parent < n) (sym is) p, subst (λ (n : ℕ). link < n) (sym are) l)
+
+-- each row of a list fits
+abbrev pub RowsFit : Network → List (Option PlanRow) → Type 0
+RowsFit net [] = Unit {0}
+RowsFit net (row ∷ rows) = IsRow net row × RowsFit net rows
+
+all_rows : (net : Network) (rows : List (Option PlanRow)) → RowsFit net rows → All (IsRow net) rows
+all_rows net [] fit = All-nil (IsRow net)
+all_rows net (row ∷ rows) fit = All-cons (IsRow net) row rows fit.0 (all_rows net rows fit.1)
+
+-- five devices and six links are enough
+pub fabric_fits : (net : Network) → length net.devices ≡ 5 → length net.links ≡ 6 → Fits net fabric_plan
+fabric_fits net five six =
+    let is : (parent link : ℕ) → parent < 5 → link < 6 → IsHop net (hop parent link) = λ parent link p l. within net parent link 5 6 five six p l in
+    let second : IsRow net (row (hop 2 3) (Some (hop 3 4))) = both net (hop 2 3) (hop 3 4) (is 2 3 (omega arith) (omega arith)) (is 3 4 (omega arith) (omega arith)) in
+    let third : IsRow net (row (hop 0 0) (Some (hop 1 3))) = both net (hop 0 0) (hop 1 3) (is 0 0 (omega arith) (omega arith)) (is 1 3 (omega arith) (omega arith)) in
+    let fourth : IsRow net (row (hop 0 1) (Some (hop 1 4))) = both net (hop 0 1) (hop 1 4) (is 0 1 (omega arith) (omega arith)) (is 1 4 (omega arith) (omega arith)) in
+    let fifth : IsRow net (row (hop 0 2) (Some (hop 1 5))) = both net (hop 0 2) (hop 1 5) (is 0 2 (omega arith) (omega arith)) (is 1 5 (omega arith) (omega arith)) in
+    record {
+      root = omega arith;
+      backup_root = omega arith;
+      entries = sym five;
+      rows = each_of (IsRow net) fabric_plan.rows (all_rows net fabric_plan.rows (tt, (second, (third, (fourth, (fifth, tt))))));
+      waits = (omega arith, omega arith, omega arith);
+      absent_devices = refl;
+      absent_links = refl;
+    }

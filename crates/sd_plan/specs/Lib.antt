@@ -1,0 +1,9 @@
+pub mod Plans
+pub mod Walks
+pub mod Duties
+pub mod Structure
+pub mod Cuts
+pub mod Examples
+pub mod Joining
+pub mod Tables
+pub mod TableView

@@ -1,0 +1,75 @@
+//! Paths over a topology that is read: two spines and three leaves.
+ghost use Rattle.std.specs.Prelude.{◌≡◌, Some, IfOk};
+ghost use Rattle.sd_plan.specs.Examples as examples;
+
+use super::*;
+use sd_num::NoMemory;
+use sd_topo::{Thing, read_topology};
+use std::alloc::Global;
+use std::test::Fail;
+
+/// Spines s1, s2 (0, 1), leaves l1, l2, l3 (2 to 4), and the links a1 to a3 and b1 to b3.
+const FABRIC: &str =
+    "version = 1\nppm = 200\ngrain = 1000\nperiod = 100000000\ntick = 10000000\nloss = 1\ndepth = 3\nroots = [\"s1\", \"s2\"]\n[[device]]\nname = \"s1\"\n[[device]]\nname = \"s2\"\n[[device]]\nname = \"l1\"\n[[device]]\nname = \"l2\"\n[[device]]\nname = \"l3\"\n[[link]]\nname = \"a1\"\nends = [\"s1\", \"l1\"]\nmin = 400000\nmax = 1000000\n[[link]]\nname = \"a2\"\nends = [\"s1\", \"l2\"]\nmin = 400000\nmax = 1000000\n[[link]]\nname = \"a3\"\nends = [\"s1\", \"l3\"]\nmin = 400000\nmax = 1000000\n[[link]]\nname = \"b1\"\nends = [\"s2\", \"l1\"]\nmin = 400000\nmax = 1000000\n[[link]]\nname = \"b2\"\nends = [\"s2\", \"l2\"]\nmin = 400000\nmax = 1000000\n[[link]]\nname = \"b3\"\nends = [\"s2\", \"l3\"]\nmin = 400000\nmax = 1000000\n";
+
+/// A row with a primary and a backup.
+fn row(parent: u32, link: u32, backup: u32, backup_link: u32) -> Option<PlanRow>
+    ensures { result ≡ examples.row (examples.hop parent link) (Some (examples.hop backup backup_link)) }
+{
+    let primary = Hop { parent, link };
+    let backup = Hop {
+        parent: backup,
+        link: backup_link,
+    };
+    Some(PlanRow {
+        primary,
+        backup: Some(backup),
+    })
+}
+
+/// The fabric's plan: s1 is the root, and s2 follows l1.
+fn fabric_plan(alloc: Global) -> Result<Plan, NoMemory>
+    ensures { IfOk result (λ plan. plan ≡ examples.fabric_plan) }
+{
+    let mut rows = RowList::new(alloc);
+    rows.push(alloc, None)?;
+    rows.push(alloc, row(2, 3, 3, 4))?;
+    rows.push(alloc, row(0, 0, 1, 3))?;
+    rows.push(alloc, row(0, 1, 1, 4))?;
+    rows.push(alloc, row(0, 2, 1, 5))?;
+    Ok(Plan {
+        root: 0,
+        backup_root: 1,
+        wait_first: 720_000_000,
+        wait_second: 720_000_000,
+        wait: 3_600_000_000,
+        absent: Absent {
+            devices: DeviceList::new(alloc),
+            links: DeviceList::new(alloc),
+        },
+        rows,
+    })
+}
+
+#[test]
+#[tactic(auto, using(crate::proofs::Fitting::fabric_fits))]
+fn paths_of_a_fabric(rt: HostRuntime) -> Result<(), Fail> {
+    let alloc = rt.alloc();
+    let topo = read_topology(alloc, FABRIC.as_bytes())?;
+    assert!(rt; topo.devices() == 5);
+    assert!(rt; topo.links() == 6);
+    let plan = fabric_plan(alloc)?;
+    let over_l1 = [
+        Thing::Link(3),
+        Thing::Device(2),
+        Thing::Link(0),
+        Thing::Device(0),
+    ];
+    let walked = path(alloc, &topo, &plan, 1)?;
+    assert_eq!(rt; walked.as_slice(), over_l1.as_slice());
+    let cut = epath(alloc, &topo, &plan, 1)?;
+    assert_eq!(rt; cut.as_slice(), over_l1.as_slice());
+    let of_the_root = path(alloc, &topo, &plan, 0)?;
+    assert!(rt; of_the_root.as_slice().is_empty());
+    Ok(())
+}
