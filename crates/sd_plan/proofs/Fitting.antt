@@ -1,11 +1,14 @@
--- The plan of the fabric speaks of every network of its size.
-use Rattle.std.proofs.Common.{◌≡◌, ℕ, ◌<◌, List, [], ◌∷◌, Option, Some, refl, sym, subst, arith, length, All}
+-- The plan of the fabric speaks of every network of its shape, and is right over it.
+use Rattle.std.proofs.Common.{◌≡◌, ◌∙◌, None, ℕ, ◌<◌, List, [], ◌∷◌, Option, Some, refl, sym, subst, arith, length, All}
 use Rattle.std.specs.Prelude.{IfSome}
 use Rattle.std.proofs.lemmas.List.Elements.{All-nil, All-cons}
 use Rattle.sd_topo.specs.Network.{Network}
 use Rattle.sd_topo.proofs.Lists.{each_of}
-use Rattle.sd_plan.specs.Examples.{fabric_plan, hop, row}
+use Rattle.sd_plan.specs.Examples.{IsFabric, fabric_plan, hop, row}
 use Rattle.sd_plan.specs.Plans.{Fits, IsHop, IsRow}
+use Rattle.sd_plan.specs.Structure.{structure_breach}
+use Rattle.sd_plan.specs.Tables.{table_of}
+use Rattle.sd_plan.proofs.TableLaws.{length-table}
 use Rattle.sd_plan.specs.declared.Hop.{Hop}
 use Rattle.sd_plan.specs.declared.PlanRow.{PlanRow}
 
@@ -26,9 +29,11 @@ all_rows : (net : Network) (rows : List (Option PlanRow)) → RowsFit net rows �
 all_rows net [] fit = All-nil (IsRow net)
 all_rows net (row ∷ rows) fit = All-cons (IsRow net) row rows fit.0 (all_rows net rows fit.1)
 
--- five devices and six links are enough
-pub fabric_fits : (net : Network) → length net.devices ≡ 5 → length net.links ≡ 6 → Fits net fabric_plan
-fabric_fits net five six =
+-- the fabric's plan speaks of it
+pub fabric_fits : (net : Network) → IsFabric net → Fits net fabric_plan
+fabric_fits net fabric =
+    let five : length net.devices ≡ 5 = fabric.devices in
+    let six : length net.links ≡ 6 = fabric.links in
     let is : (parent link : ℕ) → parent < 5 → link < 6 → IsHop net (hop parent link) = λ parent link p l. within net parent link 5 6 five six p l in
     let second : IsRow net (row (hop 2 3) (Some (hop 3 4))) = both net (hop 2 3) (hop 3 4) (is 2 3 (omega arith) (omega arith)) (is 3 4 (omega arith) (omega arith)) in
     let third : IsRow net (row (hop 0 0) (Some (hop 1 3))) = both net (hop 0 0) (hop 1 3) (is 0 0 (omega arith) (omega arith)) (is 1 3 (omega arith) (omega arith)) in
@@ -43,3 +48,12 @@ fabric_fits net five six =
       absent_devices = refl;
       absent_links = refl;
     }
+
+-- the structure of the fabric's plan is right over it
+pub fabric_structured : (net : Network) → IsFabric net → structure_breach net fabric_plan ≡ None
+fabric_structured net is =
+    rw (is.devices, is.depth, is.a1.0, is.a1.1, is.a2.0, is.a2.1, is.a3.0, is.a3.1, is.b1.0, is.b1.1, is.b2.0, is.b2.1, is.b3.0, is.b3.1) refl
+
+-- the table of the fabric's plan has a row for each of its devices
+pub fabric_rows : (net : Network) (epoch : ℕ) → IsFabric net → length (table_of net fabric_plan epoch) ≡ 5
+fabric_rows net epoch is = length-table net fabric_plan epoch ∙ is.devices

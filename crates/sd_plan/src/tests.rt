@@ -1,11 +1,13 @@
 //! Paths over a topology that is read: two spines and three leaves.
-ghost use Rattle.std.specs.Prelude.{◌≡◌, Some, IfOk};
+ghost use Rattle.std.specs.Prelude.{◌≡◌, length, Some, IfOk};
+ghost use Rattle.sd_topo.specs.Topologies.{network};
 ghost use Rattle.sd_plan.specs.Examples as examples;
 
 use super::*;
 use sd_num::NoMemory;
-use sd_topo::{Thing, read_topology};
+use sd_topo::{Thing, Topology, read_topology};
 use std::alloc::Global;
+use std::process::Abort;
 use std::test::Fail;
 
 /// Spines s1, s2 (0, 1), leaves l1, l2, l3 (2 to 4), and the links a1 to a3 and b1 to b3.
@@ -51,13 +53,30 @@ fn fabric_plan(alloc: Global) -> Result<Plan, NoMemory>
     })
 }
 
+/// The fabric, with what its plan asks of it.
+fn fabric(rt: &(impl Abort + AllocGlobal)) -> Result<Topology, Fail>
+    ensures { IfOk result (λ topo. examples.IsFabric (network topo)) }
+{
+    let topo = read_topology(rt.alloc(), FABRIC.as_bytes())?;
+    assert!(rt; topo.devices() == 5);
+    assert!(rt; topo.links() == 6);
+    assert!(rt; topo.params().depth == 3);
+    let (a1, a2, a3) = (topo.link(0), topo.link(1), topo.link(2));
+    assert!(rt; a1.end_a == 0 && a1.end_b == 2);
+    assert!(rt; a2.end_a == 0 && a2.end_b == 3);
+    assert!(rt; a3.end_a == 0 && a3.end_b == 4);
+    let (b1, b2, b3) = (topo.link(3), topo.link(4), topo.link(5));
+    assert!(rt; b1.end_a == 1 && b1.end_b == 2);
+    assert!(rt; b2.end_a == 1 && b2.end_b == 3);
+    assert!(rt; b3.end_a == 1 && b3.end_b == 4);
+    Ok(topo)
+}
+
 #[test]
 #[tactic(auto, using(crate::proofs::Fitting::fabric_fits))]
 fn paths_of_a_fabric(rt: HostRuntime) -> Result<(), Fail> {
     let alloc = rt.alloc();
-    let topo = read_topology(alloc, FABRIC.as_bytes())?;
-    assert!(rt; topo.devices() == 5);
-    assert!(rt; topo.links() == 6);
+    let topo = fabric(&rt)?;
     let plan = fabric_plan(alloc)?;
     let over_l1 = [
         Thing::Link(3),
@@ -71,5 +90,34 @@ fn paths_of_a_fabric(rt: HostRuntime) -> Result<(), Fail> {
     assert_eq!(rt; cut.as_slice(), over_l1.as_slice());
     let of_the_root = path(alloc, &topo, &plan, 0)?;
     assert!(rt; of_the_root.as_slice().is_empty());
+    Ok(())
+}
+
+/// The table of the fabric's plan with the number 7.
+#[tactic(auto, using(crate::proofs::Fitting::fabric_fits, crate::proofs::Fitting::fabric_structured, crate::proofs::Fitting::fabric_rows))]
+fn fabric_table(rt: &(impl Abort + AllocGlobal)) -> Result<PlanTable, Fail>
+    ensures { IfOk result (λ table. length table ≡ 5) }
+{
+    let topo = fabric(rt)?;
+    let plan = fabric_plan(rt.alloc())?;
+    Ok(PlanTable::new(rt.alloc(), &topo, &plan, 7)?)
+}
+
+#[test]
+fn table_of_a_fabric(rt: HostRuntime) -> Result<(), Fail> {
+    let table = fabric_table(&rt)?;
+    assert!(rt; table.is_member(1));
+    let row = table.row(1);
+    assert_eq!(rt; row.duty.epoch, 7);
+    assert_eq!(rt; row.duty.role, Role::BackupRoot);
+    assert_eq!(rt; row.duty.wait_first, 720_000_000);
+    assert_eq!(rt; row.duty.primary.map(|edge| edge.parent), Some(2));
+    assert_eq!(rt; row.duty.backup.map(|edge| edge.link), Some(4));
+    let followers = [
+        End { link: 3, device: 2 },
+        End { link: 4, device: 3 },
+        End { link: 5, device: 4 },
+    ];
+    assert_eq!(rt; row.downstream, followers.as_slice());
     Ok(())
 }
