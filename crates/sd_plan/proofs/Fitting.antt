@@ -1,5 +1,5 @@
 -- The plan of the fabric speaks of every network of its shape, and is right over it.
-use Rattle.std.proofs.Common.{◌≡◌, ◌∙◌, None, ℕ, ◌<◌, List, [], ◌∷◌, Option, Some, refl, sym, subst, arith, length, All}
+use Rattle.std.proofs.Common.{◌≡◌, ◌∙◌, None, ℕ, ◌<◌, List, [], ◌∷◌, Option, Some, refl, sym, ap, subst, arith, length, All}
 use Rattle.std.specs.Prelude.{IfSome}
 use Rattle.std.proofs.lemmas.List.Elements.{All-nil, All-cons}
 use Rattle.sd_topo.specs.Network.{Network}
@@ -8,6 +8,8 @@ use Rattle.sd_plan.specs.Examples.{IsFabric, fabric_plan, hop, row}
 use Rattle.sd_plan.specs.Plans.{Fits, IsHop, IsRow}
 use Rattle.sd_plan.specs.Structure.{structure_breach}
 use Rattle.sd_plan.specs.Tables.{table_of}
+use Rattle.sd_plan.specs.Indexed.{Indexed, IsIndexOf, carried_over}
+use Rattle.sd_plan.proofs.Numbered.{length-numbered}
 use Rattle.sd_plan.proofs.TableLaws.{length-table}
 use Rattle.sd_plan.specs.declared.Hop.{Hop}
 use Rattle.sd_plan.specs.declared.PlanRow.{PlanRow}
@@ -57,3 +59,11 @@ fabric_structured net is =
 -- the table of the fabric's plan has a row for each of its devices
 pub fabric_rows : (net : Network) (epoch : ℕ) → IsFabric net → length (table_of net fabric_plan epoch) ≡ 5
 fabric_rows net epoch is = length-table net fabric_plan epoch ∙ is.devices
+
+-- its index has a span for each device
+pub fabric_spans : (net : Network) (index : Indexed) → IsIndexOf net fabric_plan index → IsFabric net → length index.spans ≡ 5
+fabric_spans net index law is = law.spans ∙ is.devices
+
+-- and perhaps a device for each link
+pub fabric_carried : (net : Network) (index : Indexed) → IsIndexOf net fabric_plan index → IsFabric net → length index.carried ≡ 6
+fabric_carried net index law is = ap length law.carried ∙ length-numbered (carried_over net fabric_plan) (length net.links) ∙ is.links

@@ -1,5 +1,5 @@
 -- Lists with an element for each number below a bound.
-use Rattle.std.proofs.Common.{◌≡◌, ℕ, zero, suc, ◌+◌, ◌<◌, Bool, true, false, cond, List, [], ◌∷◌, ◌++◌, length, map, find, filter_map, get_or, Option, Some, None, refl, sym, ap, ◌∙◌, arith, add-one, inl, inr}
+use Rattle.std.proofs.Common.{◌≡◌, ℕ, zero, suc, ◌+◌, ◌<◌, Bool, true, false, cond, List, [], ◌∷◌, ◌++◌, length, map, find, filter_map, get_or, Option, Some, None, refl, sym, subst, ap, ◌∙◌, arith, add-one, inl, inr}
 use Rattle.std.specs.Option.{option_or}
 use Rattle.std.proofs.lemmas.Bool.{cases_lt, false_from_ne_true}
 use Rattle.std.proofs.lemmas.List.{length_push, map_push, get_or_append_left, get_or_push, get_or-map, get_or_default, length-map, same_lists}
@@ -75,6 +75,19 @@ none_found test (suc n) k none within =
     by_test : (b : Bool) → cond b (Some n) None ≡ None → b ≡ false
     by_test true h = cc
     by_test false h = refl
+
+-- what is found is one of the numbers, and passes
+pub found_passes : (test : ℕ → Bool) (n c : ℕ) → find test (below n) ≡ Some c → (c < n) × (test c ≡ true)
+found_passes test zero c found = cc
+found_passes test (suc n) c found = by_early (found_passes test n c) (find test (below n)) refl (sym (find-append test (below n) (n ∷ [])) ∙ found)
+  where
+    by_test : (b : Bool) → test n ≡ b → cond b (Some n) None ≡ Some c → (c < suc n) × (test c ≡ true)
+    by_test true passes found = let same : n ≡ c = cc in (omega arith, subst (λ x. test x ≡ true) same passes)
+    by_test false fails found = cc
+
+    by_early : (find test (below n) ≡ Some c → (c < n) × (test c ≡ true)) → (o : Option ℕ) → find test (below n) ≡ o → option_or o (find test (n ∷ [])) ≡ Some c → (c < suc n) × (test c ≡ true)
+    by_early before None none found = by_test (test n) refl found
+    by_early before (Some x) some found = let (less, passes) = before (some ∙ found) in (omega arith, passes)
 
 -- where just one number can pass it is found if it passes
 pub find_only : (test : ℕ → Bool) (n b : ℕ) → b < n → ((c : ℕ) → c < n → test c ≡ true → c ≡ b) → find test (below n) ≡ cond (test b) (Some b) None

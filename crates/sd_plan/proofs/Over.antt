@@ -19,7 +19,7 @@ follower_joined net plan d l c rules within follows =
     elim (or_cases (leads_to d l (primary_of plan c)) (leads_to d l (backup_of plan c)) follows) [ inl first ↦ primary first | inr second ↦ backup second ]
 
 -- the ends of a link that joins two devices are these
-ends_are : (a b c d : ℕ) → ((nat_eq a c && nat_eq b d) || (nat_eq a d && nat_eq b c)) ≡ true → ((a ≡ c) × (b ≡ d)) ⊎ ((a ≡ d) × (b ≡ c))
+pub ends_are : (a b c d : ℕ) → ((nat_eq a c && nat_eq b d) || (nat_eq a d && nat_eq b c)) ≡ true → ((a ≡ c) × (b ≡ d)) ⊎ ((a ≡ d) × (b ≡ c))
 ends_are a b c d joined =
     elim (or_cases (nat_eq a c && nat_eq b d) (nat_eq a d && nat_eq b c) joined) [
       | inl forth ↦ (let (p, q) = and_parts (nat_eq a c) (nat_eq b d) forth in inl (eqb-true a c p, eqb-true b d q))

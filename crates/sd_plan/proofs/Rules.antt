@@ -14,11 +14,12 @@ use Rattle.sd_plan.specs.declared.PlanRow.{PlanRow}
 use Rattle.sd_plan.specs.declared.Plan.{Plan}
 use Rattle.sd_plan.proofs.Numbered.{both_none, none_found}
 
--- the first three rules, at each device
+-- the first three rules and the fifth, at each device
 pub record KeepsRules (net : Network) (plan : Plan) : Type 0 where
   pub root : is_member plan plan.root ≡ true
   pub rows : (d : ℕ) → d < length net.devices → row_is_right plan d ≡ true
   pub hops : (d : ℕ) → d < length net.devices → hops_are_right net plan d ≡ true
+  pub reaches : (d : ℕ) → d < length net.devices → reaches_root net plan d ≡ true
 
 -- nothing is made of nothing alone
 none_mapped : {X Y : Type 0} (f : X → Y) (o : Option X) → option_map f o ≡ None → o ≡ None
@@ -46,6 +47,10 @@ passes : {X : Type 0} (b : Bool) (x : X) (rest : Option X) → (if not b then So
 passes true x rest none = refl
 passes false x rest none = cc
 
+-- the rules from the fifth on
+abbrev walk_rules : Network → Plan → Option (ℕ × ℕ)
+walk_rules net plan = option_or (first_failing net 5 (reaches_root net plan)) (first_failing net 6 (falls_back plan))
+
 -- the rest of the first rule
 abbrev backup_root_breach : Plan → Option ℕ
 backup_root_breach plan = if not (is_member plan plan.backup_root) || nat_eq plan.root plan.backup_root then Some plan.backup_root else None
@@ -56,10 +61,13 @@ keeps_rules net plan structured =
     let (first, after_first) = both_none (option_map (λ d. (1, d)) (roots_breach plan)) (option_or (first_failing net 2 (row_is_right plan)) (hop_rules net plan)) structured in
     let (second, after_second) = both_none (first_failing net 2 (row_is_right plan)) (hop_rules net plan) after_first in
     let (third, after_third) = both_none (first_failing net 3 (hops_are_right net plan)) (last_rules net plan) after_second in
+    let (fourth, after_fourth) = both_none (first_failing net 4 (links_differ plan)) (walk_rules net plan) after_third in
+    let (fifth, after_fifth) = both_none (first_failing net 5 (reaches_root net plan)) (first_failing net 6 (falls_back plan)) after_fourth in
     record {
       root = passes (is_member plan plan.root) plan.root (backup_root_breach plan) (none_mapped (λ d. (1, d)) (roots_breach plan) first);
       rows = λ d within. kept net 2 (row_is_right plan) d second within;
       hops = λ d within. kept net 3 (hops_are_right net plan) d third within;
+      reaches = λ d within. kept net 5 (reaches_root net plan) d fifth within;
     }
 
 -- where the root is a member and each other member has a row
@@ -76,7 +84,7 @@ member_is net plan d rules within =
     (λ here. subst (λ x. is_member plan x ≡ true) (eqb-true plan.root d here) rules.root)
 
 -- a row's hops are numbers of the network
-hops_within : (net : Network) (plan : Plan) (d : ℕ) → Fits net plan → IfSome (primary_of plan d) (IsHop net) × IfSome (backup_of plan d) (IsHop net)
+pub hops_within : (net : Network) (plan : Plan) (d : ℕ) → Fits net plan → IfSome (primary_of plan d) (IsHop net) × IfSome (backup_of plan d) (IsHop net)
 hops_within net plan d fits = by_place (slice_get plan.rows d) (λ row at. fits.rows d row at)
   where
     by_backup : (o : Option Hop) → ((hop : Hop) → o ≡ Some hop → IsHop net hop) → IfSome o (IsHop net)

@@ -7,3 +7,7 @@ pub mod Examples
 pub mod Joining
 pub mod Tables
 pub mod TableView
+pub mod Indexed
+pub mod IndexView
+pub mod Subtrees
+pub mod Usable

@@ -1,12 +1,14 @@
 //! Plans: who follows whom, over which link, and what each device is told.
 #![tactic(auto)]
 
+mod index;
 mod lists;
 mod paths;
 mod table;
 #[cfg(test)]
 mod tests;
 
+pub use index::{Span, WalkIndex};
 pub use lists::{DeviceList, RowList, ThingList};
 pub use paths::{epath, path};
 use sd_num::{Bounds, Rates};

@@ -31,6 +31,13 @@ impl DeviceList {
         }
     }
 
+    /// The list of some numbers.
+    pub fn from_vec(items: Vec<u32>) -> DeviceList
+        ensures { result ≡ items.items }
+    {
+        DeviceList { items }
+    }
+
     /// Adds a number at the end.
     pub fn push(&mut self, _alloc: Global, item: u32) -> Result<(), NoMemory>
         ensures added { OnOk result (self.new ≡ self.old ++ (item ∷ [])) }
@@ -73,6 +80,13 @@ impl RowList {
         RowList {
             items: Vec::new(alloc),
         }
+    }
+
+    /// The list of some rows.
+    pub fn from_vec(items: Vec<Option<PlanRow>>) -> RowList
+        ensures { result ≡ items.items }
+    {
+        RowList { items }
     }
 
     /// Adds a row, or that there is none, at the end.

@@ -2,7 +2,8 @@
 ghost use Rattle.std.specs.Prelude.{◌≡◌, ◌<◌, ◌++◌, [], ◌∷◌, length, IfOk, OnOk};
 ghost use Rattle.sd_topo.specs.Topologies.{network};
 ghost use Rattle.sd_plan.specs.Cuts.{ends_at};
-ghost use Rattle.sd_plan.specs.Plans.{Fits, primary_of};
+ghost use Rattle.sd_plan.specs.Plans.{Fits};
+ghost use Rattle.sd_plan.specs.Plans as plans;
 ghost use Rattle.sd_plan.specs.Walks as walks;
 
 use crate::{Hop, Plan, ThingList};
@@ -31,9 +32,9 @@ impl Cut {
 }
 
 /// The primary parent of a device, with the link to it.
-fn primary(plan: &Plan, d: u32) -> Option<Hop>
+pub(crate) fn primary_of(plan: &Plan, d: u32) -> Option<Hop>
     requires { d < length plan.now.rows }
-    ensures { result ≡ primary_of plan.now d }
+    ensures { result ≡ plans.primary_of plan.now d }
 {
     match plan.rows.as_slice()[d as usize] {
         Some(row) => Some(row.primary),
@@ -65,7 +66,7 @@ fn cut_path(
     let mut here = d;
     let mut left = topo.params().depth;
     while left > 0 {
-        let Some(hop) = primary(plan, here) else {
+        let Some(hop) = primary_of(plan, here) else {
             return Ok(things);
         };
         add_hop(alloc, &mut things, hop)?;

@@ -5,14 +5,14 @@ ghost use Rattle.sd_plan.specs.Plans.{Fits};
 ghost use Rattle.sd_plan.specs.Structure.{structure_breach};
 ghost use Rattle.sd_plan.specs.Tables.{table_of, row_at, has_row_at};
 
-mod duties;
-mod ends;
+pub(crate) mod duties;
+pub(crate) mod ends;
 mod joined;
 
 use crate::{Duty, End, Plan};
 use duties::all_duties;
 use ends::all_ends;
-use joined::{join_rows, part_of};
+pub(crate) use joined::{join_rows, part_of};
 use sd_num::NoMemory;
 use sd_topo::Topology;
 use std::alloc::Global;

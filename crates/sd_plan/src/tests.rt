@@ -121,3 +121,33 @@ fn table_of_a_fabric(rt: HostRuntime) -> Result<(), Fail> {
     assert_eq!(rt; row.downstream, followers.as_slice());
     Ok(())
 }
+
+/// The index of the fabric's plan.
+#[tactic(auto, using(crate::proofs::Fitting::fabric_fits, crate::proofs::Fitting::fabric_structured, crate::proofs::Fitting::fabric_spans, crate::proofs::Fitting::fabric_carried))]
+fn fabric_index(rt: &(impl Abort + AllocGlobal)) -> Result<WalkIndex, Fail>
+    ensures spans { IfOk result (λ index. length index.spans ≡ 5) }
+    ensures carried { IfOk result (λ index. length index.carried ≡ 6) }
+{
+    let topo = fabric(rt)?;
+    let plan = fabric_plan(rt.alloc())?;
+    Ok(WalkIndex::new(rt.alloc(), &topo, &plan)?)
+}
+
+#[test]
+fn index_of_a_fabric(rt: HostRuntime) -> Result<(), Fail> {
+    let index = fabric_index(&rt)?;
+    assert_eq!(rt; index.order(), [0, 2, 1, 3, 4].as_slice());
+    assert_eq!(rt; index.span(2), Span { from: 1, to: 3 });
+    assert!(rt; index.on_walk(1, 1) && index.on_walk(1, 2) && index.on_walk(1, 0));
+    assert!(rt; !index.on_walk(1, 3) && !index.on_walk(2, 1));
+    assert!(rt; index.epath_has_link(3, 1) && !index.epath_has_link(3, 0));
+    assert!(rt; index.epath_has_device(3, 0) && !index.epath_has_device(3, 3));
+    assert!(rt;
+        index.walk_has_link(1, 3) && index.walk_has_link(1, 0) && !index.walk_has_link(1, 1)
+    );
+    assert_eq!(rt; index.carried_over(3), Some(1));
+    assert_eq!(rt; index.carried_over(4), None);
+    let of_l2 = [End { link: 1, device: 0 }, End { link: 4, device: 1 }];
+    assert_eq!(rt; index.links_at(3), of_l2.as_slice());
+    Ok(())
+}

@@ -8,25 +8,14 @@ ghost use Rattle.sd_plan.specs.Duties as duties;
 ghost use Rattle.sd_plan.specs.Structure.{structure_breach};
 ghost use Rattle.sd_plan.specs.Tables.{told_of, EndsAt};
 
+use crate::paths::primary_of;
 use crate::{Duty, Edge, Hop, Plan, Role};
 use sd_num::NoMemory;
 use sd_topo::Topology;
 use std::alloc::Global;
 
-/// The primary parent of a device.
-pub(super) fn primary_of(plan: &Plan, d: u32) -> Option<Hop>
-    requires { d < length plan.now.rows }
-    ensures { result ≡ plans.primary_of plan.now d }
-{
-    let rows = plan.rows.as_slice();
-    match rows[d as usize] {
-        Some(row) => Some(row.primary),
-        None => None,
-    }
-}
-
 /// The backup parent of a device.
-pub(super) fn backup_of(plan: &Plan, d: u32) -> Option<Hop>
+pub(crate) fn backup_of(plan: &Plan, d: u32) -> Option<Hop>
     requires { d < length plan.now.rows }
     ensures { result ≡ plans.backup_of plan.now d }
 {
@@ -47,7 +36,7 @@ fn has_row(plan: &Plan, d: u32) -> bool
 }
 
 /// Whether a device takes part: of the members just the root has no row.
-fn is_member(topo: &Topology, plan: &Plan, d: u32) -> bool
+pub(crate) fn is_member(topo: &Topology, plan: &Plan, d: u32) -> bool
     requires fits { Fits (network topo.now) plan.now }
     requires structured { structure_breach (network topo.now) plan.now ≡ None }
     requires device { d < length (network topo.now).devices }

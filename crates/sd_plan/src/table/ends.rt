@@ -7,7 +7,8 @@ ghost use Rattle.sd_plan.specs.Duties as duties;
 ghost use Rattle.sd_plan.specs.Structure.{structure_breach};
 ghost use Rattle.sd_plan.specs.Tables.{ends_before, end_below};
 
-use super::duties::{backup_of, primary_of};
+use super::duties::backup_of;
+use crate::paths::primary_of;
 use crate::{End, Hop, Plan};
 use sd_num::NoMemory;
 use sd_topo::Topology;
@@ -16,7 +17,7 @@ use std::marker::Model;
 
 /// The ends below one device.
 #[derive(Drop)]
-pub(super) struct EndList {
+pub(crate) struct EndList {
     items: Vec<End>,
 }
 
@@ -38,7 +39,7 @@ impl EndList {
         }
     }
 
-    fn push(&mut self, item: End) -> Result<(), NoMemory>
+    pub(crate) fn push(&mut self, item: End) -> Result<(), NoMemory>
         ensures added { OnOk result (self.new ≡ self.old ++ (item ∷ [])) }
         ensures same { OnErr result (self.new ≡ self.old) }
     {
@@ -48,7 +49,7 @@ impl EndList {
         }
     }
 
-    pub(super) fn as_slice(&self) -> &[End]
+    pub(crate) fn as_slice(&self) -> &[End]
         ensures { result.now ≡ self.now }
     {
         self.items.as_slice()
@@ -97,7 +98,7 @@ fn add_end(
 }
 
 /// A list for each device, with nothing in it.
-fn no_ends(alloc: Global, count: u32) -> Result<Vec<EndList>, NoMemory>
+pub(crate) fn no_ends(alloc: Global, count: u32) -> Result<Vec<EndList>, NoMemory>
     ensures { IfOk result (λ rows. rows.items ≡ replicate count []) }
 {
     let mut rows = Vec::new(alloc);

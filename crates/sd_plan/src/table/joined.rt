@@ -10,13 +10,13 @@ use std::alloc::Global;
 
 /// All ends, and where each row begins and the last one ends.
 #[derive(Drop)]
-pub(super) struct Joined {
-    pub(super) ends: Vec<End>,
-    pub(super) offsets: Vec<usize>,
+pub(crate) struct Joined {
+    pub(crate) ends: Vec<End>,
+    pub(crate) offsets: Vec<usize>,
 }
 
 /// The ends of one row.
-pub(super) fn part_of<'a>(ends: &'a [End], offsets: &[usize], d: usize) -> &'a [End]
+pub(crate) fn part_of<'a>(ends: &'a [End], offsets: &[usize], d: usize) -> &'a [End]
     requires ordered { AreOrdered (length offsets.now - 1) ends.now offsets.now }
     requires within { d + 1 < length offsets.now }
     ensures { result.now ≡ joining.part_of ends.now offsets.now d }
@@ -27,7 +27,7 @@ pub(super) fn part_of<'a>(ends: &'a [End], offsets: &[usize], d: usize) -> &'a [
 }
 
 /// The rows in one array.
-pub(super) fn join_rows(alloc: Global, rows: &[EndList]) -> Result<Joined, NoMemory>
+pub(crate) fn join_rows(alloc: Global, rows: &[EndList]) -> Result<Joined, NoMemory>
     ensures { IfOk result (λ all. AreJoined rows.now (length rows.now) all.ends.items all.offsets.items) }
 {
     let mut ends = Vec::new(alloc);

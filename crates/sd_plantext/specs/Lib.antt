@@ -1,0 +1,7 @@
+pub mod Keys
+pub mod Gives
+pub mod Meaning
+pub mod Reading
+pub mod Counted
+pub mod Printed
+pub mod PrintedTree
