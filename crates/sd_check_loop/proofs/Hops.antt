@@ -1,0 +1,135 @@
+-- Which hops a device may be on, by its row.
+use Rattle.std.specs.Prelude.{◌≡◌, ℕ, ◌<◌, Bool, true, false, ◌&&◌, not, List, [], ◌∷◌, ◌++◌, length, nat_eq, Option, Some, None, option_map, option_to_list, if◌then◌else◌}
+use Rattle.std.specs.List.{list_any, slice_get}
+use Rattle.std.proofs.Common.{refl, sym, ◌∙◌, subst, ◌⊎◌, inl, inr}
+use Rattle.std.proofs.lemmas.Bool.{and_parts, or_cases, or_left, or_right, eqb-true, eq-eqb}
+use Rattle.std.proofs.lemmas.List.Folds.{list_any-append}
+use Rattle.std.proofs.lemmas.Option.{slice_get_within}
+use Rattle.sd_num.specs.Lists.{of_some}
+use Rattle.sd_topo.specs.Network.{Network}
+use Rattle.sd_domain.specs.declared.DomainId.{DomainId}
+use Rattle.sd_plan.specs.declared.Hop.{Hop}
+use Rattle.sd_plan.specs.declared.Plan.{Plan}
+use Rattle.sd_plan.specs.declared.PlanRow.{PlanRow}
+use Rattle.sd_plan.specs.Plans.{is_member, row_of, has_row, primary_of, backup_of}
+use Rattle.sd_plan.specs.Walks.{is_end, is_hit}
+use Rattle.sd_check_loop.specs.Loops.{same_hop, LeadsTo}
+
+-- the hop is there, and leads to the device
+abbrev pub IsParent : Option Hop → ℕ → Type 0
+IsParent o e = (hop : Hop) × (o ≡ Some hop) × (hop.parent ≡ e)
+
+-- of hops, one that leads to the device
+pub any_parent : (hs : List Hop) (e : ℕ) → list_any (λ hop. nat_eq hop.parent e) hs ≡ true → (hop : Hop) × (list_any (same_hop hop) hs ≡ true) × (hop.parent ≡ e)
+any_parent [] e some = cc
+any_parent (hop ∷ hs) e some =
+    elim (or_cases (nat_eq hop.parent e) (list_any (λ h. nat_eq h.parent e) hs) some) [
+      | inl here ↦ (hop, or_left (same_hop hop hop) (list_any (same_hop hop) hs) (itself hop), eqb-true hop.parent e here)
+      | inr later ↦ (let rest = any_parent hs e later in (rest.0, or_right (same_hop rest.0 hop) (list_any (same_hop rest.0) hs) rest.1, rest.2))
+    ]
+  where
+    itself : (h : Hop) → same_hop h h ≡ true
+    itself h = rw (eq-eqb h.parent h.parent refl, eq-eqb h.link h.link refl) refl
+
+-- one of the hops leads where it leads
+pub parent_any : (hs : List Hop) (hop : Hop) → list_any (same_hop hop) hs ≡ true → list_any (λ h. nat_eq h.parent hop.parent) hs ≡ true
+parent_any [] hop some = some
+parent_any (h ∷ hs) hop some =
+    elim (or_cases (same_hop hop h) (list_any (same_hop hop) hs) some) [
+      | inl here ↦ or_left (nat_eq h.parent hop.parent) (list_any (λ x. nat_eq x.parent hop.parent) hs)
+          (eq-eqb h.parent hop.parent (sym (eqb-true hop.parent h.parent (and_parts (nat_eq hop.parent h.parent) (nat_eq hop.link h.link) here).0)))
+      | inr later ↦ or_right (nat_eq h.parent hop.parent) (list_any (λ x. nat_eq x.parent hop.parent) hs) (parent_any hs hop later)
+    ]
+
+-- a list of the one hop that is there
+one_parent : (o : Option Hop) (e : ℕ) → list_any (λ hop. nat_eq hop.parent e) (option_to_list o) ≡ true → IsParent o e
+one_parent None e some = cc
+one_parent (Some hop) e some = elim (or_cases (nat_eq hop.parent e) false some) [ inl here ↦ (hop, refl, eqb-true hop.parent e here) | inr none ↦ absurd (wrong none) ]
+  where
+    wrong : false ≡ true → ⊥
+    wrong same = cc
+
+parent_one : (o : Option Hop) (e : ℕ) → IsParent o e → list_any (λ hop. nat_eq hop.parent e) (option_to_list o) ≡ true
+parent_one o e parent =
+    subst (λ (found : Option Hop). list_any (λ hop. nat_eq hop.parent e) (option_to_list found) ≡ true) (sym parent.1)
+    (or_left (nat_eq parent.0.parent e) false (eq-eqb parent.0.parent e parent.2))
+
+-- the hops by what is known of a device
+abbrev hops_by : Bool → Bool → Bool → Option Hop → Option Hop → List Hop
+hops_by member ends hit primary backup =
+    if member && not ends then option_to_list primary ++ (if hit then option_to_list backup else []) else []
+
+-- one of the two hops leads to the device, the backup only where the domain hits
+abbrev pub OneLeads : Bool → Option Hop → Option Hop → ℕ → Type 0
+OneLeads hit primary backup e = IsParent primary e ⊎ ((hit ≡ true) × IsParent backup e)
+
+-- what is known where one of the hops leads to the device
+pub record Led (member ends hit : Bool) (primary backup : Option Hop) (e : ℕ) : Type 0 where
+  pub member_is : member ≡ true
+  pub ends_not : ends ≡ false
+  pub parent : OneLeads hit primary backup e
+
+led_by : (member ends hit : Bool) (primary backup : Option Hop) (e : ℕ) → list_any (λ hop. nat_eq hop.parent e) (hops_by member ends hit primary backup) ≡ true → Led member ends hit primary backup e
+led_by false ends hit primary backup e some = cc
+led_by true true hit primary backup e some = cc
+led_by true false true primary backup e some =
+    elim (or_cases (list_any (λ hop. nat_eq hop.parent e) (option_to_list primary)) (list_any (λ hop. nat_eq hop.parent e) (option_to_list backup))
+    (sym (list_any-append (λ hop. nat_eq hop.parent e) (option_to_list primary) (option_to_list backup)) ∙ some)) [
+      | inl here ↦ record { member_is = refl; ends_not = refl; parent = inl (one_parent primary e here) }
+      | inr there ↦ record { member_is = refl; ends_not = refl; parent = inr (refl, one_parent backup e there) }
+    ]
+led_by true false false primary backup e some =
+    elim (or_cases (list_any (λ hop. nat_eq hop.parent e) (option_to_list primary)) false
+    (sym (list_any-append (λ (hop : Hop). nat_eq hop.parent e) (option_to_list primary) []) ∙ some)) [
+      | inl here ↦ record { member_is = refl; ends_not = refl; parent = inl (one_parent primary e here) }
+      | inr none ↦ absurd (wrong none)
+    ]
+  where
+    wrong : false ≡ true → ⊥
+    wrong same = cc
+
+by_led : (member ends hit : Bool) (primary backup : Option Hop) (e : ℕ) → Led member ends hit primary backup e → list_any (λ hop. nat_eq hop.parent e) (hops_by member ends hit primary backup) ≡ true
+by_led member ends hit primary backup e led =
+    subst (λ (b : Bool). list_any (λ hop. nat_eq hop.parent e) (hops_by b ends hit primary backup) ≡ true) (sym led.member_is)
+    (subst (λ (b : Bool). list_any (λ hop. nat_eq hop.parent e) (hops_by true b hit primary backup) ≡ true) (sym led.ends_not)
+    (list_any-append (λ hop. nat_eq hop.parent e) (option_to_list primary) (if hit then option_to_list backup else []) ∙ elim led.parent [
+      | inl here ↦ or_left (list_any (λ hop. nat_eq hop.parent e) (option_to_list primary)) (list_any (λ hop. nat_eq hop.parent e) (if hit then option_to_list backup else [])) (parent_one primary e here)
+      | inr there ↦ or_right (list_any (λ hop. nat_eq hop.parent e) (option_to_list primary)) (list_any (λ hop. nat_eq hop.parent e) (if hit then option_to_list backup else []))
+          (subst (λ (b : Bool). list_any (λ hop. nat_eq hop.parent e) (if b then option_to_list backup else []) ≡ true) (sym there.0) (parent_one backup e there.1))
+    ]))
+
+module _ (net : Network) (plan : Plan) (f : DomainId) where
+  abbrev pub IsLed : ℕ → ℕ → Type 0
+  IsLed d e = Led (is_member plan d) (is_end plan d) (is_hit net plan f d) (primary_of plan d) (backup_of plan d) e
+
+  pub led : (d e : ℕ) → LeadsTo net plan f d e → IsLed d e
+  led d e some = led_by (is_member plan d) (is_end plan d) (is_hit net plan f d) (primary_of plan d) (backup_of plan d) e some
+
+  pub leads_to : (d e : ℕ) → IsLed d e → LeadsTo net plan f d e
+  leads_to d e led = by_led (is_member plan d) (is_end plan d) (is_hit net plan f d) (primary_of plan d) (backup_of plan d) e led
+
+-- a hop is there only in a row
+primary_row : (o : Option PlanRow) (hop : Hop) → option_map (λ row. row.primary) o ≡ Some hop → of_some o false (λ row. true) ≡ true
+primary_row None hop is = cc
+primary_row (Some row) hop is = refl
+
+backup_row : (o : Option PlanRow) (hop : Hop) → of_some o None (λ row. row.backup) ≡ Some hop → of_some o false (λ row. true) ≡ true
+backup_row None hop is = cc
+backup_row (Some row) hop is = refl
+
+pub has_primary_row : (plan : Plan) (d e : ℕ) → IsParent (primary_of plan d) e → has_row plan d ≡ true
+has_primary_row plan d e parent = primary_row (row_of plan d) parent.0 parent.1
+
+pub has_backup_row : (plan : Plan) (d e : ℕ) → IsParent (backup_of plan d) e → has_row plan d ≡ true
+has_backup_row plan d e parent = backup_row (row_of plan d) parent.0 parent.1
+
+-- a row stands at a device
+pub row_within : (plan : Plan) (d : ℕ) → has_row plan d ≡ true → d < length plan.rows
+row_within plan d there = by (slice_get plan.rows d) refl there
+  where
+    by : (o : Option (Option PlanRow)) → slice_get plan.rows d ≡ o → of_some (of_some o None (λ row. row)) false (λ row. true) ≡ true → d < length plan.rows
+    by None at some = cc
+    by (Some row) at some = slice_get_within plan.rows d row at
+
+pub led_row : (net : Network) (plan : Plan) (f : DomainId) (d e : ℕ) → IsLed net plan f d e → has_row plan d ≡ true
+led_row net plan f d e led = elim led.parent [ inl here ↦ has_primary_row plan d e here | inr there ↦ has_backup_row plan d e there.1 ]

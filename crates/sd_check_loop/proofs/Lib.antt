@@ -1,0 +1,11 @@
+pub mod Ranks
+mod Markers
+mod Searching
+mod Places
+mod Unhit
+mod Hops
+mod Least
+mod Judging
+mod Trailing
+mod Answering
+mod Samples

@@ -1,0 +1,6 @@
+pub mod Loops
+pub mod Graphs
+pub mod Markings
+pub mod Shown
+pub mod Trails
+pub mod Squares

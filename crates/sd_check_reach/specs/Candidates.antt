@@ -1,0 +1,41 @@
+-- Hit devices that are chosen, ascending.
+use Rattle.std.specs.Prelude.{◌≡◌, ℕ, ◌<◌, Bool, true, false, ◌&&◌, ◌||◌, not, List, slice_get, Some, IsTrue, ◌⊎◌}
+use Rattle.sd_num.specs.Lists.{of_some}
+use Rattle.sd_topo.specs.Network.{Network}
+use Rattle.sd_domain.specs.Domains.{holds_device, holds_link}
+use Rattle.sd_domain.specs.declared.DomainId.{DomainId}
+use Rattle.sd_plan.specs.declared.Hop.{Hop}
+use Rattle.sd_plan.specs.declared.Plan.{Plan}
+use Rattle.sd_plan.specs.Plans.{backup_of}
+use Rattle.sd_plan.specs.Walks.{is_hit, is_end}
+use Rattle.sd_check_reach.specs.Reach.{Fed, is_sound}
+
+-- the list has, in order, the hit devices at places below k that pass
+pub record Chooses (hit : List ℕ) (passes : ℕ → ℕ → Bool) (k : ℕ) (chosen : List ℕ) : Type 0 where
+  pub each : (i d : ℕ) → slice_get chosen i ≡ Some d → (j : ℕ) × (j < k) × (slice_get hit j ≡ Some d) × (passes j d ≡ true)
+  pub all : (j d : ℕ) → j < k → slice_get hit j ≡ Some d → passes j d ≡ true → (i : ℕ) × (slice_get chosen i ≡ Some d)
+  pub rises : (i j d e : ℕ) → i < j → slice_get chosen i ≡ Some d → slice_get chosen j ≡ Some e → d < e
+
+-- the domain takes the backup of the device, which it leaves and which is not the backup root
+abbrev pub loses : Network → Plan → DomainId → ℕ → Bool
+loses net plan f d =
+    not (holds_device net f d) && not (is_end plan d)
+    && of_some (backup_of plan d) false (λ hop. holds_link net f hop.link || holds_device net f hop.parent)
+
+-- what makes a device break the domain condition, beside that it is not cut off
+pub record IsLosing (net : Network) (plan : Plan) (f : DomainId) (d : ℕ) : Type 0 where
+  pub sound : IsTrue (is_sound net plan f d)
+  pub no_root : IsTrue (not (is_end plan d))
+  pub hit : IsTrue (is_hit net plan f d)
+  pub backup : Hop
+  pub has_backup : backup_of plan d ≡ Some backup
+  pub lost : IsTrue (holds_link net f backup.link || holds_device net f backup.parent)
+
+-- a sound device that does not come to hear the acting end
+pub record IsUnheard (net : Network) (plan : Plan) (f : DomainId) (d : ℕ) : Type 0 where
+  pub sound : IsTrue (is_sound net plan f d)
+  pub unfed : ¬ Fed net plan f d
+
+-- each sound device comes to hear the acting end or is in the list
+pub record AreDecided (net : Network) (plan : Plan) (f : DomainId) (candidates : List ℕ) : Type 0 where
+  pub decided : (d : ℕ) → IsTrue (is_sound net plan f d) → Fed net plan f d ⊎ ((i : ℕ) × (slice_get candidates i ≡ Some d))

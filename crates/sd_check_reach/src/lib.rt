@@ -1,0 +1,98 @@
+//! The conditions on domains and reach: whatever one domain fails, each sound device is cut off by
+//! it or comes to hear the acting end again.
+#![tactic(auto)]
+
+ghost use Rattle.std.specs.Prelude.{◌≡◌, None, IfOk};
+ghost use Rattle.sd_check_reach.specs.Reach.{DomainShown, ReachShown};
+ghost use Rattle.sd_domain.specs.Domains.{IsDomain};
+ghost use Rattle.sd_plan.specs.Indexed.{IsIndexOf};
+ghost use Rattle.sd_plan.specs.Plans.{Fits};
+ghost use Rattle.sd_plan.specs.Structure.{structure_breach};
+ghost use Rattle.sd_topo.specs.Topologies.{network};
+
+mod breach;
+mod chain;
+mod choosing;
+mod marks;
+mod outage;
+mod search;
+mod turn;
+
+use crate::outage::outage_of;
+use sd_domain::DomainId;
+use sd_hit::hit_devices;
+use sd_num::NoMemory;
+use sd_plan::{DeviceList, Plan, WalkIndex};
+use sd_topo::Topology;
+use std::alloc::Global;
+
+/// The lowest sound device, no root, that the domain hits and does not cut off, and whose backup it takes.
+pub fn domain_breach(
+    alloc: Global,
+    topo: &Topology,
+    plan: &Plan,
+    f: DomainId,
+) -> Result<Option<u32>, NoMemory>
+    requires fits { Fits (network topo.now) plan.now }
+    requires structured { structure_breach (network topo.now) plan.now ≡ None }
+    requires domain { IsDomain (network topo.now) f }
+    ensures { IfOk result (DomainShown (network topo.now) plan.now f) }
+{
+    let index = WalkIndex::new(alloc, topo, plan)?;
+    domain_breach_in(alloc, topo, plan, &index, f)
+}
+
+/// The same by an index of this plan, which serves all domains.
+pub fn domain_breach_in(
+    alloc: Global,
+    topo: &Topology,
+    plan: &Plan,
+    index: &WalkIndex,
+    f: DomainId,
+) -> Result<Option<u32>, NoMemory>
+    requires domain { IsDomain (network topo.now) f }
+    requires indexed { IsIndexOf (network topo.now) plan.now index.now }
+    ensures { IfOk result (DomainShown (network topo.now) plan.now f) }
+{
+    let hit = hit_devices(alloc, topo, plan, index, f)?;
+    match outage_of(topo, plan, index, f, hit.as_slice()) {
+        Some(outage) => outage.domain_breach(alloc),
+        None => Ok(None),
+    }
+}
+
+/// The chain of next hops from the lowest sound device that the domain neither cuts off nor lets
+/// hear the acting end again.
+pub fn reach_breach(
+    alloc: Global,
+    topo: &Topology,
+    plan: &Plan,
+    f: DomainId,
+) -> Result<Option<DeviceList>, NoMemory>
+    requires fits { Fits (network topo.now) plan.now }
+    requires structured { structure_breach (network topo.now) plan.now ≡ None }
+    requires domain { IsDomain (network topo.now) f }
+    ensures { IfOk result (ReachShown (network topo.now) plan.now f) }
+{
+    let index = WalkIndex::new(alloc, topo, plan)?;
+    reach_breach_in(alloc, topo, plan, &index, f)
+}
+
+/// The same by an index of this plan, which serves all domains.
+pub fn reach_breach_in(
+    alloc: Global,
+    topo: &Topology,
+    plan: &Plan,
+    index: &WalkIndex,
+    f: DomainId,
+) -> Result<Option<DeviceList>, NoMemory>
+    requires domain { IsDomain (network topo.now) f }
+    requires indexed { IsIndexOf (network topo.now) plan.now index.now }
+    ensures { IfOk result (ReachShown (network topo.now) plan.now f) }
+{
+    let hit = hit_devices(alloc, topo, plan, index, f)?;
+    match outage_of(topo, plan, index, f, hit.as_slice()) {
+        Some(outage) => outage.reach_breach(alloc),
+        None => Ok(None),
+    }
+}

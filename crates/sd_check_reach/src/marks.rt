@@ -1,0 +1,116 @@
+//! Which hit devices come to hear the acting end again, found by following each next hop once.
+ghost use Rattle.std.specs.Prelude.{◌≡◌, ◌<◌, ℕ, true, [], length, slice_get, Some, IfOk, OnOk, IsTrue};
+ghost use Rattle.sd_num.specs.Lists.{has};
+ghost use Rattle.sd_topo.specs.Topologies.{network};
+ghost use Rattle.sd_check_reach.specs.Outages.{IsOutage};
+ghost use Rattle.sd_check_reach.specs.Turns.{AreMarks, AreSettled, IsFollowed, is_unfed, IsMarkedFed};
+
+use crate::outage::Outage;
+use crate::turn::Turn;
+use sd_num::NoMemory;
+use std::alloc::Global;
+
+/// What is known of a hit device.
+#[derive(Clone, Copy)]
+pub(crate) enum Mark {
+    Unseen,
+    Fed,
+    Unfed,
+}
+
+impl Mark {
+    /// Whether the device does not come to hear the acting end.
+    pub(crate) fn is_unfed(self) -> bool
+        ensures { result ≡ is_unfed self }
+    {
+        match self {
+            Mark::Unfed => true,
+            Mark::Unseen | Mark::Fed => false,
+        }
+    }
+}
+
+/// Marks for so many devices.
+fn unseen(alloc: Global, count: usize) -> Result<Vec<Mark>, NoMemory>
+    ensures { IfOk result (λ marks. (length marks.items ≡ count) × ((i : ℕ) → i < count → slice_get marks.items i ≡ Some Mark.Unseen)) }
+{
+    let mut marks = Vec::new(alloc);
+    for _ in 0..count {
+        match marks.push(Mark::Unseen) {
+            Ok(()) => {}
+            Err(_) => return Err(NoMemory),
+        }
+    }
+    Ok(marks)
+}
+
+/// Marks all of a trail as fed.
+fn mark_fed(marks: &mut [Mark], trail: &[usize])
+    requires { (i : ℕ) → has trail.now i ≡ true → i < length marks.old }
+    ensures { IsMarkedFed trail.now marks.old marks.new }
+{
+    for place in trail {
+        marks[*place] = Mark::Fed;
+    }
+}
+
+impl Outage<'_> {
+    /// Follows next hops from a place to what is marked or needs no mark, and whether this is fed.
+    /// All on the trail is marked as not fed meanwhile, so that a trail which comes back to itself
+    /// ends there.
+    fn follow(
+        &self,
+        trail: &mut Vec<usize>,
+        marks: &mut [Mark],
+        start: usize,
+    ) -> Result<bool, NoMemory>
+        requires outage { IsOutage self.now }
+        requires marks { AreMarks (network self.now.topo.now) self.now.plan.now self.now.f self.now.hit.now (λ _. ⊥) marks.old }
+        requires place { start < length self.now.hit.now }
+        requires none { trail.old.items ≡ [] }
+        ensures { IfOk result (λ fed. IsFollowed (network self.now.topo.now) self.now.plan.now self.now.f self.now.hit.now start marks.old marks.new trail.new.items fed) }
+    {
+        let mut place = start;
+        while let Mark::Unseen = marks[place] {
+            marks[place] = Mark::Unfed;
+            match trail.push(place) {
+                Ok(()) => {}
+                Err(_) => return Err(NoMemory),
+            }
+            match self.turn(self.hit[place]) {
+                Turn::Fed => return Ok(true),
+                Turn::Lost => return Ok(false),
+                Turn::To(next) => place = next,
+            }
+        }
+        Ok(!marks[place].is_unfed())
+    }
+
+    /// Marks the device at a place, and all that its next hops lead to.
+    fn mark_from(&self, alloc: Global, marks: &mut [Mark], start: usize) -> Result<(), NoMemory>
+        requires outage { IsOutage self.now }
+        requires marks { AreMarks (network self.now.topo.now) self.now.plan.now self.now.f self.now.hit.now (λ _. ⊥) marks.old }
+        requires place { start < length self.now.hit.now }
+        ensures marks { OnOk result (AreMarks (network self.now.topo.now) self.now.plan.now self.now.f self.now.hit.now (λ _. ⊥) marks.new) }
+        ensures settled { OnOk result (AreSettled start marks.old marks.new) }
+    {
+        let mut trail = Vec::new(alloc);
+        if self.follow(&mut trail, marks, start)? {
+            mark_fed(marks, trail.as_slice());
+        }
+        Ok(())
+    }
+
+    /// The marks of all hit devices.
+    pub(crate) fn marks(&self, alloc: Global) -> Result<Vec<Mark>, NoMemory>
+        requires { IsOutage self.now }
+        ensures right { IfOk result (λ marks. AreMarks (network self.now.topo.now) self.now.plan.now self.now.f self.now.hit.now (λ _. ⊥) marks.items) }
+        ensures all { IfOk result (λ marks. (i : ℕ) → i < length self.now.hit.now → slice_get marks.items i ≡ Some Mark.Unseen → ⊥) }
+    {
+        let mut marks = unseen(alloc, self.hit.len())?;
+        for place in 0..self.hit.len() {
+            self.mark_from(alloc, &mut marks, place)?;
+        }
+        Ok(marks)
+    }
+}

@@ -1,0 +1,157 @@
+-- The first element of a list that passes a test.
+use Rattle.std.proofs.Common.{◌≡◌, ℕ, zero, suc, ◌+◌, ◌<◌, ◌≤◌, Bool, true, false, ◌&&◌, ◌||◌, cond, List, [], ◌∷◌, length, take, drop, find, get_or, nat_eq, nat_le, Option, Some, None, All, refl, sym, ap, ◌∙◌, inl, inr, arith}
+use Rattle.std.specs.Option.{option_or}
+use Rattle.std.proofs.lemmas.Bool.{and_parts, leb-true, eq-eqb, eqb-true, cases_lt, cases_Bool, and_left, and_right, and_from, or_cases, or_left, or_right}
+use Rattle.std.proofs.lemmas.List.{take_all, take_more, take-append-drop, drop_more}
+use Rattle.std.proofs.lemmas.List.Elements.{All-head, All-tail}
+use Rattle.std.proofs.lemmas.List.Folds.{find-append, list_any-append}
+use Rattle.sd_num.specs.Lists.{below, has, ascends}
+
+-- one more that fails
+pub find_more : {X : Type 0} (p : X → Bool) (xs : List X) (i : ℕ) (d : X) → i < length xs → find p (take i xs) ≡ None → p (get_or xs i d) ≡ false → find p (take (i + 1) xs) ≡ None
+find_more p xs i d within none fails =
+    ap (find p) (take_more xs i d within) ∙ find-append p (take i xs) (get_or xs i d ∷ []) ∙ ap (λ o. option_or o (cond (p (get_or xs i d)) (Some (get_or xs i d)) None)) none
+    ∙ ap (λ t. cond t (Some (get_or xs i d)) None) fails
+
+-- the first that passes
+pub find_here : {X : Type 0} (p : X → Bool) (xs : List X) (i : ℕ) (d : X) → i < length xs → find p (take i xs) ≡ None → p (get_or xs i d) ≡ true → find p xs ≡ Some (get_or xs i d)
+find_here p xs i d within none passes =
+    ap (find p) (sym (take-append-drop i xs)) ∙ find-append p (take i xs) (drop i xs) ∙ ap (λ o. option_or o (find p (drop i xs))) none
+    ∙ ap (find p) (drop_more xs i d within)
+    ∙ ap (λ t. cond t (Some (get_or xs i d)) (find p (drop (i + 1) xs))) passes
+
+-- none passes
+pub find_all : {X : Type 0} (p : X → Bool) (xs : List X) (i : ℕ) → length xs ≤ i → find p (take i xs) ≡ None → find p xs ≡ None
+find_all p xs i all none = ap (find p) (sym (take_all i xs all)) ∙ none
+
+-- where no number below n passes there is none
+none_below : (test : ℕ → Bool) (n : ℕ) → ((x : ℕ) → x < n → test x ≡ false) → find test (below n) ≡ None
+none_below test zero fails = refl
+none_below test (suc n) fails =
+    find-append test (below n) (n ∷ [])
+    ∙ ap (λ o. option_or o (cond (test n) (Some n) None)) (none_below test n (λ x before. fails x (omega arith)))
+    ∙ ap (λ t. cond t (Some n) None) (fails n (omega arith))
+
+-- the least that passes
+first_below : (test : ℕ → Bool) (k n : ℕ) → k < n → ((x : ℕ) → x < k → test x ≡ false) → test k ≡ true → find test (below n) ≡ Some k
+first_below test k zero within fails passes = absurd (omega arith)
+first_below test k (suc n) within fails passes =
+    find-append test (below n) (n ∷ [])
+    ∙ elim (cases_lt k n) [
+      | inl earlier ↦ ap (λ o. option_or o (cond (test n) (Some n) None)) (first_below test k n earlier fails passes)
+      | inr last ↦
+          (let same : n ≡ k = omega arith in
+          ap (λ o. option_or o (cond (test n) (Some n) None)) (none_below test n (λ x before. fails x (omega arith)))
+          ∙ ap (λ x. cond (test x) (Some x) None) same ∙ ap (λ t. cond t (Some k) None) passes)
+    ]
+
+-- what follows the first of numbers that ascend is greater
+later_greater : (x : ℕ) (xs : List ℕ) (e : ℕ) → ascends (x ∷ xs) ≡ true → has xs e ≡ true → x < e
+later_greater x [] e up there = cc
+later_greater x (y ∷ ys) e up there =
+    let parts : (nat_le (x + 1) y ≡ true) × (ascends (y ∷ ys) ≡ true) = and_parts (nat_le (x + 1) y) (ascends (y ∷ ys)) up in
+    let next : x + 1 ≤ y = leb-true (x + 1) y parts.0 in
+    elim (or_cases (nat_eq e y) (has ys e) there) [
+      | inl here ↦ (let same = eqb-true e y here in omega arith)
+      | inr more ↦ omega (arith, later_greater y ys e parts.1 more)
+    ]
+
+tail_ascends : (x : ℕ) (xs : List ℕ) → ascends (x ∷ xs) ≡ true → ascends xs ≡ true
+tail_ascends x [] up = refl
+tail_ascends x (y ∷ ys) up = (and_parts (nat_le (x + 1) y) (ascends (y ∷ ys)) up).1
+
+-- the first of numbers that ascend and pass is the least number that is one of them and passes
+record IsLeast (p : ℕ → Bool) (xs : List ℕ) (k : ℕ) : Type 0 where
+  there : has xs k ≡ true
+  passes : p k ≡ true
+  least : (e : ℕ) → e < k → has xs e ≡ true → p e ≡ false
+
+least_found : (p : ℕ → Bool) (xs : List ℕ) (k : ℕ) → ascends xs ≡ true → find p xs ≡ Some k → IsLeast p xs k
+least_found p [] k up found = cc
+least_found p (x ∷ xs) k up found = by_test (λ found. least_found p xs k (tail_ascends x xs up) found) (p x) refl found
+  where
+    by_test : (find p xs ≡ Some k → IsLeast p xs k) → (t : Bool) → p x ≡ t → cond t (Some x) (find p xs) ≡ Some k → IsLeast p (x ∷ xs) k
+    by_test later true is found =
+        let same : x ≡ k = cc in
+        record {
+          there = ap (λ t. t || has xs k) (eq-eqb k x (sym same));
+          passes = ap p (sym same) ∙ is;
+          least = λ e before there. elim (or_cases (nat_eq e x) (has xs e) there) [
+            | inl here ↦ (let equal = eqb-true e x here in absurd (omega arith))
+            | inr more ↦ (let after = later_greater x xs e up more in absurd (omega arith))
+          ];
+        }
+    by_test later false is found =
+        let rest = later found in
+        record {
+          there = ap (λ t. nat_eq k x || t) rest.there ∙ or_true (nat_eq k x);
+          passes = rest.passes;
+          least = λ e before there. elim (or_cases (nat_eq e x) (has xs e) there) [
+            | inl here ↦ ap p (eqb-true e x here) ∙ is
+            | inr more ↦ rest.least e before more
+          ];
+        }
+      where
+        or_true : (t : Bool) → (t || true) ≡ true
+        or_true true = refl
+        or_true false = refl
+
+pub none_found : (p : ℕ → Bool) (xs : List ℕ) (e : ℕ) → find p xs ≡ None → has xs e ≡ true → p e ≡ false
+none_found p [] e none there = cc
+none_found p (x ∷ xs) e none there = by_test (λ none more. none_found p xs e none more) (p x) refl none
+  where
+    by_test : (find p xs ≡ None → has xs e ≡ true → p e ≡ false) → (t : Bool) → p x ≡ t → cond t (Some x) (find p xs) ≡ None → p e ≡ false
+    by_test later true is none = cc
+    by_test later false is none =
+        elim (or_cases (nat_eq e x) (has xs e) there) [
+          | inl here ↦ ap p (eqb-true e x here) ∙ is
+          | inr more ↦ later none more
+        ]
+
+-- a number of a list is below what all are below
+has_below : (n : ℕ) (xs : List ℕ) (e : ℕ) → All (λ x. x < n) xs → has xs e ≡ true → e < n
+has_below n [] e all there = cc
+has_below n (x ∷ xs) e all there =
+    elim (or_cases (nat_eq e x) (has xs e) there) [
+      | inl here ↦ (let same = eqb-true e x here in let first = All-head (λ y. y < n) x xs all in omega arith)
+      | inr more ↦ has_below n xs e (All-tail (λ y. y < n) x xs all) more
+    ]
+
+-- of numbers that ascend, the first that passes is the least below n that is one of them and passes
+pub find_among : (p : ℕ → Bool) (xs : List ℕ) (n : ℕ) → ascends xs ≡ true → All (λ x. x < n) xs → find (λ d. has xs d && p d) (below n) ≡ find p xs
+find_among p xs n up all = by_found (find p xs) refl
+  where
+    by_found : (o : Option ℕ) → find p xs ≡ o → find (λ d. has xs d && p d) (below n) ≡ o
+    by_found None is =
+        none_below (λ d. has xs d && p d) n (λ x within. elim (cases_Bool (has xs x)) [
+          | inl there ↦ and_right (has xs x) (p x) (none_found p xs x is there)
+          | inr apart ↦ and_left (has xs x) (p x) apart
+        ])
+    by_found (Some k) is =
+        let least = least_found p xs k up is in
+        first_below (λ d. has xs d && p d) k n (has_below n xs k all least.there)
+        (λ x before. elim (cases_Bool (has xs x)) [
+          | inl there ↦ and_right (has xs x) (p x) (least.least x before there)
+          | inr apart ↦ and_left (has xs x) (p x) apart
+        ])
+        (and_from (has xs k) (p k) least.there least.passes)
+
+-- tests that agree find the same
+pub find_same : {X : Type 0} (p q : X → Bool) (xs : List X) → ((x : X) → p x ≡ q x) → find p xs ≡ find q xs
+find_same p q [] same = refl
+find_same p q (x ∷ xs) same = ap (λ t. cond t (Some x) (find p xs)) (same x) ∙ ap (λ o. cond (q x) (Some x) o) (find_same p q xs same)
+
+-- a test that nothing passes finds nothing
+pub find_never : {X : Type 0} (p : X → Bool) (xs : List X) → ((x : X) → p x ≡ false) → find p xs ≡ None
+find_never p [] fails = refl
+find_never p (x ∷ xs) fails = ap (λ t. cond t (Some x) (find p xs)) (fails x) ∙ find_never p xs fails
+
+-- a number below n is one of the numbers below n
+pub has-below : (n k : ℕ) → k < n → has (below n) k ≡ true
+has-below zero k within = absurd (omega arith)
+has-below (suc n) k within =
+    list_any-append (nat_eq k) (below n) (n ∷ [])
+    ∙ elim (cases_lt k n) [
+      | inl before ↦ or_left (has (below n) k) (has (n ∷ []) k) (has-below n k before)
+      | inr last ↦ or_right (has (below n) k) (has (n ∷ []) k) (or_left (nat_eq k n) false (eq-eqb k n (omega arith)))
+    ]

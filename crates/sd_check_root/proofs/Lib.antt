@@ -1,0 +1,5 @@
+mod Firsts
+mod Extremes
+mod Domains
+mod Paths
+mod Fallbacks

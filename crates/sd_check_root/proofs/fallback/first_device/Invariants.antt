@@ -1,0 +1,8 @@
+use Rattle.std.proofs.Common.{◌≡◌, ◌&&◌, not, None, find, take}
+use Rattle.sd_plan.specs.Plans.{is_root}
+use Rattle.sd_plan.specs.Walks.{on_walk}
+use Rattle.sd_topo.specs.Topologies.{network}
+use Rattle.sd_check_root.proofs.fallback.first_device.Given as goal
+
+abbrev pub invariant-loop-d : goal.invariant-loop-d
+invariant-loop-d l = find (λ d. not (is_root l.plan d) && on_walk (network l.topo) l.plan l.from d) (take l.d-index l.d-items) ≡ None

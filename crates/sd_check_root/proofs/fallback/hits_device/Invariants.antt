@@ -1,0 +1,9 @@
+use Rattle.std.proofs.Common.{◌≡◌, false, take}
+use Rattle.std.specs.List.{list_any}
+use Rattle.sd_plan.specs.Indexed.{has_device}
+use Rattle.sd_plan.specs.Walks.{path}
+use Rattle.sd_topo.specs.Topologies.{network}
+use Rattle.sd_check_root.proofs.fallback.hits_device.Given as goal
+
+abbrev pub invariant-loop-d : goal.invariant-loop-d
+invariant-loop-d l = list_any (has_device (path (network l.topo) l.plan l.plan.backup_root)) (take l.d-index l.d-items) ≡ false

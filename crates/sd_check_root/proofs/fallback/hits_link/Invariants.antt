@@ -1,0 +1,9 @@
+use Rattle.std.proofs.Common.{◌≡◌, false, take}
+use Rattle.std.specs.List.{list_any}
+use Rattle.sd_plan.specs.Indexed.{has_link}
+use Rattle.sd_plan.specs.Walks.{path}
+use Rattle.sd_topo.specs.Topologies.{network}
+use Rattle.sd_check_root.proofs.fallback.hits_link.Given as goal
+
+abbrev pub invariant-loop-l : goal.invariant-loop-l
+invariant-loop-l l = list_any (has_link (path (network l.topo) l.plan l.plan.backup_root)) (take l.l-index l.l-items) ≡ false

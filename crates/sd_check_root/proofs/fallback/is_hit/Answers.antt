@@ -1,0 +1,27 @@
+use Rattle.std.proofs.Common.{◌||◌, sym, ap, ◌∙◌}
+use Rattle.std.specs.List.{list_any}
+use Rattle.std.proofs.lemmas.Bool.{or_left}
+use Rattle.sd_plan.specs.Indexed.{has_device, has_link}
+use Rattle.sd_plan.specs.Walks.{path}
+use Rattle.sd_topo.specs.Topologies.{network}
+use Rattle.sd_check_root.specs.Parts.{devices_in, links_in}
+use Rattle.sd_check_root.proofs.Domains.{hits_lists}
+use Rattle.sd_check_root.proofs.fallback.is_hit.Goals as goal
+
+pub returns-then-hits_device : goal.returns-then-hits_device
+returns-then-hits_device c =
+    let net = network c.args.topo.now in
+    let things = path net c.args.plan.now c.args.plan.now.backup_root in
+    c.if-hits_device.true
+    ∙ sym
+    (hits_lists net c.args.f things c.requires.domain
+    ∙ or_left (list_any (has_device things) (devices_in net c.args.f)) (list_any (has_link things) (links_in net c.args.f)) (sym c.hits_device.ensures ∙ c.if-hits_device.true))
+
+pub returns-else-hits_device : goal.returns-else-hits_device
+returns-else-hits_device c =
+    let net = network c.args.topo.now in
+    let things = path net c.args.plan.now c.args.plan.now.backup_root in
+    c.hits_link.ensures
+    ∙ sym
+    (hits_lists net c.args.f things c.requires.domain
+    ∙ ap (λ t. t || list_any (has_link things) (links_in net c.args.f)) (sym c.hits_device.ensures ∙ c.if-hits_device.false))

@@ -1,0 +1,79 @@
+-- A plan that is accepted has no breach.
+use Rattle.std.proofs.Common.{◌≡◌, ℕ, Bool, true, false, ◌&&◌, ◌||◌, List, [], ◌∷◌, ◌++◌, Some, None, append_assoc, nat_eq, refl, sym, ap, ◌∙◌, subst, inl, inr, cond}
+use Rattle.std.specs.Prelude.{IsTrue}
+use Rattle.std.specs.List.{list_any}
+use Rattle.std.proofs.lemmas.Bool.{eq-eqb, eqb-true, cases_Bool}
+use Rattle.sd_topo.specs.Network.{Network}
+use Rattle.sd_domain.specs.declared.DomainId.{DomainId}
+use Rattle.sd_plan.specs.Walks.{end_of}
+use Rattle.sd_plan.specs.declared.Hop.{Hop}
+use Rattle.sd_plan.specs.declared.Plan.{Plan}
+use Rattle.sd_check_loop.specs.Loops.{hops_of, same_hop, is_walk, HasNoCycle, IsNextShown, IsChain, ShowsCycle, IsShownCycle}
+use Rattle.sd_checker.specs.Verdicts.{IsAccepted, IsBreach}
+use Rattle.sd_checker.specs.declared.Breach.{Breach}
+use Rattle.sd_checker.specs.declared.Breach.TheVariants as breach
+
+-- the end of a chain is a chain
+chain_tail : (R : ℕ → ℕ → Type 0) (lead xs : List ℕ) → IsChain R (lead ++ xs) → IsChain R xs
+chain_tail R [] xs chain = chain
+chain_tail R (l ∷ []) [] chain = tt
+chain_tail R (l ∷ []) (x ∷ xs) chain = chain.1
+chain_tail R (l ∷ m ∷ ms) xs chain = chain_tail R (m ∷ ms) xs chain.1
+
+same_self : (hop : Hop) → same_hop hop hop ≡ true
+same_self hop = ap (λ b. b && nat_eq hop.link hop.link) (eq-eqb hop.parent hop.parent refl) ∙ eq-eqb hop.link hop.link refl
+
+or_true : (a b : Bool) → b ≡ true → (a || b) ≡ true
+or_true true b is = refl
+or_true false b is = is
+
+-- the hop that leads to a device
+pick : (hs : List Hop) (e : ℕ) → list_any (λ (hop : Hop). nat_eq hop.parent e) hs ≡ true → (hop : Hop) × (hop.parent ≡ e) × (list_any (same_hop hop) hs ≡ true)
+pick [] e leads = cc
+pick (h ∷ hs) e leads = by_first (nat_eq h.parent e) refl (pick hs e)
+  where
+    by_first : (b : Bool) → nat_eq h.parent e ≡ b → (list_any (λ (hop : Hop). nat_eq hop.parent e) hs ≡ true → (hop : Hop) × (hop.parent ≡ e) × (list_any (same_hop hop) hs ≡ true))
+        → (hop : Hop) × (hop.parent ≡ e) × (list_any (same_hop hop) (h ∷ hs) ≡ true)
+    by_first true is further = (h, eqb-true h.parent e is, ap (λ b. b || list_any (same_hop h) hs) (same_self h))
+    by_first false is further =
+        let rest : list_any (λ (hop : Hop). nat_eq hop.parent e) hs ≡ true = ap (λ b. b || list_any (λ (hop : Hop). nat_eq hop.parent e) hs) (sym is) ∙ leads in
+        let (hop, to, found) = further rest in
+        (hop, to, or_true (same_hop hop h) (list_any (same_hop hop) hs) found)
+
+module _ (net : Network) (plan : Plan) (f : DomainId) where
+  -- a walk along a chain
+  abbrev WalksTo : ℕ → ℕ → Type 0
+  WalksTo d last = (hop : Hop) × (hs : List Hop) × (is_walk net plan f d (hop ∷ hs) ≡ true) × (end_of hop.parent hs ≡ last)
+
+  both : (a b : Bool) → a ≡ true → b ≡ true → (a && b) ≡ true
+  both a b is of = ap (λ c. c && b) is ∙ of
+
+  walk_of : (d : ℕ) (xs : List ℕ) (last : ℕ) → IsChain (IsNextShown net plan f) (d ∷ (xs ++ last ∷ [])) → WalksTo d last
+  walk_of d [] last chain =
+      let (hop, to, found) = pick (hops_of net plan f d) last chain.0.0.0 in
+      (hop, [], both (list_any (same_hop hop) (hops_of net plan f d)) true found refl, to)
+  walk_of d (e ∷ es) last chain =
+      let (hop, to, found) = pick (hops_of net plan f d) e chain.0.0.0 in
+      let (next, hs, walked, ends) = walk_of e es last chain.1 in
+      let on : is_walk net plan f hop.parent (next ∷ hs) ≡ true = subst (λ (x : ℕ). is_walk net plan f x (next ∷ hs) ≡ true) (sym to) walked in
+      (hop, next ∷ hs, both (list_any (same_hop hop) (hops_of net plan f d)) (is_walk net plan f hop.parent (next ∷ hs)) found on, ends)
+
+  no_shown : (cycle : List ℕ) → HasNoCycle net plan f → ShowsCycle net plan f cycle → ⊥
+  no_shown [] none shown = shown
+  no_shown (first ∷ others) none shown =
+      let whole = subst (λ (xs : List ℕ). IsChain (IsNextShown net plan f) xs) (append_assoc shown.lead (first ∷ others) (first ∷ [])) shown.goes_on in
+      let (hop, hs, walked, ends) = walk_of first others first (chain_tail (IsNextShown net plan f) shown.lead (first ∷ (others ++ first ∷ [])) whole) in
+      none first hop hs walked ends
+
+pub accepted_unbroken : (net : Network) (plan : Plan) (b : Breach) → IsAccepted net plan → IsBreach net plan b → ⊥
+accepted_unbroken net plan (breach.Structure rule device) accepted is = let none = accepted.domain_safe.loop_free.rooted.timely.well_formed.structure in cc (none, is)
+accepted_unbroken net plan (breach.Ancestor device) accepted is = let none = accepted.domain_safe.loop_free.rooted.timely.well_formed.ancestor in let some = is.1 in cc (none, some)
+accepted_unbroken net plan (breach.Timing t) accepted is = let none = accepted.domain_safe.loop_free.rooted.timely.timing in let some = is.1 in cc (none, some)
+accepted_unbroken net plan (breach.Root f at) accepted (timely, (k, there, before), shown) = let none = accepted.domain_safe.loop_free.rooted.root k f there in cc (none, shown)
+accepted_unbroken net plan (breach.Loop f cycle) accepted (rooted, (k, there, before), shown) = no_shown net plan f cycle (accepted.domain_safe.loop_free.loop k f there) shown
+accepted_unbroken net plan (breach.Domain f device) accepted (free, (k, there, before), shown) = accepted.domain_safe.domain k f there device shown.0
+accepted_unbroken net plan (breach.Reach f chain) accepted (safe, (k, there, before), shown) =
+    elim (accepted.reach k f there shown.first shown.starved.0) [
+      | inl fed ↦ shown.starved.1 fed
+      | inr is_cut ↦ is_cut shown.starved.2
+    ]

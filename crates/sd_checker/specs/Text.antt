@@ -1,0 +1,55 @@
+-- How a verdict is printed.
+use Rattle.std.specs.Prelude.{ℕ, List, [], ◌∷◌, ◌++◌, length, map, flat_map, codes, decimal}
+use Rattle.std.specs.List.{join_with_byte}
+use Rattle.sd_num.specs.Lists.{at_place}
+use Rattle.sd_topo.specs.Network.{Network}
+use Rattle.sd_topo.specs.declared.Thing.{Thing}
+use Rattle.sd_topo.specs.declared.Thing.TheVariants as thing
+use Rattle.sd_domain.specs.Domains.{domains}
+use Rattle.sd_domain.specs.declared.DomainId.{DomainId}
+use Rattle.sd_domain.specs.declared.DomainId.TheVariants as domain
+use Rattle.sd_checker.specs.declared.Breach.{Breach}
+use Rattle.sd_checker.specs.declared.Breach.TheVariants.{Structure, Ancestor, Timing, Root, Loop, Domain, Reach}
+
+abbrev pub device_name : Network → ℕ → List ℕ
+device_name net d = at_place net.devices d [] (λ device. device.name)
+
+abbrev pub link_name : Network → ℕ → List ℕ
+link_name net l = at_place net.links l [] (λ link. link.name)
+
+abbrev pub domain_name : Network → ℕ → List ℕ
+domain_name net k = at_place net.domains k [] (λ listed. listed.name)
+
+-- words, parted by a space
+abbrev pub spaced : List (List ℕ) → List ℕ
+spaced = join_with_byte 32
+
+abbrev pub domain_words : Network → DomainId → List (List ℕ)
+domain_words net (domain.Listed k) = codes "listed" ∷ domain_name net k ∷ []
+domain_words net (domain.Device d) = codes "device" ∷ device_name net d ∷ []
+domain_words net (domain.Link l) = codes "link" ∷ link_name net l ∷ []
+
+abbrev pub thing_words : Network → Thing → List (List ℕ)
+thing_words net (thing.Device d) = codes "device" ∷ device_name net d ∷ []
+thing_words net (thing.Link l) = codes "link" ∷ link_name net l ∷ []
+
+abbrev pub breach_words : Network → Breach → List (List ℕ)
+breach_words net (Structure rule d) = codes "structure" ∷ decimal rule ∷ codes "device" ∷ device_name net d ∷ []
+breach_words net (Ancestor d) = codes "ancestor" ∷ codes "device" ∷ device_name net d ∷ []
+breach_words net (Timing t) = codes "timing" ∷ decimal t.rule ∷ decimal t.left ∷ decimal t.right ∷ []
+breach_words net (Root f at) = codes "root" ∷ domain_words net f ++ codes "at" ∷ thing_words net at
+breach_words net (Loop f cycle) = codes "loop" ∷ domain_words net f ++ codes "cycle" ∷ map (device_name net) cycle
+breach_words net (Domain f d) = codes "domain" ∷ domain_words net f ++ codes "device" ∷ device_name net d ∷ []
+breach_words net (Reach f chain) = codes "reach" ∷ domain_words net f ++ codes "chain" ∷ map (device_name net) chain
+
+-- the line for a refused plan, the one at this place of the command from 1
+abbrev pub refused_line : Network → ℕ → Breach → List ℕ
+refused_line net place breach = spaced (codes "refused" ∷ codes "plan" ∷ decimal place ∷ breach_words net breach) ++ 10 ∷ []
+
+-- the line for an accepted plan: how many devices, links and domains there are
+abbrev pub accepted_line : Network → List ℕ
+accepted_line net = spaced (codes "accepted" ∷ decimal (length net.devices) ∷ decimal (length net.links) ∷ decimal (length (domains net)) ∷ []) ++ 10 ∷ []
+
+-- the names of devices, each behind a space
+abbrev pub named : Network → List ℕ → List ℕ
+named net devices = flat_map (λ d. 32 ∷ device_name net d) devices

@@ -1,0 +1,8 @@
+mod Picked
+mod Merged
+mod Bounds
+mod Counting
+mod Covered
+mod Cut
+mod Hits
+mod Law
