@@ -4,3 +4,5 @@ pub mod Reading
 pub mod Coming
 pub mod Commands
 pub mod Migrating
+pub mod PlanReading
+pub mod Completing

@@ -6,3 +6,7 @@ pub mod Outcome
 pub mod Steps
 pub mod Stops
 pub mod Loads
+pub mod PlanFiles
+pub mod PlanLoads
+pub mod Checks
+pub mod Writes

@@ -1,8 +1,6 @@
 -- What `migrate` writes and answers for the text of a topology.
 use Rattle.std.specs.Prelude.{◌≡◌, ℕ, ◌^◌, List, [], ◌∷◌, ◌++◌, length, nat_lt, Option, Result, Ok, Err, codes, decimal, if◌then◌else◌}
-use Rattle.std.specs.Io.KnownBytes.{Appends, Keeps}
 use Rattle.sd_num.specs.Texts.{text_of}
-use Rattle.sd_outside.specs.Fronts.{WritesFront}
 use Rattle.sd_topo.specs.Network.{Network}
 use Rattle.sd_topo.specs.Keys.{printed, printed_kind}
 use Rattle.sd_topo.specs.Meaning.{network_of}
@@ -11,8 +9,9 @@ use Rattle.sd_topo.specs.Reading.{tree_of}
 use Rattle.sd_topo.specs.declared.fault.Place.{Place}
 use Rattle.sd_topo.specs.declared.fault.TopoFault.{TopoFault}
 use Rattle.sd_topo.specs.declared.fault.TopoFault.TheVariants.{NotToml, Missing, WrongKind, Range, TwiceNamed, UnknownName, SelfLink, Limit, Memory as NoMemory}
+use Rattle.sd_top.specs.Writes.{WritesOnce}
 use Rattle.sd_top.specs.declared.Status.{Status}
-use Rattle.sd_top.specs.declared.Status.TheVariants.{Done, PlanRefused, Usage, InputRefused, ShelfFault, SinkFault, Memory, Broken}
+use Rattle.sd_top.specs.declared.Status.TheVariants.{Done, InputRefused}
 use Rattle.sd_top.specs.declared.TopologyFault.{TopologyFault}
 use Rattle.sd_top.specs.declared.TopologyFault.TheVariants.{TooLong, Text}
 
@@ -65,13 +64,6 @@ abbrev pub IsMigration : Result Network TopologyFault → List ℕ → Status �
 IsMigration (Ok net) bytes status = (network_of (tree_of bytes) ≡ Ok (with_version_two net)) × (status ≡ Done)
 IsMigration (Err why) bytes status = (bytes ≡ refused_topology why) × (status ≡ InputRefused)
 
--- all of it is written by one write: so nothing where the run finds no memory or the shelf fails, and some front where the sink fails
+-- all of it is written by one write
 abbrev pub MeetsMigration : Result Network TopologyFault → Option (List ℕ) → Option (List ℕ) → Status → Type 0
-MeetsMigration says old new ShelfFault = Keeps old new
-MeetsMigration says old new Memory = Keeps old new
-MeetsMigration says old new SinkFault = (bytes : List ℕ) × (status : Status) × IsMigration says bytes status × WritesFront old new bytes
-MeetsMigration says old new Done = (bytes : List ℕ) × IsMigration says bytes Done × Appends old new bytes
-MeetsMigration says old new PlanRefused = (bytes : List ℕ) × IsMigration says bytes PlanRefused × Appends old new bytes
-MeetsMigration says old new Usage = (bytes : List ℕ) × IsMigration says bytes Usage × Appends old new bytes
-MeetsMigration says old new InputRefused = (bytes : List ℕ) × IsMigration says bytes InputRefused × Appends old new bytes
-MeetsMigration says old new Broken = (bytes : List ℕ) × IsMigration says bytes Broken × Appends old new bytes
+MeetsMigration says old new status = WritesOnce (IsMigration says) old new status

@@ -1,12 +1,18 @@
 -- What a run writes and answers, as a function of its words and the held texts.
-use Rattle.std.specs.Prelude.{length, IfSome, ◌≡◌, ℕ, Bool, true, List, [], ◌∷◌, take, nat_eq, Option, None, Some, unwrap_or, codes, IsTrue, Ok}
+use Rattle.std.specs.Prelude.{length, IfSome, ◌≡◌, ℕ, Bool, true, List, [], ◌∷◌, take, nat_eq, Option, None, Some, unwrap_or, codes, IsTrue, Result, Ok}
 use Rattle.sd_stream.specs.Reader.{IsNear}
 use Rattle.sd_topo.specs.Network.{Network}
 use Rattle.std.specs.Io.KnownBytes.{Appends}
 use Rattle.sd_outside.specs.Fronts.{WritesFront}
 use Rattle.sd_top.specs.Words.{Command, command_of}
-use Rattle.sd_top.specs.Words.Command.{Solo, Migrate}
+use Rattle.sd_top.specs.Words.Command.{Solo, Check, Migrate}
+use Rattle.sd_plan.specs.declared.Plan.{Plan}
+use Rattle.sd_checker.specs.Verdicts.{IsAccepted}
+use Rattle.sd_top.specs.Checks.{IsCheck}
 use Rattle.sd_top.specs.Migration.{topology_of, MeetsMigration}
+use Rattle.sd_top.specs.PlanFiles.{plan_in_file}
+use Rattle.sd_top.specs.Writes.{WritesOnce}
+use Rattle.sd_top.specs.declared.TopologyFault.{TopologyFault}
 use Rattle.sd_top.specs.Schedules.{text_behind, reading, written_for, status_for}
 use Rattle.sd_top.specs.declared.Status.{Status}
 use Rattle.sd_top.specs.declared.Status.TheVariants.{Done, PlanRefused, Usage, InputRefused, ShelfFault, SinkFault, Memory, Broken}
@@ -23,7 +29,7 @@ abbrev pub held_text : (List ℕ → Option (List ℕ)) → List ℕ → List �
 held_text held name = unwrap_or (held name) []
 
 abbrev pub usage_outcome : Outcome
-usage_outcome = record { bytes = codes "usage: sundial solo SCHEDULE | migrate TOPOLOGY\n"; status = Usage }
+usage_outcome = record { bytes = codes "usage: sundial solo SCHEDULE | check TOPOLOGY PLAN | migrate TOPOLOGY\n"; status = Usage }
 
 -- whole lines: nothing, or what ends with a newline
 abbrev pub are_lines : List ℕ → Bool
@@ -54,18 +60,25 @@ refused_part text = text_behind (length (reading text).events) text
 abbrev pub NearRefusal : Option Command → (List ℕ → Option (List ℕ)) → Option (List ℕ) → Type 0
 NearRefusal None held rest = Unit {0}
 NearRefusal (Some (Solo schedule)) held rest = IsNear (Some (refused_part (held_text held schedule))) rest
+NearRefusal (Some (Check topology plan)) held rest = Unit {0}
 NearRefusal (Some (Migrate topology)) held rest = Unit {0}
 
--- the words are a command's, and none of its files is refused
+-- the topology and the plan are read, and the plan is accepted
+abbrev pub IsRightPlan : Result Network TopologyFault → List ℕ → Type 0
+IsRightPlan topology text = (net : Network) × (plan : Plan) × (topology ≡ Ok net) × (plan_in_file net text ≡ Ok plan) × IsAccepted net plan
+
+-- the words are a command's, none of its files is refused, and no plan either
 abbrev pub IsRight : Option Command → (List ℕ → Option (List ℕ)) → Type 0
 IsRight None held = ⊥
 IsRight (Some (Solo schedule)) held = (reading (held_text held schedule)).refused ≡ None
+IsRight (Some (Check topology plan)) held = IsRightPlan (topology_of (held_text held topology)) (held_text held plan)
 IsRight (Some (Migrate topology)) held = (net : Network) × (topology_of (held_text held topology) ≡ Ok net)
 
 -- what a command writes and answers over the held texts
 abbrev pub MeetsCommand : Option Command → (List ℕ → Option (List ℕ)) → Option (List ℕ) → Option (List ℕ) → Status → Type 0
 MeetsCommand None held old new status = Meets usage_outcome old new status
 MeetsCommand (Some (Solo schedule)) held old new status = Meets (solo_outcome (held_text held schedule)) old new status
+MeetsCommand (Some (Check topology plan)) held old new status = WritesOnce (IsCheck (topology_of (held_text held topology)) (held_text held plan)) old new status
 MeetsCommand (Some (Migrate topology)) held old new status = MeetsMigration (topology_of (held_text held topology)) old new status
 
 -- what the words write and answer over the held texts

@@ -1,9 +1,12 @@
 //! The whole work of the program, over any shelf and any sink.
 #![tactic(auto)]
 
+mod answer;
+mod check;
 mod lines;
 mod loading;
 mod migrate;
+mod plans;
 mod reasons;
 mod send;
 mod solo;
@@ -13,6 +16,7 @@ mod taking;
 mod tests;
 mod top;
 
+use sd_plantext::PlanFault;
 use sd_sched::LineFault;
 use sd_solo::SoloFault;
 use sd_topo::TopoFault;
@@ -73,4 +77,13 @@ pub enum TopologyFault {
     TooLong,
     /// The text is no topology.
     Text(TopoFault),
+}
+
+/// Why the file of a plan is refused.
+#[derive(Debug, Drop, PartialEq, Eq)]
+pub enum PlanFileFault {
+    /// The text has more than 2^26 bytes.
+    TooLong,
+    /// The text is no plan of the topology.
+    Text(PlanFault),
 }

@@ -3,8 +3,9 @@ ghost use Rattle.sd_num.specs.Texts.{text_of};
 ghost use Rattle.sd_solo.specs.Histories.{report_text};
 ghost use Rattle.sd_top.specs.Reasons.{refused_text};
 ghost use Rattle.sd_top.specs.Migration.{refused_topology};
+ghost use Rattle.sd_top.specs.PlanFiles.{refused_plan_text};
 
-use crate::{ScheduleFault, TopologyFault};
+use crate::{PlanFileFault, ScheduleFault, TopologyFault};
 use sd_clock::Report;
 use std::alloc::{AllocError, Global};
 
@@ -39,5 +40,17 @@ pub fn refused_topology_line(alloc: Global, fault: &TopologyFault) -> Result<Str
     ensures { IfOk result (λ s. string_bytes s ≡ refused_topology fault.now) }
 {
     let text = format!(in alloc; "input topology {fault}\n")?;
+    Ok(text)
+}
+
+/// The line of a plan whose text is refused, with the plan's place in the command, from 1.
+pub fn refused_plan_line(
+    alloc: Global,
+    place: u32,
+    fault: &PlanFileFault,
+) -> Result<String, AllocError>
+    ensures { IfOk result (λ s. string_bytes s ≡ refused_plan_text place fault.now) }
+{
+    let text = format!(in alloc; "input plan {place} {fault}\n")?;
     Ok(text)
 }

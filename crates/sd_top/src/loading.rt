@@ -24,6 +24,8 @@ pub fn load_topology<S: Shelf>(alloc: Global, shelf: &mut S) -> Result<Loaded, S
     ensures shelf { result ≡ Err Stop.Shelf → Rose (S.faults shelf.old) (S.faults shelf.new) }
     ensures never_sink { result ≢ Err Stop.Sink }
     ensures later { S.faults shelf.old ≤ S.faults shelf.new }
+    ensures same_held { S.held shelf.new ≡ S.held shelf.old }
+    ensures same_names { S.serves shelf.new ≡ S.serves shelf.old }
 {
     let bytes = match read_whole(alloc, shelf) {
         Ok(bytes) => bytes,

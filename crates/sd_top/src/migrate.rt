@@ -5,6 +5,7 @@ ghost use Rattle.sd_top.specs.Migration.{topology_of, IsMigration, MeetsMigratio
 ghost use Rattle.sd_top.specs.Stops.{status_in, is_final};
 
 use crate::Status;
+use crate::answer::Answer;
 use crate::lines::refused_topology_line;
 use crate::loading::{Loaded, load_topology};
 use crate::send::send;
@@ -13,31 +14,24 @@ use sd_outside::{Shelf, Sink};
 use sd_topo::topology_text;
 use std::alloc::Global;
 
-/// What a migration writes, and its status.
-#[derive(Drop)]
-pub struct Migration {
-    text: Vec<u8>,
-    status: Status,
-}
-
 /// The text of the same topology with version 2, or the line of its refusal.
-fn migration_of(alloc: Global, loaded: &Loaded) -> Result<Migration, Stop>
-    ensures migrates { IfOk result (λ migration. SaysAlso loaded.now (λ says. IsMigration says migration.text.items migration.status)) }
-    ensures not_stopped { IfOk result (λ migration. IsTrue (is_final migration.status)) }
+fn migration_of(alloc: Global, loaded: &Loaded) -> Result<Answer, Stop>
+    ensures migrates { IfOk result (λ answer. SaysAlso loaded.now (λ says. IsMigration says answer.text.items answer.status)) }
+    ensures not_stopped { IfOk result (λ answer. IsTrue (is_final answer.status)) }
     ensures never_shelf { result ≢ Err Stop.Shelf }
     ensures never_sink { result ≢ Err Stop.Sink }
 {
     match loaded {
         Loaded::Topology(topology) => {
             let text = topology_text(alloc, topology)?;
-            Ok(Migration {
+            Ok(Answer {
                 text,
                 status: Status::Done,
             })
         }
         Loaded::Refused(fault) => {
             let line = refused_topology_line(alloc, fault)?;
-            Ok(Migration {
+            Ok(Answer {
                 text: line.into_bytes(),
                 status: Status::InputRefused,
             })
@@ -46,10 +40,10 @@ fn migration_of(alloc: Global, loaded: &Loaded) -> Result<Migration, Stop>
 }
 
 /// Reads the begun topology, and makes what its migration writes.
-fn make_migration<S: Shelf>(alloc: Global, shelf: &mut S) -> Result<Migration, Stop>
+fn make_migration<S: Shelf>(alloc: Global, shelf: &mut S) -> Result<Answer, Stop>
     requires { IsTrue (S.begun shelf.old) }
-    ensures migrates { IfOk result (λ migration. IfSome (S.rest shelf.old) (λ text. IsMigration (topology_of text) migration.text.items migration.status)) }
-    ensures not_stopped { IfOk result (λ migration. IsTrue (is_final migration.status)) }
+    ensures migrates { IfOk result (λ answer. IfSome (S.rest shelf.old) (λ text. IsMigration (topology_of text) answer.text.items answer.status)) }
+    ensures not_stopped { IfOk result (λ answer. IsTrue (is_final answer.status)) }
     ensures shelf { result ≡ Err Stop.Shelf → Rose (S.faults shelf.old) (S.faults shelf.new) }
     ensures never_sink { result ≢ Err Stop.Sink }
     ensures later { S.faults shelf.old ≤ S.faults shelf.new }
@@ -70,7 +64,7 @@ pub fn migrate_topology<S: Shelf, O: Sink>(
     ensures shelf { result ≡ Err Stop.Shelf → Rose (S.faults shelf.old) (S.faults shelf.new) }
     ensures sink { result ≡ Err Stop.Sink → Rose (O.faults out.old) (O.faults out.new) }
 {
-    let Migration { text, status } = make_migration(alloc, shelf)?;
+    let Answer { text, status } = make_migration(alloc, shelf)?;
     send(out, text.as_slice())?;
     Ok(status)
 }

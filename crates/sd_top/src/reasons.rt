@@ -1,8 +1,10 @@
 ghost use Rattle.std.specs.Prelude.{◌≡◌, Some};
 ghost use Rattle.sd_top.specs.Reasons.{reason};
 ghost use Rattle.sd_top.specs.Migration.{topology_reason, fault_name};
+ghost use Rattle.sd_top.specs.PlanFiles.{plan_reason};
 
-use crate::{ScheduleFault, TopologyFault};
+use crate::{PlanFileFault, ScheduleFault, TopologyFault};
+use sd_plantext::{PlanFault, PlanPlace};
 use sd_sched::LineFault;
 use sd_topo::TopoFault;
 use std::fmt;
@@ -66,5 +68,29 @@ impl fmt::Display for TopologyFault {
             }
             TopoFault::NotToml | TopoFault::Memory => write!(f, "{name}"),
         }
+    }
+}
+
+impl fmt::Display for PlanFileFault {
+    ghost output = { λ fault. Some (plan_reason fault) };
+
+    fn fmt<W: fmt::Write>(&self, f: &mut fmt::Formatter<W>) -> fmt::Result {
+        let fault = match self {
+            PlanFileFault::TooLong => return write!(f, "TooLong"),
+            PlanFileFault::Text(fault) => fault,
+        };
+        let (name, place) = match fault {
+            PlanFault::Missing(place) => ("Missing", place),
+            PlanFault::WrongKind(place) => ("WrongKind", place),
+            PlanFault::Range(place) => ("Range", place),
+            PlanFault::UnknownName(place) => ("UnknownName", place),
+            PlanFault::TwiceNamed(place) => ("TwiceNamed", place),
+            PlanFault::Version(number) => return write!(f, "Version {number}"),
+            PlanFault::NotJson => return write!(f, "NotJson"),
+            PlanFault::Memory => return write!(f, "Memory"),
+        };
+        let PlanPlace { key, entry } = *place;
+        let word = key.word();
+        write!(f, "{name} {word} {entry}")
     }
 }

@@ -1,5 +1,6 @@
 ghost use Rattle.std.specs.Prelude.{◌≡◌, ◌≤◌, false, IfOk};
 
+mod check;
 mod migrate;
 
 use super::*;
@@ -308,7 +309,7 @@ fn other_words_are_usage(rt: HostRuntime) -> Result<(), Fail> {
         assert_eq!(rt; status, Status::Usage);
         assert_eq!(rt;
             out.bytes(),
-            b"usage: sundial solo SCHEDULE | migrate TOPOLOGY\n".as_slice()
+            b"usage: sundial solo SCHEDULE | check TOPOLOGY PLAN | migrate TOPOLOGY\n".as_slice()
         );
     }
     Ok(())

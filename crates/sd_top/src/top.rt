@@ -3,10 +3,13 @@ ghost use Rattle.sd_outside.specs.Causes.{Rose};
 ghost use Rattle.sd_stream.specs.Reader.{IsNear};
 ghost use Rattle.sd_solo.specs.Promises.{ReportsContain};
 ghost use Rattle.sd_top.specs.Words.{Command, command_of, files_of};
+ghost use Rattle.sd_top.specs.Checks.{IsCheck};
 ghost use Rattle.sd_top.specs.Migration.{topology_of, MeetsMigration};
+ghost use Rattle.sd_top.specs.Writes.{WritesOnce};
 ghost use Rattle.sd_top.specs.Outcome.{MeetsOutcome, Meets, IsRight, NearRefusal, held_text, solo_outcome, usage_outcome, refused_part};
 
 use crate::Status;
+use crate::check::check_files;
 use crate::migrate::migrate_topology;
 use crate::solo::replay_solo;
 use crate::stop::Stop;
@@ -45,6 +48,13 @@ pub fn run<S: Shelf, O: Sink>(alloc: Global, words: &[String], shelf: &mut S, ou
             shelf,
             out,
         ),
+        [command, topology, plan] if command.as_str() == "check" => check(
+            alloc,
+            topology.as_str(),
+            plan.as_str(),
+            shelf,
+            out,
+        ),
         _ => usage(out),
     }
 }
@@ -62,6 +72,26 @@ fn solo<S: Shelf, O: Sink>(alloc: Global, schedule: &str, shelf: &mut S, out: &m
         Err(_) => return Stop::Shelf.status(),
     }
     match replay_solo(alloc, shelf, out) {
+        Ok(status) => status,
+        Err(stop) => stop.status(),
+    }
+}
+
+/// Judges a plan.
+fn check<S: Shelf, O: Sink>(
+    alloc: Global,
+    topology: &str,
+    plan: &str,
+    shelf: &mut S,
+    out: &mut O,
+) -> Status
+    requires topology { IsTrue (S.serves shelf.old topology.now) }
+    requires plan { IsTrue (S.serves shelf.old plan.now) }
+    ensures outcome { IfSome (S.held shelf.old) (λ held. WritesOnce (IsCheck (topology_of (held_text held topology.now)) (held_text held plan.now)) (O.written out.old) (O.written out.new) result) }
+    ensures shelf { result ≡ Status.ShelfFault → Rose (S.faults shelf.old) (S.faults shelf.new) }
+    ensures sink { result ≡ Status.SinkFault → Rose (O.faults out.old) (O.faults out.new) }
+{
+    match check_files(alloc, topology, plan, shelf, out) {
         Ok(status) => status,
         Err(stop) => stop.status(),
     }
@@ -90,7 +120,7 @@ fn usage<O: Sink>(out: &mut O) -> Status
     ensures status { (result ≡ Status.Usage) ⊎ (result ≡ Status.SinkFault) }
     ensures sink { result ≡ Status.SinkFault → Rose (O.faults out.old) (O.faults out.new) }
 {
-    match out.write(b"usage: sundial solo SCHEDULE | migrate TOPOLOGY\n") {
+    match out.write(b"usage: sundial solo SCHEDULE | check TOPOLOGY PLAN | migrate TOPOLOGY\n") {
         Ok(()) => Status::Usage,
         Err(_) => Status::SinkFault,
     }

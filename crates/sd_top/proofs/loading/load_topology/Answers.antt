@@ -24,4 +24,6 @@ returns g c =
       shelf = λ failed. absurd (c.refused.ensures.never_shelf failed);
       never_sink = c.refused.ensures.never_sink;
       later = search rules;
+      same_held = search rules;
+      same_names = search rules;
     }
