@@ -1,11 +1,10 @@
 //! The hit devices as a graph: each leads to those of its parents that are hit too.
 ghost use Rattle.std.specs.Prelude.{◌≡◌, ◌<◌, length, IsTrue, IfOk, All};
 ghost use Rattle.sd_num.specs.Lists.{ascends};
-ghost use Rattle.sd_plan.specs.Plans.{primary_of, backup_of};
 ghost use Rattle.sd_check_loop.specs.Graphs as graphs;
 
 use sd_num::NoMemory;
-use sd_plan::{Hop, Plan};
+use sd_plan::{Hop, Plan, backup_of, primary_of};
 use std::alloc::Global;
 
 /// The places, in the list of the hit devices, of the parents that are hit too.
@@ -34,18 +33,6 @@ fn parent_place(hit: &[u32], hop: Option<Hop>) -> Option<usize>
     }
 }
 
-/// The primary and the backup hop of a device.
-fn hops_of(plan: &Plan, d: u32) -> (Option<Hop>, Option<Hop>)
-    requires { d < length plan.now.rows }
-    ensures primary { result.0 ≡ primary_of plan.now d }
-    ensures backup { result.1 ≡ backup_of plan.now d }
-{
-    match plan.rows.as_slice()[d as usize] {
-        Some(row) => (Some(row.primary), row.backup),
-        None => (None, None),
-    }
-}
-
 /// Where a hit device leads: nowhere from the root and the backup root.
 #[tactic(auto, unfolding(crate::specs::Graphs::successors_of))]
 fn successors_of(plan: &Plan, hit: &[u32], d: u32) -> Successors
@@ -59,7 +46,8 @@ fn successors_of(plan: &Plan, hit: &[u32], d: u32) -> Successors
             backup: None,
         };
     }
-    let (primary, backup) = hops_of(plan, d);
+    let primary = primary_of(plan, d);
+    let backup = backup_of(plan, d);
     Successors {
         primary: parent_place(hit, primary),
         backup: parent_place(hit, backup),

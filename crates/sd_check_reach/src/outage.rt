@@ -113,10 +113,7 @@ impl Outage<'_> {
         requires device { d < length (network self.now.topo.now).devices }
         ensures { result ≡ backup_of self.now.plan.now d }
     {
-        match self.plan.rows.as_slice()[d as usize] {
-            Some(row) => row.backup,
-            None => None,
-        }
+        sd_plan::backup_of(self.plan, d)
     }
 
     /// Whether the domain takes the backup of a device, which it leaves and which is no root.

@@ -7,7 +7,7 @@ ghost use Rattle.sd_check_root.specs.Roots as roots;
 ghost use Rattle.sd_domain.specs.Domains as domains;
 ghost use Rattle.sd_domain.specs.Domains.{IsDomain};
 ghost use Rattle.sd_plan.specs.Indexed.{IsIndexOf, has_device, has_link};
-ghost use Rattle.sd_plan.specs.Plans.{Fits, is_member, is_root, backup_of};
+ghost use Rattle.sd_plan.specs.Plans.{Fits, is_member, is_root};
 ghost use Rattle.sd_plan.specs.Structure.{structure_breach};
 ghost use Rattle.sd_plan.specs.Walks as walks;
 ghost use Rattle.sd_plan.specs.declared.Plan.{Plan as PlanSeen};
@@ -17,7 +17,7 @@ ghost use Rattle.sd_topo.specs.Topologies.{network};
 use crate::things::{devices_in, links_in};
 use sd_domain::{DomainId, holds_device};
 use sd_num::NoMemory;
-use sd_plan::{Hop, Plan, WalkIndex};
+use sd_plan::{Hop, Plan, WalkIndex, backup_of};
 use sd_topo::{Thing, Topology};
 use std::alloc::Global;
 
@@ -117,24 +117,13 @@ fn first_link(topo: &Topology, index: &WalkIndex, f: DomainId, hop: Hop) -> Opti
     None
 }
 
-/// The backup of the backup root.
-fn backup_hop(plan: &Plan) -> Option<Hop>
-    requires { plan.now.backup_root < length plan.now.rows }
-    ensures { result ≡ backup_of plan.now plan.now.backup_root }
-{
-    match plan.rows.as_slice()[plan.backup_root as usize] {
-        Some(row) => row.backup,
-        None => None,
-    }
-}
-
 /// What a domain has of what the backup root falls back on.
 fn fallback_breach(topo: &Topology, plan: &Plan, index: &WalkIndex, f: DomainId) -> Option<Thing>
     requires domain { IsDomain (network topo.now) f }
     requires indexed { IsIndexOf (network topo.now) plan.now index.now }
     ensures { result ≡ roots.fallback_breach (network topo.now) plan.now f }
 {
-    match backup_hop(plan) {
+    match backup_of(plan, plan.backup_root) {
         Some(hop) => match first_device(topo, plan, index, f, hop.parent) {
             Some(d) => Some(Thing::Device(d)),
             None => match first_link(topo, index, f, hop) {

@@ -6,7 +6,7 @@ mod things;
 mod waits;
 
 pub use fallback::{root_breach, root_breach_in};
-pub use waits::timing_breach;
+pub use waits::{greatest_up, silence_and_tick, timing_breach};
 
 /// The first timing inequality that a plan breaks, with both sides in picoseconds.
 #[derive(Clone, Copy, Debug, PartialEq, Eq)]

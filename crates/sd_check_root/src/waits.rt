@@ -28,8 +28,8 @@ fn greater(a: u128, b: u128) -> u128
     if a < b { b } else { a }
 }
 
-/// The greatest reference time that passes meanwhile.
-fn greatest_up(topo: &Topology, x: u64) -> u128
+/// The greatest reference time in ps that passes while the counter of any device advances by `x`.
+pub fn greatest_up(topo: &Topology, x: u64) -> u128
     ensures is { result ≡ network_words.greatest_up (network topo.now) x }
     ensures bound { result ≤ 2 * x + 2 ^ 40 }
 {
@@ -40,8 +40,8 @@ fn greatest_up(topo: &Topology, x: u64) -> u128
     greatest
 }
 
-/// The greatest reference time that a device with a sound path stays silent, and a tick.
-fn silence_and_tick(topo: &Topology) -> u128
+/// The greatest reference time in ps that a device with a sound path stays silent, and a tick.
+pub fn silence_and_tick(topo: &Topology) -> u128
     ensures is { result ≡ times.silence (network topo.now) + (network topo.now).params.tick }
     ensures bound { result ≤ 2 ^ 80 }
 {

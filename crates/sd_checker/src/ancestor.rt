@@ -6,8 +6,7 @@ ghost use Rattle.sd_plan.specs.Plans as plans;
 ghost use Rattle.sd_plan.specs.Structure as structure;
 ghost use Rattle.sd_topo.specs.Topologies.{network};
 
-use crate::structure::backup_of;
-use sd_plan::{Plan, WalkIndex};
+use sd_plan::{Plan, WalkIndex, backup_of};
 use sd_topo::Topology;
 
 /// Whether a device is on the short walk of a member: its walk cut at the first of backup root and

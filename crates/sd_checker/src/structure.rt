@@ -11,7 +11,7 @@ ghost use Rattle.sd_topo.specs.Network as networks;
 ghost use Rattle.sd_topo.specs.Network.{device_numbers};
 ghost use Rattle.sd_topo.specs.Topologies.{network};
 
-use sd_plan::{Hop, Plan};
+use sd_plan::{Hop, Plan, backup_of, primary_of};
 use sd_topo::Topology;
 
 /// A rule that each device keeps by itself. The first rule, on the two roots, is none of these.
@@ -51,28 +51,6 @@ fn is_present(plan: &Plan, link: u32) -> bool
     ensures { result ≡ plans.is_present plan.now link }
 {
     !lists(plan.absent.links.as_slice(), link)
-}
-
-/// The primary parent of a device.
-fn primary_of(plan: &Plan, d: u32) -> Option<Hop>
-    requires { d < length plan.now.rows }
-    ensures { result ≡ plans.primary_of plan.now d }
-{
-    match plan.rows.as_slice()[d as usize] {
-        Some(row) => Some(row.primary),
-        None => None,
-    }
-}
-
-/// The backup parent of a device.
-pub(crate) fn backup_of(plan: &Plan, d: u32) -> Option<Hop>
-    requires { d < length plan.now.rows }
-    ensures { result ≡ plans.backup_of plan.now d }
-{
-    match plan.rows.as_slice()[d as usize] {
-        Some(row) => row.backup,
-        None => None,
-    }
 }
 
 /// Whether a device has a row exactly where it is a member other than the root.

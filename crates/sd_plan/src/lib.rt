@@ -1,6 +1,7 @@
 //! Plans: who follows whom, over which link, and what each device is told.
 #![tactic(auto)]
 
+mod hops;
 mod index;
 mod lists;
 mod paths;
@@ -8,6 +9,7 @@ mod table;
 #[cfg(test)]
 mod tests;
 
+pub use hops::{backup_of, primary_of};
 pub use index::{Span, WalkIndex};
 pub use lists::{DeviceList, RowList, ThingList};
 pub use paths::{epath, path};

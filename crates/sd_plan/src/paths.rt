@@ -6,6 +6,7 @@ ghost use Rattle.sd_plan.specs.Plans.{Fits};
 ghost use Rattle.sd_plan.specs.Plans as plans;
 ghost use Rattle.sd_plan.specs.Walks as walks;
 
+use crate::hops::primary_of;
 use crate::{Hop, Plan, ThingList};
 use sd_num::NoMemory;
 use sd_topo::{Thing, Topology};
@@ -28,17 +29,6 @@ impl Cut {
             Cut::Root => d == plan.root,
             Cut::EitherRoot => d == plan.root || d == plan.backup_root,
         }
-    }
-}
-
-/// The primary parent of a device, with the link to it.
-pub(crate) fn primary_of(plan: &Plan, d: u32) -> Option<Hop>
-    requires { d < length plan.now.rows }
-    ensures { result ≡ plans.primary_of plan.now d }
-{
-    match plan.rows.as_slice()[d as usize] {
-        Some(row) => Some(row.primary),
-        None => None,
     }
 }
 

@@ -6,7 +6,7 @@ ghost use Rattle.sd_plan.specs.Plans.{Fits, primary_of};
 ghost use Rattle.sd_plan.specs.Structure.{structure_breach};
 ghost use Rattle.sd_plan.specs.Indexed.{carried_over, goes_over};
 
-use crate::{Plan, paths};
+use crate::{Plan, hops};
 use sd_num::NoMemory;
 use sd_topo::Topology;
 use std::alloc::Global;
@@ -28,7 +28,7 @@ fn carry(carried: &mut [Option<u32>], plan: &Plan, d: u32)
     ensures { (l : ℕ) → l < length carried.old → slice_index_or carried.new l None
         ≡ (if goes_over plan.now l d then Some d else slice_index_or carried.old l None) }
 {
-    if let Some(hop) = paths::primary_of(plan, d) {
+    if let Some(hop) = hops::primary_of(plan, d) {
         carried[hop.link as usize] = Some(d);
     }
 }

@@ -5,7 +5,7 @@ ghost use Rattle.sd_topo.specs.Topologies.{network};
 ghost use Rattle.sd_plan.specs.Plans.{Fits};
 ghost use Rattle.sd_plan.specs.Subtrees as subtrees;
 
-use crate::paths::primary_of;
+use crate::hops::primary_of;
 use crate::{DeviceList, Plan};
 use sd_num::NoMemory;
 use sd_topo::Topology;

@@ -8,23 +8,11 @@ ghost use Rattle.sd_plan.specs.Duties as duties;
 ghost use Rattle.sd_plan.specs.Structure.{structure_breach};
 ghost use Rattle.sd_plan.specs.Tables.{told_of, EndsAt};
 
-use crate::paths::primary_of;
+use crate::hops::{backup_of, primary_of};
 use crate::{Duty, Edge, Hop, Plan, Role};
 use sd_num::NoMemory;
 use sd_topo::Topology;
 use std::alloc::Global;
-
-/// The backup parent of a device.
-pub(crate) fn backup_of(plan: &Plan, d: u32) -> Option<Hop>
-    requires { d < length plan.now.rows }
-    ensures { result ≡ plans.backup_of plan.now d }
-{
-    let rows = plan.rows.as_slice();
-    match rows[d as usize] {
-        Some(row) => row.backup,
-        None => None,
-    }
-}
 
 /// Whether the plan says something of a device.
 fn has_row(plan: &Plan, d: u32) -> bool

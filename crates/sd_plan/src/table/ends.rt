@@ -7,8 +7,7 @@ ghost use Rattle.sd_plan.specs.Duties as duties;
 ghost use Rattle.sd_plan.specs.Structure.{structure_breach};
 ghost use Rattle.sd_plan.specs.Tables.{ends_before, end_below};
 
-use super::duties::backup_of;
-use crate::paths::primary_of;
+use crate::hops::{backup_of, primary_of};
 use crate::{End, Hop, Plan};
 use sd_num::NoMemory;
 use sd_topo::Topology;
