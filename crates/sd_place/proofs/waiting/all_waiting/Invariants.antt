@@ -1,0 +1,6 @@
+use Rattle.std.proofs.Common.{take}
+use Rattle.sd_place.specs.Waits.{AreWaiting}
+use Rattle.sd_place.proofs.waiting.all_waiting.Given as goal
+
+abbrev pub invariant-loop-placed : goal.invariant-loop-placed
+invariant-loop-placed l = AreWaiting l.hops l.placement.order (take l.placed-index l.placement.order) l.waiting

@@ -1,0 +1,4 @@
+pub mod Spreading
+pub mod Placements
+pub mod PlacementView
+pub mod Sweeps

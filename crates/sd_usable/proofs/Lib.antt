@@ -1,0 +1,5 @@
+mod Listing
+mod Over
+mod Turned
+pub mod Laws
+mod Single
