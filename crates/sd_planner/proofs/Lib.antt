@@ -1,0 +1,5 @@
+mod Least
+mod Bounds
+mod Rows
+mod Fitting
+pub mod Single

@@ -1,0 +1,98 @@
+//! Greedy plans of small networks that are read.
+mod counted;
+mod plain;
+
+use super::*;
+use counted::{counted, text_of};
+use plain::plain_rows;
+use sd_plan::{Absent, DeviceList, Hop, Plan, PlanRow};
+use sd_topo::read_topology;
+use std::process::Abort;
+use std::test::Fail;
+
+/// Two spines and three leaves.
+const FABRIC: &str = r#"
+    version = 1
+    ppm = 200
+    grain = 1000
+    period = 100000000
+    tick = 10000000
+    loss = 1
+    depth = 3
+    roots = ["s1", "s2"]
+    device = [{ name = "s1" }, { name = "s2" }, { name = "l1" }, { name = "l2" }, { name = "l3" }]
+    link = [
+        { name = "a1", ends = ["s1", "l1"], min = 400000, max = 1000000 },
+        { name = "a2", ends = ["s1", "l2"], min = 400000, max = 1000000 },
+        { name = "a3", ends = ["s1", "l3"], min = 400000, max = 1000000 },
+        { name = "b1", ends = ["s2", "l1"], min = 400000, max = 1000000 },
+        { name = "b2", ends = ["s2", "l2"], min = 400000, max = 1000000 },
+        { name = "b3", ends = ["s2", "l3"], min = 400000, max = 1000000 },
+    ]
+"#;
+
+/// A row with a primary and a backup.
+fn row(parent: u32, link: u32, backup: u32, backup_link: u32) -> Option<PlanRow> {
+    Some(PlanRow {
+        primary: Hop { parent, link },
+        backup: Some(Hop {
+            parent: backup,
+            link: backup_link,
+        }),
+    })
+}
+
+#[test]
+fn the_fabric_has_its_plan(rt: HostRuntime) -> Result<(), Fail> {
+    let topo = read_topology(rt.alloc(), FABRIC.as_bytes())?;
+    assert!(rt; topo.devices() == 5);
+    let absent = Absent {
+        devices: DeviceList::new(rt.alloc()),
+        links: DeviceList::new(rt.alloc()),
+    };
+    let Planned::Plan(plan) = plan_for(rt.alloc(), &topo, 0, &absent)? else {
+        panic!(rt; "the fabric's plan is refused");
+    };
+    assert!(rt; plan.root == 0 && plan.backup_root == 1);
+    let waits = (plan.wait_first, plan.wait_second, plan.wait);
+    assert!(rt; waits == (712_269_454, 712_269_454, 3_561_917_200));
+    let rows = plan.rows.as_slice();
+    assert!(rt; rows.len() == 5);
+    assert!(rt; rows.first() == Some(&None));
+    assert!(rt; rows.get(1) == Some(&row(2, 3, 3, 4)));
+    assert!(rt; rows.get(2) == Some(&row(0, 0, 1, 3)));
+    assert!(rt; rows.get(3) == Some(&row(0, 1, 1, 4)));
+    assert!(rt; rows.get(4) == Some(&row(0, 2, 1, 5)));
+    Ok(())
+}
+
+/// The greedy plan, accepted or not.
+fn plan_of(planned: Planned) -> Plan {
+    match planned {
+        Planned::Plan(plan) => plan,
+        Planned::NoPlan(plan, _) => plan,
+    }
+}
+
+/// Whether the planner makes the rows of the plain program of a counted network.
+fn agrees(rt: &(impl Abort + AllocGlobal), number: u32) -> Result<bool, Fail> {
+    let net = counted(rt.alloc(), number)?;
+    let text = text_of(rt.alloc(), &net)?;
+    let topo = read_topology(rt.alloc(), text.as_bytes())?;
+    assert!(rt; topo.devices() == 6);
+    let absent = Absent {
+        devices: DeviceList::new(rt.alloc()),
+        links: DeviceList::new(rt.alloc()),
+    };
+    let plan = plan_of(plan_for(rt.alloc(), &topo, 0, &absent)?);
+    let rows = plain_rows(rt.alloc(), &net)?;
+    Ok(plan.rows.as_slice() == rows.as_slice())
+}
+
+#[test]
+fn plans_are_those_of_a_plain_program(rt: HostRuntime) -> Result<(), Fail> {
+    for number in 0..300u32 {
+        assert!(rt; agrees(&rt, number)?);
+    }
+    Ok(())
+}
