@@ -1,0 +1,39 @@
+use Rattle.std.proofs.Common.{arith}
+use Rattle.sd_core.specs.Calls.{Tick, Life}
+use Rattle.sd_core.specs.Standing.{StandsFor}
+use Rattle.sd_core.proofs.Keeping.{TickKeeps, tick_keeps}
+use Rattle.sd_core.proofs.Stands.{Stood, stood}
+use Rattle.sd_core.proofs.device.DeviceNode.on_tick.Goals as goal
+
+kept : (c : goal.After-tick) → TickKeeps c.args.self.now c.args.counter (c.tick.new.self, c.tick.result)
+kept c =
+    tick_keeps c.args.self.now c.self.inside.registers c.tick.new.self c.tick.result c.args.counter c.self.view_is c.tick.ensures.registers c.tick.ensures.effect c.self.invariant c.requires.floor
+    c.requires.counter
+
+stands : (c : goal.After-tick) (life : Life) → StandsFor c.args.self.now life → Stood life (Tick c.args.counter) (c.tick.new.self, c.tick.result)
+stands c life h =
+    stood c.args.self.now c.self.inside.registers c.tick.new.self c.tick.result life (Tick c.args.counter) c.self.view_is c.tick.ensures.registers c.tick.ensures.effect h (omega (arith, c.requires.floor))
+
+pub invariant_of-self : goal.invariant_of-self
+invariant_of-self c = (kept c).sound
+
+pub returns-clause-given : goal.returns-clause-given
+returns-clause-given c = (kept c).given
+
+pub returns-clause-floor : goal.returns-clause-floor
+returns-clause-floor c = (kept c).floor
+
+pub returns-clause-height : goal.returns-clause-height
+returns-clause-height c = (kept c).height
+
+pub returns-clause-clock : goal.returns-clause-clock
+returns-clause-clock c = (kept c).clock
+
+pub returns-clause-stamp : goal.returns-clause-stamp
+returns-clause-stamp c = (kept c).stamp
+
+pub returns-clause-sent : goal.returns-clause-sent
+returns-clause-sent c = λ tells life h. (stands c life h).sends
+
+pub returns-clause-told : goal.returns-clause-told
+returns-clause-told c = λ tells life h. (stands c life h).stands

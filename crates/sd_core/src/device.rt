@@ -1,0 +1,129 @@
+use crate::registers::{Mode, Registers};
+use crate::{Effect, Node};
+use sd_clock::{Estimate, Report};
+use sd_msg::Message;
+use sd_num::Rates;
+use sd_plan::Duty;
+use std::marker::Model;
+
+/// A device that follows its plan: it relays what comes from its parent, moves to its backup parent
+/// or takes over as root after a silence, and takes up the duties of later plans.
+#[derive(Drop)]
+pub struct Device {
+    registers: Registers,
+}
+
+impl Model for Device {
+    ghost use Rattle.sd_core.specs.declared.registers.Registers.{Registers};
+    ghost use Rattle.sd_core.specs.Limits.{IsSound};
+
+    ghost Value = { Registers };
+
+    ghost view = { λ d. d.registers };
+
+    ghost invariant = { λ d. IsSound d.registers };
+}
+
+impl Node for Device {
+    ghost use Rattle.std.specs.Prelude.{◌≡◌, true};
+    ghost use Rattle.sd_core.specs.Rules.{made, called, report_in, parent_in, acts_in, epoch_in, floor_in, ceiling_in, height_in};
+    ghost use Rattle.sd_core.specs.Standing.{StandsFor};
+    ghost use Rattle.sd_core.specs.Planless.{acting_leads_nowhere, planless_leads_nowhere, planless_acts_not};
+
+    ghost makes = { λ making s. s ≡ made making };
+
+    ghost steps = { λ s call effect t. called s call ≡ (t, effect) };
+
+    ghost reports = { λ s counter report. report ≡ report_in s counter };
+
+    ghost given = { λ s. s.given };
+
+    ghost parent = { parent_in };
+
+    ghost acts = { acts_in };
+
+    ghost epoch = { epoch_in };
+
+    ghost sealed = { λ s. s.sealed };
+
+    ghost floor = { floor_in };
+
+    ghost ceiling = { ceiling_in };
+
+    ghost height = { height_in };
+
+    ghost tells = { true };
+
+    ghost stands = { StandsFor };
+
+    ghost acting_has_no_parent = { acting_leads_nowhere };
+
+    ghost planless_has_no_parent = { planless_leads_nowhere };
+
+    ghost planless_does_not_act = { planless_acts_not };
+
+    fn start(duty: Duty, counter: u64, clock: u64, eps: u64) -> Self {
+        Device {
+            registers: Registers::started(duty, counter, clock, eps),
+        }
+    }
+
+    fn join(rates: Rates, counter: u64, clock: u64, eps: u64) -> Self {
+        Device {
+            registers: Registers::joined(rates, counter, clock, eps),
+        }
+    }
+
+    fn on_tick(&mut self, counter: u64) -> Effect {
+        self.registers.tick(counter)
+    }
+
+    fn on_message(&mut self, link: u32, message: Message, counter: u64) -> Effect {
+        self.registers.receive(link, &message, counter)
+    }
+
+    fn on_fix(&mut self, counter: u64, clock: u64, eps: u64) {
+        self.registers.estimate = Estimate::set(clock, eps, counter);
+    }
+
+    fn on_give(&mut self, duty: Duty) {
+        self.registers.given = Some(duty);
+    }
+
+    fn on_commit(&mut self, counter: u64) {
+        if let Some(duty) = self.registers.given {
+            self.registers.commit(duty, counter);
+        }
+    }
+
+    fn on_seal(&mut self) {
+        self.registers.sealed = true;
+    }
+
+    fn report(&self, counter: u64) -> Report {
+        self.registers.report(counter)
+    }
+
+    fn parent(&self) -> Option<u32> {
+        match self.registers.edge() {
+            Some(edge) => Some(edge.parent),
+            None => None,
+        }
+    }
+
+    fn acts_as_root(&self) -> bool {
+        self.registers.mode == Mode::Acting
+    }
+
+    fn epoch(&self) -> u32 {
+        self.registers.epoch()
+    }
+
+    fn is_given(&self) -> bool {
+        self.registers.given.is_some()
+    }
+
+    fn is_sealed(&self) -> bool {
+        self.registers.sealed
+    }
+}

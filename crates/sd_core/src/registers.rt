@@ -1,0 +1,147 @@
+ghost use Rattle.std.specs.Prelude.{◌≡◌, ◌≤◌, ◌<◌, ◌^◌, Some};
+ghost use Rattle.sd_topo.specs.Network.{IsRates};
+
+use sd_clock::{Estimate, Report};
+use sd_msg::Stamp;
+use sd_num::Rates;
+use sd_plan::{Duty, Edge, Role};
+
+/// Whom a device follows.
+#[derive(Clone, Copy, Debug, PartialEq, Eq)]
+pub enum Mode {
+    /// Its primary parent.
+    Primary,
+    /// Its backup parent.
+    Backup,
+    /// Nobody: it acts as root.
+    Acting,
+    /// Nobody: it joined, and has no duty yet.
+    Idle,
+}
+
+/// What a device keeps. Counters are in ps.
+#[derive(Clone, Copy, Debug, PartialEq, Eq)]
+pub struct Registers {
+    pub duty: Option<Duty>,
+    /// A duty that it will take up.
+    pub given: Option<Duty>,
+    pub mode: Mode,
+    /// Whether it may move.
+    pub sealed: bool,
+    /// The stamp of what it heard last, or its own while it acts.
+    pub stamp: Stamp,
+    /// The counter at which it was made, heard or moved last.
+    pub last: u64,
+    /// The counter at which it was made, sent or began to act last.
+    pub sent: u64,
+    pub estimate: Estimate,
+    /// The rates of its oscillator.
+    pub rates: Rates,
+}
+
+/// The stamp before anything was heard.
+const FIRST: Stamp = Stamp { term: 0, round: 0 };
+
+impl Registers {
+    ghost use Rattle.sd_core.specs.Calls.{Started, Joined};
+    ghost use Rattle.sd_core.specs.Rules.{made, epoch_in, edge_in, report_in, floor_in, ceiling_in, with_duty, committed};
+
+    /// Those of a device that starts with its duty.
+    pub fn started(duty: Duty, counter: u64, clock: u64, eps: u64) -> Registers
+        ensures { result ≡ made (Started duty counter clock eps) }
+    {
+        Registers {
+            duty: Some(duty),
+            given: None,
+            mode: match duty.role {
+                Role::Root => Mode::Acting,
+                Role::BackupRoot | Role::Ordinary => Mode::Primary,
+            },
+            sealed: true,
+            stamp: FIRST,
+            last: counter,
+            sent: counter,
+            estimate: Estimate::set(clock, eps, counter),
+            rates: duty.rates,
+        }
+    }
+
+    /// Those of a device that joins without a duty.
+    pub fn joined(rates: Rates, counter: u64, clock: u64, eps: u64) -> Registers
+        ensures { result ≡ made (Joined rates counter clock eps) }
+    {
+        Registers {
+            duty: None,
+            given: None,
+            mode: Mode::Idle,
+            sealed: true,
+            stamp: FIRST,
+            last: counter,
+            sent: counter,
+            estimate: Estimate::set(clock, eps, counter),
+            rates,
+        }
+    }
+
+    /// The number of the plan that the duty is of, and 0 without a duty.
+    pub fn epoch(&self) -> u32
+        ensures { result ≡ epoch_in self.now }
+    {
+        match &self.duty {
+            Some(duty) => duty.epoch,
+            None => 0,
+        }
+    }
+
+    /// The edge to the present parent.
+    pub fn edge(&self) -> Option<Edge>
+        ensures { result ≡ edge_in self.now }
+    {
+        let Some(duty) = self.duty else {
+            return None;
+        };
+        match self.mode {
+            Mode::Primary => duty.primary,
+            Mode::Backup => duty.backup,
+            Mode::Acting | Mode::Idle => None,
+        }
+    }
+
+    /// The report at a counter.
+    pub fn report(&self, counter: u64) -> Report
+        requires floor { floor_in self.now ≤ counter }
+        requires ceiling { ceiling_in self.now < 2 ^ 100 }
+        requires rates { IsRates self.now.rates }
+        ensures { result ≡ report_in self.now counter }
+    {
+        self.estimate.report(self.rates, counter)
+    }
+
+    /// The given duty becomes the duty; where the device does not act already, it begins to, with
+    /// a new term.
+    pub fn commit(&mut self, duty: Duty, counter: u64)
+        requires { self.old.stamp.term < 2 ^ 31 }
+        ensures { self.new ≡ committed self.old counter duty }
+    {
+        self.take_up(duty);
+        if self.mode != Mode::Acting {
+            self.mode = Mode::Acting;
+            self.stamp = Stamp {
+                term: self.stamp.term + 1,
+                round: 0,
+            };
+            self.sent = counter;
+        }
+    }
+
+    /// This duty becomes the duty, nothing is given any more, and the device may not move until it
+    /// is sealed again.
+    pub fn take_up(&mut self, duty: Duty)
+        ensures { self.new ≡ with_duty self.old duty }
+    {
+        self.duty = Some(duty);
+        self.given = None;
+        self.sealed = false;
+        self.rates = duty.rates;
+    }
+}

@@ -1,0 +1,421 @@
+//! A device as a plain program: it keeps the whole list of its calls, and looks up all that it
+//! needs anew at each of them.
+
+use sd_clock::Report;
+use sd_core::Effect;
+use sd_msg::{Message, Stamp};
+use sd_num::Rates;
+use sd_plan::{Duty, Edge, Role};
+use std::alloc::{AllocError, Global};
+
+#[derive(Clone, Copy, Debug)]
+pub enum Call {
+    Tick {
+        counter: u64,
+    },
+    Receive {
+        link: u32,
+        message: Message,
+        counter: u64,
+    },
+    Fix {
+        counter: u64,
+        clock: u64,
+        eps: u64,
+    },
+    Give(Duty),
+    Commit {
+        counter: u64,
+    },
+    Seal,
+}
+
+#[derive(Clone, Copy, Debug)]
+pub enum Deed {
+    Entered(Duty, Edge),
+    Committed(Duty),
+    Recommitted(Duty),
+    Accepted(Edge),
+    Moved,
+    TookOver,
+    Emitted,
+    Nothing,
+}
+
+#[derive(Clone, Copy, Debug)]
+pub struct Did {
+    pub call: Call,
+    pub deed: Deed,
+}
+
+/// How it was made: with a duty, or without one.
+#[derive(Clone, Copy, Debug)]
+pub struct Making {
+    pub duty: Option<Duty>,
+    pub rates: Rates,
+    pub counter: u64,
+    pub clock: u64,
+    pub eps: u64,
+}
+
+#[derive(Drop)]
+pub struct Plain {
+    making: Making,
+    did: Vec<Did>,
+}
+
+impl Deed {
+    /// A letter for each kind.
+    fn letter(&self) -> char {
+        match self {
+            Deed::Entered(..) => 'e',
+            Deed::Committed(_) => 'c',
+            Deed::Recommitted(_) => 'r',
+            Deed::Accepted(_) => 'a',
+            Deed::Moved => 'm',
+            Deed::TookOver => 't',
+            Deed::Emitted => 's',
+            Deed::Nothing => 'n',
+        }
+    }
+}
+
+impl Call {
+    fn counter(&self) -> Option<u64> {
+        match self {
+            Call::Tick { counter }
+            | Call::Receive { counter, .. }
+            | Call::Fix { counter, .. }
+            | Call::Commit { counter } => Some(*counter),
+            Call::Give(_) | Call::Seal => None,
+        }
+    }
+}
+
+impl Did {
+    fn taken_up(&self) -> Option<Duty> {
+        match self.deed {
+            Deed::Entered(duty, _) | Deed::Committed(duty) | Deed::Recommitted(duty) => Some(duty),
+            _ => None,
+        }
+    }
+
+    fn accepted_over(&self) -> Option<Edge> {
+        match self.deed {
+            Deed::Entered(_, edge) | Deed::Accepted(edge) => Some(edge),
+            _ => None,
+        }
+    }
+
+    fn heard(&self) -> Option<u64> {
+        match self.accepted_over() {
+            Some(_) => self.call.counter(),
+            None => None,
+        }
+    }
+
+    fn moved(&self) -> Option<u64> {
+        match self.deed {
+            Deed::Moved => self.call.counter(),
+            _ => None,
+        }
+    }
+
+    fn sent(&self) -> Option<u64> {
+        match self.deed {
+            Deed::Committed(_) | Deed::TookOver | Deed::Emitted => self.call.counter(),
+            _ => None,
+        }
+    }
+
+    fn given(&self) -> Option<Duty> {
+        match self.call {
+            Call::Give(duty) => Some(duty),
+            _ => None,
+        }
+    }
+
+    /// The clock, uncertainty and counter of the estimate that it set.
+    fn estimate(&self) -> Option<(u128, u128, u64)> {
+        match (self.call, self.accepted_over()) {
+            (
+                Call::Fix {
+                    counter,
+                    clock,
+                    eps,
+                },
+                _,
+            ) => Some((u128::from(clock), u128::from(eps), counter)),
+            (
+                Call::Receive {
+                    message,
+                    counter,
+                    ..
+                },
+                Some(edge),
+            ) => Some((
+                message.clock.saturating_add(u128::from(edge.bounds.mid)),
+                message.eps.saturating_add(u128::from(edge.bounds.half)),
+                counter,
+            )),
+            _ => None,
+        }
+    }
+
+    fn stamp_after(&self, before: Stamp) -> Stamp {
+        match (self.deed, self.call) {
+            (Deed::Entered(..) | Deed::Accepted(_), Call::Receive { message, .. }) => message.stamp,
+            (Deed::Committed(_), _) => Stamp {
+                term: before.term.saturating_add(1),
+                round: 0,
+            },
+            (Deed::TookOver, _) => Stamp {
+                term: before.term.saturating_add(1),
+                round: 1,
+            },
+            (Deed::Emitted, _) => Stamp {
+                term: before.term,
+                round: before.round.saturating_add(1),
+            },
+            _ => before,
+        }
+    }
+}
+
+impl Plain {
+    pub fn new(alloc: Global, making: Making) -> Plain {
+        Plain {
+            making,
+            did: Vec::new(alloc),
+        }
+    }
+
+    /// A call, and what it sends.
+    pub fn call(&mut self, call: Call) -> Result<Effect, AllocError> {
+        let deed = self.deed(&call);
+        self.did.push(Did { call, deed })?;
+        Ok(match (deed, call.counter()) {
+            (Deed::Entered(..) | Deed::Accepted(_), _) => {
+                let (clock, eps, _) = self.estimate();
+                Effect::Send(self.message(Report { clock, eps }))
+            }
+            (Deed::TookOver | Deed::Emitted, Some(counter)) => Effect::Send(self.message(
+                self.report(counter),
+            )),
+            _ => Effect::Quiet,
+        })
+    }
+
+    /// Whether some call did something of this letter.
+    pub fn has_done(&self, letter: char) -> bool {
+        self.did.iter().any(|x| x.deed.letter() == letter)
+    }
+
+    fn message(&self, report: Report) -> Message {
+        Message {
+            epoch: self.epoch(),
+            stamp: self.stamp(),
+            clock: report.clock,
+            eps: report.eps,
+        }
+    }
+
+    fn entry(&self) -> Option<Did> {
+        self.did
+            .iter()
+            .rev()
+            .find(|x| x.taken_up().is_some())
+            .copied()
+    }
+
+    pub fn duty(&self) -> Option<Duty> {
+        match self.entry() {
+            Some(entry) => entry.taken_up(),
+            None => self.making.duty,
+        }
+    }
+
+    pub fn epoch(&self) -> u32 {
+        match self.duty() {
+            Some(duty) => duty.epoch,
+            None => 0,
+        }
+    }
+
+    fn rates(&self) -> Rates {
+        match self.duty() {
+            Some(duty) => duty.rates,
+            None => self.making.rates,
+        }
+    }
+
+    pub fn given(&self) -> Option<Duty> {
+        self.did
+            .iter()
+            .rev()
+            .take_while(|x| x.taken_up().is_none())
+            .find_map(|x| x.given())
+    }
+
+    pub fn is_sealed(&self) -> bool {
+        self.entry().is_none()
+            || self
+                .did
+                .iter()
+                .rev()
+                .take_while(|x| x.taken_up().is_none())
+                .any(|x| matches!(x.call, Call::Seal))
+    }
+
+    fn has_moved(&self) -> bool {
+        self.did
+            .iter()
+            .rev()
+            .take_while(|x| x.taken_up().is_none())
+            .any(|x| matches!(x.deed, Deed::Moved))
+    }
+
+    pub fn acts(&self) -> bool {
+        let from_entry = match self.entry() {
+            Some(entry) => matches!(entry.deed, Deed::Committed(_) | Deed::Recommitted(_)),
+            None => matches!(self.making.duty, Some(duty) if duty.role == Role::Root),
+        };
+        from_entry
+            || self
+                .did
+                .iter()
+                .rev()
+                .take_while(|x| x.taken_up().is_none())
+                .any(|x| matches!(x.deed, Deed::TookOver))
+    }
+
+    fn edge(&self) -> Option<Edge> {
+        match self.duty() {
+            Some(_) if self.acts() => None,
+            Some(duty) if self.has_moved() => duty.backup,
+            Some(duty) => duty.primary,
+            None => None,
+        }
+    }
+
+    pub fn parent(&self) -> Option<u32> {
+        self.edge().map(|edge| edge.parent)
+    }
+
+    fn heard(&self) -> u64 {
+        self.did
+            .iter()
+            .rev()
+            .find_map(|x| x.heard())
+            .unwrap_or(self.making.counter)
+    }
+
+    fn moved(&self) -> u64 {
+        self.did.iter().rev().find_map(|x| x.moved()).unwrap_or(0)
+    }
+
+    fn sent(&self) -> u64 {
+        self.did
+            .iter()
+            .rev()
+            .find_map(|x| x.sent())
+            .unwrap_or(self.making.counter)
+    }
+
+    fn stamp(&self) -> Stamp {
+        let mut stamp = Stamp { term: 0, round: 0 };
+        for did in &self.did {
+            stamp = did.stamp_after(stamp);
+        }
+        stamp
+    }
+
+    fn estimate(&self) -> (u128, u128, u64) {
+        let made = (
+            u128::from(self.making.clock),
+            u128::from(self.making.eps),
+            self.making.counter,
+        );
+        self.did
+            .iter()
+            .rev()
+            .find_map(|x| x.estimate())
+            .unwrap_or(made)
+    }
+
+    pub fn report(&self, counter: u64) -> Report {
+        let (clock, base, at) = self.estimate();
+        let elapsed = counter.saturating_sub(at);
+        let rates = self.rates();
+        let growth = (u128::from(rates.ppm) * u128::from(elapsed)).div_ceil(1_000_000);
+        Report {
+            clock: clock.saturating_add(u128::from(elapsed)),
+            eps: base
+                .saturating_add(u128::from(rates.grain))
+                .saturating_add(growth),
+        }
+    }
+
+    fn deed(&self, call: &Call) -> Deed {
+        match *call {
+            Call::Tick { counter } => match self.duty() {
+                Some(duty) => self.tick(&duty, counter),
+                None => Deed::Nothing,
+            },
+            Call::Receive { link, message, .. } => self.receipt(link, &message),
+            Call::Commit { .. } => match self.given() {
+                Some(duty) if self.acts() => Deed::Recommitted(duty),
+                Some(duty) => Deed::Committed(duty),
+                None => Deed::Nothing,
+            },
+            Call::Fix { .. } | Call::Give(_) | Call::Seal => Deed::Nothing,
+        }
+    }
+
+    fn tick(&self, duty: &Duty, counter: u64) -> Deed {
+        let since = |counter_then: u64| counter.saturating_sub(counter_then);
+        if self.acts() {
+            return if since(self.sent()) >= duty.period {
+                Deed::Emitted
+            } else {
+                Deed::Nothing
+            };
+        }
+        if self.has_moved() {
+            let late = since(self.heard().max(self.moved())) >= duty.wait_second;
+            return if duty.role == Role::BackupRoot && late {
+                Deed::TookOver
+            } else {
+                Deed::Nothing
+            };
+        }
+        let wait = match duty.role {
+            Role::Root => return Deed::Nothing,
+            Role::BackupRoot => duty.wait_first,
+            Role::Ordinary if duty.backup.is_none() => return Deed::Nothing,
+            Role::Ordinary => duty.wait,
+        };
+        if self.is_sealed() && since(self.heard()) >= wait {
+            Deed::Moved
+        } else {
+            Deed::Nothing
+        }
+    }
+
+    fn receipt(&self, link: u32, message: &Message) -> Deed {
+        if let Some(duty) = self.given() {
+            match duty.primary {
+                Some(edge) if edge.link == link && duty.epoch == message.epoch =>
+                    return Deed::Entered(duty, edge),
+                _ => {}
+            }
+        }
+        let stamp = self.stamp();
+        let newer = (message.stamp.term, message.stamp.round) > (stamp.term, stamp.round);
+        match self.edge() {
+            Some(edge) if edge.link == link && newer && message.epoch == self.epoch() =>
+                Deed::Accepted(edge),
+            _ => Deed::Nothing,
+        }
+    }
+}

@@ -1,0 +1,5 @@
+pub mod Numbered
+pub mod Finding
+pub mod Keeping
+pub mod Places
+pub mod Books

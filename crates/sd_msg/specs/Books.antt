@@ -1,0 +1,50 @@
+-- The flights that are on their way, and what each call on them finds.
+use Rattle.std.specs.Prelude.{ℕ, Bool, ◌&&◌, List, [], ◌∷◌, ◌++◌, find, filter, not, nat_eq, nat_le, ok_or, Result, Ok, Err, if◌then◌else◌}
+use Rattle.sd_topo.specs.declared.Thing.{Thing}
+use Rattle.sd_topo.specs.declared.Thing.TheVariants.{Device, Link}
+use Rattle.sd_msg.specs.declared.Flight.{Flight}
+use Rattle.sd_msg.specs.declared.TakeFault.{TakeFault}
+use Rattle.sd_msg.specs.declared.TakeFault.TheVariants as fault
+
+-- what is seen of a book: the flights that are not spent, by ascending number, the last number given, and for how many more flights there is room
+pub record Book : Type 0 where
+  pub flights : List Flight
+  pub last : ℕ
+  pub room : ℕ
+
+abbrev pub has_number : ℕ → Flight → Bool
+has_number number f = nat_eq f.number number
+
+-- the number was given; the first is 1
+abbrev pub is_given : ℕ → ℕ → Bool
+is_given last number = nat_le 1 number && nat_le number last
+
+-- the flight of a number among those that are not spent, or why there is none
+abbrev pub found : ℕ → List Flight → ℕ → Result Flight TakeFault
+found last flights number = if is_given last number then ok_or (find (has_number number) flights) fault.Spent else Err fault.Unknown
+
+-- the same for one device, which has to be the receiver
+abbrev pub for_device : ℕ → Result Flight TakeFault → Result Flight TakeFault
+for_device device (Ok f) = if nat_eq f.receiver device then Ok f else Err fault.WrongDevice
+for_device device (Err e) = Err e
+
+-- that a flight was found, or why not
+abbrev pub dismissed : Result Flight TakeFault → Result (Unit {0}) TakeFault
+dismissed (Ok f) = Ok tt
+dismissed (Err e) = Err e
+
+abbrev pub without : ℕ → List Flight → List Flight
+without number flights = filter (λ f. not (has_number number f)) flights
+
+-- a flight that does not reach is spent at once
+abbrev pub with_sent : List Flight → Flight → List Flight
+with_sent flights f = if f.reaches then flights ++ f ∷ [] else flights
+
+-- it goes over that link, or to that device
+abbrev pub is_swept : Thing → Flight → Bool
+is_swept (Device d) f = nat_eq f.receiver d
+is_swept (Link l) f = nat_eq f.link l
+
+-- at the reference it is still kept
+abbrev pub is_current : ℕ → Flight → Bool
+is_current reference f = nat_le reference f.last
