@@ -6,3 +6,4 @@ pub mod Commands
 pub mod Migrating
 pub mod PlanReading
 pub mod Completing
+pub mod Planned

@@ -10,3 +10,5 @@ pub mod PlanFiles
 pub mod PlanLoads
 pub mod Checks
 pub mod Writes
+pub mod Parsed
+pub mod Plannings

@@ -1,10 +1,12 @@
--- What the file of a plan says.
-use Rattle.std.specs.Prelude.{ℕ, ◌^◌, List, [], ◌∷◌, ◌++◌, length, nat_lt, Result, Ok, Err, codes, decimal, if◌then◌else◌}
+-- What the files of a plan and of what is absent say.
+use Rattle.std.specs.Prelude.{ℕ, ◌^◌, List, [], ◌∷◌, ◌++◌, length, nat_lt, Option, Result, Ok, Err, codes, decimal, if◌then◌else◌}
+use Rattle.serde_json.specs.Data.{Data}
 use Rattle.sd_num.specs.Texts.{text_of}
 use Rattle.sd_topo.specs.Network.{Network}
+use Rattle.sd_plan.specs.declared.Absent.{Absent}
 use Rattle.sd_plan.specs.declared.Plan.{Plan}
 use Rattle.sd_plantext.specs.Keys.{printed}
-use Rattle.sd_plantext.specs.Meaning.{plan_of}
+use Rattle.sd_plantext.specs.Meaning.{plan_of, absent_of}
 use Rattle.sd_plantext.specs.Reading.{tree_of}
 use Rattle.sd_plantext.specs.declared.fault.PlanPlace.{PlanPlace}
 use Rattle.sd_plantext.specs.declared.fault.PlanFault.{PlanFault}
@@ -12,13 +14,21 @@ use Rattle.sd_plantext.specs.declared.fault.PlanFault.TheVariants.{NotJson, Miss
 use Rattle.sd_top.specs.declared.PlanFileFault.{PlanFileFault}
 use Rattle.sd_top.specs.declared.PlanFileFault.TheVariants.{TooLong, Text}
 
-abbrev pub of_plan : Result Plan PlanFault → Result Plan PlanFileFault
-of_plan (Ok plan) = Ok plan
-of_plan (Err why) = Err (Text why)
+abbrev pub of_json : {X : Type 0} → Result X PlanFault → Result X PlanFileFault
+of_json (Ok x) = Ok x
+of_json (Err why) = Err (Text why)
 
--- what the file of a plan says over a network: the plan, or why it is refused
-unfoldable pub plan_in_file : Network → List ℕ → Result Plan PlanFileFault
-plan_in_file net text = if nat_lt (2 ^ 26) (length text) then Err TooLong else of_plan (plan_of net (tree_of text))
+-- what a file says whose tree has a meaning, or why it is refused
+unfoldable pub in_file : {X : Type 0} → (Option Data → Result X PlanFault) → List ℕ → Result X PlanFileFault
+in_file meaning text = if nat_lt (2 ^ 26) (length text) then Err TooLong else of_json (meaning (tree_of text))
+
+-- what the file of a plan says over a network
+abbrev pub plan_in_file : Network → List ℕ → Result Plan PlanFileFault
+plan_in_file net text = in_file (plan_of net) text
+
+-- what the file of what is absent says
+abbrev pub absent_in_file : Network → List ℕ → Result Absent PlanFileFault
+absent_in_file net text = in_file (absent_of net) text
 
 -- what is printed of a place: its key and its entry
 abbrev pub at_plan_place : PlanPlace → List ℕ
@@ -42,3 +52,7 @@ plan_reason (Text why) = plan_fault_reason why
 -- the line that ends a run whose plan is refused for its text, with the plan's place in the command, from 1
 abbrev pub refused_plan_text : ℕ → PlanFileFault → List ℕ
 refused_plan_text place why = text_of (codes "input" ∷ codes "plan" ∷ decimal place ∷ plan_reason why ∷ [])
+
+-- the line that ends a run whose list of what is absent is refused
+abbrev pub refused_absent_text : PlanFileFault → List ℕ
+refused_absent_text why = text_of (codes "input" ∷ codes "absent" ∷ plan_reason why ∷ [])

@@ -5,20 +5,41 @@ use Rattle.std.specs.Str.{bytes_eq}
 -- a command, with the names of its files
 pub data Command : Type 0 where
   Solo : (schedule : List ℕ) → Command
+  Plan : (topology : List ℕ) → Command
   Check : (topology plan : List ℕ) → Command
+  Renew : (topology plan absent : List ℕ) → Command
   Migrate : (topology : List ℕ) → Command
+
+-- the command of a word with the name of one file
+abbrev pub with_one_file : List ℕ → List ℕ → Option Command
+with_one_file word file =
+    if bytes_eq word (codes "solo") then Some (Solo file)
+    else if bytes_eq word (codes "plan") then Some (Plan file)
+    else if bytes_eq word (codes "migrate") then Some (Migrate file)
+    else None
+
+-- the command of a word with the names of two files
+abbrev pub with_two_files : List ℕ → List ℕ → List ℕ → Option Command
+with_two_files word first second = if bytes_eq word (codes "check") then Some (Check first second) else None
+
+-- the command of a word with the names of three files
+abbrev pub with_three_files : List ℕ → List ℕ → List ℕ → List ℕ → Option Command
+with_three_files word first second third = if bytes_eq word (codes "renew") then Some (Renew first second third) else None
 
 -- the command of the words, if they are in the table
 abbrev pub command_of : List (List ℕ) → Option Command
 command_of [] = None
 command_of (word ∷ []) = None
-command_of (word ∷ name ∷ []) = if bytes_eq word (codes "solo") then Some (Solo name) else if bytes_eq word (codes "migrate") then Some (Migrate name) else None
-command_of (word ∷ name ∷ other ∷ []) = if bytes_eq word (codes "check") then Some (Check name other) else None
-command_of (word ∷ name ∷ other ∷ more ∷ others) = None
+command_of (word ∷ file ∷ []) = with_one_file word file
+command_of (word ∷ first ∷ second ∷ []) = with_two_files word first second
+command_of (word ∷ first ∷ second ∷ third ∷ []) = with_three_files word first second third
+command_of (word ∷ first ∷ second ∷ third ∷ fourth ∷ others) = None
 
 -- the files that a command reads, in the order of its work
 abbrev pub files_of : Option Command → List (List ℕ)
 files_of None = []
 files_of (Some (Solo schedule)) = schedule ∷ []
+files_of (Some (Plan topology)) = topology ∷ []
 files_of (Some (Check topology plan)) = topology ∷ plan ∷ []
+files_of (Some (Renew topology plan absent)) = topology ∷ plan ∷ absent ∷ []
 files_of (Some (Migrate topology)) = topology ∷ []

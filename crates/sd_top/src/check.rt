@@ -1,25 +1,26 @@
-ghost use Rattle.std.specs.Prelude.{◌≡◌, ◌≢◌, ◌≤◌, Err, IsTrue, IfErr, IfOk, IfSome, OnOk};
+ghost use Rattle.std.specs.Prelude.{◌≡◌, ◌≢◌, ◌≤◌, Err, IsTrue, IfErr, IfOk, IfSome};
 ghost use Rattle.sd_outside.specs.Causes.{Rose};
-ghost use Rattle.sd_outside.specs.Texts.{RestIs};
 ghost use Rattle.sd_topo.specs.Topologies.{network};
 ghost use Rattle.sd_top.specs.Checks.{IsCheck, IsJudged, verdict_status, verdict_text};
 ghost use Rattle.sd_top.specs.Loads.{SaysAlso};
 ghost use Rattle.sd_top.specs.Migration.{topology_of};
 ghost use Rattle.sd_top.specs.Outcome.{held_text};
 ghost use Rattle.sd_top.specs.PlanFiles.{plan_in_file};
-ghost use Rattle.sd_top.specs.PlanLoads.{LoadedFits, SaysOfPlan};
+ghost use Rattle.sd_plan.specs.Plans.{Fits};
+ghost use Rattle.sd_top.specs.PlanLoads as plan_files;
+ghost use Rattle.sd_top.specs.PlanLoads.{IfTold};
 ghost use Rattle.sd_top.specs.Stops.{is_final, status_in};
 ghost use Rattle.sd_top.specs.Writes.{WritesOnce};
 
 use crate::Status;
-use crate::answer::Answer;
-use crate::lines::{refused_plan_line, refused_topology_line};
-use crate::loading::{Loaded, load_topology};
-use crate::plans::{LoadedPlan, load_plan};
+use crate::answer::{Answer, refused_plan, refused_topology};
+use crate::loading::{Loaded, begin, load_topology};
+use crate::plans::{FromFile, load_plan};
 use crate::send::send;
 use crate::stop::Stop;
 use sd_checker::{Verdict, accepted_line, check, refused_line};
 use sd_outside::{Shelf, Sink};
+use sd_plan::Plan;
 use sd_topo::Topology;
 use std::alloc::Global;
 
@@ -49,41 +50,18 @@ fn verdict_answer(alloc: Global, topo: &Topology, verdict: &Verdict) -> Result<A
 }
 
 /// The line of the verdict on what was loaded of a plan, or of why its text is refused.
-fn judged(alloc: Global, topo: &Topology, loaded: &LoadedPlan) -> Result<Answer, Stop>
-    requires { LoadedFits (network topo.now) loaded.now }
-    ensures judged { IfOk result (λ answer. SaysOfPlan loaded.now (λ says. IsJudged (network topo.now) says answer.text.items answer.status)) }
+fn judged(alloc: Global, topo: &Topology, loaded: &FromFile<Plan>) -> Result<Answer, Stop>
+    requires { IfTold (Fits (network topo.now)) loaded.now }
+    ensures judged { IfOk result (λ answer. plan_files.SaysAlso loaded.now (λ says. IsJudged (network topo.now) says answer.text.items answer.status)) }
     ensures not_stopped { IfOk result (λ answer. IsTrue (is_final answer.status)) }
     ensures only { IfErr result (λ why. why ≡ Stop.Memory) }
 {
     match loaded {
-        LoadedPlan::Plan(plan) => {
+        FromFile::Told(plan) => {
             let verdict = check(alloc, topo, plan)?;
             verdict_answer(alloc, topo, &verdict)
         }
-        LoadedPlan::Refused(fault) => {
-            let line = refused_plan_line(alloc, 1, fault)?;
-            Ok(Answer {
-                text: line.into_bytes(),
-                status: Status::InputRefused,
-            })
-        }
-    }
-}
-
-/// Begins a file.
-fn begin<S: Shelf>(shelf: &mut S, name: &str) -> Result<(), Stop>
-    requires { IsTrue (S.serves shelf.old name.now) }
-    ensures text { OnOk result (RestIs (S.held shelf.old) name.now (S.rest shelf.new)) }
-    ensures begun { OnOk result (IsTrue (S.begun shelf.new)) }
-    ensures shelf { result ≡ Err Stop.Shelf → Rose (S.faults shelf.old) (S.faults shelf.new) }
-    ensures only { IfErr result (λ why. why ≡ Stop.Shelf) }
-    ensures later { S.faults shelf.old ≤ S.faults shelf.new }
-    ensures same_held { S.held shelf.new ≡ S.held shelf.old }
-    ensures same_names { S.serves shelf.new ≡ S.serves shelf.old }
-{
-    match shelf.begin(name) {
-        Ok(()) => Ok(()),
-        Err(_) => Err(Stop::Shelf),
+        FromFile::Refused(fault) => refused_plan(alloc, fault),
     }
 }
 
@@ -122,13 +100,7 @@ fn check_loaded<S: Shelf>(
 {
     match loaded {
         Loaded::Topology(topology) => judge_file(alloc, topology, plan, shelf),
-        Loaded::Refused(fault) => {
-            let line = refused_topology_line(alloc, fault)?;
-            Ok(Answer {
-                text: line.into_bytes(),
-                status: Status::InputRefused,
-            })
-        }
+        Loaded::Refused(fault) => refused_topology(alloc, fault),
     }
 }
 

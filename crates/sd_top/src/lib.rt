@@ -6,15 +6,17 @@ mod check;
 mod lines;
 mod loading;
 mod migrate;
+mod plan;
+mod planning;
 mod plans;
 mod reasons;
+mod renew;
 mod send;
 mod solo;
 mod stop;
 mod taking;
-#[cfg(test)]
-mod tests;
 mod top;
+mod words;
 
 use sd_plantext::PlanFault;
 use sd_sched::LineFault;

@@ -3,7 +3,7 @@ ghost use Rattle.sd_num.specs.Texts.{text_of};
 ghost use Rattle.sd_solo.specs.Histories.{report_text};
 ghost use Rattle.sd_top.specs.Reasons.{refused_text};
 ghost use Rattle.sd_top.specs.Migration.{refused_topology};
-ghost use Rattle.sd_top.specs.PlanFiles.{refused_plan_text};
+ghost use Rattle.sd_top.specs.PlanFiles.{refused_absent_text, refused_plan_text};
 
 use crate::{PlanFileFault, ScheduleFault, TopologyFault};
 use sd_clock::Report;
@@ -52,5 +52,13 @@ pub fn refused_plan_line(
     ensures { IfOk result (λ s. string_bytes s ≡ refused_plan_text place fault.now) }
 {
     let text = format!(in alloc; "input plan {place} {fault}\n")?;
+    Ok(text)
+}
+
+/// The line of a list of what is absent whose text is refused.
+pub fn refused_absent_line(alloc: Global, fault: &PlanFileFault) -> Result<String, AllocError>
+    ensures { IfOk result (λ s. string_bytes s ≡ refused_absent_text fault.now) }
+{
+    let text = format!(in alloc; "input absent {fault}\n")?;
     Ok(text)
 }

@@ -1,5 +1,6 @@
-ghost use Rattle.std.specs.Prelude.{◌≡◌, ◌≢◌, ◌≤◌, Err, IsTrue, IfOk, IfSome};
+ghost use Rattle.std.specs.Prelude.{◌≡◌, ◌≢◌, ◌≤◌, Err, IsTrue, IfErr, IfOk, IfSome, OnOk};
 ghost use Rattle.sd_outside.specs.Causes.{Rose};
+ghost use Rattle.sd_outside.specs.Texts.{RestIs};
 ghost use Rattle.sd_top.specs.Loads.{Says, refused_with};
 ghost use Rattle.sd_top.specs.Migration.{topology_of};
 
@@ -15,6 +16,23 @@ use std::alloc::Global;
 pub enum Loaded {
     Topology(Topology),
     Refused(TopologyFault),
+}
+
+/// Begins a file.
+pub fn begin<S: Shelf>(shelf: &mut S, name: &str) -> Result<(), Stop>
+    requires { IsTrue (S.serves shelf.old name.now) }
+    ensures text { OnOk result (RestIs (S.held shelf.old) name.now (S.rest shelf.new)) }
+    ensures begun { OnOk result (IsTrue (S.begun shelf.new)) }
+    ensures shelf { result ≡ Err Stop.Shelf → Rose (S.faults shelf.old) (S.faults shelf.new) }
+    ensures only { IfErr result (λ why. why ≡ Stop.Shelf) }
+    ensures later { S.faults shelf.old ≤ S.faults shelf.new }
+    ensures same_held { S.held shelf.new ≡ S.held shelf.old }
+    ensures same_names { S.serves shelf.new ≡ S.serves shelf.old }
+{
+    match shelf.begin(name) {
+        Ok(()) => Ok(()),
+        Err(_) => Err(Stop::Shelf),
+    }
 }
 
 /// Reads the begun file of a topology.

@@ -5,8 +5,7 @@ ghost use Rattle.sd_top.specs.Migration.{topology_of, IsMigration, MeetsMigratio
 ghost use Rattle.sd_top.specs.Stops.{status_in, is_final};
 
 use crate::Status;
-use crate::answer::Answer;
-use crate::lines::refused_topology_line;
+use crate::answer::{Answer, refused_topology};
 use crate::loading::{Loaded, load_topology};
 use crate::send::send;
 use crate::stop::Stop;
@@ -29,13 +28,7 @@ fn migration_of(alloc: Global, loaded: &Loaded) -> Result<Answer, Stop>
                 status: Status::Done,
             })
         }
-        Loaded::Refused(fault) => {
-            let line = refused_topology_line(alloc, fault)?;
-            Ok(Answer {
-                text: line.into_bytes(),
-                status: Status::InputRefused,
-            })
-        }
+        Loaded::Refused(fault) => refused_topology(alloc, fault),
     }
 }
 

@@ -2,9 +2,11 @@ ghost use Rattle.std.specs.Prelude.{◌≡◌, ◌≤◌, false, IfOk};
 
 mod check;
 mod migrate;
+mod plan;
+mod texts;
 
-use super::*;
 use sd_outside::{MemShelf, MemSink};
+use sd_top::{Status, run};
 use std::alloc::Global;
 use std::process::Abort;
 use std::test::Fail;
@@ -292,13 +294,16 @@ fn each_write_fails(rt: HostRuntime) -> Result<(), Fail> {
 
 #[test]
 fn other_words_are_usage(rt: HostRuntime) -> Result<(), Fail> {
-    let cases: [&[&str]; 9] = [
+    let cases: [&[&str]; 12] = [
         &[],
         &["solo"],
         &["schedule", "solo"],
         &["Solo", "schedule"],
         &["solo", "schedule", "schedule"],
-        &["plan", "topology"],
+        &["plans", "topology"],
+        &["plan", "topology", "plan"],
+        &["renew", "topology", "plan"],
+        &["renew", "topology", "plan", "absent", "absent"],
         &["migrate"],
         &["migrate", "file", "file"],
         &["file", "migrate"],
@@ -309,7 +314,7 @@ fn other_words_are_usage(rt: HostRuntime) -> Result<(), Fail> {
         assert_eq!(rt; status, Status::Usage);
         assert_eq!(rt;
             out.bytes(),
-            b"usage: sundial solo SCHEDULE | check TOPOLOGY PLAN | migrate TOPOLOGY\n".as_slice()
+            b"usage: sundial solo SCHEDULE | plan TOPOLOGY | check TOPOLOGY PLAN | renew TOPOLOGY PLAN ABSENT | migrate TOPOLOGY\n".as_slice()
         );
     }
     Ok(())

@@ -1,0 +1,171 @@
+//! `plan` and `renew`: greedy plans, and texts that are refused.
+ghost use Rattle.std.specs.Prelude.{◌≡◌, ◌≤◌, false, IfOk};
+
+use super::run_words;
+use super::texts::*;
+use sd_outside::MemShelf;
+use sd_top::Status;
+use std::alloc::Global;
+use std::process::Abort;
+use std::test::Fail;
+
+/// The greedy plan of the fabric.
+const FABRIC_GREEDY: &str =
+    "{\"absent_devices\":[],\"absent_links\":[],\"backup_root\":\"s2\",\"root\":\"s1\",\"rows\":[{\"backup\":\"l2\",\"backup_link\":\"b2\",\"device\":\"s2\",\"link\":\"b1\",\"parent\":\"l1\"},{\"backup\":\"s2\",\"backup_link\":\"b1\",\"device\":\"l1\",\"link\":\"a1\",\"parent\":\"s1\"},{\"backup\":\"s2\",\"backup_link\":\"b2\",\"device\":\"l2\",\"link\":\"a2\",\"parent\":\"s1\"},{\"backup\":\"s2\",\"backup_link\":\"b3\",\"device\":\"l3\",\"link\":\"a3\",\"parent\":\"s1\"}],\"version\":1,\"wait\":3561917200,\"wait_first\":712269454,\"wait_second\":712269454}\n";
+
+/// The plan of the fabric without its leaf l3.
+const FABRIC_RENEWED: &str =
+    "{\"absent_devices\":[\"l3\"],\"absent_links\":[],\"backup_root\":\"s2\",\"root\":\"s1\",\"rows\":[{\"backup\":\"l2\",\"backup_link\":\"b2\",\"device\":\"s2\",\"link\":\"b1\",\"parent\":\"l1\"},{\"backup\":\"s2\",\"backup_link\":\"b1\",\"device\":\"l1\",\"link\":\"a1\",\"parent\":\"s1\"},{\"backup\":\"s2\",\"backup_link\":\"b2\",\"device\":\"l2\",\"link\":\"a2\",\"parent\":\"s1\"}],\"version\":1,\"wait\":3561917200,\"wait_first\":712269454,\"wait_second\":712269454}\n";
+
+/// One device, which is the only candidate for the root.
+const ALONE: &str =
+    "version = 1\nppm = 200\ngrain = 1000\nperiod = 100000000\ntick = 10000000\nloss = 1\ndepth = 3\nroots = [\"one\"]\ndevice = [{ name = \"one\" }]\n";
+
+/// A shelf that holds a topology, a plan and what is absent.
+fn shelf_of(
+    alloc: Global,
+    topology: &[u8],
+    plan: &[u8],
+    absent: &[u8],
+    piece: usize,
+) -> Result<MemShelf, Fail>
+    requires { 1 ≤ piece }
+    ensures { IfOk result (λ shelf. shelf.begun ≡ false) }
+{
+    let mut files = Vec::new(alloc);
+    files.push((
+        String::from_str(alloc, "topology")?,
+        Vec::from_slice(alloc, topology)?,
+    ))?;
+    files.push((
+        String::from_str(alloc, "plan")?,
+        Vec::from_slice(alloc, plan)?,
+    ))?;
+    files.push((
+        String::from_str(alloc, "absent")?,
+        Vec::from_slice(alloc, absent)?,
+    ))?;
+    Ok(MemShelf::new(files, piece, Vec::new(alloc)))
+}
+
+/// One plan of a topology: what is written and answered.
+fn assert_plan(
+    rt: &(impl Abort + AllocGlobal),
+    topology: &[u8],
+    output: &str,
+    status: Status,
+) -> Result<(), Fail> {
+    let alloc = rt.alloc();
+    let mut shelf = shelf_of(alloc, topology, b"", b"", 4096)?;
+    let words = ["plan", "topology"];
+    let (answer, out) = run_words(alloc, &words, &mut shelf, Vec::new(alloc))?;
+    assert_eq!(rt; std::str::from_utf8(out.bytes()), Ok(output));
+    assert_eq!(rt; answer, status, "{output:?}");
+    Ok(())
+}
+
+/// One renewal: what is written and answered.
+fn assert_renewal(
+    rt: &(impl Abort + AllocGlobal),
+    texts: (&str, &str, &str),
+    output: &str,
+    status: Status,
+) -> Result<(), Fail> {
+    let alloc = rt.alloc();
+    for piece in [7, 8192] {
+        let (topology, plan, absent) = texts;
+        let mut shelf = shelf_of(
+            alloc,
+            topology.as_bytes(),
+            plan.as_bytes(),
+            absent.as_bytes(),
+            piece,
+        )?;
+        let words = ["renew", "topology", "plan", "absent"];
+        let (answer, out) = run_words(alloc, &words, &mut shelf, Vec::new(alloc))?;
+        assert_eq!(rt; std::str::from_utf8(out.bytes()), Ok(output));
+        assert_eq!(rt; answer, status, "{output:?} in pieces of {piece}");
+    }
+    Ok(())
+}
+
+#[test]
+fn a_topology_has_its_greedy_plan(rt: HostRuntime) -> Result<(), Fail> {
+    let refused = "refused plan 1 structure 1 device one\n";
+    assert_plan(&rt, FABRIC.as_bytes(), FABRIC_GREEDY, Status::Done)?;
+    assert_plan(&rt, ALONE.as_bytes(), refused, Status::PlanRefused)
+}
+
+/// A topology of devices without links, of which the first two are candidates for the root.
+fn loose(alloc: Global, count: u32) -> Result<String, Fail> {
+    let head =
+        "version = 1\nppm = 200\ngrain = 1000\nperiod = 100000000\ntick = 10000000\nloss = 1\ndepth = 3\nroots = [\"d0\", \"d1\"]\n";
+    let mut text = String::from_str(alloc, head)?;
+    for d in 0..count {
+        let device = format!(in alloc; "[[device]]\nname = \"d{d}\"\n")?;
+        text.push_str(device.as_str())?;
+    }
+    Ok(text)
+}
+
+#[test]
+fn devices_at_the_limit_and_past_it(rt: HostRuntime) -> Result<(), Fail> {
+    let unplaced = "refused plan 1 structure 2 device d1\n";
+    let refused = "input topology Limit device\n";
+    let most = loose(rt.alloc(), 4096)?;
+    assert_plan(&rt, most.as_bytes(), unplaced, Status::PlanRefused)?;
+    let more = loose(rt.alloc(), 4097)?;
+    assert_plan(&rt, more.as_bytes(), refused, Status::InputRefused)
+}
+
+#[test]
+fn a_plan_is_renewed_without_what_is_absent(rt: HostRuntime) -> Result<(), Fail> {
+    let cases = [
+        (
+            (
+                FABRIC,
+                FABRIC_PLAN,
+                r#"{"absent_devices":["s1"],"absent_links":[]}"#,
+            ),
+            "refused plan 1 structure 1 device s2\n",
+            Status::PlanRefused,
+        ),
+        (
+            (
+                FABRIC,
+                FABRIC_PLAN,
+                r#"{"absent_devices":["l3"],"absent_links":[]}"#,
+            ),
+            FABRIC_RENEWED,
+            Status::Done,
+        ),
+        (
+            (TRIANGLE, TRIANGLE_PLAN, "0"),
+            "input absent WrongKind absent 0\n",
+            Status::InputRefused,
+        ),
+        (
+            (TRIANGLE, "[]", "0"),
+            "input plan 1 WrongKind plan 0\n",
+            Status::InputRefused,
+        ),
+        (
+            ("", "[]", "0"),
+            "input topology Missing version 0\n",
+            Status::InputRefused,
+        ),
+        (
+            (
+                TRIANGLE,
+                TRIANGLE_PLAN,
+                r#"{"absent_devices":["z"],"absent_links":[]}"#,
+            ),
+            "input absent UnknownName absent_devices 0\n",
+            Status::InputRefused,
+        ),
+    ];
+    for (texts, output, status) in cases {
+        assert_renewal(&rt, texts, output, status)?;
+    }
+    Ok(())
+}
