@@ -24,6 +24,7 @@ domains=${4:-4096}
 spines=${5:-16}
 folder=$(mktemp -d)
 trap 'rm -rf "$folder"' EXIT
+. "$(dirname "$0")/measure.sh"
 
 awk -v devices="$devices" -v links="$links" -v domains="$domains" -v spines="$spines" -v folder="$folder" '
 # the kth link of a leaf, and the spine that it leads to: the root, the backup root, and then others in turn
@@ -137,27 +138,6 @@ BEGIN {
     write_plan(folder "/plan", "")
     write_plan(folder "/refused", "," row("nowhere", "s0", link_name(0, 0), "s1", link_name(0, 1)))
 }'
-
-# Runs the program three times, and prints its least time; that stays in microseconds in `least`. An answer whose status
-# or first line is not as wanted ends the script; where no line is wanted, each first line will do.
-measure() {
-    local name=$1 status=$2 wanted=$3 begun took answered first
-    shift 3
-    least=
-    for _ in 1 2 3; do
-        answered=0
-        begun=${EPOCHREALTIME//[!0-9]/}
-        "$program" "$@" >"$folder/answer" || answered=$?
-        took=$((${EPOCHREALTIME//[!0-9]/} - begun))
-        if [ -z "$least" ] || [ "$took" -lt "$least" ]; then least=$took; fi
-    done
-    first=$(head -n 1 "$folder/answer")
-    printf '%-8s %4d.%03d s  status %d  %s\n' "$name" $((least / 1000000)) $((least / 1000 % 1000)) "$answered" "$first"
-    if [ "$answered" -ne "$status" ] || [ "$first" != "${wanted:-$first}" ]; then
-        echo "wanted: status $status  $wanted"
-        exit 1
-    fi
-}
 
 echo "$(stat -c %s "$folder/topology") and $(stat -c %s "$folder/plan") bytes"
 measure refused 3 "input plan 1 UnknownName rows.device $devices" check "$folder/topology" "$folder/refused"

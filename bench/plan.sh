@@ -20,6 +20,7 @@ domains=${4:-4096}
 spines=${5:-16}
 folder=$(mktemp -d)
 trap 'rm -rf "$folder"' EXIT
+. "$(dirname "$0")/measure.sh"
 
 # A topology whose candidates for the root are the first spine and a second device.
 write_topology() {
@@ -52,27 +53,6 @@ write_topology() {
             else
                 printf "[[domain]]\nname = \"feed%d\"\ndevices = [\"s%d\"]\n", domain - leaves, (domain - leaves) % spines
     }'
-}
-
-# Runs the program three times, and prints its least time; that stays in microseconds in `least`. An answer whose status
-# or first bytes are not as wanted ends the script.
-measure() {
-    local name=$1 status=$2 wanted=$3 begun took answered first
-    shift 3
-    least=
-    for _ in 1 2 3; do
-        answered=0
-        begun=${EPOCHREALTIME//[!0-9]/}
-        "$program" "$@" >"$folder/answer" || answered=$?
-        took=$((${EPOCHREALTIME//[!0-9]/} - begun))
-        if [ -z "$least" ] || [ "$took" -lt "$least" ]; then least=$took; fi
-    done
-    first=$(head -c "${#wanted}" "$folder/answer")
-    printf '%-8s %4d.%03d s  status %d  %s\n' "$name" $((least / 1000000)) $((least / 1000 % 1000)) "$answered" "$first"
-    if [ "$answered" -ne "$status" ] || [ "$first" != "$wanted" ]; then
-        echo "wanted: status $status  $wanted"
-        exit 1
-    fi
 }
 
 write_topology s1 >"$folder/topology"
