@@ -11,7 +11,7 @@ use sd_core::{Device, Node};
 use sd_plan::Duty;
 
 /// The parent of a node that acts: it has none.
-pub fn parent_of_acting<N: Node>(node: &N) -> Option<u32>
+pub(super) fn parent_of_acting<N: Node>(node: &N) -> Option<u32>
     requires { N.acts node.now ≡ true }
     ensures { result ≡ None }
 {
@@ -19,7 +19,7 @@ pub fn parent_of_acting<N: Node>(node: &N) -> Option<u32>
 }
 
 /// Whether a device acts after two ticks, as the words on its life say.
-pub fn acts_after_ticks(duty: Duty, first: u64, second: u64) -> bool
+pub(super) fn acts_after_ticks(duty: Duty, first: u64, second: u64) -> bool
     requires duty { IsDuty duty }
     requires order { first ≤ second }
     requires counter { second ≤ 2 ^ 60 }

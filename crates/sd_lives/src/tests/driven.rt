@@ -18,10 +18,10 @@ const LIMIT: u64 = 1 << 60;
 const MOST: u64 = 1 << 20;
 
 #[derive(Drop)]
-pub struct Driven<N: Node> {
-    pub node: N,
+pub(super) struct Driven<N: Node> {
+    pub(super) node: N,
     given: Option<Duty>,
-    pub counter: u64,
+    pub(super) counter: u64,
     calls: u64,
     ghost given_is: { is_some (N.given node) ≡ true → N.given node ≡ given },
     ghost floor: { N.floor node ≤ counter },
@@ -33,7 +33,7 @@ pub struct Driven<N: Node> {
 
 impl<N: Node> Driven<N> {
     /// The node, where it can be made so.
-    pub fn new(making: &Making) -> Option<Driven<N>> {
+    pub(super) fn new(making: &Making) -> Option<Driven<N>> {
         if making.counter > LIMIT || making.clock > LIMIT || making.eps > LIMIT {
             return None;
         }
@@ -61,7 +61,7 @@ impl<N: Node> Driven<N> {
     }
 
     /// What the call sends, where it may be made.
-    pub fn call(&mut self, call: &Call) -> Option<Effect> {
+    pub(super) fn call(&mut self, call: &Call) -> Option<Effect> {
         if self.calls >= MOST {
             return None;
         }
@@ -144,7 +144,7 @@ impl<N: Node> Driven<N> {
     }
 
     /// Its report at the counter that it was shown last.
-    pub fn report(&self) -> Report {
+    pub(super) fn report(&self) -> Report {
         self.node.report(self.counter)
     }
 }
@@ -187,7 +187,7 @@ fn is_duty(duty: &Duty) -> bool
 }
 
 /// The duty, where it is within the limits.
-pub fn fitting(duty: Duty) -> Option<Duty>
+pub(super) fn fitting(duty: Duty) -> Option<Duty>
     ensures { IfSome result IsDuty }
 {
     if is_duty(&duty) { Some(duty) } else { None }

@@ -7,8 +7,8 @@ use sd_plan::{Duty, Edge, Role};
 
 /// A linear congruential number.
 #[derive(Drop)]
-pub struct Numbers {
-    pub state: u64,
+pub(super) struct Numbers {
+    pub(super) state: u64,
 }
 
 impl Numbers {
@@ -46,7 +46,7 @@ impl Numbers {
         }
     }
 
-    pub fn making(&mut self) -> Making {
+    pub(super) fn making(&mut self) -> Making {
         let duty = match self.small(4) {
             0 => None,
             _ => Some(self.duty(1)),
@@ -61,7 +61,7 @@ impl Numbers {
     }
 
     /// A call at this place of the life, so long as the device is as the plain one.
-    pub fn call(&mut self, place: u32, counter: u64, plain: &Plain) -> Call {
+    pub(super) fn call(&mut self, place: u32, counter: u64, plain: &Plain) -> Call {
         let counter = counter.saturating_add(self.below(250));
         match self.small(16) {
             0..=5 => Call::Tick { counter },

@@ -9,7 +9,7 @@ use sd_plan::{Duty, Edge, Role};
 use std::alloc::{AllocError, Global};
 
 #[derive(Clone, Copy, Debug)]
-pub enum Call {
+pub(super) enum Call {
     Tick {
         counter: u64,
     },
@@ -31,7 +31,7 @@ pub enum Call {
 }
 
 #[derive(Clone, Copy, Debug)]
-pub enum Deed {
+pub(super) enum Deed {
     Entered(Duty, Edge),
     Committed(Duty),
     Recommitted(Duty),
@@ -43,23 +43,23 @@ pub enum Deed {
 }
 
 #[derive(Clone, Copy, Debug)]
-pub struct Did {
-    pub call: Call,
-    pub deed: Deed,
+pub(super) struct Did {
+    pub(super) call: Call,
+    pub(super) deed: Deed,
 }
 
 /// How it was made: with a duty, or without one.
 #[derive(Clone, Copy, Debug)]
-pub struct Making {
-    pub duty: Option<Duty>,
-    pub rates: Rates,
-    pub counter: u64,
-    pub clock: u64,
-    pub eps: u64,
+pub(super) struct Making {
+    pub(super) duty: Option<Duty>,
+    pub(super) rates: Rates,
+    pub(super) counter: u64,
+    pub(super) clock: u64,
+    pub(super) eps: u64,
 }
 
 #[derive(Drop)]
-pub struct Plain {
+pub(super) struct Plain {
     making: Making,
     did: Vec<Did>,
 }
@@ -183,7 +183,7 @@ impl Did {
 }
 
 impl Plain {
-    pub fn new(alloc: Global, making: Making) -> Plain {
+    pub(super) fn new(alloc: Global, making: Making) -> Plain {
         Plain {
             making,
             did: Vec::new(alloc),
@@ -191,7 +191,7 @@ impl Plain {
     }
 
     /// A call, and what it sends.
-    pub fn call(&mut self, call: Call) -> Result<Effect, AllocError> {
+    pub(super) fn call(&mut self, call: Call) -> Result<Effect, AllocError> {
         let deed = self.deed(&call);
         self.did.push(Did { call, deed })?;
         Ok(match (deed, call.counter()) {
@@ -207,7 +207,7 @@ impl Plain {
     }
 
     /// Whether some call did something of this letter.
-    pub fn has_done(&self, letter: char) -> bool {
+    pub(super) fn has_done(&self, letter: char) -> bool {
         self.did.iter().any(|x| x.deed.letter() == letter)
     }
 
@@ -228,14 +228,14 @@ impl Plain {
             .copied()
     }
 
-    pub fn duty(&self) -> Option<Duty> {
+    pub(super) fn duty(&self) -> Option<Duty> {
         match self.entry() {
             Some(entry) => entry.taken_up(),
             None => self.making.duty,
         }
     }
 
-    pub fn epoch(&self) -> u32 {
+    pub(super) fn epoch(&self) -> u32 {
         match self.duty() {
             Some(duty) => duty.epoch,
             None => 0,
@@ -249,7 +249,7 @@ impl Plain {
         }
     }
 
-    pub fn given(&self) -> Option<Duty> {
+    pub(super) fn given(&self) -> Option<Duty> {
         self.did
             .iter()
             .rev()
@@ -257,7 +257,7 @@ impl Plain {
             .find_map(|x| x.given())
     }
 
-    pub fn is_sealed(&self) -> bool {
+    pub(super) fn is_sealed(&self) -> bool {
         self.entry().is_none()
             || self
                 .did
@@ -275,7 +275,7 @@ impl Plain {
             .any(|x| matches!(x.deed, Deed::Moved))
     }
 
-    pub fn acts(&self) -> bool {
+    pub(super) fn acts(&self) -> bool {
         let from_entry = match self.entry() {
             Some(entry) => matches!(entry.deed, Deed::Committed(_) | Deed::Recommitted(_)),
             None => matches!(self.making.duty, Some(duty) if duty.role == Role::Root),
@@ -298,7 +298,7 @@ impl Plain {
         }
     }
 
-    pub fn parent(&self) -> Option<u32> {
+    pub(super) fn parent(&self) -> Option<u32> {
         self.edge().map(|edge| edge.parent)
     }
 
@@ -343,7 +343,7 @@ impl Plain {
             .unwrap_or(made)
     }
 
-    pub fn report(&self, counter: u64) -> Report {
+    pub(super) fn report(&self, counter: u64) -> Report {
         let (clock, base, at) = self.estimate();
         let elapsed = counter.saturating_sub(at);
         let rates = self.rates();

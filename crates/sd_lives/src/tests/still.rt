@@ -7,7 +7,7 @@ use sd_num::Rates;
 use sd_plan::Duty;
 
 #[derive(Drop)]
-pub struct Still {
+pub(super) struct Still {
     given: Option<Duty>,
 }
 
