@@ -1,0 +1,108 @@
+-- An accepted event names a device of the network, and a device that is up is one of them, in every history. And what shows that a device
+-- that is up was made, so that it has a past.
+use Rattle.std.specs.Prelude.{◌≡◌, ℕ, ◌<◌, Bool, true, false, ◌||◌, List, [], ◌∷◌, length, nat_eq, nat_le, Option, Some, None, is_some, option_map, refl, if◌then◌else◌}
+use Rattle.std.proofs.Common.{ap, subst}
+use Rattle.std.proofs.lemmas.Bool.{leb-false, eqb-true}
+use Rattle.sd_num.specs.Lists.{of_some}
+use Rattle.sd_topo.specs.Network.{rates_of}
+use Rattle.sd_topo.specs.declared.Thing.TheVariants as thing
+use Rattle.sd_plan.specs.Duties.{duty_of}
+use Rattle.sd_core.specs.Calls as calls
+use Rattle.sd_core.specs.Calls.{Making, Past}
+use Rattle.sd_core.specs.Words.{after}
+use Rattle.sd_sched.specs.declared.Event.{Event}
+use Rattle.sd_sched.specs.declared.Event.TheVariants as event
+use Rattle.sd_sched.specs.Events.{device_of}
+use Rattle.sd_history.specs.World.{Setting, makes, fails, is_up, in_force, epoch_in_force}
+use Rattle.sd_history.specs.Steps.{Act, Makes, Calls, Asks, Passes, Step, seen_of, act_by}
+use Rattle.sd_history.specs.Refusals.{causes, refusal}
+use Rattle.sd_history.specs.Chronicle.{new_past, past_after, chronicle, IsHistory}
+use Rattle.sd_history.proofs.Among.{first}
+use Rattle.sd_history.proofs.Contained.{none_holds}
+
+-- an accepted event names a device of the network
+pub named_is_known : (setting : Setting) (steps : List Step) (e : Event) (d : ℕ) → refusal setting steps e ≡ None → device_of e ≡ Some d → d < length setting.net.devices
+named_is_known setting steps e d none named = go (device_of e) named (none_holds (causes setting steps e) _ none first)
+  where
+    go : (o : Option ℕ) → o ≡ Some d → of_some o false (λ x. nat_le (length setting.net.devices) x) ≡ false → d < length setting.net.devices
+    go None same h = cc
+    go (Some x) same h =
+        subst (λ n. n < length setting.net.devices) (ap (λ o. of_some o x (λ z. z)) same) (leb-false (length setting.net.devices) x h)
+
+made_named : (e : Event) (d : ℕ) → makes d e ≡ true → device_of e ≡ Some d
+made_named (event.Start r m c clock eps) d made = by (nat_eq m d) refl made
+  where
+    by : (b : Bool) → nat_eq m d ≡ b → (b || false) ≡ true → Some m ≡ Some d
+    by true e h = ap Some (eqb-true m d e)
+    by false e h = cc
+made_named (event.Join r m c clock eps) d made = ap Some (eqb-true m d made)
+made_named _ d made = cc
+
+-- a device that is up was made with this event, or was up before
+pub up_case : (m f : Bool) (before : Bool) → of_some (if m then Some true else if f then Some false else None) before (λ x. x) ≡ true → (m ≡ false → before ≡ true)
+up_case true f before h = λ e. cc
+up_case false true before h = cc
+up_case false false before h = λ e. h
+
+-- a device that is up is one of the network's
+pub up_is_known : (setting : Setting) (history : List Event) → IsHistory setting history → (d : ℕ) → is_up (seen_of (chronicle setting history)) d ≡ true → d < length setting.net.devices
+up_is_known setting [] is d up = cc
+up_is_known setting (e ∷ earlier) is d up =
+    go (makes d e) refl (up_case (makes d e) (fails (thing.Device d) e) (is_up (seen_of (chronicle setting earlier)) d) up) (up_is_known setting earlier is.0 d)
+  where
+    go : (m : Bool) → makes d e ≡ m → (makes d e ≡ false → is_up (seen_of (chronicle setting earlier)) d ≡ true) → (is_up (seen_of (chronicle setting earlier)) d ≡ true → d < length setting.net.devices) → d < length setting.net.devices
+    go true made before rest = named_is_known setting (chronicle setting earlier) e d is.1 (made_named e d made)
+    go false made before rest = rest (before made)
+
+-- A device that is up was made, and has a past.
+
+pub has_some : {A : Type 0} (o : Option A) → is_some o ≡ true → (x : A) × (o ≡ Some x)
+has_some None some = cc
+has_some (Some x) some = (x, refl)
+
+pub kept_past : (act : Act) (d : ℕ) (p : Option Past) → is_some p ≡ true → is_some (past_after act d p) ≡ true
+kept_past (Makes m making) d p some = go (nat_eq m d)
+  where
+    go : (b : Bool) → is_some (if b then Some (new_past making) else p) ≡ true
+    go true = refl
+    go false = some
+kept_past (Calls m call) d p some = go (nat_eq m d) p some
+  where
+    go : (b : Bool) (q : Option Past) → is_some q ≡ true → is_some (if b then option_map (λ past. after past call) q else q) ≡ true
+    go true None some' = cc
+    go true (Some past) some' = refl
+    go false q some' = some'
+kept_past (Asks m counter) d p some = some
+kept_past Passes d p some = some
+
+made_past : (m d : ℕ) (making : Making) (p : Option Past) → nat_eq m d ≡ true → is_some (past_after (Makes m making) d p) ≡ true
+made_past m d making p equal = ap (λ b. is_some (if b then Some (new_past making) else p)) equal
+
+pub makes_past : (setting : Setting) (steps : List Step) (e : Event) (d : ℕ) (p : Option Past) → makes d e ≡ true → is_some (past_after (act_by setting steps e) d p) ≡ true
+makes_past setting steps (event.Start r m c clock eps) d p makes_ =
+    made_past m d (calls.Started (duty_of setting.net (in_force setting (seen_of steps)) (epoch_in_force (seen_of steps)) m) c clock eps) p (or_left (nat_eq m d) makes_)
+  where
+    or_left : (b : Bool) → (b || false) ≡ true → b ≡ true
+    or_left true h = refl
+    or_left false h = h
+makes_past setting steps (event.Join r m c clock eps) d p makes_ = made_past m d (calls.Joined (rates_of setting.net m) c clock eps) p makes_
+makes_past setting steps (event.Tick r m c) d p makes_ = cc
+makes_past setting steps (event.Recv r m c n) d p makes_ = cc
+makes_past setting steps (event.Lose r n) d p makes_ = cc
+makes_past setting steps (event.FailDevice r m) d p makes_ = cc
+makes_past setting steps (event.FailLink r l) d p makes_ = cc
+makes_past setting steps (event.Fix r m c clock eps) d p makes_ = cc
+makes_past setting steps (event.Ask r m c) d p makes_ = cc
+makes_past setting steps (event.Stage r) d p makes_ = cc
+makes_past setting steps (event.Give r m) d p makes_ = cc
+makes_past setting steps (event.Commit r m c) d p makes_ = cc
+makes_past setting steps (event.Seal r m) d p makes_ = cc
+makes_past setting steps (event.MendDevice r m) d p makes_ = cc
+makes_past setting steps (event.MendLink r l) d p makes_ = cc
+makes_past setting steps (event.End r) d p makes_ = cc
+
+pub up_by : (m f up : Bool) (p q : Bool) → (m ≡ true → q ≡ true) → (p ≡ true → q ≡ true) → (up ≡ true → p ≡ true)
+    → of_some (if m then Some true else if f then Some false else None) up (λ told. told) ≡ true → q ≡ true
+up_by true f up p q making kept rest is = making refl
+up_by false true up p q making kept rest is = cc
+up_by false false up p q making kept rest is = kept (rest is)
