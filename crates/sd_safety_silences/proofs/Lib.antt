@@ -1,0 +1,25 @@
+-- The feeding lemma, and 13 and 15 from it.
+pub mod Nexts
+pub mod Supply
+pub mod Rounds
+pub mod Feeding
+pub mod Hearing
+pub mod Walking
+pub mod Paths
+pub mod Links
+pub mod States
+pub mod Phases
+pub mod Sounding
+pub mod Spacing
+pub mod Making
+pub mod Sourced
+pub mod Whole
+pub mod Late
+pub mod First
+pub mod Thirteen
+pub mod Fallen
+pub mod Fifteen
+pub mod Lately
+pub mod Gaps
+pub mod Eras
+pub mod Emitters

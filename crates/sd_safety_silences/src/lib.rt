@@ -1,0 +1,33 @@
+//! Silences while the root lives: the feeding lemma (12 by the numbers of `sd_safety`), and from it
+//! lemmas 13 and 15.
+//!
+//! # The result
+//!
+//! In the first era before a commit, with the invariant after each event before, `whole_path_first`
+//! (`Thirteen`) and `fallback_first` (`Fifteen`) hold at each event that fails nothing, and
+//! `whole_path_hears` (`Gaps`) at every event. In any era `whole_path_in_phase` and
+//! `fallback_in_phase` hold where a phase (`IsPhase`) began by the time at which the device last
+//! heard or moved, given that terms are led (`IsLed`).
+//!
+//! # The way
+//!
+//! `feeding`: along a sound way of m hops, m at most 2(H + 1), from a source that acts later than
+//! s0, the device at its end heard a round emitted later than s0 at each event later than
+//! s0 + A + m * D. `Supply` and `Rounds` find the K + 1 rounds, `Sourced` shows the root to be a
+//! source, `Walking`, `Paths` and `Sounding` the walk of a device to be a sound way, `States` and
+//! `Phases` that this was so at each event of the phase.
+//!
+//! After a receipt the silence is at most A + H * D at an event that fails nothing, and up to Q more
+//! at one that fails something: it may cut off the last of the K + 1 rounds, which is then neither
+//! received nor spoiled (`Lately`, `Gaps`).
+//!
+//! # What is open
+//!
+//! - `IsLed` in later eras. `era_emitter` and `root_term` give it of what was emitted in the phase;
+//!   wanted are the emissions before: no past device acts, by C9 c at each closing, and the term of
+//!   a takeover is newer than all before it.
+//! - 13 and 15 across a commit or a closing. The way has to follow the clean round: one emitted before
+//!   the commit goes the old way, a later one that of the staged plan. So the K + 1 rounds are to be
+//!   chosen first, and `way_flows`, which is of one round, used for the one that is clean.
+//! - 18, by `feeding` with s0 the later of the commit and the last receipt, along the staged plan.
+#![tactic(auto)]
