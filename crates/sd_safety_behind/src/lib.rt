@@ -1,0 +1,35 @@
+//! Behind and beside the backup root: lemmas 14, 16 and 17 by the numbers of `sd_safety`.
+//!
+//! # The result (proofs/Silent)
+//!
+//! `takeover` is 16 from `HearsNoMore`; `beside` is 17 from 13 and that; `unmended` and `mended` are
+//! 14 while the backup root is old, in an era without a mend so far and in one with a mend; `behind`
+//! puts 14 together. 15 is not used.
+//!
+//! 14 has three parts: (i) what the backup root hears after its path broke, (ii) how long the devices
+//! behind it wait without a stray, (iii) and with one.
+//!
+//! # What is open, each in specs/ with the numbers (`Pieces`, `Feeding`)
+//!
+//! | Statement | To be shown by |
+//! |---|---|
+//! | `HearsNoMore`, `PathHearsNoMore` | `accepted_traced` at the step at which the backup root last heard, then from the end of the trace by `hop_parent` |
+//! | `FallbackFeeds`, `TakeoverFeeds` | the feeding lemma along the fallback and the cut path |
+//! | `MendedHears` | the trace, and that at most one round is a stray (10) |
+//! | `MendedMoves` | the induction of `Broken` once more, with `Mends` |
+//! | `BehindWaitsCommitted` | 20, with `before_entering` of `sd_safety` |
+//!
+//! # The way
+//!
+//! Nearly all of this goes back over the history in one form: a closing contradicts C10; else the
+//! era, and so the plan, is the same, and what is said of its backup root before the event is carried
+//! over. `Failing` goes back to the event at which the first of some things failed in the era. g is
+//! that reference for the path of the backup root, gR for the root, a stray is a round that crossed
+//! a mended link after its sender failed or was cut off.
+//!
+//! - A device that moved can only have heard earlier: the move comes at most the first wait and a tick
+//!   after it heard. So 16 needs no word on the stray and no case by which came first.
+//! - `seals_soon`: the backup root is sealed before its first wait is over, by its start or by C10.
+//! - `Tries` computes the hypotheses on small histories. On the triangle few devices are behind the
+//!   backup root, so of the feeding this says little.
+#![tactic(auto)]
