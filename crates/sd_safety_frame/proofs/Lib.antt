@@ -1,0 +1,20 @@
+-- What a step leaves alone, word by word and clause by clause, and the events that so keep the core.
+pub mod Alone
+pub mod Plain
+pub mod Words
+pub mod Steps
+pub mod Alike
+pub mod Called
+pub mod Core
+pub mod Timely
+pub mod Lasting
+pub mod Idles
+pub mod Receiving
+pub mod Staging
+pub mod Failing
+pub mod Failures
+pub mod Climbing
+pub mod Descending
+pub mod Telling
+pub mod Shadows
+pub mod Standing

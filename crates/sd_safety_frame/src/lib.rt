@@ -1,0 +1,39 @@
+//! The frame: what a step of a history leaves alone in the words of the invariant, and from it which
+//! events keep its core.
+//!
+//! # The result
+//!
+//! | Kind of event | Name | From |
+//! |---|---|---|
+//! | report, loss, end, quiet tick, emission, fix | `ask`, `lose`, `ends`, `tick_quiet`, `tick_emits`, `fix` (`Idles`) | `EntersSoon` |
+//! | receipt | `receive_from_standing` (`Shadows`) | `EntersSoon`, `StoodThen`, `KeepsEntering` |
+//! | failure | `fail_device`, `fail_link` (`Failures`) | nothing |
+//! | stage | `stage` (`Staging`) | nothing |
+//!
+//! These are fields of `EachKeeps` of `sd_safety`, for every setting.
+//!
+//! # What is open, in specs/
+//!
+//! - `EntersSoon` (`Silences` of `sd_safety`): 18 of members. It stands for C9 b, which time alone
+//!   could break, so every event asks for it.
+//! - `StoodThen` (`Descents`): while an old backup root is on its primary, no device of its path but
+//!   the root has moved or acted in the plan in force at any event so far. Of the newest event it is
+//!   proved (`stands_now`). It is to be shown by going back: to the start of the backup root, before
+//!   which nobody moves (C0), or to the closing, before which nobody is of this plan but back to the
+//!   commit (C9 d).
+//! - `KeepsEntering` (`Receipts`): a receipt that enters the staged plan keeps the core.
+//!
+//! # The way
+//!
+//! A step is elsewhere of a device (`IsElsewhere`) where it neither changes, makes nor fails it, and
+//! plain (`IsPlain`) where it closes, stages, commits, fails, mends and joins nothing. `Alone` and
+//! `Plain` say what each leaves alone, word by word; `Alike` and `Core` carry the clauses over to a
+//! state that is alike; `Timely`, `Lasting` show what asks for references and messages. `Failing` is
+//! the pattern for an event that changes one device. `Climbing` and `Descending` show C6 at a receipt
+//! of the backup root: along the trace and the walk to the root together.
+//!
+//! - A stage, a failure and the end may be the very first event: then the core of no steps is wanted
+//!   (`core_empty`).
+//! - At a failure of the backup root a device that is on its backup since that acts would lose its
+//!   cause (C3); the condition on the two roots bars it.
+#![tactic(auto)]
