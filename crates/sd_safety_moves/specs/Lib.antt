@@ -1,0 +1,2 @@
+-- What is shown of seals and of silences at most.
+pub mod Wanted
