@@ -1,0 +1,24 @@
+-- Frames of the events of a window, and C8, C9 and C10 clause by clause.
+pub mod Eras
+pub mod Reaching
+pub mod Shut
+pub mod Frames
+pub mod Acting
+pub mod Committing
+pub mod Sealing
+pub mod Links
+pub mod Roots
+pub mod Closing
+pub mod News
+pub mod Senders
+pub mod Leading
+pub mod Entering
+pub mod Receiving
+pub mod Linked
+pub mod Given
+pub mod Members
+pub mod Seals
+pub mod Receivers
+pub mod Roles
+pub mod Giving
+pub mod Actors

@@ -1,0 +1,33 @@
+//! The events of a window: what each of them keeps of the invariant.
+//!
+//! # What is here of `EachKeeps`
+//!
+//! The clauses are shown one by one, each of every device or link, from the clauses before the event
+//! that it needs, which enter as plain hypotheses. No field of `EachKeeps` is put together yet.
+//!
+//! | Clause | Names | Module |
+//! |---|---|---|
+//! | C8, in every history: no device and no message is of a later epoch than the era before a commit, and than the staged one after it | `within`, `uncommitted` | `Reaching` |
+//! | a window closes with a seal alone (23) | `others_close_none` | `Shut`, `Seals` |
+//! | C9 a: after a commit nothing fails, starts, joins, is mended, given, committed or staged | `rests_at` | `News` |
+//! | C9 b at a commit, and at a receipt | `commit_enters`, `commit_is_in_time`; `receipt_keeps_entering` | `Members`, `Roles`; `Receivers` |
+//! | C9 c at a commit, and at a receipt | `committer_is_right`, `committer_acts_alone`; `receipt_keeps_committer`, `receipt_keeps_acting` | `Committing`; `Roles`, `Actors` |
+//! | C9 d at a commit, and at a receipt | `commit_links`; `receipt_keeps_linked` | `Linked` |
+//! | C10 at a closing | `closing_begins` | `Linked`, `Closing` |
+//! | what a give and a seal leave alone | | `Giving`, `Sealing` |
+//!
+//! Much of this is a matter of order and holds in each history, or each clean one: that a new device
+//! stays new, that it has no given duty, and that who sent a message of the staged epoch is new. So
+//! C9 d needs no trace: the sender of an entering receipt is new at that moment.
+//!
+//! # What is open
+//!
+//! 1. C9 g at a commit (21): by C1 a walk joins a left-out device that is not hit to the staged root,
+//!    against `AtCommit.cleanly`; and the case of an untouched member. After a commit it stays.
+//! 2. C9 b later than A + H * D after the commit: 18.
+//! 3. A join and a mend: C1. A joined device is blank, joined in the window, and not counted before.
+//! 4. A commit, for the clauses of the old era: the root or the backup root is new after it.
+//! 5. A closing: C1, that an outsider is past, and C6, by the traces of the entering receipts. C2 to
+//!    C5 follow from `closing_begins` by `Opening` of `sd_safety`.
+//! 6. A seal that closes nothing: by `Sealing`, since nothing else changes.
+#![tactic(auto)]
