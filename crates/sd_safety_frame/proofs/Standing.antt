@@ -1,5 +1,5 @@
 -- What StoodThen asks for at the newest event: while an old backup root is on its primary, a device of its path that is up and of the plan in force has
--- neither moved nor does it act. From C5, C2 and C1. At the events before it is left to the next one.
+-- neither moved nor does it act. From C5, C2 and C1. At the events before it is a hypothesis (StoodThen).
 use Rattle.std.specs.Prelude.{◌≡◌, ℕ, Bool, true, false, ◌&&◌, ◌||◌, not, List, nat_eq, Option, Some, None, is_some, option_map, refl, if◌then◌else◌}
 use Rattle.std.proofs.Common.{◌∙◌, ap, sym}
 use Rattle.std.proofs.lemmas.Bool.{and_parts, and_from, eqb-true, eq-eqb}
