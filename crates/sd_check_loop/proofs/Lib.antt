@@ -1,3 +1,4 @@
+pub mod Versions
 pub mod Ranks
 mod Markers
 mod Searching
@@ -9,3 +10,4 @@ mod Judging
 mod Trailing
 mod Answering
 mod Samples
+pub mod Unique

@@ -8,22 +8,10 @@ use Rattle.std.proofs.lemmas.List.Elements.{All-get_or, filter_passes}
 use Rattle.std.proofs.lemmas.List.Sorted.{searched}
 use Rattle.std.proofs.lemmas.List.Folds.{list_any_at}
 use Rattle.sd_num.specs.Lists.{ascends, has, below}
+use Rattle.sd_num.proofs.Ascending.{tail_ascends, first_below}
 use Rattle.sd_topo.proofs.Ascending.{Rises, rising}
 use Rattle.sd_plan.proofs.Numbered.{length-below, get_or-below}
 use Rattle.sd_check_loop.specs.Graphs.{place_in}
-
--- what follows the first of numbers that ascend ascends
-tail_ascends : (x : ℕ) (xs : List ℕ) → ascends (x ∷ xs) ≡ true → ascends xs ≡ true
-tail_ascends x [] up = refl
-tail_ascends x (y ∷ ys) up = (and_parts (nat_le (x + 1) y) (ascends (y ∷ ys)) up).1
-
--- the first of numbers that ascend is the least
-first_below : (x : ℕ) (xs : List ℕ) (j : ℕ) → ascends (x ∷ xs) ≡ true → j < length xs → x < get_or xs j 0
-first_below x [] j up within = absurd (omega arith)
-first_below x (y ∷ ys) zero up within = let next = leb-true (x + 1) y (and_parts (nat_le (x + 1) y) (ascends (y ∷ ys)) up).0 in omega arith
-first_below x (y ∷ ys) (suc j) up within =
-    let parts : (nat_le (x + 1) y ≡ true) × (ascends (y ∷ ys) ≡ true) = and_parts (nat_le (x + 1) y) (ascends (y ∷ ys)) up in
-    omega (arith, leb-true (x + 1) y parts.0, first_below y ys j parts.1 (omega arith))
 
 -- numbers that ascend rise from place to place
 pub rise : (xs : List ℕ) → ascends xs ≡ true → (i j : ℕ) → i < j → j < length xs → get_or xs i 0 < get_or xs j 0

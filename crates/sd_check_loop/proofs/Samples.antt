@@ -4,11 +4,10 @@ use Rattle.std.specs.Prelude.{IfSome}
 use Rattle.std.proofs.lemmas.List.Elements.{All-nil, All-cons}
 use Rattle.sd_topo.specs.Network.{Network}
 use Rattle.sd_topo.proofs.Lists.{each_of}
-use Rattle.sd_plan.specs.Examples.{square_plan, hop, row}
+use Rattle.sd_plan.specs.Examples.{IsSquare, square_plan, hop, row}
 use Rattle.sd_plan.specs.Plans.{Fits, IsHop, IsRow}
 use Rattle.sd_plan.specs.Structure.{structure_breach}
 use Rattle.sd_plan.specs.declared.Hop.{Hop}
-use Rattle.sd_check_loop.specs.Squares.{IsSquare}
 
 -- a row whose two hops are there
 both : (net : Network) (primary backup : Hop) → IsHop net primary → IsHop net backup → IsRow net (Some (record { primary = primary; backup = Some backup }))

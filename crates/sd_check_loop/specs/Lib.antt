@@ -3,4 +3,3 @@ pub mod Graphs
 pub mod Markings
 pub mod Shown
 pub mod Trails
-pub mod Squares

@@ -12,7 +12,7 @@ use Rattle.sd_plan.specs.declared.Plan.{Plan}
 use Rattle.sd_check_reach.specs.Reach.{next_hop, turns_to, begins_with, follows_turns}
 use Rattle.sd_check_reach.specs.Reached.{is_left}
 use Rattle.sd_check_reach.specs.Chains.{onward, turns_along, ends_with, IsChainTo, IsChainOf}
-use Rattle.sd_check_reach.proofs.Places.{has_cases}
+use Rattle.sd_num.proofs.Places.{has_cases}
 
 module _ (net : Network) (plan : Plan) (f : DomainId) where
   -- the hop that is gone on

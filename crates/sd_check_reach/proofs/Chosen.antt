@@ -17,13 +17,13 @@ use Rattle.sd_check_reach.specs.Reach.{Fed, spared, acting_end, is_sound, LosesB
 use Rattle.sd_check_reach.specs.Reached.{Reaches, AreAll, FirstReached}
 use Rattle.sd_check_reach.specs.Candidates.{AreDecided, Chooses, loses, IsLosing, IsUnheard}
 use Rattle.sd_check_reach.specs.Chains.{IsChainOf}
-use Rattle.sd_check_reach.specs.Outages.{IsHarmless}
+use Rattle.sd_check_reach.specs.Aftermaths.{IsHarmless}
 use Rattle.sd_check_reach.specs.Turns.{IsHeld, IsUnfed, AreMarks, is_unfed}
 use Rattle.sd_check_reach.specs.declared.marks.Mark.{Mark}
 use Rattle.sd_check_reach.specs.declared.marks.Mark.TheVariants as mark
 use Rattle.sd_check_reach.proofs.Closed.{IsClosed, fed_within}
-use Rattle.sd_check_reach.proofs.Hits.{hit_at, at_hit}
-use Rattle.sd_check_reach.proofs.Places.{at_before, at_cases, at_last}
+use Rattle.sd_hit.proofs.HitList.{hit_at, at_hit}
+use Rattle.sd_num.proofs.Places.{at_before, at_cases, at_last}
 use Rattle.sd_check_reach.proofs.Turning.{hit_sound}
 use Rattle.sd_check_reach.proofs.Walked.{hit_device}
 

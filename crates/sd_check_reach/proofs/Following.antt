@@ -13,7 +13,7 @@ use Rattle.sd_check_reach.specs.Reach.{Fed}
 use Rattle.sd_check_reach.specs.Turns.{IsHeld, IsUnfed, AreMarks, IsMarkedFed, IsTrail, IsFollowed, AreSettled}
 use Rattle.sd_check_reach.specs.declared.marks.Mark.{Mark}
 use Rattle.sd_check_reach.specs.declared.marks.Mark.TheVariants as mark
-use Rattle.sd_check_reach.proofs.Places.{has_before, has_last, has_cases, at_written, at_unwritten}
+use Rattle.sd_num.proofs.Places.{has_before, has_last, has_cases, at_written, at_unwritten}
 
 -- no place has two marks
 pub two_marks : {m n : Mark} {X : Type 0} (o : Option Mark) → o ≡ Some m → o ≡ Some n → (◌≡◌ {A = Mark} m n → X) → X

@@ -4,7 +4,7 @@ use Rattle.std.proofs.Common.{refl, sym, ap, ◌∙◌, subst, arith, inl, inr, 
 use Rattle.std.proofs.lemmas.Bool.{and_parts, and_from, or_left, or_right, or_cases, cases_lt, eqb-true, eq-eqb, both_ways, not-true, false_from_ne_true}
 use Rattle.std.proofs.lemmas.Option.{slice_get-get_or, slice_get_within, same_Some, cond_some}
 use Rattle.std.specs.List.{cons_option}
-use Rattle.indexmap.specs.IndexSet.{insert_key}
+use Rattle.sd_domain.specs.NumberSets.{with_number}
 use Rattle.sd_num.specs.Lists.{has}
 use Rattle.sd_topo.specs.Network.{Network, IsNetwork, IsLink, joins, link_of, is_end, link_numbers}
 use Rattle.sd_topo.specs.Joined.{Joined, here, over}
@@ -21,7 +21,7 @@ use Rattle.sd_plan.proofs.Rules.{KeepsRules}
 use Rattle.sd_check_reach.specs.Reach.{acting_end, is_sound, is_sound_link}
 use Rattle.sd_check_reach.specs.Reached.{Reaches, BackupReaches, Grows, LeadsInto, IsDry, IsStep, IsPassed, is_left}
 use Rattle.sd_check_reach.proofs.Closed.{joined_within_set}
-use Rattle.sd_check_reach.proofs.Places.{has_at, at_has, has_last, has_before, has_cases, at_before, has_below, below_has}
+use Rattle.sd_num.proofs.Places.{has_at, at_has, has_last, has_before, has_cases, at_before, has_below, below_has}
 use Rattle.sd_check_reach.proofs.Walked.{Ends, unhit_ends}
 
 -- two ways make one
@@ -109,7 +109,7 @@ grows_on xs ys zs P Q R first second by_first by_second =
     }
 
 -- a list grows by a number
-pub grows_insert : (xs : List ℕ) (y : ℕ) (P : ℕ → Type 0) → P y → Grows xs (insert_key nat_eq xs y) P
+pub grows_insert : (xs : List ℕ) (y : ℕ) (P : ℕ → Type 0) → P y → Grows xs (with_number xs y) P
 grows_insert xs y P allowed = by (has xs y)
   where
     by : (b : Bool) → Grows xs (if b then xs else xs ++ y ∷ []) P
@@ -120,7 +120,7 @@ grows_insert xs y P allowed = by (has xs y)
       added = λ x there. elim (has_cases xs y x there) [ inl a ↦ inl a | inr same ↦ inr (subst P (sym same) allowed) ];
     }
 
-pub has_insert : (xs : List ℕ) (y : ℕ) → has (insert_key nat_eq xs y) y ≡ true
+pub has_insert : (xs : List ℕ) (y : ℕ) → has (with_number xs y) y ≡ true
 has_insert xs y = by (has xs y) refl
   where
     by : (b : Bool) → has xs y ≡ b → has (if b then xs else xs ++ y ∷ []) y ≡ true
@@ -286,12 +286,12 @@ pub record IsSearching (net : Network) (plan : Plan) (f : DomainId) (from done :
 
 module _ (net : Network) (plan : Plan) (f : DomainId) (from : ℕ) (old : List ℕ) where
   -- it begins with what earlier searches visited
-  pub search_begins : IsDry net plan f old → from < length net.devices → (from ≡ acting_end net plan f → ⊥) → IsSearching net plan f from (length old) old (insert_key nat_eq old from)
+  pub search_begins : IsDry net plan f old → from < length net.devices → (from ≡ acting_end net plan f → ⊥) → IsSearching net plan f from (length old) old (with_number old from)
   search_begins dry inside other =
-      let grown : Grows old (insert_key nat_eq old from) (λ x. x ≡ from) = grows_insert old from (λ x. x ≡ from) refl in
+      let grown : Grows old (with_number old from) (λ x. x ≡ from) = grows_insert old from (λ x. x ≡ from) refl in
       record {
         within = λ x there. elim (grown.added x there) [ inl a ↦ dry.within x a | inr same ↦ subst (λ y. y < length net.devices) (sym same) inside ];
-        lacks = false_from_ne_true (has (insert_key nat_eq old from) (acting_end net plan f)) (λ there. elim (grown.added (acting_end net plan f) there) [
+        lacks = false_from_ne_true (has (with_number old from) (acting_end net plan f)) (λ there. elim (grown.added (acting_end net plan f) there) [
           | inl a ↦ both_ways (has old (acting_end net plan f)) dry.lacks a
           | inr same ↦ other (sym same)
         ]);
@@ -302,7 +302,7 @@ module _ (net : Network) (plan : Plan) (f : DomainId) (from : ℕ) (old : List �
         closed = λ i x within at.
             let was : slice_get old i ≡ Some (get_or old i x) = slice_get-get_or old i x within in
             let same : get_or old i x ≡ x = same_Some (get_or old i x) x (sym (grown.kept i (get_or old i x) was) ∙ at) in
-            leads_into_more net plan f old (insert_key nat_eq old from) x grown.had (dry.closed x (has_at old i x (was ∙ ap Some same)));
+            leads_into_more net plan f old (with_number old from) x grown.had (dry.closed x (has_at old i x (was ∙ ap Some same)));
         begun = has_insert old from;
         had = grown.had;
       }
@@ -348,8 +348,8 @@ module _ (net : Network) (plan : Plan) (f : DomainId) (from : ℕ) (old : List �
       }
 
 -- a number that is there, and one that is new
-pub insert_old : (xs : List ℕ) (y : ℕ) → has xs y ≡ true → insert_key nat_eq xs y ≡ xs
+pub insert_old : (xs : List ℕ) (y : ℕ) → has xs y ≡ true → with_number xs y ≡ xs
 insert_old xs y there = ap (λ (b : Bool). if b then xs else xs ++ y ∷ []) there
 
-pub insert_new : (xs : List ℕ) (y : ℕ) → has xs y ≡ false → insert_key nat_eq xs y ≡ xs ++ y ∷ []
+pub insert_new : (xs : List ℕ) (y : ℕ) → has xs y ≡ false → with_number xs y ≡ xs ++ y ∷ []
 insert_new xs y out = ap (λ (b : Bool). if b then xs else xs ++ y ∷ []) out

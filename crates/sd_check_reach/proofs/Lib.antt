@@ -1,9 +1,9 @@
+pub mod Versions
 mod Chained
 mod Chosen
 pub mod Closed
 mod Following
-mod Hits
 mod Joining
-mod Places
 mod Turning
 mod Walked
+pub mod Unique

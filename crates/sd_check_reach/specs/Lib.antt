@@ -1,6 +1,7 @@
+pub mod Aftermaths
 pub mod Candidates
 pub mod Chains
-pub mod Outages
 pub mod Reach
 pub mod Reached
+pub mod Searches
 pub mod Turns

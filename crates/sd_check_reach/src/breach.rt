@@ -1,34 +1,90 @@
-//! What breaks the conditions under one domain.
-ghost use Rattle.std.specs.Prelude.{IfOk};
-ghost use Rattle.sd_topo.specs.Topologies.{network};
-ghost use Rattle.sd_check_reach.specs.Outages.{IsOutage};
-ghost use Rattle.sd_check_reach.specs.Reach.{DomainShown, ReachShown};
+//! What breaks the conditions under one outage.
 
-use crate::outage::Outage;
+use crate::aftermath::Aftermath;
+use crate::search::Search;
+use sd_hit::Outage;
 use sd_num::NoMemory;
 use sd_plan::DeviceList;
 use std::alloc::Global;
 
-impl Outage<'_> {
+impl Aftermath<'_> {
+    ghost use Rattle.std.specs.Prelude.{◌≡◌, None, IfOk};
+    ghost use Rattle.sd_check_reach.specs.Aftermaths.{net_of, plan_of, domain_of};
+    ghost use Rattle.sd_check_reach.specs.Reach.{DomainShown, ReachShown};
+    ghost use Rattle.sd_check_reach.specs.Searches.{HasRoom, IsSearchOf};
+
     /// The lowest device that breaks the domain condition.
-    pub(crate) fn domain_breach(&self, alloc: Global) -> Result<Option<u32>, NoMemory>
-        requires { IsOutage self.now }
-        ensures { IfOk result (DomainShown (network self.now.topo.now) self.now.plan.now self.now.f) }
+    fn domain_breach(&self, alloc: Global, search: &mut Search) -> Result<Option<u32>, NoMemory>
+        requires search { IsSearchOf (net_of self.now) (plan_of self.now) (domain_of self.now) search.old }
+        requires room { HasRoom (net_of self.now) search.old }
+        ensures shown { IfOk result (DomainShown (net_of self.now) (plan_of self.now) (domain_of self.now)) }
+        ensures search { IfOk result (λ breach. breach ≡ None → IsSearchOf (net_of self.now) (plan_of self.now) (domain_of self.now) search.new) }
+        ensures room { HasRoom (net_of self.now) search.new }
     {
         let losing = self.losing(alloc)?;
-        self.first_uncut(alloc, losing.as_slice())
+        Ok(self.first_uncut(search, losing.as_slice()))
     }
 
     /// The chain of next hops from the lowest starved device.
-    pub(crate) fn reach_breach(&self, alloc: Global) -> Result<Option<DeviceList>, NoMemory>
-        requires { IsOutage self.now }
-        ensures { IfOk result (ReachShown (network self.now.topo.now) self.now.plan.now self.now.f) }
+    fn reach_breach(
+        &self,
+        alloc: Global,
+        search: &mut Search,
+    ) -> Result<Option<DeviceList>, NoMemory>
+        requires search { IsSearchOf (net_of self.now) (plan_of self.now) (domain_of self.now) search.old }
+        requires room { HasRoom (net_of self.now) search.old }
+        ensures shown { IfOk result (ReachShown (net_of self.now) (plan_of self.now) (domain_of self.now)) }
+        ensures room { HasRoom (net_of self.now) search.new }
     {
         let unheard = self.unheard(alloc)?;
-        let Some(first) = self.first_uncut(alloc, unheard.as_slice())? else {
+        let Some(first) = self.first_uncut(search, unheard.as_slice()) else {
             return Ok(None);
         };
         let chain = self.chain(alloc, first)?;
         Ok(Some(chain))
+    }
+}
+
+impl Search {
+    ghost use Rattle.std.specs.Prelude.{◌≡◌, None, IfOk};
+    ghost use Rattle.sd_hit.specs.Outages.{net_of, plan_of};
+    ghost use Rattle.sd_check_reach.specs.Reach.{DomainShown, ReachShown};
+    ghost use Rattle.sd_check_reach.specs.Searches.{HasRoom, IsSearchOf};
+
+    /// The lowest sound device, no root, that the domain hits and does not cut off, and whose backup
+    /// it takes. Where there is none, what was found out serves the condition on reach.
+    pub fn domain_breach(
+        &mut self,
+        alloc: Global,
+        outage: &Outage<'_>,
+    ) -> Result<Option<u32>, NoMemory>
+        requires search { IsSearchOf (net_of outage.now) (plan_of outage.now) outage.now.domain self.old }
+        requires room { HasRoom (net_of outage.now) self.old }
+        ensures shown { IfOk result (DomainShown (net_of outage.now) (plan_of outage.now) outage.now.domain) }
+        ensures search { IfOk result (λ breach. breach ≡ None → IsSearchOf (net_of outage.now) (plan_of outage.now) outage.now.domain self.new) }
+        ensures room { HasRoom (net_of outage.now) self.new }
+    {
+        match Aftermath::of(*outage) {
+            Some(aftermath) => aftermath.domain_breach(alloc, self),
+            None => Ok(None),
+        }
+    }
+
+    /// The chain of next hops from the lowest sound device that the domain neither cuts off nor lets
+    /// hear the acting end again.
+    pub fn reach_breach(
+        &mut self,
+        alloc: Global,
+        outage: &Outage<'_>,
+    ) -> Result<Option<DeviceList>, NoMemory>
+        requires search { IsSearchOf (net_of outage.now) (plan_of outage.now) outage.now.domain self.old }
+        requires room { HasRoom (net_of outage.now) self.old }
+        ensures shown { IfOk result (ReachShown (net_of outage.now) (plan_of outage.now) outage.now.domain) }
+        ensures room { HasRoom (net_of outage.now) self.new }
+    {
+        match Aftermath::of(*outage) {
+            Some(aftermath) => aftermath.reach_breach(alloc, self),
+            None => Ok(None),
+        }
     }
 }

@@ -1,12 +1,8 @@
 //! Chains of next hops.
-ghost use Rattle.std.specs.Prelude.{◌≡◌, ◌<◌, [], length, IfOk, OnOk};
-ghost use Rattle.sd_topo.specs.Topologies.{network};
-ghost use Rattle.sd_check_reach.specs.Chains.{IsChainOf};
-ghost use Rattle.sd_check_reach.specs.Outages.{IsOutage};
+ghost use Rattle.std.specs.Prelude.{◌≡◌, IfOk};
 
-use crate::outage::Outage;
-use crate::search::insert;
-use indexmap::IndexSet;
+use crate::aftermath::Aftermath;
+use sd_domain::NumberSet;
 use sd_num::NoMemory;
 use sd_plan::DeviceList;
 use std::alloc::Global;
@@ -22,33 +18,35 @@ fn list_of(alloc: Global, numbers: &[u32]) -> Result<DeviceList, NoMemory>
     Ok(list)
 }
 
-impl Outage<'_> {
+impl Aftermath<'_> {
+    ghost use Rattle.std.specs.Prelude.{◌<◌, [], length};
+    ghost use Rattle.sd_check_reach.specs.Aftermaths.{net_of, plan_of, domain_of};
+    ghost use Rattle.sd_check_reach.specs.Chains.{IsChainOf};
+
     /// Follows next hops from a device until one is over the domain or leads back.
-    fn walk(&self, chain: &mut IndexSet<u32>, first: u32) -> Result<(), NoMemory>
-        requires outage { IsOutage self.now }
-        requires device { first < length (network self.now.topo.now).devices }
-        requires none { chain.old.keys ≡ [] }
-        ensures { OnOk result (IsChainOf (network self.now.topo.now) self.now.plan.now self.now.f first chain.new.keys) }
+    fn walk(&self, chain: &mut NumberSet, first: u32)
+        requires device { first < length (net_of self.now).devices }
+        requires none { chain.old.numbers ≡ [] }
+        requires room { chain.old.bound ≡ length (net_of self.now).devices }
+        ensures { IsChainOf (net_of self.now) (plan_of self.now) (domain_of self.now) first chain.new.numbers }
     {
-        let _: bool = insert(chain, first)?;
+        let _: bool = chain.insert(first);
         let mut here = first;
         while let Some(next) = self.onward(here) {
-            if !insert(chain, next)? {
-                return Ok(());
+            if !chain.insert(next) {
+                return;
             }
             here = next;
         }
-        Ok(())
     }
 
     /// The chain of next hops from a device to before one that is over the domain or leads back.
     pub(crate) fn chain(&self, alloc: Global, first: u32) -> Result<DeviceList, NoMemory>
-        requires outage { IsOutage self.now }
-        requires device { first < length (network self.now.topo.now).devices }
-        ensures { IfOk result (IsChainOf (network self.now.topo.now) self.now.plan.now self.now.f first) }
+        requires { first < length (net_of self.now).devices }
+        ensures { IfOk result (IsChainOf (net_of self.now) (plan_of self.now) (domain_of self.now) first) }
     {
-        let mut chain = IndexSet::new(alloc);
-        self.walk(&mut chain, first)?;
+        let mut chain = NumberSet::new(alloc, self.outage.planned.topo.devices())?;
+        self.walk(&mut chain, first);
         list_of(alloc, chain.as_slice())
     }
 }

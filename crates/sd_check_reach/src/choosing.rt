@@ -1,24 +1,22 @@
 //! The devices that may break a condition, if they are not cut off from the acting end.
-ghost use Rattle.std.specs.Prelude.{IfOk};
-ghost use Rattle.sd_topo.specs.Topologies.{network};
-ghost use Rattle.sd_check_reach.specs.Candidates.{AreDecided, IsLosing, IsUnheard};
-ghost use Rattle.sd_check_reach.specs.Outages.{IsOutage};
-ghost use Rattle.sd_check_reach.specs.Reached.{AreAll};
 
-use crate::outage::Outage;
-use sd_domain::holds_device;
+use crate::aftermath::Aftermath;
 use sd_num::NoMemory;
 use sd_plan::DeviceList;
 use std::alloc::Global;
 
-impl Outage<'_> {
+impl Aftermath<'_> {
+    ghost use Rattle.std.specs.Prelude.{IfOk};
+    ghost use Rattle.sd_check_reach.specs.Aftermaths.{net_of, plan_of, domain_of};
+    ghost use Rattle.sd_check_reach.specs.Candidates.{AreDecided, IsLosing, IsUnheard};
+    ghost use Rattle.sd_check_reach.specs.Reached.{AreAll};
+
     /// The sound devices, no roots, that the domain hits and whose backup it takes, ascending.
     pub(crate) fn losing(&self, alloc: Global) -> Result<DeviceList, NoMemory>
-        requires { IsOutage self.now }
-        ensures { IfOk result (AreAll (IsLosing (network self.now.topo.now) self.now.plan.now self.now.f)) }
+        ensures { IfOk result (AreAll (IsLosing (net_of self.now) (plan_of self.now) (domain_of self.now))) }
     {
         let mut losing = DeviceList::new(alloc);
-        for d in self.hit {
+        for d in self.outage.hit {
             if self.loses(*d) {
                 losing.push(alloc, *d)?;
             }
@@ -28,15 +26,14 @@ impl Outage<'_> {
 
     /// The sound devices that do not come to hear the acting end, ascending.
     pub(crate) fn unheard(&self, alloc: Global) -> Result<DeviceList, NoMemory>
-        requires { IsOutage self.now }
-        ensures all { IfOk result (AreAll (IsUnheard (network self.now.topo.now) self.now.plan.now self.now.f)) }
-        ensures decided { IfOk result (AreDecided (network self.now.topo.now) self.now.plan.now self.now.f) }
+        ensures all { IfOk result (AreAll (IsUnheard (net_of self.now) (plan_of self.now) (domain_of self.now))) }
+        ensures decided { IfOk result (AreDecided (net_of self.now) (plan_of self.now) (domain_of self.now)) }
     {
         let marks = self.marks(alloc)?;
         let mut unheard = DeviceList::new(alloc);
-        for place in 0..self.hit.len() {
-            let d = self.hit[place];
-            if marks[place].is_unfed() && !holds_device(self.topo, self.f, d) {
+        for place in 0..self.outage.hit.len() {
+            let d = self.outage.hit[place];
+            if marks[place].is_unfed() && !self.outage.holds_device(d) {
                 unheard.push(alloc, d)?;
             }
         }

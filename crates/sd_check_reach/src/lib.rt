@@ -10,20 +10,20 @@ ghost use Rattle.sd_plan.specs.Plans.{Fits};
 ghost use Rattle.sd_plan.specs.Structure.{structure_breach};
 ghost use Rattle.sd_topo.specs.Topologies.{network};
 
+mod aftermath;
 mod breach;
 mod chain;
 mod choosing;
 mod marks;
-mod outage;
 mod search;
 mod turn;
 
-use crate::outage::outage_of;
 use sd_domain::DomainId;
-use sd_hit::hit_devices;
+use sd_hit::Impact;
 use sd_num::NoMemory;
-use sd_plan::{DeviceList, Plan, WalkIndex};
+use sd_plan::{DeviceList, Indexed, Plan, WalkIndex};
 use sd_topo::Topology;
+pub use search::Search;
 use std::alloc::Global;
 
 /// The lowest sound device, no root, that the domain hits and does not cut off, and whose backup it takes.
@@ -54,11 +54,11 @@ pub fn domain_breach_in(
     requires indexed { IsIndexOf (network topo.now) plan.now index.now }
     ensures { IfOk result (DomainShown (network topo.now) plan.now f) }
 {
-    let hit = hit_devices(alloc, topo, plan, index, f)?;
-    match outage_of(topo, plan, index, f, hit.as_slice()) {
-        Some(outage) => outage.domain_breach(alloc),
-        None => Ok(None),
-    }
+    let planned = Indexed { topo, plan, index };
+    let mut impact = Impact::new(alloc, topo)?;
+    impact.strike(alloc, planned, f)?;
+    let mut search = Search::new(alloc, topo)?;
+    search.domain_breach(alloc, &impact.outage(planned, f))
 }
 
 /// The chain of next hops from the lowest sound device that the domain neither cuts off nor lets
@@ -90,9 +90,9 @@ pub fn reach_breach_in(
     requires indexed { IsIndexOf (network topo.now) plan.now index.now }
     ensures { IfOk result (ReachShown (network topo.now) plan.now f) }
 {
-    let hit = hit_devices(alloc, topo, plan, index, f)?;
-    match outage_of(topo, plan, index, f, hit.as_slice()) {
-        Some(outage) => outage.reach_breach(alloc),
-        None => Ok(None),
-    }
+    let planned = Indexed { topo, plan, index };
+    let mut impact = Impact::new(alloc, topo)?;
+    impact.strike(alloc, planned, f)?;
+    let mut search = Search::new(alloc, topo)?;
+    search.reach_breach(alloc, &impact.outage(planned, f))
 }

@@ -1,11 +1,9 @@
 //! Which hit devices come to hear the acting end again, found by following each next hop once.
-ghost use Rattle.std.specs.Prelude.{◌≡◌, ◌<◌, ℕ, true, [], length, slice_get, Some, IfOk, OnOk, IsTrue};
+ghost use Rattle.std.specs.Prelude.{◌≡◌, ◌<◌, ℕ, true, length, slice_get, Some, IfOk};
 ghost use Rattle.sd_num.specs.Lists.{has};
-ghost use Rattle.sd_topo.specs.Topologies.{network};
-ghost use Rattle.sd_check_reach.specs.Outages.{IsOutage};
-ghost use Rattle.sd_check_reach.specs.Turns.{AreMarks, AreSettled, IsFollowed, is_unfed, IsMarkedFed};
+ghost use Rattle.sd_check_reach.specs.Turns.{is_unfed, IsMarkedFed};
 
-use crate::outage::Outage;
+use crate::aftermath::Aftermath;
 use crate::turn::Turn;
 use sd_num::NoMemory;
 use std::alloc::Global;
@@ -54,7 +52,11 @@ fn mark_fed(marks: &mut [Mark], trail: &[usize])
     }
 }
 
-impl Outage<'_> {
+impl Aftermath<'_> {
+    ghost use Rattle.std.specs.Prelude.{[], OnOk};
+    ghost use Rattle.sd_check_reach.specs.Aftermaths.{net_of, plan_of, domain_of, hit_of};
+    ghost use Rattle.sd_check_reach.specs.Turns.{AreMarks, AreSettled, IsFollowed};
+
     /// Follows next hops from a place to what is marked or needs no mark, and whether this is fed.
     /// All on the trail is marked as not fed meanwhile, so that a trail which comes back to itself
     /// ends there.
@@ -64,11 +66,10 @@ impl Outage<'_> {
         marks: &mut [Mark],
         start: usize,
     ) -> Result<bool, NoMemory>
-        requires outage { IsOutage self.now }
-        requires marks { AreMarks (network self.now.topo.now) self.now.plan.now self.now.f self.now.hit.now (λ _. ⊥) marks.old }
-        requires place { start < length self.now.hit.now }
+        requires marks { AreMarks (net_of self.now) (plan_of self.now) (domain_of self.now) (hit_of self.now) (λ _. ⊥) marks.old }
+        requires place { start < length (hit_of self.now) }
         requires none { trail.old.items ≡ [] }
-        ensures { IfOk result (λ fed. IsFollowed (network self.now.topo.now) self.now.plan.now self.now.f self.now.hit.now start marks.old marks.new trail.new.items fed) }
+        ensures { IfOk result (λ fed. IsFollowed (net_of self.now) (plan_of self.now) (domain_of self.now) (hit_of self.now) start marks.old marks.new trail.new.items fed) }
     {
         let mut place = start;
         while let Mark::Unseen = marks[place] {
@@ -77,7 +78,7 @@ impl Outage<'_> {
                 Ok(()) => {}
                 Err(_) => return Err(NoMemory),
             }
-            match self.turn(self.hit[place]) {
+            match self.turn(self.outage.hit[place]) {
                 Turn::Fed => return Ok(true),
                 Turn::Lost => return Ok(false),
                 Turn::To(next) => place = next,
@@ -87,15 +88,19 @@ impl Outage<'_> {
     }
 
     /// Marks the device at a place, and all that its next hops lead to.
-    fn mark_from(&self, alloc: Global, marks: &mut [Mark], start: usize) -> Result<(), NoMemory>
-        requires outage { IsOutage self.now }
-        requires marks { AreMarks (network self.now.topo.now) self.now.plan.now self.now.f self.now.hit.now (λ _. ⊥) marks.old }
-        requires place { start < length self.now.hit.now }
-        ensures marks { OnOk result (AreMarks (network self.now.topo.now) self.now.plan.now self.now.f self.now.hit.now (λ _. ⊥) marks.new) }
+    fn mark_from(
+        &self,
+        trail: &mut Vec<usize>,
+        marks: &mut [Mark],
+        start: usize,
+    ) -> Result<(), NoMemory>
+        requires marks { AreMarks (net_of self.now) (plan_of self.now) (domain_of self.now) (hit_of self.now) (λ _. ⊥) marks.old }
+        requires place { start < length (hit_of self.now) }
+        ensures marks { OnOk result (AreMarks (net_of self.now) (plan_of self.now) (domain_of self.now) (hit_of self.now) (λ _. ⊥) marks.new) }
         ensures settled { OnOk result (AreSettled start marks.old marks.new) }
     {
-        let mut trail = Vec::new(alloc);
-        if self.follow(&mut trail, marks, start)? {
+        trail.clear();
+        if self.follow(trail, marks, start)? {
             mark_fed(marks, trail.as_slice());
         }
         Ok(())
@@ -103,13 +108,13 @@ impl Outage<'_> {
 
     /// The marks of all hit devices.
     pub(crate) fn marks(&self, alloc: Global) -> Result<Vec<Mark>, NoMemory>
-        requires { IsOutage self.now }
-        ensures right { IfOk result (λ marks. AreMarks (network self.now.topo.now) self.now.plan.now self.now.f self.now.hit.now (λ _. ⊥) marks.items) }
-        ensures all { IfOk result (λ marks. (i : ℕ) → i < length self.now.hit.now → slice_get marks.items i ≡ Some Mark.Unseen → ⊥) }
+        ensures right { IfOk result (λ marks. AreMarks (net_of self.now) (plan_of self.now) (domain_of self.now) (hit_of self.now) (λ _. ⊥) marks.items) }
+        ensures all { IfOk result (λ marks. (i : ℕ) → i < length (hit_of self.now) → slice_get marks.items i ≡ Some Mark.Unseen → ⊥) }
     {
-        let mut marks = unseen(alloc, self.hit.len())?;
-        for place in 0..self.hit.len() {
-            self.mark_from(alloc, &mut marks, place)?;
+        let mut marks = unseen(alloc, self.outage.hit.len())?;
+        let mut trail = Vec::new(alloc);
+        for place in 0..self.outage.hit.len() {
+            self.mark_from(&mut trail, &mut marks, place)?;
         }
         Ok(marks)
     }

@@ -1,153 +1,198 @@
 //! Searches for the acting end, outward over links and devices that the domain leaves.
-ghost use Rattle.std.specs.Prelude.{◌≡◌, ◌<◌, ℕ, true, false, length, not, nat_eq, slice_get, Some, IfOk, OnOk, IsTrue};
-ghost use Rattle.std.specs.List.{IsDistinct};
-ghost use Rattle.indexmap.specs.IndexSet.{insert_key};
-ghost use Rattle.sd_num.specs.Lists.{has};
+ghost use Rattle.std.specs.Prelude.{◌≡◌, IfOk};
 ghost use Rattle.sd_topo.specs.Topologies.{network};
-ghost use Rattle.sd_plan.specs.Plans.{is_member};
-ghost use Rattle.sd_check_reach.specs.Outages.{IsOutage};
-ghost use Rattle.sd_check_reach.specs.Reach.{acting_end, is_sound};
-ghost use Rattle.sd_check_reach.specs.Reached.{BackupReaches, FirstReached, Grows, IsDry, IsPassed, IsStep, LeadsInto, Reaches, is_left};
 
-use crate::outage::Outage;
-use indexmap::IndexSet;
-use sd_domain::holds_device;
+use crate::aftermath::Aftermath;
+use sd_domain::NumberSet;
 use sd_num::NoMemory;
 use sd_plan::End;
+use sd_topo::Topology;
 use std::alloc::Global;
 
-/// Adds a number to a set, and whether it is new.
-pub(crate) fn insert(set: &mut IndexSet<u32>, number: u32) -> Result<bool, NoMemory>
-    ensures added { IfOk result (λ new. new ≡ not (has set.old.keys number)) }
-    ensures keys { OnOk result (set.new.keys ≡ insert_key nat_eq set.old.keys number) }
-    ensures distinct { IsDistinct nat_eq set.new.keys }
-{
-    match set.insert(number) {
-        Ok(new) => Ok(new),
-        Err(_) => Err(NoMemory),
+/// What searches found out under one domain, in room that serves one domain after another. Only
+/// `new` takes memory.
+#[derive(Drop)]
+pub struct Search {
+    /// Devices that are cut off from the acting end: what searches visited that ran dry.
+    visited: NumberSet,
+    /// Whether the backup root is cut off neither, once this is known: then what is not hit is not
+    /// cut off.
+    trusted: Option<bool>,
+}
+
+impl Search {
+    ghost use Rattle.sd_topo.specs.Network.{Network};
+    ghost use Rattle.sd_domain.specs.declared.DomainId.{DomainId as DomainSeen};
+    ghost use Rattle.sd_plan.specs.declared.Plan.{Plan as PlanSeen};
+    ghost use Rattle.sd_check_reach.specs.Searches.{HasRoom, IsSearchOf};
+
+    /// A search with room for the devices of a topology.
+    pub fn new(alloc: Global, topo: &Topology) -> Result<Search, NoMemory>
+        ensures room { IfOk result (HasRoom (network topo.now)) }
+        ensures fresh { IfOk result (λ search. (net : Network) (plan : PlanSeen) (f : DomainSeen) → IsSearchOf net plan f search) }
+    {
+        let visited = NumberSet::new(alloc, topo.devices())?;
+        Ok(Search {
+            visited,
+            trusted: None,
+        })
+    }
+
+    /// Forgets all, so that another domain can be searched.
+    pub fn clear(&mut self)
+        ensures room { (net : Network) → HasRoom net self.old → HasRoom net self.new }
+        ensures fresh { (net : Network) (plan : PlanSeen) (f : DomainSeen) → IsSearchOf net plan f self.new }
+    {
+        self.visited.clear();
+        self.trusted = None;
     }
 }
 
-impl Outage<'_> {
+impl Aftermath<'_> {
+    ghost use Rattle.std.specs.Prelude.{◌<◌, ℕ, true, false, length, slice_get, None, Some, IsTrue};
+    ghost use Rattle.sd_num.specs.Lists.{has};
+    ghost use Rattle.sd_plan.specs.Plans.{is_member};
+    ghost use Rattle.sd_check_reach.specs.Aftermaths.{net_of, plan_of, domain_of};
+    ghost use Rattle.sd_check_reach.specs.Reach.{acting_end, is_sound};
+    ghost use Rattle.sd_check_reach.specs.Reached.{BackupReaches, FirstReached, Grows, IsDry, IsPassed, IsStep, LeadsInto, Reaches, is_left};
+    ghost use Rattle.sd_check_reach.specs.Searches.{HasRoom, IsSearchOf};
+
     /// Whether a sound device is joined to the acting end for sure. One that is not hit is so where
     /// the backup root is, if that is sound: its cut path leads to the root or the backup root.
     fn is_sure(&self, trusted: bool, d: u32) -> bool
-        requires outage { IsOutage self.now }
-        requires trust { IsTrue trusted → BackupReaches (network self.now.topo.now) self.now.plan.now self.now.f }
-        requires device { d < length (network self.now.topo.now).devices }
-        requires sound { IsTrue (is_sound (network self.now.topo.now) self.now.plan.now self.now.f d) }
-        ensures sure { IsTrue result → Reaches (network self.now.topo.now) self.now.plan.now self.now.f d }
-        ensures other { result ≡ false → d ≡ acting_end (network self.now.topo.now) self.now.plan.now self.now.f → ⊥ }
+        requires trust { IsTrue trusted → BackupReaches (net_of self.now) (plan_of self.now) (domain_of self.now) }
+        requires device { d < length (net_of self.now).devices }
+        requires sound { IsTrue (is_sound (net_of self.now) (plan_of self.now) (domain_of self.now) d) }
+        ensures sure { IsTrue result → Reaches (net_of self.now) (plan_of self.now) (domain_of self.now) d }
+        ensures other { result ≡ false → d ≡ acting_end (net_of self.now) (plan_of self.now) (domain_of self.now) → ⊥ }
     {
-        d == self.acting || trusted && !self.hits(d)
+        d == self.acting || trusted && !self.outage.hits(d)
     }
 
     /// Looks at the other end of a link, which is a member, and whether it is left and joined to
     /// the acting end for sure. An end that is left and not sure is added to what is visited.
-    fn visit(&self, trusted: bool, end: End, visited: &mut IndexSet<u32>) -> Result<bool, NoMemory>
-        requires outage { IsOutage self.now }
-        requires trust { IsTrue trusted → BackupReaches (network self.now.topo.now) self.now.plan.now self.now.f }
-        requires device { end.device < length (network self.now.topo.now).devices }
-        requires member { IsTrue (is_member self.now.plan.now end.device) }
-        ensures left { IfOk result (λ met. met ≡ true → is_left (network self.now.topo.now) self.now.f end.link end.device ≡ true) }
-        ensures met { IfOk result (λ met. met ≡ true → Reaches (network self.now.topo.now) self.now.plan.now self.now.f end.device) }
-        ensures passed { IfOk result (λ met. met ≡ false → is_left (network self.now.topo.now) self.now.f end.link end.device ≡ true → has visited.new.keys end.device ≡ true) }
-        ensures grown { OnOk result (Grows visited.old.keys visited.new.keys (IsPassed (network self.now.topo.now) self.now.plan.now self.now.f end.link end.device)) }
+    fn visit(&self, trusted: bool, end: End, visited: &mut NumberSet) -> bool
+        requires trust { IsTrue trusted → BackupReaches (net_of self.now) (plan_of self.now) (domain_of self.now) }
+        requires device { end.device < length (net_of self.now).devices }
+        requires member { IsTrue (is_member (plan_of self.now) end.device) }
+        requires room { visited.old.bound ≡ length (net_of self.now).devices }
+        ensures left { result ≡ true → is_left (net_of self.now) (domain_of self.now) end.link end.device ≡ true }
+        ensures met { result ≡ true → Reaches (net_of self.now) (plan_of self.now) (domain_of self.now) end.device }
+        ensures passed { result ≡ false → is_left (net_of self.now) (domain_of self.now) end.link end.device ≡ true → has visited.new.numbers end.device ≡ true }
+        ensures grown { Grows visited.old.numbers visited.new.numbers (IsPassed (net_of self.now) (plan_of self.now) (domain_of self.now) end.link end.device) }
+        ensures room { visited.new.bound ≡ visited.old.bound }
     {
-        if !self.leaves(end.link, end.device) {
-            return Ok(false);
+        if visited.contains(end.device) || !self.leaves(end.link, end.device) {
+            return false;
         }
         if self.is_sure(trusted, end.device) {
-            return Ok(true);
+            return true;
         }
-        let _: bool = insert(visited, end.device)?;
-        Ok(false)
+        let _: bool = visited.insert(end.device);
+        false
     }
 
     /// Looks at all ends of the links of a device, and whether one is joined to the acting end for
     /// sure, over what the domain leaves. What may be is added to what is visited.
-    fn look_around(
-        &self,
-        trusted: bool,
-        d: u32,
-        visited: &mut IndexSet<u32>,
-    ) -> Result<bool, NoMemory>
-        requires outage { IsOutage self.now }
-        requires trust { IsTrue trusted → BackupReaches (network self.now.topo.now) self.now.plan.now self.now.f }
-        requires device { d < length (network self.now.topo.now).devices }
-        ensures met { IfOk result (λ met. met ≡ true → Reaches (network self.now.topo.now) self.now.plan.now self.now.f d) }
-        ensures around { IfOk result (λ met. met ≡ false → LeadsInto (network self.now.topo.now) self.now.plan.now self.now.f visited.new.keys d) }
-        ensures grown { OnOk result (Grows visited.old.keys visited.new.keys (IsStep (network self.now.topo.now) self.now.plan.now self.now.f d)) }
+    fn look_around(&self, trusted: bool, d: u32, visited: &mut NumberSet) -> bool
+        requires trust { IsTrue trusted → BackupReaches (net_of self.now) (plan_of self.now) (domain_of self.now) }
+        requires device { d < length (net_of self.now).devices }
+        requires room { visited.old.bound ≡ length (net_of self.now).devices }
+        ensures met { result ≡ true → Reaches (net_of self.now) (plan_of self.now) (domain_of self.now) d }
+        ensures around { result ≡ false → LeadsInto (net_of self.now) (plan_of self.now) (domain_of self.now) visited.new.numbers d }
+        ensures grown { Grows visited.old.numbers visited.new.numbers (IsStep (net_of self.now) (plan_of self.now) (domain_of self.now) d) }
+        ensures room { visited.new.bound ≡ visited.old.bound }
     {
-        for end in self.index.links_at(d) {
-            if self.visit(trusted, *end, visited)? {
-                return Ok(true);
+        for end in self.outage.planned.index.links_at(d) {
+            if self.visit(trusted, *end, visited) {
+                return true;
             }
         }
-        Ok(false)
+        false
     }
 
     /// Whether a device is joined to the acting end. The set has what earlier searches visited, which
     /// is cut off; where this one runs dry, all that it visited is added.
-    fn finds(&self, trusted: bool, from: u32, visited: &mut IndexSet<u32>) -> Result<bool, NoMemory>
-        requires outage { IsOutage self.now }
-        requires trust { IsTrue trusted → BackupReaches (network self.now.topo.now) self.now.plan.now self.now.f }
-        requires device { from < length (network self.now.topo.now).devices }
-        requires dry { IsDry (network self.now.topo.now) self.now.plan.now self.now.f visited.old.keys }
-        ensures met { IfOk result (λ met. met ≡ true → Reaches (network self.now.topo.now) self.now.plan.now self.now.f from) }
-        ensures dry { IfOk result (λ met. met ≡ false → IsDry (network self.now.topo.now) self.now.plan.now self.now.f visited.new.keys) }
-        ensures among { IfOk result (λ met. met ≡ false → has visited.new.keys from ≡ true) }
-        ensures had { OnOk result ((x : ℕ) → has visited.old.keys x ≡ true → has visited.new.keys x ≡ true) }
+    fn finds(&self, trusted: bool, from: u32, visited: &mut NumberSet) -> bool
+        requires trust { IsTrue trusted → BackupReaches (net_of self.now) (plan_of self.now) (domain_of self.now) }
+        requires device { from < length (net_of self.now).devices }
+        requires dry { IsDry (net_of self.now) (plan_of self.now) (domain_of self.now) visited.old.numbers }
+        requires room { visited.old.bound ≡ length (net_of self.now).devices }
+        ensures met { result ≡ true → Reaches (net_of self.now) (plan_of self.now) (domain_of self.now) from }
+        ensures dry { result ≡ false → IsDry (net_of self.now) (plan_of self.now) (domain_of self.now) visited.new.numbers }
+        ensures among { result ≡ false → has visited.new.numbers from ≡ true }
+        ensures had { (x : ℕ) → has visited.old.numbers x ≡ true → has visited.new.numbers x ≡ true }
+        ensures room { visited.new.bound ≡ visited.old.bound }
     {
         if from == self.acting {
-            return Ok(true);
+            return true;
         }
-        let mut at = visited.len();
-        let _: bool = insert(visited, from)?;
-        while at < visited.len() {
+        let mut at = visited.as_slice().len();
+        let _: bool = visited.insert(from);
+        while at < visited.as_slice().len() {
             let d = visited.as_slice()[at];
-            if self.look_around(trusted, d, visited)? {
-                return Ok(true);
+            if self.look_around(trusted, d, visited) {
+                return true;
             }
             at += 1;
         }
-        Ok(false)
+        false
     }
 
     /// Whether the backup root, if it is sound, is joined to the acting end. A search is needed only
     /// where the domain hits it.
-    fn trusts_backup(&self, alloc: Global) -> Result<bool, NoMemory>
-        requires { IsOutage self.now }
-        ensures { IfOk result (λ trusted. IsTrue trusted → BackupReaches (network self.now.topo.now) self.now.plan.now self.now.f) }
+    fn backup_reaches(&self, visited: &mut NumberSet) -> bool
+        requires dry { IsDry (net_of self.now) (plan_of self.now) (domain_of self.now) visited.old.numbers }
+        requires room { visited.old.bound ≡ length (net_of self.now).devices }
+        ensures reaches { IsTrue result → BackupReaches (net_of self.now) (plan_of self.now) (domain_of self.now) }
+        ensures dry { IsDry (net_of self.now) (plan_of self.now) (domain_of self.now) visited.new.numbers }
+        ensures room { visited.new.bound ≡ visited.old.bound }
     {
-        let backup = self.plan.backup_root;
-        if holds_device(self.topo, self.f, backup) || !self.hits(backup) {
-            return Ok(true);
+        let backup = self.outage.planned.plan.backup_root;
+        if self.outage.holds_device(backup) || !self.outage.hits(backup) {
+            return true;
         }
-        let mut visited = IndexSet::new(alloc);
-        self.finds(false, backup, &mut visited)
+        let reaches = self.finds(false, backup, visited);
+        if reaches {
+            visited.clear();
+        }
+        reaches
+    }
+
+    /// Whether what is not hit is joined to the acting end for sure.
+    fn trusts_backup(&self, search: &mut Search) -> bool
+        requires search { IsSearchOf (net_of self.now) (plan_of self.now) (domain_of self.now) search.old }
+        requires room { HasRoom (net_of self.now) search.old }
+        ensures trust { IsTrue result → BackupReaches (net_of self.now) (plan_of self.now) (domain_of self.now) }
+        ensures search { IsSearchOf (net_of self.now) (plan_of self.now) (domain_of self.now) search.new }
+        ensures room { HasRoom (net_of self.now) search.new }
+    {
+        if let Some(known) = search.trusted {
+            return known;
+        }
+        let trusted = self.backup_reaches(&mut search.visited);
+        search.trusted = Some(trusted);
+        trusted
     }
 
     /// The first of some devices that is not cut off from the acting end.
-    pub(crate) fn first_uncut(
-        &self,
-        alloc: Global,
-        candidates: &[u32],
-    ) -> Result<Option<u32>, NoMemory>
-        requires outage { IsOutage self.now }
-        requires devices { (i d : ℕ) → slice_get candidates.now i ≡ Some d → d < length (network self.now.topo.now).devices }
-        ensures { IfOk result (FirstReached (network self.now.topo.now) self.now.plan.now self.now.f candidates.now) }
+    pub(crate) fn first_uncut(&self, search: &mut Search, candidates: &[u32]) -> Option<u32>
+        requires devices { (i d : ℕ) → slice_get candidates.now i ≡ Some d → d < length (net_of self.now).devices }
+        requires search { IsSearchOf (net_of self.now) (plan_of self.now) (domain_of self.now) search.old }
+        requires room { HasRoom (net_of self.now) search.old }
+        ensures first { FirstReached (net_of self.now) (plan_of self.now) (domain_of self.now) candidates.now result }
+        ensures search { result ≡ None → IsSearchOf (net_of self.now) (plan_of self.now) (domain_of self.now) search.new }
+        ensures room { HasRoom (net_of self.now) search.new }
     {
         if candidates.is_empty() {
-            return Ok(None);
+            return None;
         }
-        let trusted = self.trusts_backup(alloc)?;
-        let mut visited = IndexSet::new(alloc);
+        let trusted = self.trusts_backup(search);
         for d in candidates {
-            if self.finds(trusted, *d, &mut visited)? {
-                return Ok(Some(*d));
+            if self.finds(trusted, *d, &mut search.visited) {
+                return Some(*d);
             }
         }
-        Ok(None)
+        None
     }
 }

@@ -1,12 +1,6 @@
 //! Where hit devices turn.
-ghost use Rattle.std.specs.Prelude.{◌≡◌, IsTrue};
-ghost use Rattle.sd_topo.specs.Topologies.{network};
-ghost use Rattle.sd_plan.specs.Walks.{is_hit};
-ghost use Rattle.sd_check_reach.specs.Outages.{IsOutage};
-ghost use Rattle.sd_check_reach.specs.Turns.{IsTurn};
 
-use crate::outage::Outage;
-use sd_domain::holds_device;
+use crate::aftermath::Aftermath;
 
 /// Where a hit device turns.
 #[derive(Clone, Copy)]
@@ -19,18 +13,22 @@ pub(crate) enum Turn {
     To(usize),
 }
 
-impl Outage<'_> {
+impl Aftermath<'_> {
+    ghost use Rattle.std.specs.Prelude.{◌≡◌, IsTrue};
+    ghost use Rattle.sd_plan.specs.Walks.{is_hit};
+    ghost use Rattle.sd_check_reach.specs.Aftermaths.{net_of, plan_of, domain_of, hit_of};
+    ghost use Rattle.sd_check_reach.specs.Turns.{IsTurn};
+
     /// Where a hit device turns: what is not hit hears the acting end as before, and the backup
     /// root waits for it or acts itself.
     pub(crate) fn turn(&self, d: u32) -> Turn
-        requires outage { IsOutage self.now }
-        requires hit { IsTrue (is_hit (network self.now.topo.now) self.now.plan.now self.now.f d) }
-        ensures { IsTurn (network self.now.topo.now) self.now.plan.now self.now.f self.now.hit.now d result }
+        requires { IsTrue (is_hit (net_of self.now) (plan_of self.now) (domain_of self.now) d) }
+        ensures { IsTurn (net_of self.now) (plan_of self.now) (domain_of self.now) (hit_of self.now) d result }
     {
-        if holds_device(self.topo, self.f, d) {
+        if self.outage.holds_device(d) {
             return Turn::Lost;
         }
-        if d == self.plan.backup_root {
+        if d == self.outage.planned.plan.backup_root {
             return Turn::Fed;
         }
         let Some(hop) = self.next_hop(d) else {
@@ -39,7 +37,7 @@ impl Outage<'_> {
         if !self.leaves(hop.link, hop.parent) {
             return Turn::Lost;
         }
-        match self.place_of(hop.parent) {
+        match self.outage.place_of(hop.parent) {
             Some(place) => Turn::To(place),
             None => Turn::Fed,
         }

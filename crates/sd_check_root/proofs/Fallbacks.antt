@@ -16,7 +16,8 @@ use Rattle.sd_plan.specs.declared.Plan.{Plan}
 use Rattle.sd_check_root.specs.Parts.{devices_in, links_in}
 use Rattle.sd_check_root.specs.Roots.{fallback_devices, fallback_links, fallback_breach}
 use Rattle.sd_check_root.proofs.Domains.{device_listed, link_listed, devices_within, links_within, devices_ascend, links_ascend}
-use Rattle.sd_check_root.proofs.Firsts.{find_among, find_same, find_never}
+use Rattle.sd_num.proofs.Firsts.{find_none}
+use Rattle.sd_check_root.proofs.Firsts.{find_among, find_same}
 use Rattle.sd_check_root.proofs.Paths.{links_of_hops}
 
 -- its devices and its links
@@ -64,8 +65,8 @@ device_breach net plan f hop d law there is first =
 pub no_breach : (net : Network) (plan : Plan) (f : DomainId) → backup_of plan plan.backup_root ≡ None → fallback_breach net plan f ≡ None
 no_breach net plan f none =
     ap (λ o. option_or (option_map thing.Device o) (option_map thing.Link (find (λ l. holds_link net f l && has (fallback_links net plan) l) (link_numbers net))))
-    (find_never (λ d. holds_device net f d && has (fallback_devices net plan) d) (device_numbers net)
+    (find_none (λ d. holds_device net f d && has (fallback_devices net plan) d) (device_numbers net)
     (λ d. and_right (holds_device net f d) (has (fallback_devices net plan) d) (ap (λ (o : Option Hop). has (of_some o [] (λ hop. filter (λ x. not (is_root plan x)) (devices_of hop.parent (walk net plan hop.parent)))) d) none)))
     ∙ ap (λ o. option_map thing.Link o)
-    (find_never (λ l. holds_link net f l && has (fallback_links net plan) l) (link_numbers net)
+    (find_none (λ l. holds_link net f l && has (fallback_links net plan) l) (link_numbers net)
     (λ l. and_right (holds_link net f l) (has (fallback_links net plan) l) (ap (λ (o : Option Hop). has (of_some o [] (λ hop. hop.link ∷ links_of (walk net plan hop.parent))) l) none)))

@@ -1,36 +1,12 @@
--- The first element of a list that passes a test.
+-- The first number that passes a test, among numbers that ascend.
 use Rattle.std.proofs.Common.{◌≡◌, ℕ, zero, suc, ◌+◌, ◌<◌, ◌≤◌, Bool, true, false, ◌&&◌, ◌||◌, cond, List, [], ◌∷◌, length, take, drop, find, get_or, nat_eq, nat_le, Option, Some, None, All, refl, sym, ap, ◌∙◌, inl, inr, arith}
 use Rattle.std.specs.Option.{option_or}
 use Rattle.std.proofs.lemmas.Bool.{and_parts, leb-true, eq-eqb, eqb-true, cases_lt, cases_Bool, and_left, and_right, and_from, or_cases, or_left, or_right}
-use Rattle.std.proofs.lemmas.List.{take_all, take_more, take-append-drop, drop_more}
 use Rattle.std.proofs.lemmas.List.Elements.{All-head, All-tail}
 use Rattle.std.proofs.lemmas.List.Folds.{find-append, list_any-append}
 use Rattle.sd_num.specs.Lists.{below, has, ascends}
-
--- one more that fails
-pub find_more : {X : Type 0} (p : X → Bool) (xs : List X) (i : ℕ) (d : X) → i < length xs → find p (take i xs) ≡ None → p (get_or xs i d) ≡ false → find p (take (i + 1) xs) ≡ None
-find_more p xs i d within none fails =
-    ap (find p) (take_more xs i d within) ∙ find-append p (take i xs) (get_or xs i d ∷ []) ∙ ap (λ o. option_or o (cond (p (get_or xs i d)) (Some (get_or xs i d)) None)) none
-    ∙ ap (λ t. cond t (Some (get_or xs i d)) None) fails
-
--- the first that passes
-pub find_here : {X : Type 0} (p : X → Bool) (xs : List X) (i : ℕ) (d : X) → i < length xs → find p (take i xs) ≡ None → p (get_or xs i d) ≡ true → find p xs ≡ Some (get_or xs i d)
-find_here p xs i d within none passes =
-    ap (find p) (sym (take-append-drop i xs)) ∙ find-append p (take i xs) (drop i xs) ∙ ap (λ o. option_or o (find p (drop i xs))) none
-    ∙ ap (find p) (drop_more xs i d within)
-    ∙ ap (λ t. cond t (Some (get_or xs i d)) (find p (drop (i + 1) xs))) passes
-
--- none passes
-pub find_all : {X : Type 0} (p : X → Bool) (xs : List X) (i : ℕ) → length xs ≤ i → find p (take i xs) ≡ None → find p xs ≡ None
-find_all p xs i all none = ap (find p) (sym (take_all i xs all)) ∙ none
-
--- where no number below n passes there is none
-none_below : (test : ℕ → Bool) (n : ℕ) → ((x : ℕ) → x < n → test x ≡ false) → find test (below n) ≡ None
-none_below test zero fails = refl
-none_below test (suc n) fails =
-    find-append test (below n) (n ∷ [])
-    ∙ ap (λ o. option_or o (cond (test n) (Some n) None)) (none_below test n (λ x before. fails x (omega arith)))
-    ∙ ap (λ t. cond t (Some n) None) (fails n (omega arith))
+use Rattle.sd_num.proofs.Ascending.{tail_ascends}
+use Rattle.sd_num.proofs.Firsts.{find_below_none}
 
 -- the least that passes
 first_below : (test : ℕ → Bool) (k n : ℕ) → k < n → ((x : ℕ) → x < k → test x ≡ false) → test k ≡ true → find test (below n) ≡ Some k
@@ -41,7 +17,7 @@ first_below test k (suc n) within fails passes =
       | inl earlier ↦ ap (λ o. option_or o (cond (test n) (Some n) None)) (first_below test k n earlier fails passes)
       | inr last ↦
           (let same : n ≡ k = omega arith in
-          ap (λ o. option_or o (cond (test n) (Some n) None)) (none_below test n (λ x before. fails x (omega arith)))
+          ap (λ o. option_or o (cond (test n) (Some n) None)) (find_below_none test n (λ x before. fails x (omega arith)))
           ∙ ap (λ x. cond (test x) (Some x) None) same ∙ ap (λ t. cond t (Some k) None) passes)
     ]
 
@@ -55,10 +31,6 @@ later_greater x (y ∷ ys) e up there =
       | inl here ↦ (let same = eqb-true e y here in omega arith)
       | inr more ↦ omega (arith, later_greater y ys e parts.1 more)
     ]
-
-tail_ascends : (x : ℕ) (xs : List ℕ) → ascends (x ∷ xs) ≡ true → ascends xs ≡ true
-tail_ascends x [] up = refl
-tail_ascends x (y ∷ ys) up = (and_parts (nat_le (x + 1) y) (ascends (y ∷ ys)) up).1
 
 -- the first of numbers that ascend and pass is the least number that is one of them and passes
 record IsLeast (p : ℕ → Bool) (xs : List ℕ) (k : ℕ) : Type 0 where
@@ -123,7 +95,7 @@ find_among p xs n up all = by_found (find p xs) refl
   where
     by_found : (o : Option ℕ) → find p xs ≡ o → find (λ d. has xs d && p d) (below n) ≡ o
     by_found None is =
-        none_below (λ d. has xs d && p d) n (λ x within. elim (cases_Bool (has xs x)) [
+        find_below_none (λ d. has xs d && p d) n (λ x within. elim (cases_Bool (has xs x)) [
           | inl there ↦ and_right (has xs x) (p x) (none_found p xs x is there)
           | inr apart ↦ and_left (has xs x) (p x) apart
         ])
@@ -140,11 +112,6 @@ find_among p xs n up all = by_found (find p xs) refl
 pub find_same : {X : Type 0} (p q : X → Bool) (xs : List X) → ((x : X) → p x ≡ q x) → find p xs ≡ find q xs
 find_same p q [] same = refl
 find_same p q (x ∷ xs) same = ap (λ t. cond t (Some x) (find p xs)) (same x) ∙ ap (λ o. cond (q x) (Some x) o) (find_same p q xs same)
-
--- a test that nothing passes finds nothing
-pub find_never : {X : Type 0} (p : X → Bool) (xs : List X) → ((x : X) → p x ≡ false) → find p xs ≡ None
-find_never p [] fails = refl
-find_never p (x ∷ xs) fails = ap (λ t. cond t (Some x) (find p xs)) (fails x) ∙ find_never p xs fails
 
 -- a number below n is one of the numbers below n
 pub has-below : (n k : ℕ) → k < n → has (below n) k ≡ true

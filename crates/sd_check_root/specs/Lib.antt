@@ -1,3 +1,4 @@
 pub mod Roots
 pub mod Timing
 pub mod Parts
+pub mod Inequalities

@@ -2,77 +2,82 @@
 //! back on.
 ghost use Rattle.std.specs.Prelude.{◌≡◌, ◌<◌, ◌&&◌, ◌||◌, not, nat_eq, find, length, None, IsTrue, IfOk};
 ghost use Rattle.std.specs.List.{list_any};
-ghost use Rattle.sd_check_root.specs.Parts as lists;
+ghost use Rattle.sd_check_root.specs.Parts as parts;
 ghost use Rattle.sd_check_root.specs.Roots as roots;
 ghost use Rattle.sd_domain.specs.Domains as domains;
 ghost use Rattle.sd_domain.specs.Domains.{IsDomain};
-ghost use Rattle.sd_plan.specs.Indexed.{IsIndexOf, has_device, has_link};
+ghost use Rattle.sd_plan.specs.Indexed.{has_device, has_link};
 ghost use Rattle.sd_plan.specs.Plans.{Fits, is_member, is_root};
 ghost use Rattle.sd_plan.specs.Structure.{structure_breach};
 ghost use Rattle.sd_plan.specs.Walks as walks;
-ghost use Rattle.sd_plan.specs.declared.Plan.{Plan as PlanSeen};
-ghost use Rattle.sd_topo.specs.Network.{Network};
 ghost use Rattle.sd_topo.specs.Topologies.{network};
 
 use crate::things::{devices_in, links_in};
 use sd_domain::{DomainId, holds_device};
 use sd_num::NoMemory;
-use sd_plan::{Hop, Plan, WalkIndex, backup_of};
+use sd_plan::{Hop, Indexed, Plan, WalkIndex, backup_of};
 use sd_topo::{Thing, Topology};
 use std::alloc::Global;
 
 /// Whether the backup root's path has a device.
-fn path_has(plan: &Plan, index: &WalkIndex, d: u32) -> bool
-    requires device { d < length index.now.spans }
-    requires cut { plan.now.backup_root < length index.now.spans }
-    ensures { (net : Network) → IsIndexOf net plan.now index.now
-        → result ≡ has_device (walks.path net plan.now plan.now.backup_root) d }
+fn path_has_device(planned: Indexed<'_>, d: u32) -> bool
+    requires { d < length (network planned.topo.now).devices }
+    ensures { result ≡ has_device (walks.path (network planned.entry.topo.now) planned.entry.plan.now planned.entry.plan.now.backup_root) d }
 {
-    d != plan.backup_root && index.on_walk(plan.backup_root, d)
+    let backup_root = planned.plan.backup_root;
+    d != backup_root && planned.index.on_walk(backup_root, d)
+}
+
+/// Whether the backup root's path has a link.
+fn path_has_link(planned: Indexed<'_>, l: u32) -> bool
+    requires { l < length (network planned.topo.now).links }
+    ensures { result ≡ has_link (walks.path (network planned.entry.topo.now) planned.entry.plan.now planned.entry.plan.now.backup_root) l }
+{
+    planned.index.walk_has_link(planned.plan.backup_root, l)
 }
 
 /// Whether the walk of a device has another, which is not the root.
-fn needs_device(plan: &Plan, index: &WalkIndex, from: u32, d: u32) -> bool
-    requires device { d < length index.now.spans }
-    requires from { from < length index.now.spans }
-    ensures { (net : Network) → IsIndexOf net plan.now index.now → IsTrue (is_member plan.now from)
-        → result ≡ (not (is_root plan.now d) && walks.on_walk net plan.now from d) }
+fn needs_device(planned: Indexed<'_>, from: u32, d: u32) -> bool
+    requires device { d < length (network planned.topo.now).devices }
+    requires from { from < length (network planned.topo.now).devices }
+    requires member { IsTrue (is_member planned.plan.now from) }
+    ensures { result ≡ (not (is_root planned.entry.plan.now d) && walks.on_walk (network planned.entry.topo.now) planned.entry.plan.now from d) }
 {
-    d != plan.root && index.on_walk(from, d)
+    d != planned.plan.root && planned.index.on_walk(from, d)
 }
 
 /// Whether a link is a hop's, or on the walk behind it.
-fn needs_link(index: &WalkIndex, hop: Hop, l: u32) -> bool
-    requires link { l < length index.now.carried }
-    requires from { hop.parent < length index.now.spans }
-    ensures { (net : Network) (plan : PlanSeen) → IsIndexOf net plan index.now → IsTrue (is_member plan hop.parent)
-        → result ≡ (nat_eq l hop.link || has_link (walks.path net plan hop.parent) l) }
+fn needs_link(planned: Indexed<'_>, hop: Hop, l: u32) -> bool
+    requires link { l < length (network planned.topo.now).links }
+    requires from { hop.parent < length (network planned.topo.now).devices }
+    requires member { IsTrue (is_member planned.plan.now hop.parent) }
+    ensures { result ≡ (nat_eq l hop.link || has_link (walks.path (network planned.entry.topo.now) planned.entry.plan.now hop.parent) l) }
 {
-    l == hop.link || index.walk_has_link(hop.parent, l)
+    l == hop.link || planned.index.walk_has_link(hop.parent, l)
 }
 
 /// Whether the backup root's path has a device of a domain.
-fn hits_device(topo: &Topology, plan: &Plan, index: &WalkIndex, f: DomainId) -> bool
-    requires domain { IsDomain (network topo.now) f }
-    requires indexed { IsIndexOf (network topo.now) plan.now index.now }
-    ensures { result ≡ list_any (has_device (walks.path (network topo.now) plan.now plan.now.backup_root)) (lists.devices_in (network topo.now) f) }
+fn hits_device(planned: Indexed<'_>, domain: DomainId) -> bool
+    requires { IsDomain (network planned.topo.now) domain }
+    ensures { result ≡ list_any (has_device (walks.path (network planned.entry.topo.now) planned.entry.plan.now planned.entry.plan.now.backup_root))
+        (parts.devices_in (network planned.entry.topo.now) domain) }
 {
-    for d in devices_in(topo, &f) {
-        if path_has(plan, index, *d) {
+    for d in devices_in(planned.topo, &domain) {
+        if path_has_device(planned, *d) {
             return true;
         }
     }
     false
 }
 
-/// Whether it has a link of a domain.
-fn hits_link(topo: &Topology, plan: &Plan, index: &WalkIndex, f: DomainId) -> bool
-    requires domain { IsDomain (network topo.now) f }
-    requires indexed { IsIndexOf (network topo.now) plan.now index.now }
-    ensures { result ≡ list_any (has_link (walks.path (network topo.now) plan.now plan.now.backup_root)) (lists.links_in (network topo.now) f) }
+/// Whether the backup root's path has a link of a domain.
+fn hits_link(planned: Indexed<'_>, domain: DomainId) -> bool
+    requires { IsDomain (network planned.topo.now) domain }
+    ensures { result ≡ list_any (has_link (walks.path (network planned.entry.topo.now) planned.entry.plan.now planned.entry.plan.now.backup_root))
+        (parts.links_in (network planned.entry.topo.now) domain) }
 {
-    for l in links_in(topo, &f) {
-        if index.walk_has_link(plan.backup_root, *l) {
+    for l in links_in(planned.topo, &domain) {
+        if path_has_link(planned, *l) {
             return true;
         }
     }
@@ -80,21 +85,15 @@ fn hits_link(topo: &Topology, plan: &Plan, index: &WalkIndex, f: DomainId) -> bo
 }
 
 /// The first device of a domain that the walk of a device has, other than the root.
-fn first_device(
-    topo: &Topology,
-    plan: &Plan,
-    index: &WalkIndex,
-    f: DomainId,
-    from: u32,
-) -> Option<u32>
-    requires domain { IsDomain (network topo.now) f }
-    requires indexed { IsIndexOf (network topo.now) plan.now index.now }
-    requires range { from < length (network topo.now).devices }
-    requires member { IsTrue (is_member plan.now from) }
-    ensures { result ≡ find (λ d. not (is_root plan.now d) && walks.on_walk (network topo.now) plan.now from d) (lists.devices_in (network topo.now) f) }
+fn first_device(planned: Indexed<'_>, domain: DomainId, from: u32) -> Option<u32>
+    requires domain { IsDomain (network planned.topo.now) domain }
+    requires range { from < length (network planned.topo.now).devices }
+    requires member { IsTrue (is_member planned.plan.now from) }
+    ensures { result ≡ find (λ d. not (is_root planned.entry.plan.now d) && walks.on_walk (network planned.entry.topo.now) planned.entry.plan.now from d)
+        (parts.devices_in (network planned.entry.topo.now) domain) }
 {
-    for d in devices_in(topo, &f) {
-        if needs_device(plan, index, from, *d) {
+    for d in devices_in(planned.topo, &domain) {
+        if needs_device(planned, from, *d) {
             return Some(*d);
         }
     }
@@ -102,15 +101,15 @@ fn first_device(
 }
 
 /// The first link of a domain that is a hop's, or on the walk behind it.
-fn first_link(topo: &Topology, index: &WalkIndex, f: DomainId, hop: Hop) -> Option<u32>
-    requires domain { IsDomain (network topo.now) f }
-    requires links { length index.now.carried ≡ length (network topo.now).links }
-    requires from { hop.parent < length index.now.spans }
-    ensures { (plan : PlanSeen) → IsIndexOf (network topo.now) plan index.now → IsTrue (is_member plan hop.parent)
-        → result ≡ find (λ l. nat_eq l hop.link || has_link (walks.path (network topo.now) plan hop.parent) l) (lists.links_in (network topo.now) f) }
+fn first_link(planned: Indexed<'_>, domain: DomainId, hop: Hop) -> Option<u32>
+    requires domain { IsDomain (network planned.topo.now) domain }
+    requires from { hop.parent < length (network planned.topo.now).devices }
+    requires member { IsTrue (is_member planned.plan.now hop.parent) }
+    ensures { result ≡ find (λ l. nat_eq l hop.link || has_link (walks.path (network planned.entry.topo.now) planned.entry.plan.now hop.parent) l)
+        (parts.links_in (network planned.entry.topo.now) domain) }
 {
-    for l in links_in(topo, &f) {
-        if needs_link(index, hop, *l) {
+    for l in links_in(planned.topo, &domain) {
+        if needs_link(planned, hop, *l) {
             return Some(*l);
         }
     }
@@ -118,15 +117,14 @@ fn first_link(topo: &Topology, index: &WalkIndex, f: DomainId, hop: Hop) -> Opti
 }
 
 /// What a domain has of what the backup root falls back on.
-fn fallback_breach(topo: &Topology, plan: &Plan, index: &WalkIndex, f: DomainId) -> Option<Thing>
-    requires domain { IsDomain (network topo.now) f }
-    requires indexed { IsIndexOf (network topo.now) plan.now index.now }
-    ensures { result ≡ roots.fallback_breach (network topo.now) plan.now f }
+fn fallback_breach(planned: Indexed<'_>, domain: DomainId) -> Option<Thing>
+    requires { IsDomain (network planned.topo.now) domain }
+    ensures { result ≡ roots.fallback_breach (network planned.entry.topo.now) planned.entry.plan.now domain }
 {
-    match backup_of(plan, plan.backup_root) {
-        Some(hop) => match first_device(topo, plan, index, f, hop.parent) {
+    match backup_of(planned.plan, planned.plan.backup_root) {
+        Some(hop) => match first_device(planned, domain, hop.parent) {
             Some(d) => Some(Thing::Device(d)),
-            None => match first_link(topo, index, f, hop) {
+            None => match first_link(planned, domain, hop) {
                 Some(l) => Some(Thing::Link(l)),
                 None => None,
             },
@@ -136,51 +134,56 @@ fn fallback_breach(topo: &Topology, plan: &Plan, index: &WalkIndex, f: DomainId)
 }
 
 /// Whether a domain has both roots.
-fn has_both_roots(topo: &Topology, plan: &Plan, f: DomainId) -> bool
-    requires { IsDomain (network topo.now) f }
-    ensures { result ≡ (domains.holds_device (network topo.now) f plan.now.root && domains.holds_device (network topo.now) f plan.now.backup_root) }
+fn has_both_roots(topo: &Topology, plan: &Plan, domain: DomainId) -> bool
+    requires { IsDomain (network topo.now) domain }
+    ensures { result ≡ (domains.holds_device (network topo.now) domain plan.now.root
+        && domains.holds_device (network topo.now) domain plan.now.backup_root) }
 {
-    holds_device(topo, f, plan.root) && holds_device(topo, f, plan.backup_root)
+    holds_device(topo, domain, plan.root) && holds_device(topo, domain, plan.backup_root)
 }
 
 /// Whether a domain hits the backup root's path.
-fn is_hit(topo: &Topology, plan: &Plan, index: &WalkIndex, f: DomainId) -> bool
-    requires domain { IsDomain (network topo.now) f }
-    requires indexed { IsIndexOf (network topo.now) plan.now index.now }
-    ensures { result ≡ domains.hits (network topo.now) f (walks.path (network topo.now) plan.now plan.now.backup_root) }
+fn is_hit(planned: Indexed<'_>, domain: DomainId) -> bool
+    requires { IsDomain (network planned.topo.now) domain }
+    ensures { result ≡ domains.hits (network planned.entry.topo.now) domain
+        (walks.path (network planned.entry.topo.now) planned.entry.plan.now planned.entry.plan.now.backup_root) }
 {
-    hits_device(topo, plan, index, f) || hits_link(topo, plan, index, f)
+    hits_device(planned, domain) || hits_link(planned, domain)
 }
 
 /// What of a domain takes both roots, or the backup root's path and what it falls back on: the
 /// backup root where it has both, else the least device, else the least link. It costs as much as
 /// the domain is long.
-pub fn root_breach_in(topo: &Topology, plan: &Plan, index: &WalkIndex, f: DomainId) -> Option<Thing>
-    requires domain { IsDomain (network topo.now) f }
-    requires indexed { IsIndexOf (network topo.now) plan.now index.now }
-    ensures { result ≡ roots.root_breach (network topo.now) plan.now f }
+pub fn root_breach_in(planned: Indexed<'_>, domain: DomainId) -> Option<Thing>
+    requires { IsDomain (network planned.topo.now) domain }
+    ensures { result ≡ roots.root_breach (network planned.entry.topo.now) planned.entry.plan.now domain }
 {
-    if has_both_roots(topo, plan, f) {
-        Some(Thing::Device(plan.backup_root))
-    } else if is_hit(topo, plan, index, f) {
-        fallback_breach(topo, plan, index, f)
+    if has_both_roots(planned.topo, planned.plan, domain) {
+        Some(Thing::Device(planned.plan.backup_root))
+    } else if is_hit(planned, domain) {
+        fallback_breach(planned, domain)
     } else {
         None
     }
 }
 
-/// The same with an index that is made for it alone.
+/// What `root_breach_in` answers, with an index that is made for this domain alone.
 pub fn root_breach(
     alloc: Global,
     topo: &Topology,
     plan: &Plan,
-    f: DomainId,
+    domain: DomainId,
 ) -> Result<Option<Thing>, NoMemory>
     requires fits { Fits (network topo.now) plan.now }
     requires structured { structure_breach (network topo.now) plan.now ≡ None }
-    requires domain { IsDomain (network topo.now) f }
-    ensures { IfOk result (λ breach. breach ≡ roots.root_breach (network topo.now) plan.now f) }
+    requires domain { IsDomain (network topo.now) domain }
+    ensures { IfOk result (λ breach. breach ≡ roots.root_breach (network topo.now) plan.now domain) }
 {
     let index = WalkIndex::new(alloc, topo, plan)?;
-    Ok(root_breach_in(topo, plan, &index, f))
+    let planned = Indexed {
+        topo,
+        plan,
+        index: &index,
+    };
+    Ok(root_breach_in(planned, domain))
 }

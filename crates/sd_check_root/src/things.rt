@@ -9,11 +9,11 @@ use sd_topo::Topology;
 use std::slice;
 
 /// The devices of a domain, ascending.
-pub(crate) fn devices_in<'a>(topo: &'a Topology, f: &'a DomainId) -> &'a [u32]
-    requires { IsDomain (network topo.now) f.now }
-    ensures { result.now ≡ parts.devices_in (network topo.now) f.now }
+pub(crate) fn devices_in<'a>(topo: &'a Topology, domain: &'a DomainId) -> &'a [u32]
+    requires { IsDomain (network topo.now) domain.now }
+    ensures { result.now ≡ parts.devices_in (network topo.now) domain.now }
 {
-    match f {
+    match domain {
         DomainId::Listed(k) => topo.domain_devices(*k),
         DomainId::Device(d) => slice::from_ref(d),
         DomainId::Link(_) => &[],
@@ -21,11 +21,11 @@ pub(crate) fn devices_in<'a>(topo: &'a Topology, f: &'a DomainId) -> &'a [u32]
 }
 
 /// The links of a domain, ascending.
-pub(crate) fn links_in<'a>(topo: &'a Topology, f: &'a DomainId) -> &'a [u32]
-    requires { IsDomain (network topo.now) f.now }
-    ensures { result.now ≡ parts.links_in (network topo.now) f.now }
+pub(crate) fn links_in<'a>(topo: &'a Topology, domain: &'a DomainId) -> &'a [u32]
+    requires { IsDomain (network topo.now) domain.now }
+    ensures { result.now ≡ parts.links_in (network topo.now) domain.now }
 {
-    match f {
+    match domain {
         DomainId::Listed(k) => topo.domain_links(*k),
         DomainId::Device(_) => &[],
         DomainId::Link(l) => slice::from_ref(l),

@@ -1,14 +1,13 @@
 -- What is above a backup parent.
 use Rattle.std.proofs.Common.{◌≡◌, ◌≢◌, ◌<◌, ℕ, Bool, length, IfSome, true, false, ◌&&◌, ◌||◌, not, List, [], ◌∷◌, map, Option, Some, None, if◌then◌else◌, nat_eq, refl, sym, ap, subst, ◌∙◌, inl, inr}
 use Rattle.std.proofs.lemmas.Bool.{eq-eqb, ne_eqb, cases_eq, and_parts}
-use Rattle.std.specs.List.{list_any}
 use Rattle.sd_num.specs.Lists.{has, of_some}
 use Rattle.sd_topo.specs.Network.{Network, joins}
 use Rattle.sd_plan.specs.Indexed.{has_device}
-use Rattle.sd_plan.specs.Plans.{Fits, IsHop, is_member, is_root, is_backup_root, is_present, primary_of, backup_of}
+use Rattle.sd_plan.specs.Plans.{Fits, IsHop, is_member, is_backup_root, is_present, primary_of, backup_of}
 use Rattle.sd_plan.specs.Structure.{structure_breach, is_no_ancestor, hop_is_right}
 use Rattle.sd_plan.proofs.Rules.{keeps_rules, hops_within}
-use Rattle.sd_checker.specs.Rules.{is_above}
+use Rattle.sd_checker.specs.Ancestors.{is_above}
 use Rattle.sd_plan.specs.Walks.{on_walk, epath, things_of, short_path, short_walk, devices_of, is_end}
 use Rattle.sd_plan.specs.declared.Hop.{Hop}
 use Rattle.sd_plan.specs.declared.Plan.{Plan}

@@ -1,32 +1,134 @@
--- The first domain that breaks a condition makes the breach of a plan that meets those before.
-use Rattle.std.proofs.Common.{◌≡◌, Some, sym, subst}
+-- From what is found of the conditions, one after another, to the verdict.
+use Rattle.std.proofs.Common.{◌≡◌, ℕ, ◌+◌, ◌<◌, true, length, Option, Some, None, refl, sym, subst, ◌∙◌, inl, inr, arith}
+use Rattle.std.specs.Prelude.{slice_get}
+use Rattle.std.proofs.lemmas.Bool.{cases_lt, ltb-true, lt-ltb}
+use Rattle.std.proofs.lemmas.Option.{slice_get_within}
 use Rattle.sd_topo.specs.Network.{Network}
+use Rattle.sd_topo.specs.declared.Thing.{Thing}
+use Rattle.sd_domain.specs.Domains.{domains}
 use Rattle.sd_domain.specs.declared.DomainId.{DomainId}
 use Rattle.sd_plan.specs.declared.Plan.{Plan}
-use Rattle.sd_check_root.specs.Roots.{root_breach}
-use Rattle.sd_check_reach.specs.Reach.{DomainHolds, ShowsDevice}
-use Rattle.sd_checker.specs.Conditions.{JudgesAll}
-use Rattle.sd_checker.specs.Verdicts.{IsTimely, IsLoopFree, IsBreach, IsFirstSuspect, RootHolds}
+use Rattle.sd_plan.specs.Structure.{structure_breach, ancestor_breach}
+use Rattle.sd_check_root.specs.Timing.{timing_breach}
+use Rattle.sd_check_root.specs.declared.TimingBreach.{TimingBreach}
+use Rattle.sd_check_loop.specs.Loops.{HasNoCycle, ShowsCycle}
+use Rattle.sd_check_reach.specs.Reach.{DomainHolds, ShowsDevice, ReachHolds, IsShownChain}
+use Rattle.sd_checker.specs.Conditions.{Condition, Holds, Shows, IsFirstSuspect, is_before, place_of, condition_of}
+use Rattle.sd_checker.specs.Conditions as condition
+use Rattle.sd_checker.specs.Findings.{HoldsOf, ShowsOf, Judges, IsFoundAmong, Finds, IsSound, is_open}
+use Rattle.sd_checker.specs.Verdicts.{IsBreach}
 use Rattle.sd_checker.specs.declared.Breach.{Breach}
 use Rattle.sd_checker.specs.declared.Breach.TheVariants as breach
-use Rattle.sd_checker.specs.declared.conditions.Condition.TheVariants as condition
 
-pub root_breaks : (net : Network) (plan : Plan) (b : Breach) → IsTimely net plan → JudgesAll condition.Root net plan (Some b) → IsBreach net plan b
-root_breaks net plan (breach.Root g at) timely (f, first, (same, shown)) =
-    (timely, subst (λ (h : DomainId). IsFirstSuspect net (RootHolds net plan) h) (sym same) first, subst (λ (h : DomainId). root_breach net plan h ≡ Some at) (sym same) shown)
-root_breaks net plan (breach.Structure rule device) timely (f, first, shown) = absurd shown
-root_breaks net plan (breach.Ancestor device) timely (f, first, shown) = absurd shown
-root_breaks net plan (breach.Timing t) timely (f, first, shown) = absurd shown
-root_breaks net plan (breach.Loop g cycle) timely (f, first, shown) = absurd shown
-root_breaks net plan (breach.Domain g device) timely (f, first, shown) = absurd shown
-root_breaks net plan (breach.Reach g chain) timely (f, first, shown) = absurd shown
+-- no condition comes before the first
+pub structure_breaks : (net : Network) (plan : Plan) (rule device : ℕ) → structure_breach net plan ≡ Some (rule, device) → IsBreach net plan (breach.Structure rule device)
+structure_breaks net plan rule device is = record { before = earlier; shows = is }
+  where
+    earlier : (c : Condition) → is_before c condition.structure ≡ true → Holds net plan c
+    earlier condition.structure before = cc
+    earlier c before = cc
 
-pub domain_breaks : (net : Network) (plan : Plan) (b : Breach) → IsLoopFree net plan → JudgesAll condition.Domain net plan (Some b) → IsBreach net plan b
-domain_breaks net plan (breach.Domain g device) free (f, first, (same, shown)) =
-    (free, subst (λ (h : DomainId). IsFirstSuspect net (DomainHolds net plan) h) (sym same) first, subst (λ (h : DomainId). ShowsDevice net plan h device) (sym same) shown)
-domain_breaks net plan (breach.Structure rule device) free (f, first, shown) = absurd shown
-domain_breaks net plan (breach.Ancestor device) free (f, first, shown) = absurd shown
-domain_breaks net plan (breach.Timing t) free (f, first, shown) = absurd shown
-domain_breaks net plan (breach.Root g at) free (f, first, shown) = absurd shown
-domain_breaks net plan (breach.Loop g cycle) free (f, first, shown) = absurd shown
-domain_breaks net plan (breach.Reach g chain) free (f, first, shown) = absurd shown
+pub ancestor_breaks : (net : Network) (plan : Plan) (device : ℕ) → structure_breach net plan ≡ None → ancestor_breach net plan ≡ Some device → IsBreach net plan (breach.Ancestor device)
+ancestor_breaks net plan device structure is = record { before = earlier; shows = is }
+  where
+    earlier : (c : Condition) → is_before c condition.ancestor ≡ true → Holds net plan c
+    earlier condition.structure before = structure
+    earlier c before = cc
+
+pub timing_breaks : (net : Network) (plan : Plan) (t : TimingBreach) → structure_breach net plan ≡ None → ancestor_breach net plan ≡ None → timing_breach net plan ≡ Some t → IsBreach net plan (breach.Timing t)
+timing_breaks net plan t structure ancestor is = record { before = earlier; shows = is }
+  where
+    earlier : (c : Condition) → is_before c condition.timing ≡ true → Holds net plan c
+    earlier condition.structure before = structure
+    earlier condition.ancestor before = ancestor
+    earlier c before = cc
+
+pub root_breaks : (net : Network) (plan : Plan) (f : DomainId) (at : Thing) → structure_breach net plan ≡ None → ancestor_breach net plan ≡ None → timing_breach net plan ≡ None → Shows net plan (breach.Root f at) → IsBreach net plan (breach.Root f at)
+root_breaks net plan f at structure ancestor timing shows = record { before = earlier; shows = shows }
+  where
+    earlier : (c : Condition) → is_before c condition.root ≡ true → Holds net plan c
+    earlier condition.structure before = structure
+    earlier condition.ancestor before = ancestor
+    earlier condition.timing before = timing
+    earlier c before = cc
+
+-- what was found of all domains is the verdict
+pub found_of_all : (net : Network) (plan : Plan) (found : Option Breach) → IsSound net plan → IsFoundAmong net plan (length (domains net)) found → Finds net plan found
+found_of_all net plan None sound among =
+    record {
+      structure = sound.structure;
+      ancestor = sound.ancestor;
+      timing = sound.timing;
+      root = sound.root;
+      loop = λ j f at. among.hold condition.loop refl j f (slice_get_within (domains net) j f at) at;
+      domain = λ j f at. among.hold condition.domain refl j f (slice_get_within (domains net) j f at) at;
+      reach = λ j f at. among.hold condition.reach refl j f (slice_get_within (domains net) j f at) at;
+    }
+found_of_all net plan (Some b) sound among = record { before = earlier; shows = among.shows }
+  where
+    earlier : (c : Condition) → is_before c (condition_of b) ≡ true → Holds net plan c
+    earlier condition.structure before = sound.structure
+    earlier condition.ancestor before = sound.ancestor
+    earlier condition.timing before = sound.timing
+    earlier condition.root before = sound.root
+    earlier condition.loop before = λ j f at. among.hold condition.loop before j f (slice_get_within (domains net) j f at) at
+    earlier condition.domain before = λ j f at. among.hold condition.domain before j f (slice_get_within (domains net) j f at) at
+    earlier condition.reach before = λ j f at. among.hold condition.reach before j f (slice_get_within (domains net) j f at) at
+
+-- nothing is found of no domains
+pub found_of_none : (net : Network) (plan : Plan) → IsFoundAmong net plan 0 None
+found_of_none net plan = record { hold = λ c asked j g before at. absurd (omega arith); shows = tt; later = tt }
+
+-- what holds of the first domains and of the next holds of one more
+pub one_more : (net : Network) (P : DomainId → Type 0) (k : ℕ) (f : DomainId) → ((j : ℕ) (g : DomainId) → j < k → slice_get (domains net) j ≡ Some g → P g) → slice_get (domains net) k ≡ Some f → P f
+    → (j : ℕ) (g : DomainId) → j < k + 1 → slice_get (domains net) j ≡ Some g → P g
+one_more net P k f earlier at here j g before there =
+    elim (cases_lt j k) [
+      | inl less ↦ earlier j g less there
+      | inr last ↦
+          (let same : j ≡ k = omega arith in
+          let both : Some f ≡ Some g = sym at ∙ subst (λ (i : ℕ). slice_get (domains net) i ≡ Some g) same there in
+          let is : f ≡ g = cc in
+          subst P is here)
+    ]
+
+-- the next domain meets each open condition
+pub found_no_more : (net : Network) (plan : Plan) (k : ℕ) (found : Option Breach) (f : DomainId) → IsFoundAmong net plan k found → slice_get (domains net) k ≡ Some f → Judges net plan found f None
+    → IsFoundAmong net plan (k + 1) found
+found_no_more net plan k found f among at holds =
+    record { hold = λ c asked. one_more net (λ g. HoldsOf net plan g c) k f (among.hold c asked) at (holds c asked); shows = among.shows; later = among.later }
+
+-- what comes before an open condition is open
+still_open : (found : Option Breach) (c later : Condition) → is_before c later ≡ true → is_open found later ≡ true → is_open found c ≡ true
+still_open None c later before asked = refl
+still_open (Some b) c later before asked =
+    lt-ltb (place_of c) (place_of (condition_of b)) (omega (arith, ltb-true (place_of c) (place_of later) before, ltb-true (place_of later) (place_of (condition_of b)) asked))
+
+-- the next domain breaks one
+pub found_more : (net : Network) (plan : Plan) (k : ℕ) (found : Option Breach) (f : DomainId) (b : Breach) → IsFoundAmong net plan k found → slice_get (domains net) k ≡ Some f → Judges net plan found f (Some b)
+    → IsFoundAmong net plan (k + 1) (Some b)
+found_more net plan k found f b among at judged =
+    record {
+      hold = λ c before. one_more net (λ g. HoldsOf net plan g c) k f (among.hold c (still_open found c (condition_of b) before judged.0)) at (judged.1 c before);
+      shows = shown b judged.0 judged.2;
+      later = later b judged.2;
+    }
+  where
+    first : (g : DomainId) (P : DomainId → Type 0) → g ≡ f → ((j : ℕ) (h : DomainId) → j < k → slice_get (domains net) j ≡ Some h → P h) → IsFirstSuspect net P g
+    first g P same earlier = (k, at ∙ sym (let some : Some g ≡ Some f = cc in some), earlier)
+
+    shown : (b : Breach) → is_open found (condition_of b) ≡ true → ShowsOf net plan f b → Shows net plan b
+    shown (breach.Structure rule device) asked shows = absurd shows
+    shown (breach.Ancestor device) asked shows = absurd shows
+    shown (breach.Timing t) asked shows = absurd shows
+    shown (breach.Root g thing) asked shows = absurd shows
+    shown (breach.Loop g cycle) asked shows = (first g (HasNoCycle net plan) shows.0 (among.hold condition.loop asked), subst (λ (h : DomainId). ShowsCycle net plan h cycle) (sym shows.0) shows.1)
+    shown (breach.Domain g device) asked shows = (first g (DomainHolds net plan) shows.0 (among.hold condition.domain asked), subst (λ (h : DomainId). ShowsDevice net plan h device) (sym shows.0) shows.1)
+    shown (breach.Reach g chain) asked shows = (first g (ReachHolds net plan) shows.0 (among.hold condition.reach asked), subst (λ (h : DomainId). IsShownChain net plan h chain) (sym shows.0) shows.1)
+
+    later : (b : Breach) → ShowsOf net plan f b → is_before condition.root (condition_of b) ≡ true
+    later (breach.Structure rule device) shows = absurd shows
+    later (breach.Ancestor device) shows = absurd shows
+    later (breach.Timing t) shows = absurd shows
+    later (breach.Root g thing) shows = absurd shows
+    later b shows = refl

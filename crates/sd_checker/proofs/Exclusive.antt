@@ -1,14 +1,16 @@
--- A plan that is accepted has no breach.
-use Rattle.std.proofs.Common.{◌≡◌, ℕ, Bool, true, false, ◌&&◌, ◌||◌, List, [], ◌∷◌, ◌++◌, Some, None, append_assoc, nat_eq, refl, sym, ap, ◌∙◌, subst, inl, inr, cond}
-use Rattle.std.specs.Prelude.{IsTrue}
+-- A plan that is accepted has no breach: no condition both holds and is broken.
+use Rattle.std.proofs.Common.{◌≡◌, ℕ, Bool, true, false, ◌&&◌, ◌||◌, List, [], ◌∷◌, ◌++◌, append_assoc, nat_eq, refl, sym, ap, ◌∙◌, subst, inl, inr}
 use Rattle.std.specs.List.{list_any}
-use Rattle.std.proofs.lemmas.Bool.{eq-eqb, eqb-true, cases_Bool}
+use Rattle.std.proofs.lemmas.Bool.{eq-eqb, eqb-true}
 use Rattle.sd_topo.specs.Network.{Network}
 use Rattle.sd_domain.specs.declared.DomainId.{DomainId}
 use Rattle.sd_plan.specs.Walks.{end_of}
 use Rattle.sd_plan.specs.declared.Hop.{Hop}
 use Rattle.sd_plan.specs.declared.Plan.{Plan}
-use Rattle.sd_check_loop.specs.Loops.{hops_of, same_hop, is_walk, HasNoCycle, IsNextShown, IsChain, ShowsCycle, IsShownCycle}
+use Rattle.sd_check_loop.specs.Loops.{hops_of, same_hop, is_walk, HasNoCycle, IsNextShown, IsChain, ShowsCycle}
+use Rattle.sd_check_reach.specs.Reach.{ReachHolds, IsShownChain}
+use Rattle.sd_checker.specs.Conditions.{Condition, Holds, Shows, condition_of}
+use Rattle.sd_checker.specs.Conditions as condition
 use Rattle.sd_checker.specs.Verdicts.{IsAccepted, IsBreach}
 use Rattle.sd_checker.specs.declared.Breach.{Breach}
 use Rattle.sd_checker.specs.declared.Breach.TheVariants as breach
@@ -58,22 +60,40 @@ module _ (net : Network) (plan : Plan) (f : DomainId) where
       let on : is_walk net plan f hop.parent (next ∷ hs) ≡ true = subst (λ (x : ℕ). is_walk net plan f x (next ∷ hs) ≡ true) (sym to) walked in
       (hop, next ∷ hs, both (list_any (same_hop hop) (hops_of net plan f d)) (is_walk net plan f hop.parent (next ∷ hs)) found on, ends)
 
-  no_shown : (cycle : List ℕ) → HasNoCycle net plan f → ShowsCycle net plan f cycle → ⊥
+  pub no_shown : (cycle : List ℕ) → HasNoCycle net plan f → ShowsCycle net plan f cycle → ⊥
   no_shown [] none shown = shown
   no_shown (first ∷ others) none shown =
       let whole = subst (λ (xs : List ℕ). IsChain (IsNextShown net plan f) xs) (append_assoc shown.lead (first ∷ others) (first ∷ [])) shown.goes_on in
       let (hop, hs, walked, ends) = walk_of first others first (chain_tail (IsNextShown net plan f) shown.lead (first ∷ (others ++ first ∷ [])) whole) in
       none first hop hs walked ends
 
-pub accepted_unbroken : (net : Network) (plan : Plan) (b : Breach) → IsAccepted net plan → IsBreach net plan b → ⊥
-accepted_unbroken net plan (breach.Structure rule device) accepted is = let none = accepted.domain_safe.loop_free.rooted.timely.well_formed.structure in cc (none, is)
-accepted_unbroken net plan (breach.Ancestor device) accepted is = let none = accepted.domain_safe.loop_free.rooted.timely.well_formed.ancestor in let some = is.1 in cc (none, some)
-accepted_unbroken net plan (breach.Timing t) accepted is = let none = accepted.domain_safe.loop_free.rooted.timely.timing in let some = is.1 in cc (none, some)
-accepted_unbroken net plan (breach.Root f at) accepted (timely, (k, there, before), shown) = let none = accepted.domain_safe.loop_free.rooted.root k f there in cc (none, shown)
-accepted_unbroken net plan (breach.Loop f cycle) accepted (rooted, (k, there, before), shown) = no_shown net plan f cycle (accepted.domain_safe.loop_free.loop k f there) shown
-accepted_unbroken net plan (breach.Domain f device) accepted (free, (k, there, before), shown) = accepted.domain_safe.domain k f there device shown.0
-accepted_unbroken net plan (breach.Reach f chain) accepted (safe, (k, there, before), shown) =
-    elim (accepted.reach k f there shown.first shown.starved.0) [
+pub fed_or_cut : (net : Network) (plan : Plan) (f : DomainId) (chain : List ℕ) → ReachHolds net plan f → IsShownChain net plan f chain → ⊥
+fed_or_cut net plan f chain holds shown =
+    elim (holds shown.first shown.starved.0) [
       | inl fed ↦ shown.starved.1 fed
       | inr is_cut ↦ is_cut shown.starved.2
     ]
+
+-- a plan that meets the condition has no breach of it
+pub unbroken : (net : Network) (plan : Plan) (b : Breach) → Holds net plan (condition_of b) → Shows net plan b → ⊥
+unbroken net plan (breach.Structure rule device) holds shown = cc (holds, shown)
+unbroken net plan (breach.Ancestor device) holds shown = cc (holds, shown)
+unbroken net plan (breach.Timing t) holds shown = cc (holds, shown)
+unbroken net plan (breach.Root f at) holds ((k, there, before), shown) = let none = holds k f there in cc (none, shown)
+unbroken net plan (breach.Loop f cycle) holds ((k, there, before), shown) = no_shown net plan f cycle (holds k f there) shown
+unbroken net plan (breach.Domain f device) holds ((k, there, before), shown) = holds k f there device shown.0
+unbroken net plan (breach.Reach f chain) holds ((k, there, before), shown) = fed_or_cut net plan f chain (holds k f there) shown
+
+-- a plan that is accepted meets each condition
+holds_each : (net : Network) (plan : Plan) → IsAccepted net plan → (c : Condition) → Holds net plan c
+holds_each net plan accepted condition.structure = accepted.structure
+holds_each net plan accepted condition.ancestor = accepted.ancestor
+holds_each net plan accepted condition.timing = accepted.timing
+holds_each net plan accepted condition.root = accepted.root
+holds_each net plan accepted condition.loop = accepted.loop
+holds_each net plan accepted condition.domain = accepted.domain
+holds_each net plan accepted condition.reach = accepted.reach
+
+-- so it has no breach
+pub accepted_unbroken : (net : Network) (plan : Plan) (b : Breach) → IsAccepted net plan → IsBreach net plan b → ⊥
+accepted_unbroken net plan b accepted is = unbroken net plan b (holds_each net plan accepted (condition_of b)) is.shows

@@ -1,8 +1,8 @@
+pub mod Versions
 mod Above
-mod Ascending
-mod Lines
 mod Breaches
-mod Order
-mod Walking
-mod Firsts
+mod DomainOrder
+mod Lines
+mod Outages
 pub mod Exclusive
+pub mod Unique

@@ -1,5 +1,5 @@
 -- The line of a refused plan, put together from its parts.
-use Rattle.std.proofs.Common.{◌≡◌, ℕ, List, [], ◌∷◌, ◌++◌, map, append_assoc, append-nil, String, string_bytes, Result, Ok, Err, refl, sym, ap, ◌∙◌}
+use Rattle.std.proofs.Common.{◌≡◌, ℕ, List, [], ◌∷◌, ◌++◌, map, append_assoc, append-nil, String, string_bytes, Result, Ok, Err, sym, ap, ◌∙◌}
 use Rattle.std.specs.declared.alloc.Global.{Global}
 use Rattle.std.specs.Prelude.{codes, decimal, flat_map, IfOk}
 use Rattle.std.specs.List.{join_with_byte}

@@ -1,43 +1,76 @@
--- The four conditions on each domain, by name, in their order.
-use Rattle.std.specs.Prelude.{◌≡◌, Option, Some, None}
-use Rattle.sd_topo.specs.Network.{Network}
+-- The seven conditions on a plan, in the order in which they are asked: what each says of a plan, and what is shown of a plan that breaks it.
+use Rattle.std.specs.Prelude.{◌≡◌, ℕ, ◌<◌, Bool, nat_lt, slice_get, Some, None}
+use Rattle.sd_topo.specs.Network.{Network, Each}
+use Rattle.sd_domain.specs.Domains.{domains}
 use Rattle.sd_domain.specs.declared.DomainId.{DomainId}
 use Rattle.sd_plan.specs.declared.Plan.{Plan}
+use Rattle.sd_plan.specs.Structure.{structure_breach, ancestor_breach}
+use Rattle.sd_check_root.specs.Timing.{timing_breach}
 use Rattle.sd_check_root.specs.Roots.{root_breach}
 use Rattle.sd_check_loop.specs.Loops.{HasNoCycle, ShowsCycle}
 use Rattle.sd_check_reach.specs.Reach.{DomainHolds, ShowsDevice, ReachHolds, IsShownChain}
-use Rattle.sd_checker.specs.Verdicts.{OfEachDomain, IsFirstSuspect, RootHolds, IsAccepted, IsBreach}
 use Rattle.sd_checker.specs.declared.Breach.{Breach}
 use Rattle.sd_checker.specs.declared.Breach.TheVariants as breach
-use Rattle.sd_checker.specs.declared.conditions.Condition.{Condition}
-use Rattle.sd_checker.specs.declared.conditions.Condition.TheVariants as condition
 
--- the domain meets the condition
-abbrev pub Holds : Condition → Network → Plan → DomainId → Type 0
-Holds condition.Root net plan f = RootHolds net plan f
-Holds condition.Loop net plan f = HasNoCycle net plan f
-Holds condition.Domain net plan f = DomainHolds net plan f
-Holds condition.Reach net plan f = ReachHolds net plan f
+pub data Condition : Type 0 where
+  structure : Condition
+  ancestor : Condition
+  timing : Condition
+  root : Condition
+  loop : Condition
+  domain : Condition
+  reach : Condition
 
--- the breach shows how the domain breaks the condition
-abbrev pub Shows : Condition → Network → Plan → DomainId → Breach → Type 0
-Shows condition.Root net plan f (breach.Root g at) = (g ≡ f) × (root_breach net plan f ≡ Some at)
-Shows condition.Loop net plan f (breach.Loop g cycle) = (g ≡ f) × ShowsCycle net plan f cycle
-Shows condition.Domain net plan f (breach.Domain g device) = (g ≡ f) × ShowsDevice net plan f device
-Shows condition.Reach net plan f (breach.Reach g chain) = (g ≡ f) × IsShownChain net plan f chain
-Shows condition net plan f other = ⊥
+-- the place of a condition in their order
+abbrev pub place_of : Condition → ℕ
+place_of structure = 1
+place_of ancestor = 2
+place_of timing = 3
+place_of root = 4
+place_of loop = 5
+place_of domain = 6
+place_of reach = 7
 
--- what is to be said of one domain
-abbrev pub Judges : Condition → Network → Plan → DomainId → Option Breach → Type 0
-Judges condition net plan f None = Holds condition net plan f
-Judges condition net plan f (Some breach) = Shows condition net plan f breach
+abbrev pub is_before : Condition → Condition → Bool
+is_before earlier later = nat_lt (place_of earlier) (place_of later)
 
--- what is to be said of all domains: the breach of the first that breaks the condition
-abbrev pub JudgesAll : Condition → Network → Plan → Option Breach → Type 0
-JudgesAll condition net plan None = OfEachDomain net (Holds condition net plan)
-JudgesAll condition net plan (Some breach) = (f : DomainId) × IsFirstSuspect net (Holds condition net plan) f × Shows condition net plan f breach
+-- something holds of each domain
+abbrev pub OfEachDomain : Network → (DomainId → Type 0) → Type 0
+OfEachDomain net P = Each P (domains net)
 
--- the first breach, or that the plan meets all conditions
-abbrev pub Finds : Network → Plan → Option Breach → Type 0
-Finds net plan None = IsAccepted net plan
-Finds net plan (Some breach) = IsBreach net plan breach
+-- f is a domain of the network, and something holds of each domain before it
+abbrev pub IsFirstSuspect : Network → (DomainId → Type 0) → DomainId → Type 0
+IsFirstSuspect net P f = (k : ℕ) × (slice_get (domains net) k ≡ Some f) × ((j : ℕ) (g : DomainId) → j < k → slice_get (domains net) j ≡ Some g → P g)
+
+abbrev pub RootHolds : Network → Plan → DomainId → Type 0
+RootHolds net plan f = root_breach net plan f ≡ None
+
+-- the plan meets the condition
+abbrev pub Holds : Network → Plan → Condition → Type 0
+Holds net plan structure = structure_breach net plan ≡ None
+Holds net plan ancestor = ancestor_breach net plan ≡ None
+Holds net plan timing = timing_breach net plan ≡ None
+Holds net plan root = OfEachDomain net (RootHolds net plan)
+Holds net plan loop = OfEachDomain net (HasNoCycle net plan)
+Holds net plan domain = OfEachDomain net (DomainHolds net plan)
+Holds net plan reach = OfEachDomain net (ReachHolds net plan)
+
+-- the condition that a breach is one of
+abbrev pub condition_of : Breach → Condition
+condition_of (breach.Structure rule device) = structure
+condition_of (breach.Ancestor device) = ancestor
+condition_of (breach.Timing t) = timing
+condition_of (breach.Root f at) = root
+condition_of (breach.Loop f cycle) = loop
+condition_of (breach.Domain f device) = domain
+condition_of (breach.Reach f chain) = reach
+
+-- the breach shows how the plan breaks its condition: of the conditions on domains, by the first domain that breaks it
+abbrev pub Shows : Network → Plan → Breach → Type 0
+Shows net plan (breach.Structure rule device) = structure_breach net plan ≡ Some (rule, device)
+Shows net plan (breach.Ancestor device) = ancestor_breach net plan ≡ Some device
+Shows net plan (breach.Timing t) = timing_breach net plan ≡ Some t
+Shows net plan (breach.Root f at) = IsFirstSuspect net (RootHolds net plan) f × (root_breach net plan f ≡ Some at)
+Shows net plan (breach.Loop f cycle) = IsFirstSuspect net (HasNoCycle net plan) f × ShowsCycle net plan f cycle
+Shows net plan (breach.Domain f device) = IsFirstSuspect net (DomainHolds net plan) f × ShowsDevice net plan f device
+Shows net plan (breach.Reach f chain) = IsFirstSuspect net (ReachHolds net plan) f × IsShownChain net plan f chain

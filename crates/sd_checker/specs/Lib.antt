@@ -1,5 +1,6 @@
-pub mod Rules
-pub mod Verdicts
-pub mod Text
+pub mod Ancestors
 pub mod Conditions
+pub mod Findings
 pub mod Showing
+pub mod Text
+pub mod Verdicts

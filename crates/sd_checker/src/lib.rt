@@ -2,9 +2,10 @@
 #![tactic(auto)]
 
 mod ancestor;
-mod conditions;
+mod hits;
 mod judging;
-mod structure;
+mod order;
+mod roots;
 mod text;
 
 pub use judging::check;

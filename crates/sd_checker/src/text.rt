@@ -6,6 +6,7 @@ ghost use Rattle.sd_checker.specs.Showing.{refused_by};
 ghost use Rattle.sd_topo.specs.Topologies.{network};
 
 use crate::Breach;
+use crate::order::domain_count;
 use sd_domain::DomainId;
 use sd_topo::{Thing, Topology};
 use std::alloc::{AllocError, Global};
@@ -121,7 +122,7 @@ pub fn accepted_line(alloc: Global, topo: &Topology) -> Result<String, AllocErro
 {
     let devices = topo.devices();
     let links = topo.links();
-    let domains = crate::conditions::domain_count(topo);
+    let domains = domain_count(topo);
     let line = format!(in alloc; "accepted {devices} {links} {domains}\n")?;
     Ok(line)
 }

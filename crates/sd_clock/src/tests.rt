@@ -1,3 +1,4 @@
+//! Reports and corrections worked out by hand.
 use super::*;
 
 #[test]

@@ -15,7 +15,7 @@ use Rattle.sd_domain.specs.declared.DomainId.TheVariants as domain
 use Rattle.sd_domain.specs.Failures.{FailedThings}
 use Rattle.sd_domain.specs.Within.{has_all}
 use Rattle.sd_domain.proofs.Things.{list_all-things}
-use Rattle.sd_domain.proofs.Firsts.{find_none, find_below_none, find_below_here, find-map}
+use Rattle.sd_num.proofs.Firsts.{find_none, find_below_none, find_below_here, find-map}
 
 -- all of the numbers are this one
 abbrev are_all : List ℕ → ℕ → Bool

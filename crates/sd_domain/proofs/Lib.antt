@@ -1,8 +1,9 @@
 mod Members
 mod Marks
-mod Ascending
 mod Things
-mod Firsts
+mod Listed
 mod Alone
 pub mod Within
 mod Rows
+mod Adding
+mod Failed

@@ -4,3 +4,4 @@ pub mod NumberSetView
 pub mod Failures
 pub mod FailureView
 pub mod Within
+pub mod Failing

@@ -1,16 +1,12 @@
--- Sets of numbers below a bound.
-use Rattle.std.specs.Prelude.{ℕ, refl}
-use Rattle.std.specs.Ordering.{nat_cmp}
-use Rattle.std.specs.FinSet as set
-use Rattle.std.specs.FinSet.{FinSet}
-use Rattle.std.specs.Coded.{Coded, code_by, coded×, coded_ℕ}
+-- Sets of numbers below a bound, in the order in which the numbers came.
+use Rattle.std.specs.Prelude.{ℕ, List, [], ◌∷◌, ◌++◌, if◌then◌else◌}
+use Rattle.sd_num.specs.Lists.{has}
 
 -- what is seen of a set that has room for the numbers below a bound
 pub record Numbers : Type 0 where
-  pub members : FinSet nat_cmp
+  pub numbers : List ℕ
   pub bound : ℕ
 
--- it is stored as the pair of its fields
-abbrev pub numbers_code : Coded Numbers
-numbers_code =
-    code_by (FinSet nat_cmp × ℕ) (coded× (set.code coded_ℕ) coded_ℕ) (λ s. (s.members, s.bound)) (λ p. record { members = p.0; bound = p.1 }) (λ _. refl)
+-- numbers with one more, which comes last where it is new
+abbrev pub with_number : List ℕ → ℕ → List ℕ
+with_number numbers n = if has numbers n then numbers else numbers ++ n ∷ []

@@ -46,8 +46,12 @@ impl Failure {
         ensures { self.new ≡ with_thing self.old thing }
     {
         match thing {
-            Thing::Device(d) => self.devices.insert(d),
-            Thing::Link(l) => self.links.insert(l),
+            Thing::Device(d) => {
+                let _: bool = self.devices.insert(d);
+            }
+            Thing::Link(l) => {
+                let _: bool = self.links.insert(l);
+            }
         }
     }
 

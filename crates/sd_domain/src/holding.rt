@@ -9,15 +9,8 @@ ghost use Rattle.sd_domain.specs.Failures.{things_of};
 ghost use Rattle.sd_domain.specs.Within.{has_all};
 
 use crate::{DomainId, Failure};
+use sd_num::contains;
 use sd_topo::Topology;
-
-/// Whether numbers, which ascend, have one among them.
-fn lists(numbers: &[u32], number: u32) -> bool
-    requires { IsTrue (ascends numbers.now) }
-    ensures { result ≡ has numbers.now number }
-{
-    numbers.binary_search(&number).is_ok()
-}
 
 /// Whether the domain has the device.
 pub fn holds_device(topo: &Topology, f: DomainId, d: u32) -> bool
@@ -25,7 +18,7 @@ pub fn holds_device(topo: &Topology, f: DomainId, d: u32) -> bool
     ensures { result ≡ domains.holds_device (network topo.now) f d }
 {
     match f {
-        DomainId::Listed(k) => lists(topo.domain_devices(k), d),
+        DomainId::Listed(k) => contains(topo.domain_devices(k), d),
         DomainId::Device(e) => e == d,
         DomainId::Link(_) => false,
     }
@@ -37,7 +30,7 @@ pub fn holds_link(topo: &Topology, f: DomainId, l: u32) -> bool
     ensures { result ≡ domains.holds_link (network topo.now) f l }
 {
     match f {
-        DomainId::Listed(k) => lists(topo.domain_links(k), l),
+        DomainId::Listed(k) => contains(topo.domain_links(k), l),
         DomainId::Device(_) => false,
         DomainId::Link(m) => m == l,
     }
@@ -48,7 +41,7 @@ fn lists_all(numbers: &[u32], others: &[u32]) -> bool
     requires { IsTrue (ascends numbers.now) }
     ensures { result ≡ list_all (has numbers.now) others.now }
 {
-    others.iter().all(|number| lists(numbers, *number))
+    others.iter().all(|number| contains(numbers, *number))
 }
 
 /// Whether a listed domain has all that has failed.
@@ -108,7 +101,8 @@ pub fn within_one(topo: &Topology, failed: &Failure) -> Option<DomainId>
 mod tests {
     use super::*;
     use crate::DomainId::{Device, Link, Listed};
-    use sd_topo::{Thing, read_topology};
+    use sd_topo::Thing;
+    use sd_topotext::read_topology;
     use std::test::Fail;
 
     /// Three devices, two links, and two listed domains: a, b and ab; b and bc.

@@ -2,12 +2,14 @@
 //! the sets of things that have failed.
 #![tactic(auto)]
 
+mod failing;
 mod failure;
 mod holding;
 mod number_set;
 
 pub use failure::Failure;
 pub use holding::{holds_device, holds_link, within_one};
+pub use number_set::NumberSet;
 
 /// A fault domain. Domains are ordered: the listed ones, each device alone, each link alone, each
 /// kind by number.

@@ -1,29 +1,26 @@
 //! A set of small numbers that takes its memory when it is made.
-ghost use Rattle.std.specs.Prelude.{◌≡◌, ℕ, ◌<◌, false, not, ◌&&◌, nat_eq, length, slice_index_or, All, IfOk};
+ghost use Rattle.std.specs.Prelude.{◌≡◌, ℕ, ◌<◌, false, not, ◌&&◌, [], nat_eq, length, slice_index_or, All, IfOk};
 ghost use Rattle.std.specs.List.{IsDistinct};
-ghost use Rattle.std.specs.FinSet as set;
 ghost use Rattle.sd_num.specs.Lists.{has};
+ghost use Rattle.sd_domain.specs.NumberSets.{with_number};
 
 use sd_num::NoMemory;
 use std::alloc::Global;
 use std::marker::Model;
 
-/// A set of numbers below a bound. Only `new` takes memory.
+/// A set of numbers below a bound, in the order in which they came. Only `new` takes memory.
 #[derive(Drop)]
-pub(crate) struct NumberSet {
+pub struct NumberSet {
     /// Whether each number is in the set.
     marks: Vec<bool>,
-    /// The numbers in the set, in the order in which they came, so that they are listed and
-    /// cleared with no look at the others.
+    /// The numbers in the set, so that they are listed and cleared with no look at the others.
     numbers: Vec<u32>,
 }
 
 impl Model for NumberSet {
-    ghost use Rattle.sd_domain.specs.NumberSets.{Numbers, numbers_code};
+    ghost use Rattle.sd_domain.specs.NumberSets.{Numbers};
 
     ghost Value = { Numbers };
-
-    ghost coded = { numbers_code };
 
     ghost use Rattle.sd_domain.specs.NumberSetView.{numbers_seen, IsNumberSet};
 
@@ -44,9 +41,9 @@ fn unmark(marks: &mut [bool], numbers: &[u32])
 }
 
 impl NumberSet {
-    /// The empty set, with room for the numbers below `bound`.
-    pub(crate) fn new(alloc: Global, bound: u32) -> Result<NumberSet, NoMemory>
-        ensures { IfOk result (λ s. s ≡ record { members = set.empty; bound = bound }) }
+    /// The empty set.
+    pub fn new(alloc: Global, bound: u32) -> Result<NumberSet, NoMemory>
+        ensures { IfOk result (λ s. s ≡ record { numbers = []; bound = bound }) }
     {
         let bound = bound as usize;
         let Ok(marks) = vec![in alloc; false; bound] else {
@@ -58,35 +55,39 @@ impl NumberSet {
         Ok(NumberSet { marks, numbers })
     }
 
-    /// Adds a number, which may be there already.
-    pub(crate) fn insert(&mut self, number: u32)
+    /// Adds a number, which may be there already, and whether it is new.
+    pub fn insert(&mut self, number: u32) -> bool
         requires { number < self.old.bound }
-        ensures { self.new ≡ record self.old { members = set.insert self.old.members number } }
+        ensures added { self.new ≡ record self.old { numbers = with_number self.old.numbers number } }
+        ensures new { result ≡ not (has self.old.numbers number) }
+        ensures distinct { IsDistinct nat_eq self.new.numbers }
     {
-        if !self.marks[number as usize] {
-            self.marks[number as usize] = true;
-            self.numbers.push_reserved(number);
+        if self.marks[number as usize] {
+            return false;
         }
+        self.marks[number as usize] = true;
+        self.numbers.push_reserved(number);
+        true
     }
 
     /// Takes all numbers out, in the time that these take.
-    pub(crate) fn clear(&mut self)
-        ensures { self.new ≡ record self.old { members = set.empty } }
+    pub fn clear(&mut self)
+        ensures { self.new ≡ record self.old { numbers = [] } }
     {
         unmark(&mut self.marks, &self.numbers);
         self.numbers.clear();
     }
 
     /// Whether a number is in the set. None beyond the bound is.
-    pub(crate) fn contains(&self, number: u32) -> bool
-        ensures { result ≡ set.contains self.now.members number }
+    pub fn contains(&self, number: u32) -> bool
+        ensures { result ≡ has self.now.numbers number }
     {
         self.marks.get(number as usize).copied().unwrap_or(false)
     }
 
-    /// The numbers in the set, each once.
-    pub(crate) fn as_slice(&self) -> &[u32]
-        ensures all { set.from_list result.now ≡ self.now.members }
+    /// The numbers in the set, each once, in the order in which they came.
+    pub fn as_slice(&self) -> &[u32]
+        ensures all { result.now ≡ self.now.numbers }
         ensures distinct { IsDistinct nat_eq result.now }
     {
         self.numbers.as_slice()
@@ -101,15 +102,15 @@ mod tests {
     #[test]
     fn numbers_come_and_go(rt: HostRuntime) -> Result<(), Fail> {
         let mut set = NumberSet::new(rt.alloc(), 4)?;
-        set.insert(3);
-        set.insert(1);
-        set.insert(3);
+        assert!(rt; set.insert(3));
+        assert!(rt; set.insert(1));
+        assert!(rt; !set.insert(3));
         assert_eq!(rt; set.as_slice(), [3, 1].as_slice());
         assert!(rt; set.contains(1) && set.contains(3));
         assert!(rt; !set.contains(0) && !set.contains(4));
         set.clear();
         assert!(rt; !set.contains(1) && !set.contains(3));
-        set.insert(0);
+        assert!(rt; set.insert(0));
         assert_eq!(rt; set.as_slice(), [0].as_slice());
         Ok(())
     }

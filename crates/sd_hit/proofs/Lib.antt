@@ -1,8 +1,9 @@
-mod Picked
-mod Merged
 mod Bounds
 mod Counting
 mod Covered
 mod Cut
 mod Hits
 mod Law
+mod Merged
+mod Picked
+pub mod HitList

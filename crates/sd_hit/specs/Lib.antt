@@ -1,2 +1,4 @@
 pub mod Hit
 pub mod Spans
+pub mod Outages
+pub mod Places

@@ -7,10 +7,14 @@ ghost use Rattle.sd_hit.specs.Hit.{hit_by};
 ghost use Rattle.sd_plan.specs.Indexed.{IsIndexOf};
 ghost use Rattle.sd_topo.specs.Topologies.{network};
 
+mod impact;
 mod merge;
+mod outage;
 mod spans;
 
+pub use impact::Impact;
 use merge::{ascending, devices_in};
+pub use outage::Outage;
 use sd_domain::DomainId;
 use sd_num::NoMemory;
 use sd_plan::{DeviceList, Plan, WalkIndex};

@@ -1,5 +1,4 @@
 pub mod Numbered
 pub mod Finding
-pub mod Keeping
 pub mod Places
 pub mod Books

@@ -1,5 +1,5 @@
 -- The flights that are on their way, and what each call on them finds.
-use Rattle.std.specs.Prelude.{ℕ, Bool, ◌&&◌, List, [], ◌∷◌, ◌++◌, find, filter, not, nat_eq, nat_le, ok_or, Result, Ok, Err, if◌then◌else◌}
+use Rattle.std.specs.Prelude.{ℕ, ◌<◌, ◌≤◌, Bool, ◌&&◌, List, [], ◌∷◌, ◌++◌, find, filter, not, nat_eq, nat_le, ok_or, Result, Ok, Err, if◌then◌else◌}
 use Rattle.sd_topo.specs.declared.Thing.{Thing}
 use Rattle.sd_topo.specs.declared.Thing.TheVariants.{Device, Link}
 use Rattle.sd_msg.specs.declared.Flight.{Flight}
@@ -11,6 +11,15 @@ pub record Book : Type 0 where
   pub flights : List Flight
   pub last : ℕ
   pub room : ℕ
+
+-- the numbers ascend from above the floor up to the top
+abbrev pub AreNumbered : ℕ → ℕ → List Flight → Type 0
+AreNumbered floor top [] = floor ≤ top
+AreNumbered floor top (f ∷ fs) = (floor < f.number) × AreNumbered f.number top fs
+
+-- the flights have numbers that were given, and ascend by them
+abbrev pub AreGiven : Book → Type 0
+AreGiven book = AreNumbered 0 book.last book.flights
 
 abbrev pub has_number : ℕ → Flight → Bool
 has_number number f = nat_eq f.number number

@@ -1,7 +1,6 @@
 pub mod Stamps
 pub mod Observed
 pub mod Books
-pub mod Slots
 pub mod BookView
 pub mod Observing
 pub mod KeptView

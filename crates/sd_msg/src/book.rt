@@ -1,27 +1,28 @@
 //! The book of the flights that are on their way.
 ghost use Rattle.std.specs.Prelude.{◌≡◌, ◌≤◌, ◌<◌, ◌+◌, ◌-◌, ◌^◌, [], filter, not, is_ok, OnOk, OnErr, if◌then◌else◌};
-ghost use Rattle.sd_msg.specs.Books.{found, for_device, dismissed, without, with_sent, is_swept, is_current};
+ghost use Rattle.sd_msg.specs.Books.{AreGiven, found, for_device, dismissed, without, with_sent, is_swept, is_current};
 
-use crate::slots::{Slot, drop_ended, drop_spent, drop_swept, least_last, place_given};
+use crate::flights::{keep_current, least_last, leave_swept, place_given, take_out};
 use crate::{Flight, TakeFault};
 use sd_num::NoMemory;
 use sd_topo::Thing;
 use std::alloc::Global;
+use std::collections::VecDeque;
 use std::marker::Model;
 
 /// The flights that are on their way, by ascending number. Each takes the next number when it is
 /// sent, from 1 on; a flight is spent when it is taken, lost, swept or purged, or at once where it
 /// does not reach. Only `ready` takes memory.
+///
+/// Flights are mostly taken in about the order of their numbers, so the one that is taken stands
+/// near the front, and few others are moved.
 #[derive(Drop)]
 pub struct FlightBook {
-    /// A slot for each flight that reached, ascending by number, until the spent ones are thrown
-    /// out.
-    slots: Vec<Slot>,
-    /// How many slots are spent.
-    spent: usize,
+    /// Those that are not spent, ascending by number.
+    flights: VecDeque<Flight>,
     /// The last number given.
     last: u64,
-    /// No unspent flight's `last` is less than this, so that most purges look at none.
+    /// No flight's `last` is less than this, so that most purges look at none.
     least: u64,
 }
 
@@ -40,12 +41,12 @@ impl Model for FlightBook {
 impl FlightBook {
     /// A book with no flights, of which no number was given.
     pub fn new(alloc: Global) -> FlightBook
+        ensures given { AreGiven result }
         ensures flights { result.flights ≡ [] }
         ensures last { result.last ≡ 0 }
     {
         FlightBook {
-            slots: Vec::new(alloc),
-            spent: 0,
+            flights: VecDeque::new(alloc),
             last: 0,
             least: u64::MAX,
         }
@@ -53,12 +54,13 @@ impl FlightBook {
 
     /// Makes room for some more flights.
     pub fn ready(&mut self, alloc: Global, count: usize) -> Result<(), NoMemory>
+        ensures given { AreGiven self.new }
         ensures room { OnOk result (count ≤ self.new.room) }
         ensures grows { self.old.room ≤ self.new.room }
         ensures flights { self.new.flights ≡ self.old.flights }
         ensures last { self.new.last ≡ self.old.last }
     {
-        match self.slots.reserve(count) {
+        match self.flights.reserve(count) {
             Ok(()) => Ok(()),
             Err(_) => Err(NoMemory),
         }
@@ -68,6 +70,7 @@ impl FlightBook {
     pub fn send(&mut self, flight: Flight) -> u64
         requires room { 1 ≤ self.old.room }
         requires numbers { self.old.last < 2 ^ 64 - 1 }
+        ensures given { AreGiven self.new }
         ensures number { result ≡ self.old.last + 1 }
         ensures flights { self.new.flights ≡ with_sent self.old.flights (record flight { number = result }) }
         ensures last { self.new.last ≡ result }
@@ -77,65 +80,62 @@ impl FlightBook {
         self.last = number;
         if flight.reaches {
             self.least = self.least.min(flight.last);
-            self.slots.push_reserved(Slot {
-                flight: Flight { number, ..flight },
-                is_spent: false,
-            });
+            self.flights.push_back_reserved(Flight { number, ..flight });
         }
         number
     }
 
     /// The flight of a number, or why there is none: `Unknown` or `Spent`.
     pub fn look(&self, number: u64) -> Result<Flight, TakeFault>
-        ensures { result ≡ found self.now.last self.now.flights number }
+        ensures given { AreGiven self.now }
+        ensures flight { result ≡ found self.now.last self.now.flights number }
     {
-        let place = place_given(&self.slots, self.last, number)?;
-        Ok(self.slots[place].flight)
+        let place = place_given(&self.flights, self.last, number)?;
+        Ok(self.flights[place])
     }
 
     /// The flight of a number, which the device receives: it is spent then. A fault changes
     /// nothing.
     pub fn take(&mut self, number: u64, device: u32) -> Result<Flight, TakeFault>
+        ensures given { AreGiven self.new }
         ensures flight { result ≡ for_device device (found self.old.last self.old.flights number) }
         ensures flights { self.new.flights ≡ (if is_ok result then without number self.old.flights else self.old.flights) }
         ensures last { self.new.last ≡ self.old.last }
         ensures room { self.old.room ≤ self.new.room }
     {
-        let flight = self.look(number)?;
-        if flight.receiver != device {
+        let place = place_given(&self.flights, self.last, number)?;
+        if self.flights[place].receiver != device {
             return Err(TakeFault::WrongDevice);
         }
-        // It is spent as one that is lost.
-        self.lose(number)?;
-        Ok(flight)
+        Ok(take_out(&mut self.flights, self.last, place))
     }
 
     /// Loses the flight of a number: it is spent then. A fault changes nothing.
     pub fn lose(&mut self, number: u64) -> Result<(), TakeFault>
+        ensures given { AreGiven self.new }
         ensures flight { result ≡ dismissed (found self.old.last self.old.flights number) }
         ensures flights { self.new.flights ≡ (if is_ok result then without number self.old.flights else self.old.flights) }
         ensures last { self.new.last ≡ self.old.last }
         ensures room { self.old.room ≤ self.new.room }
     {
-        let place = place_given(&self.slots, self.last, number)?;
-        self.slots[place].is_spent = true;
-        self.spent += 1;
-        self.thin();
+        let place = place_given(&self.flights, self.last, number)?;
+        let _lost = take_out(&mut self.flights, self.last, place);
         Ok(())
     }
 
     /// Spends each flight over that link or to that device.
     pub fn sweep(&mut self, thing: Thing)
+        ensures given { AreGiven self.new }
         ensures flights { self.new.flights ≡ filter (λ f. not (is_swept thing f)) self.old.flights }
         ensures last { self.new.last ≡ self.old.last }
         ensures room { self.old.room ≤ self.new.room }
     {
-        drop_swept(&mut self.slots, thing);
-        self.spent = 0;
+        leave_swept(&mut self.flights, thing);
     }
 
     /// Spends each flight whose `last` is less than the reference.
     pub fn purge(&mut self, reference: u64)
+        ensures given { AreGiven self.new }
         ensures flights { self.new.flights ≡ filter (is_current reference) self.old.flights }
         ensures last { self.new.last ≡ self.old.last }
         ensures room { self.old.room ≤ self.new.room }
@@ -143,21 +143,7 @@ impl FlightBook {
         if reference <= self.least {
             return;
         }
-        drop_ended(&mut self.slots, reference);
-        self.spent = 0;
-        self.least = least_last(&self.slots);
-    }
-
-    /// Throws the spent slots out once they are more than half: so few slots are moved for each
-    /// that was spent, and a search stays short.
-    fn thin(&mut self)
-        ensures flights { self.new.flights ≡ self.old.flights }
-        ensures last { self.new.last ≡ self.old.last }
-        ensures room { self.old.room ≤ self.new.room }
-    {
-        if self.spent > self.slots.len() / 2 {
-            drop_spent(&mut self.slots);
-            self.spent = 0;
-        }
+        keep_current(&mut self.flights, reference);
+        self.least = least_last(&self.flights);
     }
 }

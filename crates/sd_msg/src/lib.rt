@@ -2,9 +2,9 @@
 #![tactic(auto)]
 
 mod book;
+mod flights;
 mod kept;
 mod observer;
-mod slots;
 mod stamps;
 #[cfg(test)]
 mod tests;

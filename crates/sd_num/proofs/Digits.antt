@@ -1,16 +1,13 @@
 -- How far the digits of a text go and what they mean, one byte after the other.
-use Rattle.std.proofs.Common.{◌≡◌, ℕ, ◌+◌, ◌-◌, ◌*◌, ◌^◌, ◌<◌, ◌≤◌, Bool, true, false, not, cond, ◌&&◌, List, [], ◌∷◌, Some, None, Err, length, drop, get_or, refl, ◌∙◌, arith, add-one, drop-cons, suc}
+use Rattle.std.proofs.Common.{◌≡◌, ℕ, ◌+◌, ◌-◌, ◌*◌, ◌^◌, ◌<◌, ◌≤◌, Bool, true, false, not, cond, ◌&&◌, List, [], ◌∷◌, Some, None, Err, length, take, drop, get_or, ◌++◌, refl, ap, ◌∙◌, arith, add-one, drop-cons, suc}
 use Rattle.std.proofs.Math.Nat.{pow-suc, pow-le-pow_right, one-le-pow}
 use Rattle.std.proofs.lemmas.Bool.{le-ltb, lt-ltb, cond-true, cond-false, and_parts, leb-true, ltb-false}
-use Rattle.std.proofs.lemmas.List.{drop_all}
+use Rattle.std.proofs.lemmas.List.{drop_all, take_more, length_push}
+use Rattle.std.proofs.lemmas.List.Folds.{list_all-append}
 use Rattle.std.specs.Prelude.{nat_lt, nat_le}
 use Rattle.std.specs.List.{position, position_or_len, list_all}
-use Rattle.sd_num.specs.Decimals.{is_digit, value, number, number_of_digits}
+use Rattle.sd_num.specs.Decimals.{is_digit, leading_digits, value, number, number_of_digits}
 use Rattle.sd_num.specs.declared.NumFault.TheVariants.{NotDigit}
-
--- how many digits stand at the front
-abbrev pub leading_digits : List ℕ → ℕ
-leading_digits bs = position_or_len (λ b. not (is_digit b)) bs
 
 digit_first : (t : Bool) (i n : ℕ) → t ≡ true → i + cond (not (not t)) (1 + n) 0 ≡ suc i + n
 digit_first true i n h = omega arith
@@ -34,6 +31,26 @@ regroup v d p w = omega arith
 -- what a digit more means
 pub value-drop : (bs : List ℕ) (i v : ℕ) → i < length bs → v * 10 ^ length (drop i bs) + value (drop i bs) ≡ (v * 10 + (get_or bs i 0 - 48)) * 10 ^ length (drop (i + 1) bs) + value (drop (i + 1) bs)
 value-drop bs i v h = rw (add-one, drop-cons bs i 0, pow-suc 10 (length (drop (suc i) bs))) (regroup v (get_or bs i 0 - 48) (10 ^ length (drop (suc i) bs)) (value (drop (suc i) bs)))
+
+-- what digits mean with one more behind them
+value_push : (bs : List ℕ) (b : ℕ) → value (bs ++ b ∷ []) ≡ value bs * 10 + (b - 48)
+value_push [] b = omega arith
+value_push (c ∷ bs) b = rw (length_push bs b, add-one (length bs), pow-suc 10 (length bs), value_push bs b) (regroup_push (c - 48) (10 ^ length bs) (value bs) (b - 48))
+  where
+    regroup_push : (d p v w : ℕ) → d * (p * 10) + (v * 10 + w) ≡ (d * p + v) * 10 + w
+    regroup_push d p v w = omega arith
+
+-- what the bytes before a place mean with that at the place behind them
+pub value-take : (bs : List ℕ) (i : ℕ) → i < length bs → value (take (i + 1) bs) ≡ value (take i bs) * 10 + (get_or bs i 0 - 48)
+value-take bs i h = ap value (take_more bs i 0 h) ∙ value_push (take i bs) (get_or bs i 0)
+
+-- a digit more behind digits
+pub digits-take : (bs : List ℕ) (i : ℕ) → i < length bs → list_all is_digit (take i bs) ≡ true → is_digit (get_or bs i 0) ≡ true → list_all is_digit (take (i + 1) bs) ≡ true
+digits-take bs i h all digit = ap (λ (xs : List ℕ). list_all is_digit xs) (take_more bs i 0 h) ∙ list_all-append is_digit (take i bs) (get_or bs i 0 ∷ []) ∙ rw (all, digit) refl
+
+-- digits up to the end
+pub all_lead : (bs : List ℕ) (i : ℕ) → length bs ≤ i → leading_digits bs ≡ i + leading_digits (drop i bs) → leading_digits bs ≡ i
+all_lead bs i h e = let met : leading_digits bs ≡ i + 0 = rw (drop_all i bs h) at e in omega (arith, met)
 
 -- one digit more is below the next power of ten
 pub digit_more : (v d i : ℕ) → v < 10 ^ i → d < 10 → v * 10 + d < 10 ^ (i + 1)

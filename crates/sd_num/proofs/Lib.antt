@@ -1,3 +1,7 @@
 mod Rows
 pub mod Drift
 pub mod Digits
+pub mod Places
+pub mod Ascending
+pub mod Firsts
+pub mod Runs

@@ -1,43 +1,57 @@
-ghost use Rattle.std.specs.Prelude.{not, position, ◌≡◌, ◌≤◌, ◌<◌, ◌^◌, length, IsTrue, Some, None, nat_lt, if◌then◌else◌};
+//! Decimal numbers: the digits at the front of bytes, and bytes that are a number.
+ghost use Rattle.std.specs.Prelude.{not, position, ◌≡◌, ◌≤◌, ◌<◌, ◌^◌, length, min, take, IsTrue, Some, None, nat_lt, if◌then◌else◌};
 ghost use Rattle.std.specs.List.{list_all};
-ghost use Rattle.sd_num.specs.Decimals.{number, number_of_digits, is_digit, value};
+ghost use Rattle.sd_num.specs.Decimals.{number, number_of_digits, is_digit, leading_digits, value};
 
 use crate::NumFault;
 
 /// How many digits fit a `u64` whatever they are.
 const SAFE_DIGITS: usize = 19;
 
+/// The digits at the front of bytes, at most 19 of them.
+#[derive(Clone, Copy, Debug, PartialEq, Eq)]
+pub struct Leading {
+    /// How many digits there are.
+    pub len: usize,
+    /// What they mean.
+    pub value: u64,
+}
+
+/// Reads the digits at the front of bytes, up to 19 of them: so many fit a `u64` whatever they are.
+pub fn leading_number(bytes: &[u8]) -> Leading
+    ensures len { result.len ≡ min 19 (leading_digits bytes.now) }
+    ensures inside { result.len ≤ length bytes.now }
+    ensures value { result.value ≡ value (take result.len bytes.now) }
+    ensures digits { IsTrue (list_all is_digit (take result.len bytes.now)) }
+{
+    let reach = bytes.len().min(SAFE_DIGITS);
+    let mut value = 0u64;
+    for place in 0..reach {
+        let byte = bytes[place];
+        if !byte.is_ascii_digit() {
+            return Leading { len: place, value };
+        }
+        value = value * 10 + u64::from(byte - b'0');
+    }
+    Leading { len: reach, value }
+}
+
 /// Reads a number of decimal digits, or says the first fault in the order of `NumFault`.
 pub fn read_u64(bytes: &[u8]) -> Result<u64, NumFault>
     ensures { result ≡ number bytes.now }
 {
-    if bytes.len() <= SAFE_DIGITS {
-        read_short(bytes)
-    } else {
-        read_long(bytes)
-    }
-}
-
-/// Reads digits too few to overflow, in one pass.
-fn read_short(bytes: &[u8]) -> Result<u64, NumFault>
-    requires { length bytes.now ≤ 19 }
-    ensures { result ≡ number bytes.now }
-{
-    let mut value = 0u64;
-    for (place, byte) in bytes.iter().enumerate() {
-        if !byte.is_ascii_digit() {
-            return Err(NumFault::NotDigit(place));
-        }
-        value = value * 10 + u64::from(*byte - b'0');
+    let digits = leading_number(bytes);
+    if digits.len < bytes.len() {
+        return read_long(bytes);
     }
     match bytes {
         [] => Err(NumFault::Empty),
         [b'0', _, ..] => Err(NumFault::LeadingZero),
-        _ => Ok(value),
+        _ => Ok(digits.value),
     }
 }
 
-/// Reads bytes whose number may exceed a `u64`.
+/// Reads bytes that are not all digits, or too many digits for one pass.
 fn read_long(bytes: &[u8]) -> Result<u64, NumFault>
     requires { 0 < length bytes.now }
     ensures { result ≡ number bytes.now }

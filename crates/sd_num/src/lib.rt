@@ -4,11 +4,13 @@
 
 mod decimals;
 mod numbers;
+mod search;
 #[cfg(test)]
 mod tests;
 
-pub use decimals::read_u64;
+pub use decimals::{Leading, leading_number, read_u64};
 pub use numbers::{bounds_of, grow, low, up};
+pub use search::contains;
 
 /// Memory could not be had.
 #[derive(Clone, Copy, Debug, PartialEq, Eq)]

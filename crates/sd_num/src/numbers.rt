@@ -1,3 +1,4 @@
+//! How an uncertainty grows, what a counter shows, and the correction of a delay.
 ghost use Rattle.std.specs.Prelude.{◌≡◌, ◌≤◌};
 ghost use Rattle.sd_num.specs.Numbers.{grow as growth, low as lowest, up as highest, correction};
 

@@ -1,3 +1,4 @@
+//! Numbers and their faults, and growth worked out by hand.
 use super::*;
 
 #[test]

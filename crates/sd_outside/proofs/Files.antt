@@ -1,3 +1,4 @@
+-- The first file of a name.
 use Rattle.std.proofs.Common.{◌≡◌, ℕ, ◌+◌, ◌<◌, List, Some, true, cond, length, get_or, drop, refl, ◌∙◌, add-one, drop-cons, String, Vec, string_bytes}
 use Rattle.std.proofs.lemmas.Option.{slice_get-map, slice_get_read}
 use Rattle.std.specs.declared.alloc.Global.{Global}

@@ -1,3 +1,4 @@
+-- How a count of faults shows that the outside failed.
 use Rattle.std.specs.Prelude.{ℕ, ◌+◌, ◌-◌, ◌^◌, ◌≤◌, min, Result, Ok, Err, OnErr}
 
 -- a count that is kept as a u64, after one more: it stands still at its last value

@@ -1,3 +1,4 @@
+-- What a failed write has added.
 use Rattle.std.specs.Prelude.{ℕ, List, Option, take}
 use Rattle.std.specs.Io.KnownBytes.{Appends}
 

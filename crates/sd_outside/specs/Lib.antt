@@ -8,3 +8,4 @@ pub mod MemSink
 pub mod MemSinkView
 pub mod NoFaultShelf
 pub mod System
+pub mod Printed

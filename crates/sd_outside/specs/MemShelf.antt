@@ -1,3 +1,4 @@
+-- What a shelf over memory is seen as.
 use Rattle.std.specs.Prelude.{ℕ, Bool, List, nat_eq}
 use Rattle.std.specs.List.{list_any}
 use Rattle.sd_outside.specs.Causes.{raised}

@@ -1,3 +1,4 @@
+-- How the fields of a shelf over memory are seen.
 use Rattle.std.specs.Prelude.{◌≤◌}
 use Rattle.sd_outside.specs.MemShelf.{Seen}
 use Rattle.sd_outside.specs.declared.mem_shelf.MemShelf.TheInside.{Inside}

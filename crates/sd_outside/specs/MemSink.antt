@@ -1,3 +1,4 @@
+-- What a sink over memory is seen as, and what each of its writes keeps.
 use Rattle.std.specs.Prelude.{ℕ, ◌-◌, min, List, [], ◌∷◌, Option, None, Some, nat_eq, if◌then◌else◌, length, unwrap_or}
 use Rattle.sd_outside.specs.Causes.{raised}
 

@@ -1,3 +1,4 @@
+-- How the fields of a sink over memory are seen.
 use Rattle.std.specs.Prelude.{◌≤◌, vec_len}
 use Rattle.std.specs.Vec.{vec_capacity}
 use Rattle.sd_outside.specs.MemSink.{Kept}

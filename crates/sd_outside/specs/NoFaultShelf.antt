@@ -1,3 +1,4 @@
+-- What a shelf that never fails is seen as.
 use Rattle.std.specs.Prelude.{ℕ, Bool, List}
 use Rattle.sd_outside.specs.Texts.{Files}
 

@@ -1,3 +1,4 @@
+-- What the adapters of the system are seen as.
 use Rattle.std.specs.Prelude.{ℕ, Bool, List, Option}
 
 -- what is seen of a shelf over files: whether one is open, what it has left, where the system's type tells that, and the count of faults

@@ -1,3 +1,4 @@
+-- Named texts, and what is left of the one that was begun.
 use Rattle.std.specs.Str.{bytes_eq}
 use Rattle.std.specs.Prelude.{◌≡◌, ℕ, List, [], ◌∷◌, Option, None, Some, if◌then◌else◌, map, string_bytes, slice_get, unwrap_or, ⊤, String, Vec}
 use Rattle.std.specs.Option.{option_map}

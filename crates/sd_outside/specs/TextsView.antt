@@ -1,3 +1,4 @@
+-- How named texts are seen.
 use Rattle.std.specs.Prelude.{◌≤◌, length, drop}
 use Rattle.sd_outside.specs.Texts.{Held, files_seen, text_at}
 use Rattle.sd_outside.specs.declared.texts.Texts.TheInside.{Inside}

@@ -1,3 +1,4 @@
+//! The files of the system as a shelf.
 ghost use Rattle.std.specs.Prelude.{◌≡◌, None, true, false, IsTrue, OnOk, OnErr};
 ghost use Rattle.std.specs.Io.{ReadsAtMost};
 ghost use Rattle.std.specs.Io.KnownBytes.{ReadConsumes, IsAtEnd};

@@ -5,15 +5,18 @@
 
 mod again;
 mod file_shelf;
+mod line_buffer;
 mod mem_shelf;
 mod mem_sink;
 mod no_fault;
+mod room;
 mod shelf;
 mod sink;
 mod std_sink;
 mod texts;
 
 pub use file_shelf::FileShelf;
+pub use line_buffer::LineBuffer;
 pub use mem_shelf::MemShelf;
 pub use mem_sink::MemSink;
 pub use no_fault::{NoFaultShelf, NoFaultSink};

@@ -1,3 +1,4 @@
+//! Texts in memory as a shelf, which gives them in pieces and fails where it is told to.
 ghost use Rattle.std.specs.Prelude.{◌≡◌, ◌≤◌, ◌||◌, [], min, Some, true, false, length, IsTrue, IfOk, OnOk, OnErr, is_err, is_none};
 ghost use Rattle.std.specs.Io.{ReadsAtMost};
 ghost use Rattle.std.specs.Io.KnownBytes.{ReadConsumes, IsAtEnd};

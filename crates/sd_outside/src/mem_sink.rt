@@ -1,10 +1,11 @@
+//! Bytes in memory as a sink, which fails where it is told to.
 ghost use Rattle.std.specs.Prelude.{◌≡◌, ◌+◌, ◌≤◌, ◌++◌, ◌||◌, [], Some, length, take, vec_len, IfOk, OnOk, OnErr, is_some, is_err, nat_lt};
-ghost use Rattle.std.specs.Vec.{vec_capacity};
 ghost use Rattle.std.specs.Io.KnownBytes.{Appends};
 ghost use Rattle.sd_outside.specs.Causes.{HasCause, faults_after, raised};
 ghost use Rattle.sd_outside.specs.Fronts.{WritesFront};
 ghost use Rattle.sd_outside.specs.MemSink.{added_count, kept_in, listed_count, room_left};
 
+use crate::room::append;
 use crate::shelf::Failed;
 use crate::sink::Sink;
 use sd_num::NoMemory;
@@ -44,19 +45,6 @@ fn kept_at(failing: &[(u64, usize)], call: u64) -> Option<usize>
         }
     }
     None
-}
-
-/// Adds bytes for which there is room.
-fn append(bytes: &mut Vec<u8>, more: &[u8])
-    requires { vec_len bytes.old + length more.now ≤ vec_capacity bytes.old }
-    ensures items { bytes.new.items ≡ bytes.old.items ++ more.now }
-    ensures len { vec_len bytes.new ≡ vec_len bytes.old + length more.now }
-    ensures capacity { vec_capacity bytes.old ≤ vec_capacity bytes.new }
-{
-    match bytes.extend_from_slice(more) {
-        Ok(()) => {}
-        Err(_) => unreachable!(),
-    }
 }
 
 impl MemSink {

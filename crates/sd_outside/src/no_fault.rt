@@ -1,3 +1,4 @@
+//! A shelf and a sink over memory that never fail.
 ghost use Rattle.std.specs.Prelude.{◌≡◌, [], min, None, Some, true, false, length, IsTrue, IsOk, IfOk, OnOk, OnErr};
 ghost use Rattle.std.specs.Io.{ReadsAtMost};
 ghost use Rattle.std.specs.Io.KnownBytes.{Appends, ReadConsumes, IsAtEnd};

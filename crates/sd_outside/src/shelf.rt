@@ -1,3 +1,4 @@
+//! What a shelf is: where texts come from.
 ghost use Rattle.std.specs.Prelude.{◌≡◌, ℕ, List, Option, Bool, false, IsTrue, OnOk, OnErr};
 ghost use Rattle.std.specs.Io.{ReadsAtMost};
 ghost use Rattle.std.specs.Io.KnownBytes.{ReadConsumes, IsAtEnd};

@@ -1,3 +1,4 @@
+//! What a sink is: where bytes go to.
 ghost use Rattle.std.specs.Prelude.{ℕ, List, Option, OnOk, OnErr};
 ghost use Rattle.std.specs.Io.KnownBytes.{Appends};
 ghost use Rattle.sd_outside.specs.Causes.{HasCause};

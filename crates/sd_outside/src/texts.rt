@@ -1,3 +1,4 @@
+//! Named texts, one of which is being given in pieces.
 ghost use Rattle.std.specs.Prelude.{◌≡◌, ◌++◌, [], take, min, length, None, Some, MatchOption, is_some, unwrap_or};
 ghost use Rattle.sd_outside.specs.Texts.{files_seen, text_at, text_in};
 

@@ -11,13 +11,14 @@ use Rattle.sd_topo.specs.Network.{Network, IsNetwork, joins}
 use Rattle.sd_plan.specs.declared.Hop.{Hop}
 use Rattle.sd_plan.specs.declared.Absent.{Absent}
 use Rattle.sd_plan.proofs.Numbered.{found_passes}
-use Rattle.sd_usable.specs.Usable.{takes_part, is_usable, are_neighbours, link_between}
-use Rattle.sd_spread.specs.declared.Placed.{Placed}
-use Rattle.sd_spread.specs.Spreading.{placed_at, is_placed, depth_of, below_device, spread, IsUnder, SpreadGrows}
-use Rattle.sd_spread.proofs.Growing.{spread_grows}
-use Rattle.sd_place.specs.Placing.{no_later, nearest, with_device, next_left, with_left, standby, through_root, through_backup, root_part, with_standby, both_parts, placed, is_on_backup_side, IsBelow, Grows, IsTree}
+use Rattle.sd_place.specs.Usable.{takes_part, is_usable, are_neighbours, link_between}
+use Rattle.sd_place.specs.declared.placement.Placed.{Placed}
+use Rattle.sd_place.specs.Spreading.{placed_at, is_placed, depth_of, below_device, spread, IsBelow, SpreadGrows}
+use Rattle.sd_place.proofs.SpreadGrowing.{spread_grows}
+use Rattle.sd_place.specs.Placing.{no_later, nearest, with_device, next_left, with_left, backup_root_of, through_root, through_backup, root_part, with_backup_root, both_parts, placed, is_on_backup_side, Grows, IsTree}
 use Rattle.sd_place.specs.Nearing.{AreKnown}
 use Rattle.sd_place.proofs.Elements.{found_at_place, find_alone, any_at, at_any, any_found}
+use Rattle.sd_place.proofs.Turning.{nat_swap}
 use Rattle.sd_place.proofs.Waiters.{find_kept}
 
 -- Places in two lists
@@ -47,19 +48,6 @@ at_taken (suc n) (y ∷ xs) (suc k) x at = let (less, there) = at_taken n xs k x
 
 module _ (net : Network) (root : ℕ) (absent : Absent) where
   -- One step
-
-  below_under : (earlier : List Placed) (p : Placed) → IsUnder net absent earlier p → IsBelow net absent earlier p
-  below_under earlier p under = record {
-    hop = under.hop;
-    place = under.place;
-    parent = under.parent;
-    has_hop = under.has_hop;
-    before = under.before;
-    leads = under.leads;
-    deeper = under.deeper;
-    usable = under.usable;
-    link = under.link;
-  }
 
   -- more that grows below what has grown
   grows_more : (list more : List Placed) (through : ℕ → Bool) → Grows net root absent list → 0 < length list → SpreadGrows net absent through list more
@@ -97,7 +85,7 @@ module _ (net : Network) (root : ℕ) (absent : Absent) where
               subst (λ earlier. IsBelow net absent earlier p) (sym (take-append-le (i + 1) list more inside)) (grown.parents i p front))
           | inr back ↦
               (let (j, same, there) = back in
-              subst (λ earlier. IsBelow net absent earlier p) (sym (take_past list more (i + 1) j same)) (below_under (list ++ take j more) p (under.parents j p there)))
+              subst (λ earlier. IsBelow net absent earlier p) (sym (take_past list more (i + 1) j same)) (under.parents j p there))
         ];
   }
 
@@ -229,9 +217,9 @@ module _ (net : Network) (root : ℕ) (absent : Absent) where
           link : (l < length net.links) × ((is_usable net absent l && joins net l d q.device) ≡ true)
           link = found_passes (λ x. is_usable net absent x && joins net x d q.device) (length net.links) l some
 
-          new_under : (p : Placed) → below_device net absent q.device q.depth d ≡ p → IsUnder net absent list p
+          new_under : (p : Placed) → below_device net absent q.device q.depth d ≡ p → IsBelow net absent list p
           new_under p same =
-              subst (IsUnder net absent list) same
+              subst (IsBelow net absent list) same
               (record {
                 hop = record { parent = q.device; link = l };
                 place = place.0;
@@ -254,8 +242,8 @@ module _ (net : Network) (root : ℕ) (absent : Absent) where
           apart i zero p r less first second = absurd (omega arith)
           apart i (suc j) p r less first second = absurd (none_after j r second)
 
-          parents : (i : ℕ) (p : Placed) → slice_get (below_device net absent q.device q.depth d ∷ []) i ≡ Some p → IsUnder net absent (list ++ take i (below_device net absent q.device q.depth d ∷ [])) p
-          parents zero p at = subst (λ earlier. IsUnder net absent earlier p) (sym (append-nil list)) (new_under p (same_Some (below_device net absent q.device q.depth d) p at))
+          parents : (i : ℕ) (p : Placed) → slice_get (below_device net absent q.device q.depth d ∷ []) i ≡ Some p → IsBelow net absent (list ++ take i (below_device net absent q.device q.depth d ∷ [])) p
+          parents zero p at = subst (λ earlier. IsBelow net absent earlier p) (sym (append-nil list)) (new_under p (same_Some (below_device net absent q.device q.depth d) p at))
           parents (suc i) p at = absurd (none_after i p at)
 
   pub with_device_tree : (list : List Placed) (d : ℕ) → IsTree net root absent list → d < length net.devices → takes_part net absent d ≡ true → is_placed list d ≡ false → IsTree net root absent (with_device net absent list d)
@@ -292,16 +280,10 @@ module _ (net : Network) (root : ℕ) (absent : Absent) where
   -- the root's side
   pub root_fresh : (d : ℕ) → through_root net root absent d ≡ true → (takes_part net absent d ≡ true) × (is_placed (root_placed ∷ []) d ≡ false)
   root_fresh d passes =
-      let (three, off) = and_parts (takes_part net absent d && not (nat_eq d root) && not (nat_eq d (standby net root absent))) (not (is_on_backup_side net d)) passes in
-      let (two, no_standby) = and_parts (takes_part net absent d && not (nat_eq d root)) (not (nat_eq d (standby net root absent))) three in
+      let (three, off) = and_parts (takes_part net absent d && not (nat_eq d root) && not (nat_eq d (backup_root_of net root absent))) (not (is_on_backup_side net d)) passes in
+      let (two, no_backup_root) = and_parts (takes_part net absent d && not (nat_eq d root)) (not (nat_eq d (backup_root_of net root absent))) three in
       let (member, no_root) = and_parts (takes_part net absent d) (not (nat_eq d root)) two in
-      (member, ap (λ b. b || false) (turned root d ∙ not-true (nat_eq d root) no_root))
-    where
-      turned : (a b : ℕ) → nat_eq a b ≡ nat_eq b a
-      turned a b = elim (cases_eq a b) [
-        | inl same ↦ (eq-eqb a b same ∙ sym (eq-eqb b a (sym same)))
-        | inr apart ↦ (ne_eqb a b apart ∙ sym (ne_eqb b a (λ same. apart (sym same))))
-      ]
+      (member, ap (λ b. b || false) (nat_swap root d ∙ not-true (nat_eq d root) no_root))
 
   pub root_part_tree : root < length net.devices → takes_part net absent root ≡ true → IsTree net root absent (root_part net root absent)
   root_part_tree within member =
@@ -310,23 +292,23 @@ module _ (net : Network) (root : ℕ) (absent : Absent) where
       (spread_grows net absent root (through_root net root absent) 0 (root_placed ∷ []) 0 root_placed refl refl refl) root_fresh
 
   -- none of them is the backup root
-  pub standby_new : nat_eq (standby net root absent) root ≡ false → is_placed (root_part net root absent) (standby net root absent) ≡ false
-  standby_new other =
-      false_from_ne_true (is_placed (root_part net root absent) (standby net root absent)) (λ there.
-      elim (or_cases (nat_eq root (standby net root absent)) (is_placed (spread net absent root (through_root net root absent) 0) (standby net root absent)) there) [
-        | inl first ↦ (let same : root ≡ standby net root absent = eqb-true root (standby net root absent) first in let also = eq-eqb (standby net root absent) root (sym same) in cc)
+  pub backup_root_new : nat_eq (backup_root_of net root absent) root ≡ false → is_placed (root_part net root absent) (backup_root_of net root absent) ≡ false
+  backup_root_new other =
+      false_from_ne_true (is_placed (root_part net root absent) (backup_root_of net root absent)) (λ there.
+      elim (or_cases (nat_eq root (backup_root_of net root absent)) (is_placed (spread net absent root (through_root net root absent) 0) (backup_root_of net root absent)) there) [
+        | inl first ↦ (let same : root ≡ backup_root_of net root absent = eqb-true root (backup_root_of net root absent) first in let also = eq-eqb (backup_root_of net root absent) root (sym same) in cc)
         | inr later ↦
-            (let (k, p, at, here) = at_any (λ (p : Placed). nat_eq p.device (standby net root absent)) (spread net absent root (through_root net root absent) 0) later in
+            (let (k, p, at, here) = at_any (λ (p : Placed). nat_eq p.device (backup_root_of net root absent)) (spread net absent root (through_root net root absent) 0) later in
             let passes : through_root net root absent p.device ≡ true = ((spread_grows net absent root (through_root net root absent) 0 (root_placed ∷ []) 0 root_placed refl refl refl).members k p at).1 in
-            let (three, off) = and_parts (takes_part net absent p.device && not (nat_eq p.device root) && not (nat_eq p.device (standby net root absent))) (not (is_on_backup_side net p.device)) passes in
-            let (two, no_standby) = and_parts (takes_part net absent p.device && not (nat_eq p.device root)) (not (nat_eq p.device (standby net root absent))) three in
-            let not_here : nat_eq p.device (standby net root absent) ≡ false = not-true (nat_eq p.device (standby net root absent)) no_standby in
+            let (three, off) = and_parts (takes_part net absent p.device && not (nat_eq p.device root) && not (nat_eq p.device (backup_root_of net root absent))) (not (is_on_backup_side net p.device)) passes in
+            let (two, no_backup_root) = and_parts (takes_part net absent p.device && not (nat_eq p.device root)) (not (nat_eq p.device (backup_root_of net root absent))) three in
+            let not_here : nat_eq p.device (backup_root_of net root absent) ≡ false = not-true (nat_eq p.device (backup_root_of net root absent)) no_backup_root in
             absurd (cc (here, not_here)))
       ])
 
   -- the backup root is a member
-  pub standby_member : IsNetwork net → nat_eq (standby net root absent) root ≡ false → (standby net root absent < length net.devices) × (takes_part net absent (standby net root absent) ≡ true)
-  standby_member law other = by_found (find (λ d. takes_part net absent d && not (nat_eq d root)) net.roots) refl other
+  pub backup_root_member : IsNetwork net → nat_eq (backup_root_of net root absent) root ≡ false → (backup_root_of net root absent < length net.devices) × (takes_part net absent (backup_root_of net root absent) ≡ true)
+  backup_root_member law other = by_found (find (λ d. takes_part net absent d && not (nat_eq d root)) net.roots) refl other
     where
       by_found : (o : Option ℕ) → find (λ d. takes_part net absent d && not (nat_eq d root)) net.roots ≡ o → nat_eq (of_some o root (λ d. d)) root ≡ false
           → (of_some o root (λ d. d) < length net.devices) × (takes_part net absent (of_some o root (λ d. d)) ≡ true)
@@ -336,14 +318,14 @@ module _ (net : Network) (root : ℕ) (absent : Absent) where
           (law.each_root.1.0 k d at, (and_parts (takes_part net absent d) (not (nat_eq d root)) passes).0)
 
   -- the root's side and the backup root
-  pub with_standby_tree : IsNetwork net → root < length net.devices → takes_part net absent root ≡ true → IsTree net root absent (with_standby net root absent)
-  with_standby_tree law within member = by_test (nat_eq (standby net root absent) root) refl
+  pub with_backup_root_tree : IsNetwork net → root < length net.devices → takes_part net absent root ≡ true → IsTree net root absent (with_backup_root net root absent)
+  with_backup_root_tree law within member = by_test (nat_eq (backup_root_of net root absent) root) refl
     where
-      by_test : (b : Bool) → nat_eq (standby net root absent) root ≡ b → IsTree net root absent (if b then root_part net root absent else with_device net absent (root_part net root absent) (standby net root absent))
+      by_test : (b : Bool) → nat_eq (backup_root_of net root absent) root ≡ b → IsTree net root absent (if b then root_part net root absent else with_device net absent (root_part net root absent) (backup_root_of net root absent))
       by_test true same = root_part_tree within member
       by_test false other =
-          let (inside, present) = standby_member law other in
-          with_device_tree (root_part net root absent) (standby net root absent) (root_part_tree within member) inside present (standby_new other)
+          let (inside, present) = backup_root_member law other in
+          with_device_tree (root_part net root absent) (backup_root_of net root absent) (root_part_tree within member) inside present (backup_root_new other)
 
   -- what is passed on the backup side
   pub backup_fresh : (list : List Placed) (d : ℕ) → through_backup net absent list d ≡ true → (takes_part net absent d ≡ true) × (is_placed list d ≡ false)
@@ -353,25 +335,25 @@ module _ (net : Network) (root : ℕ) (absent : Absent) where
 
   -- both sides
   pub both_parts_tree : IsNetwork net → root < length net.devices → takes_part net absent root ≡ true → IsTree net root absent (both_parts net root absent)
-  both_parts_tree law within member = by_test (not (nat_eq (standby net root absent) root) && is_placed (with_standby net root absent) (standby net root absent)) refl
+  both_parts_tree law within member = by_test (not (nat_eq (backup_root_of net root absent) root) && is_placed (with_backup_root net root absent) (backup_root_of net root absent)) refl
     where
       so_far : List Placed
-      so_far = with_standby net root absent
+      so_far = with_backup_root net root absent
 
-      by_test : (b : Bool) → (not (nat_eq (standby net root absent) root) && is_placed (with_standby net root absent) (standby net root absent)) ≡ b
-          → IsTree net root absent (if b then with_standby net root absent ++ spread net absent (standby net root absent) (through_backup net absent (with_standby net root absent)) (depth_of (with_standby net root absent) (standby net root absent)) else with_standby net root absent)
-      by_test false off = with_standby_tree law within member
+      by_test : (b : Bool) → (not (nat_eq (backup_root_of net root absent) root) && is_placed (with_backup_root net root absent) (backup_root_of net root absent)) ≡ b
+          → IsTree net root absent (if b then with_backup_root net root absent ++ spread net absent (backup_root_of net root absent) (through_backup net absent (with_backup_root net root absent)) (depth_of (with_backup_root net root absent) (backup_root_of net root absent)) else with_backup_root net root absent)
+      by_test false off = with_backup_root_tree law within member
       by_test true on =
-          let tree = with_standby_tree law within member in
-          let (other, there) = and_parts (not (nat_eq (standby net root absent) root)) (is_placed (with_standby net root absent) (standby net root absent)) on in
-          let (k, p, at, here) = at_any (λ (q : Placed). nat_eq q.device (standby net root absent)) (with_standby net root absent) there in
-          let same : p.device ≡ standby net root absent = eqb-true p.device (standby net root absent) here in
-          let found : placed_at (with_standby net root absent) (standby net root absent) ≡ Some p = ap (placed_at (with_standby net root absent)) (sym same) ∙ found_own (with_standby net root absent) tree.grown k p at in
-          tree_more (with_standby net root absent)
-          (spread net absent (standby net root absent) (through_backup net absent (with_standby net root absent)) (depth_of (with_standby net root absent) (standby net root absent)))
-          (through_backup net absent (with_standby net root absent)) tree
-          (spread_grows net absent (standby net root absent) (through_backup net absent (with_standby net root absent)) (depth_of (with_standby net root absent) (standby net root absent)) (with_standby net root absent) k p at same
-          (sym (ap (λ (o : Option Placed). of_some o 0 (λ q. q.depth)) found))) (backup_fresh (with_standby net root absent))
+          let tree = with_backup_root_tree law within member in
+          let (other, there) = and_parts (not (nat_eq (backup_root_of net root absent) root)) (is_placed (with_backup_root net root absent) (backup_root_of net root absent)) on in
+          let (k, p, at, here) = at_any (λ (q : Placed). nat_eq q.device (backup_root_of net root absent)) (with_backup_root net root absent) there in
+          let same : p.device ≡ backup_root_of net root absent = eqb-true p.device (backup_root_of net root absent) here in
+          let found : placed_at (with_backup_root net root absent) (backup_root_of net root absent) ≡ Some p = ap (placed_at (with_backup_root net root absent)) (sym same) ∙ found_own (with_backup_root net root absent) tree.grown k p at in
+          tree_more (with_backup_root net root absent)
+          (spread net absent (backup_root_of net root absent) (through_backup net absent (with_backup_root net root absent)) (depth_of (with_backup_root net root absent) (backup_root_of net root absent)))
+          (through_backup net absent (with_backup_root net root absent)) tree
+          (spread_grows net absent (backup_root_of net root absent) (through_backup net absent (with_backup_root net root absent)) (depth_of (with_backup_root net root absent) (backup_root_of net root absent)) (with_backup_root net root absent) k p at same
+          (sym (ap (λ (o : Option Placed). of_some o 0 (λ q. q.depth)) found))) (backup_fresh (with_backup_root net root absent))
 
   -- nothing
   none_grows : Grows net root absent []
@@ -395,25 +377,25 @@ module _ (net : Network) (root : ℕ) (absent : Absent) where
       by_test false out = none_grows
 
   -- the backup side, where the backup root has a place
-  pub backup_some : (p : Placed) → nat_eq (standby net root absent) root ≡ false → placed_at (with_standby net root absent) (standby net root absent) ≡ Some p
-      → both_parts net root absent ≡ with_standby net root absent ++ spread net absent (standby net root absent) (through_backup net absent (with_standby net root absent)) p.depth
+  pub backup_some : (p : Placed) → nat_eq (backup_root_of net root absent) root ≡ false → placed_at (with_backup_root net root absent) (backup_root_of net root absent) ≡ Some p
+      → both_parts net root absent ≡ with_backup_root net root absent ++ spread net absent (backup_root_of net root absent) (through_backup net absent (with_backup_root net root absent)) p.depth
   backup_some p other found =
-      ap (λ b. if not b && is_placed so_far (standby net root absent) then so_far ++ spread net absent (standby net root absent) (through_backup net absent so_far) (depth_of so_far (standby net root absent)) else so_far) other
-      ∙ ap (λ b. if b then so_far ++ spread net absent (standby net root absent) (through_backup net absent so_far) (depth_of so_far (standby net root absent)) else so_far) there
-      ∙ ap (λ (o : Option Placed). so_far ++ spread net absent (standby net root absent) (through_backup net absent so_far) (of_some o 0 (λ q. q.depth))) found
+      ap (λ b. if not b && is_placed so_far (backup_root_of net root absent) then so_far ++ spread net absent (backup_root_of net root absent) (through_backup net absent so_far) (depth_of so_far (backup_root_of net root absent)) else so_far) other
+      ∙ ap (λ b. if b then so_far ++ spread net absent (backup_root_of net root absent) (through_backup net absent so_far) (depth_of so_far (backup_root_of net root absent)) else so_far) there
+      ∙ ap (λ (o : Option Placed). so_far ++ spread net absent (backup_root_of net root absent) (through_backup net absent so_far) (of_some o 0 (λ q. q.depth))) found
     where
       so_far : List Placed
-      so_far = with_standby net root absent
+      so_far = with_backup_root net root absent
 
-      there : is_placed (with_standby net root absent) (standby net root absent) ≡ true
-      there = any_found (λ (q : Placed). nat_eq q.device (standby net root absent)) (with_standby net root absent) ∙ ap is_some found
+      there : is_placed (with_backup_root net root absent) (backup_root_of net root absent) ≡ true
+      there = any_found (λ (q : Placed). nat_eq q.device (backup_root_of net root absent)) (with_backup_root net root absent) ∙ ap is_some found
 
   -- where it has none
-  pub backup_none : nat_eq (standby net root absent) root ≡ false → placed_at (with_standby net root absent) (standby net root absent) ≡ None → both_parts net root absent ≡ with_standby net root absent
+  pub backup_none : nat_eq (backup_root_of net root absent) root ≡ false → placed_at (with_backup_root net root absent) (backup_root_of net root absent) ≡ None → both_parts net root absent ≡ with_backup_root net root absent
   backup_none other none =
-      ap (λ b. if not b && is_placed so_far (standby net root absent) then so_far ++ spread net absent (standby net root absent) (through_backup net absent so_far) (depth_of so_far (standby net root absent)) else so_far) other
-      ∙ ap (λ b. if b then so_far ++ spread net absent (standby net root absent) (through_backup net absent so_far) (depth_of so_far (standby net root absent)) else so_far)
-      (any_found (λ (q : Placed). nat_eq q.device (standby net root absent)) so_far ∙ ap is_some none)
+      ap (λ b. if not b && is_placed so_far (backup_root_of net root absent) then so_far ++ spread net absent (backup_root_of net root absent) (through_backup net absent so_far) (depth_of so_far (backup_root_of net root absent)) else so_far) other
+      ∙ ap (λ b. if b then so_far ++ spread net absent (backup_root_of net root absent) (through_backup net absent so_far) (depth_of so_far (backup_root_of net root absent)) else so_far)
+      (any_found (λ (q : Placed). nat_eq q.device (backup_root_of net root absent)) so_far ∙ ap is_some none)
     where
       so_far : List Placed
-      so_far = with_standby net root absent
+      so_far = with_backup_root net root absent

@@ -1,10 +1,10 @@
 -- What the steps of placing pass on to spreading.
-use Rattle.std.proofs.Common.{◌≡◌, ℕ, zero, suc, ◌<◌, ◌≤◌, inl, inr, Bool, true, false, List, [], ◌∷◌, length, map, get_or, Option, Result, Ok, Err, OnOk, refl, sym, ap, ◌∙◌, arith}
+use Rattle.std.proofs.Common.{◌≡◌, ℕ, zero, suc, ◌<◌, ◌≤◌, inl, inr, Bool, true, false, List, [], ◌∷◌, length, map, get_or, Option, refl, sym, ap, ◌∙◌, arith}
 use Rattle.std.proofs.lemmas.Bool.{cases_lt}
 use Rattle.sd_num.specs.Lists.{below}
 use Rattle.sd_plan.proofs.Numbered.{get_or-numbered, length-numbered}
-use Rattle.sd_spread.specs.declared.Placed.{Placed}
-use Rattle.sd_spread.specs.Spreading.{is_placed, placed_at}
+use Rattle.sd_place.specs.declared.placement.Placed.{Placed}
+use Rattle.sd_place.specs.Spreading.{is_placed, placed_at}
 
 -- nothing is read past the end
 past_end : {X : Type 0} (xs : List X) (k : ℕ) (d : X) → length xs ≤ k → get_or xs k d ≡ d
@@ -27,11 +27,6 @@ flags_fresh through n flags placed are fresh d flagged =
 
 pub flags_count : (through : ℕ → Bool) (n : ℕ) (flags : List Bool) → flags ≡ map through (below n) → length flags ≡ n
 flags_count through n flags are = ap length are ∙ length-numbered through n
-
--- what follows where a result is one
-pub on_ok : {T E P Q : Type 0} (r : Result T E) → (P → Q) → OnOk r P → OnOk r Q
-on_ok (Ok x) follows holds = follows holds
-on_ok (Err e) follows holds = tt
 
 -- a look-up in a list that is known
 pub found_there : (list order : List Placed) (seen d : ℕ) (o : Option Placed) → order ≡ list → seen ≡ d → o ≡ placed_at order seen → placed_at list d ≡ o

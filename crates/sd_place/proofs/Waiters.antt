@@ -6,93 +6,84 @@ use Rattle.std.proofs.lemmas.Bool.{and_parts, false_from_ne_true, not-true, case
 use Rattle.std.proofs.lemmas.List.Folds.{find-append, list_any-append}
 use Rattle.sd_num.specs.Lists.{below, has, of_some}
 use Rattle.sd_topo.specs.Network.{Network, link_of, joins}
-use Rattle.sd_plan.specs.declared.Hop.{Hop}
+use Rattle.sd_place.specs.declared.present.Neighbour.{Neighbour}
 use Rattle.sd_plan.specs.declared.Absent.{Absent}
 use Rattle.sd_plan.proofs.Numbered.{find_none}
-use Rattle.sd_usable.specs.Usable.{takes_part, hops_from, all_hops}
-use Rattle.sd_usable.proofs.Laws.{IsHopOf, hops_at, hops_are, hop_there, usable_ends, StandsIn}
-use Rattle.sd_spread.specs.declared.Placed.{Placed}
-use Rattle.sd_spread.specs.Spreading.{placed_at, is_placed, below_device}
+use Rattle.sd_place.specs.Usable.{takes_part, neighbours_of}
+use Rattle.sd_place.proofs.Adjacency.{IsNeighbourOf, neighbours_are, neighbour_there, usable_ends, StandsIn}
+use Rattle.sd_place.specs.declared.placement.Placed.{Placed}
+use Rattle.sd_place.specs.Spreading.{placed_at, is_placed, below_device}
 use Rattle.sd_place.specs.Placing.{nearest, next_left, with_device, with_left}
 use Rattle.sd_place.specs.Nearing.{AreKnown, IsNearest, closer}
 use Rattle.sd_place.specs.Waits.{waits, lead_to, AreWaiting, IsLowest}
 use Rattle.sd_place.specs.declared.nearest.Near.{Near}
 use Rattle.sd_place.proofs.Elements.{found_at_place, any_at, at_any, all_at}
+use Rattle.sd_place.proofs.Walks.{joins_swap}
+use Rattle.sd_place.proofs.Turning.{nat_swap}
 use Rattle.sd_place.proofs.Finding.{nearest_more, nearest_is}
 
--- hops have a nearest one, or none
-some_nearest : (placed : List Placed) (done rest : List Hop) (best : Option Near) → IsNearest placed done best → (b : Option Near) × IsNearest placed (done ++ rest) b
-some_nearest placed done [] best are = (best, subst (λ hops. IsNearest placed hops best) (sym (append-nil done)) are)
-some_nearest placed done (hop ∷ rest) best are =
-    let (b, more) = some_nearest placed (done ++ hop ∷ []) rest (closer placed best hop) (nearest_more placed done hop best are) in
-    (b, subst (λ hops. IsNearest placed hops b) (append_assoc done (hop ∷ []) rest) more)
+-- neighbours have a nearest one, or none
+some_nearest : (placed : List Placed) (done rest : List Neighbour) (best : Option Near) → IsNearest placed done best → (b : Option Near) × IsNearest placed (done ++ rest) b
+some_nearest placed done [] best are = (best, subst (λ neighbours. IsNearest placed neighbours best) (sym (append-nil done)) are)
+some_nearest placed done (neighbour ∷ rest) best are =
+    let (b, more) = some_nearest placed (done ++ neighbour ∷ []) rest (closer placed best neighbour) (nearest_more placed done neighbour best are) in
+    (b, subst (λ neighbours. IsNearest placed neighbours b) (append_assoc done (neighbour ∷ []) rest) more)
 
--- a link joins two devices either way
-joins_back : (net : Network) (l d e : ℕ) → joins net l d e ≡ joins net l e d
-joins_back net l d e = swapped (nat_eq (link_of net l).end_a d && nat_eq (link_of net l).end_b e) (nat_eq (link_of net l).end_a e && nat_eq (link_of net l).end_b d)
-  where
-    swapped : (a b : Bool) → (a || b) ≡ (b || a)
-    swapped true true = refl
-    swapped true false = refl
-    swapped false true = refl
-    swapped false false = refl
-
--- a hop that leads to a device is found
-led_hop : (net : Network) (absent : Absent) (e x : ℕ) → lead_to (hops_from net absent e) x ≡ true → (hop : Hop) × IsHopOf net absent e hop × (hop.parent ≡ x)
-led_hop net absent e x leads =
-    let (k, hop, at, passes) = at_any (λ (hop : Hop). nat_eq hop.parent x) (hops_from net absent e) leads in
-    (hop, all_at (IsHopOf net absent e) (hops_from net absent e) k hop (hops_are net absent e) at, eqb-true hop.parent x passes)
+-- a neighbour that leads to a device is found
+led_neighbour : (net : Network) (absent : Absent) (e x : ℕ) → lead_to (neighbours_of net absent e) x ≡ true → (neighbour : Neighbour) × IsNeighbourOf net absent e neighbour × (neighbour.device ≡ x)
+led_neighbour net absent e x leads =
+    let (k, neighbour, at, passes) = at_any (λ (neighbour : Neighbour). nat_eq neighbour.device x) (neighbours_of net absent e) leads in
+    (neighbour, all_at (IsNeighbourOf net absent e) (neighbours_of net absent e) k neighbour (neighbours_are net absent e) at, eqb-true neighbour.device x passes)
 
 -- it leads back too
-back_hop : (net : Network) (absent : Absent) (e x : ℕ) (hop : Hop) → e < length net.devices → IsHopOf net absent x hop → hop.parent ≡ e → x < length net.devices → StandsIn (hops_from net absent e) (record { parent = x; link = hop.link })
-back_hop net absent e x hop within is leads inside =
-    hop_there net absent e x hop.link inside is.link is.usable (joins_back net hop.link e x ∙ subst (λ y. joins net hop.link x y ≡ true) leads is.joined)
+back_neighbour : (net : Network) (absent : Absent) (e x : ℕ) (neighbour : Neighbour) → e < length net.devices → IsNeighbourOf net absent x neighbour → neighbour.device ≡ e → x < length net.devices → StandsIn (neighbours_of net absent e) (record { device = x; link = neighbour.link })
+back_neighbour net absent e x neighbour within is leads inside =
+    neighbour_there net absent e x neighbour.link inside is.link is.usable (joins_swap net neighbour.link e x ∙ subst (λ y. joins net neighbour.link x y ≡ true) leads is.joined)
 
--- a device has a nearest placed neighbour where a hop of a placed device leads to it
+-- a device has a nearest placed neighbour where a neighbour of a placed device leads to it
 nearest_some : (net : Network) (absent : Absent) (placed : List Placed) (x : ℕ) → AreKnown (length net.devices) placed → x < length net.devices
-    → is_some (nearest net absent placed x) ≡ list_any (λ p. lead_to (get_or (all_hops net absent) p.device []) x) placed
+    → is_some (nearest net absent placed x) ≡ list_any (λ p. lead_to (neighbours_of net absent p.device) x) placed
 nearest_some net absent placed x known inside =
     let none_yet : IsNearest placed [] None = λ k d within. absurd (omega arith) in
-    let (best, are) = some_nearest placed [] (hops_from net absent x) None none_yet in
+    let (best, are) = some_nearest placed [] (neighbours_of net absent x) None none_yet in
     ap is_some (nearest_is net absent placed x best known are) ∙ by_best best are
   where
-    by_best : (b : Option Near) → IsNearest placed (hops_from net absent x) b → is_some (option_map (λ near. near.placed) b) ≡ list_any (λ p. lead_to (get_or (all_hops net absent) p.device []) x) placed
+    by_best : (b : Option Near) → IsNearest placed (neighbours_of net absent x) b → is_some (option_map (λ near. near.placed) b) ≡ list_any (λ p. lead_to (neighbours_of net absent p.device) x) placed
     by_best None none =
         sym
-        (false_from_ne_true (list_any (λ p. lead_to (get_or (all_hops net absent) p.device []) x) placed) (λ some.
-        let (k, p, at, leads) = at_any (λ p. lead_to (get_or (all_hops net absent) p.device []) x) placed some in
+        (false_from_ne_true (list_any (λ p. lead_to (neighbours_of net absent p.device) x) placed) (λ some.
+        let (k, p, at, leads) = at_any (λ p. lead_to (neighbours_of net absent p.device) x) placed some in
         let within = known.within k p at in
-        let (hop, is, here) = led_hop net absent p.device x (ap (λ hops. lead_to hops x) (sym (hops_at net absent p.device within)) ∙ leads) in
-        let (j, there) = back_hop net absent x p.device hop inside is here within in
-        let gone : placed_at placed p.device ≡ None = all_at (λ (h : Hop). placed_at placed h.parent ≡ None) (hops_from net absent x) j (record { parent = p.device; link = hop.link }) none there in
+        let (neighbour, is, here) = led_neighbour net absent p.device x leads in
+        let (j, there) = back_neighbour net absent x p.device neighbour inside is here within in
+        let gone : placed_at placed p.device ≡ None = all_at (λ (n : Neighbour). placed_at placed n.device ≡ None) (neighbours_of net absent x) j (record { device = p.device; link = neighbour.link }) none there in
         let found : placed_at placed p.device ≡ Some p = known.found k p at in
         absurd (cc (gone, found))))
     by_best (Some near) is =
         let (k, at, passes) = found_at_place (λ (p : Placed). nat_eq p.device near.placed.device) placed near.placed is.stands in
         let within = known.within k near.placed at in
-        let (j, there, leads) = found_at_place (λ (h : Hop). nat_eq h.parent near.placed.device) (hops_from net absent x) (record { parent = near.placed.device; link = near.link }) is.first in
-        let hop : IsHopOf net absent x (record { parent = near.placed.device; link = near.link }) = all_at (IsHopOf net absent x) (hops_from net absent x) j (record { parent = near.placed.device; link = near.link }) (hops_are net absent x) there in
-        let (i, back) = back_hop net absent near.placed.device x (record { parent = near.placed.device; link = near.link }) within hop refl inside in
+        let (j, there, leads) = found_at_place (λ (n : Neighbour). nat_eq n.device near.placed.device) (neighbours_of net absent x) (record { device = near.placed.device; link = near.link }) is.first in
+        let neighbour : IsNeighbourOf net absent x (record { device = near.placed.device; link = near.link }) = all_at (IsNeighbourOf net absent x) (neighbours_of net absent x) j (record { device = near.placed.device; link = near.link }) (neighbours_are net absent x) there in
+        let (i, back) = back_neighbour net absent near.placed.device x (record { device = near.placed.device; link = near.link }) within neighbour refl inside in
         sym
-        (any_at (λ p. lead_to (get_or (all_hops net absent) p.device []) x) placed k near.placed at
-        (ap (λ hops. lead_to hops x) (hops_at net absent near.placed.device within)
-        ∙ any_at (λ (h : Hop). nat_eq h.parent x) (hops_from net absent near.placed.device) i (record { parent = x; link = near.link }) back (eq-eqb x x refl)))
+        (any_at (λ p. lead_to (neighbours_of net absent p.device) x) placed k near.placed at
+        (any_at (λ (n : Neighbour). nat_eq n.device x) (neighbours_of net absent near.placed.device) i (record { device = x; link = near.link }) back (eq-eqb x x refl)))
 
 -- what waits is a member of the network
-pub waits_member : (net : Network) (absent : Absent) (placed : List Placed) (x : ℕ) → AreKnown (length net.devices) placed → waits (all_hops net absent) placed placed x ≡ true
+pub waits_member : (net : Network) (absent : Absent) (placed : List Placed) (x : ℕ) → AreKnown (length net.devices) placed → waits (neighbours_of net absent) placed placed x ≡ true
     → (x < length net.devices) × (takes_part net absent x ≡ true) × (is_placed placed x ≡ false)
 waits_member net absent placed x known waiting =
-    let (new, some) = and_parts (not (is_placed placed x)) (list_any (λ p. lead_to (get_or (all_hops net absent) p.device []) x) placed) waiting in
-    let (k, p, at, leads) = at_any (λ p. lead_to (get_or (all_hops net absent) p.device []) x) placed some in
-    let (hop, is, here) = led_hop net absent p.device x (ap (λ hops. lead_to hops x) (sym (hops_at net absent p.device (known.within k p at))) ∙ leads) in
-    (subst (λ y. y < length net.devices) here is.parent, subst (λ y. takes_part net absent y ≡ true) here (usable_ends net absent hop.link p.device hop.parent is.usable is.joined).1, not-true (is_placed placed x) new)
+    let (new, some) = and_parts (not (is_placed placed x)) (list_any (λ p. lead_to (neighbours_of net absent p.device) x) placed) waiting in
+    let (k, p, at, leads) = at_any (λ p. lead_to (neighbours_of net absent p.device) x) placed some in
+    let (neighbour, is, here) = led_neighbour net absent p.device x leads in
+    (subst (λ y. y < length net.devices) here is.device, subst (λ y. takes_part net absent y ≡ true) here (usable_ends net absent neighbour.link p.device neighbour.device is.usable is.joined).1, not-true (is_placed placed x) new)
 
 -- the test of the definition is whether it waits
 test_waits : (net : Network) (absent : Absent) (placed : List Placed) (x : ℕ) → AreKnown (length net.devices) placed → x < length net.devices
-    → (takes_part net absent x && (not (is_placed placed x) && is_some (nearest net absent placed x))) ≡ waits (all_hops net absent) placed placed x
+    → (takes_part net absent x && (not (is_placed placed x) && is_some (nearest net absent placed x))) ≡ waits (neighbours_of net absent) placed placed x
 test_waits net absent placed x known inside =
     ap (λ b. takes_part net absent x && (not (is_placed placed x) && b)) (nearest_some net absent placed x known inside)
-    ∙ follows (takes_part net absent x) (waits (all_hops net absent) placed placed x) (λ waiting. (waits_member net absent placed x known waiting).1)
+    ∙ follows (takes_part net absent x) (waits (neighbours_of net absent) placed placed x) (λ waiting. (waits_member net absent placed x known waiting).1)
   where
     follows : (a b : Bool) → (b ≡ true → a ≡ true) → (a && b) ≡ b
     follows true b member = refl
@@ -119,18 +110,18 @@ find_lowest test (suc n) d within passes fails =
     ]
 
 -- the lowest of those that wait is the next
-pub next_is : (net : Network) (absent : Absent) (placed : List Placed) (numbers rest : List ℕ) (d : ℕ) → AreKnown (length net.devices) placed → AreWaiting (all_hops net absent) placed placed numbers → IsLowest numbers rest d
+pub next_is : (net : Network) (absent : Absent) (placed : List Placed) (numbers rest : List ℕ) (d : ℕ) → AreKnown (length net.devices) placed → AreWaiting (neighbours_of net absent) placed placed numbers → IsLowest numbers rest d
     → next_left net absent placed ≡ Some d
 next_is net absent placed numbers rest d known waiting lowest =
-    let here : waits (all_hops net absent) placed placed d ≡ true = sym (waiting.each d) ∙ lowest.there in
+    let here : waits (neighbours_of net absent) placed placed d ≡ true = sym (waiting.each d) ∙ lowest.there in
     let (inside, member, new) = waits_member net absent placed d known here in
     find_kept (takes_part net absent) (λ x. not (is_placed placed x) && is_some (nearest net absent placed x)) (below (length net.devices))
     ∙ find_lowest (λ x. takes_part net absent x && (not (is_placed placed x) && is_some (nearest net absent placed x))) (length net.devices) d inside (test_waits net absent placed d known inside ∙ here) (λ x less.
     test_waits net absent placed x known (omega arith)
-    ∙ false_from_ne_true (waits (all_hops net absent) placed placed x) (λ also. (let least = lowest.least x (waiting.each x ∙ also) in omega arith)))
+    ∙ false_from_ne_true (waits (neighbours_of net absent) placed placed x) (λ also. (let least = lowest.least x (waiting.each x ∙ also) in omega arith)))
 
 -- where none waits nothing is left
-pub none_next : (net : Network) (absent : Absent) (placed : List Placed) (numbers : List ℕ) → AreKnown (length net.devices) placed → AreWaiting (all_hops net absent) placed placed numbers → ((x : ℕ) → has numbers x ≡ false)
+pub none_next : (net : Network) (absent : Absent) (placed : List Placed) (numbers : List ℕ) → AreKnown (length net.devices) placed → AreWaiting (neighbours_of net absent) placed placed numbers → ((x : ℕ) → has numbers x ≡ false)
     → next_left net absent placed ≡ None
 none_next net absent placed numbers known waiting none =
     find_kept (takes_part net absent) (λ x. not (is_placed placed x) && is_some (nearest net absent placed x)) (below (length net.devices))
@@ -138,24 +129,18 @@ none_next net absent placed numbers known waiting none =
     test_waits net absent placed x known within ∙ sym (waiting.each x) ∙ none x)
 
 -- what waits after one more was placed
-pub waiting_more : (rows : List (List Hop)) (placed : List Placed) (numbers rest new : List ℕ) (p : Placed) → AreWaiting rows placed placed numbers → IsLowest numbers rest p.device
-    → ((x : ℕ) → has new x ≡ (has rest x || (not (is_placed (placed ++ p ∷ []) x) && lead_to (get_or rows p.device []) x))) → AreWaiting rows (placed ++ p ∷ []) (placed ++ p ∷ []) new
-waiting_more rows placed numbers rest new p waiting lowest each = record {
+pub waiting_more : (near : ℕ → List Neighbour) (placed : List Placed) (numbers rest new : List ℕ) (p : Placed) → AreWaiting near placed placed numbers → IsLowest numbers rest p.device
+    → ((x : ℕ) → has new x ≡ (has rest x || (not (is_placed (placed ++ p ∷ []) x) && lead_to (near p.device) x))) → AreWaiting near (placed ++ p ∷ []) (placed ++ p ∷ []) new
+waiting_more near placed numbers rest new p waiting lowest each = record {
   each = λ x.
-      each x ∙ ap (λ b. b || (not (is_placed (placed ++ p ∷ []) x) && lead_to (get_or rows p.device []) x)) (lowest.rest x ∙ ap (λ b. b && not (nat_eq x p.device)) (waiting.each x))
-      ∙ ap (λ b. (waits rows placed placed x && not (nat_eq x p.device)) || (not b && lead_to (get_or rows p.device []) x)) (list_any-append (λ (q : Placed). nat_eq q.device x) placed (p ∷ []))
-      ∙ ap (λ b. (waits rows placed placed x && not b) || (not (is_placed placed x || (nat_eq p.device x || false)) && lead_to (get_or rows p.device []) x)) (turned x p.device)
-      ∙ by_tests (is_placed placed x) (nat_eq p.device x) (list_any (λ q. lead_to (get_or rows q.device []) x) placed) (lead_to (get_or rows p.device []) x)
-      ∙ sym (ap (λ b. not b && list_any (λ q. lead_to (get_or rows q.device []) x) (placed ++ p ∷ [])) (list_any-append (λ (q : Placed). nat_eq q.device x) placed (p ∷ []))
-      ∙ ap (λ b. not (is_placed placed x || (nat_eq p.device x || false)) && b) (list_any-append (λ q. lead_to (get_or rows q.device []) x) placed (p ∷ [])));
+      each x ∙ ap (λ b. b || (not (is_placed (placed ++ p ∷ []) x) && lead_to (near p.device) x)) (lowest.rest x ∙ ap (λ b. b && not (nat_eq x p.device)) (waiting.each x))
+      ∙ ap (λ b. (waits near placed placed x && not (nat_eq x p.device)) || (not b && lead_to (near p.device) x)) (list_any-append (λ (q : Placed). nat_eq q.device x) placed (p ∷ []))
+      ∙ ap (λ b. (waits near placed placed x && not b) || (not (is_placed placed x || (nat_eq p.device x || false)) && lead_to (near p.device) x)) (nat_swap x p.device)
+      ∙ by_tests (is_placed placed x) (nat_eq p.device x) (list_any (λ q. lead_to (near q.device) x) placed) (lead_to (near p.device) x)
+      ∙ sym (ap (λ b. not b && list_any (λ q. lead_to (near q.device) x) (placed ++ p ∷ [])) (list_any-append (λ (q : Placed). nat_eq q.device x) placed (p ∷ []))
+      ∙ ap (λ b. not (is_placed placed x || (nat_eq p.device x || false)) && b) (list_any-append (λ q. lead_to (near q.device) x) placed (p ∷ [])));
 }
   where
-    turned : (a b : ℕ) → nat_eq a b ≡ nat_eq b a
-    turned a b = elim (cases_eq a b) [
-      | inl same ↦ (eq-eqb a b same ∙ sym (eq-eqb b a (sym same)))
-      | inr apart ↦ (ne_eqb a b apart ∙ sym (ne_eqb b a (λ same. apart (sym same))))
-    ]
-
     by_tests : (there here some leads : Bool) → (((not there && some) && not here) || (not (there || (here || false)) && leads)) ≡ (not (there || (here || false)) && (some || (leads || false)))
     by_tests true here some leads = refl
     by_tests false true true leads = refl
@@ -165,14 +150,14 @@ waiting_more rows placed numbers rest new p waiting lowest each = record {
     by_tests false false false false = refl
 
 -- what waits is placed
-with_waiting : (net : Network) (absent : Absent) (placed : List Placed) (d : ℕ) → AreKnown (length net.devices) placed → waits (all_hops net absent) placed placed d ≡ true
+with_waiting : (net : Network) (absent : Absent) (placed : List Placed) (d : ℕ) → AreKnown (length net.devices) placed → waits (neighbours_of net absent) placed placed d ≡ true
     → (p : Placed) × (with_device net absent placed d ≡ placed ++ p ∷ []) × (p.device ≡ d)
 with_waiting net absent placed d known waiting = by_nearest (nearest net absent placed d) refl
   where
     some : is_some (nearest net absent placed d) ≡ true
     some =
         let (inside, member, new) = waits_member net absent placed d known waiting in
-        nearest_some net absent placed d known inside ∙ (and_parts (not (is_placed placed d)) (list_any (λ p. lead_to (get_or (all_hops net absent) p.device []) d) placed) waiting).1
+        nearest_some net absent placed d known inside ∙ (and_parts (not (is_placed placed d)) (list_any (λ p. lead_to (neighbours_of net absent p.device) d) placed) waiting).1
 
     by_nearest : (o : Option Placed) → nearest net absent placed d ≡ o
         → (p : Placed) × (of_some (option_map (λ q. below_device net absent q.device q.depth d) o) placed (λ q. placed ++ q ∷ []) ≡ placed ++ p ∷ []) × (p.device ≡ d)
@@ -180,15 +165,15 @@ with_waiting net absent placed d known waiting = by_nearest (nearest net absent 
     by_nearest (Some q) is = (below_device net absent q.device q.depth d, refl, refl)
 
 -- what waits after the lowest was placed
-pub waiting_next : (net : Network) (absent : Absent) (placed after : List Placed) (numbers rest new : List ℕ) (d : ℕ) → AreKnown (length net.devices) placed → AreWaiting (all_hops net absent) placed placed numbers → IsLowest numbers rest d
-    → after ≡ with_device net absent placed d → ((x : ℕ) → has new x ≡ (has rest x || (not (is_placed after x) && lead_to (get_or (all_hops net absent) d []) x))) → AreWaiting (all_hops net absent) after after new
+pub waiting_next : (net : Network) (absent : Absent) (placed after : List Placed) (numbers rest new : List ℕ) (d : ℕ) → AreKnown (length net.devices) placed → AreWaiting (neighbours_of net absent) placed placed numbers → IsLowest numbers rest d
+    → after ≡ with_device net absent placed d → ((x : ℕ) → has new x ≡ (has rest x || (not (is_placed after x) && lead_to (neighbours_of net absent d) x))) → AreWaiting (neighbours_of net absent) after after new
 waiting_next net absent placed after numbers rest new d known waiting lowest is each =
     let (p, whole, device) = with_waiting net absent placed d known (sym (waiting.each d) ∙ lowest.there) in
     let same : after ≡ placed ++ p ∷ [] = is ∙ whole in
-    subst (λ list. AreWaiting (all_hops net absent) list list new) (sym same)
-    (waiting_more (all_hops net absent) placed numbers rest new p waiting (subst (IsLowest numbers rest) (sym device) lowest) (λ x.
-    each x ∙ ap (λ list. has rest x || (not (is_placed list x) && lead_to (get_or (all_hops net absent) d []) x)) same
-    ∙ ap (λ e. has rest x || (not (is_placed (placed ++ p ∷ []) x) && lead_to (get_or (all_hops net absent) e []) x)) (sym device)))
+    subst (λ list. AreWaiting (neighbours_of net absent) list list new) (sym same)
+    (waiting_more (neighbours_of net absent) placed numbers rest new p waiting (subst (IsLowest numbers rest) (sym device) lowest) (λ x.
+    each x ∙ ap (λ list. has rest x || (not (is_placed list x) && lead_to (neighbours_of net absent d) x)) same
+    ∙ ap (λ e. has rest x || (not (is_placed (placed ++ p ∷ []) x) && lead_to (neighbours_of net absent e) x)) (sym device)))
 
 -- Again and again
 

@@ -1,3 +1,10 @@
+pub mod Usable
+pub mod Views
+pub mod Gathered
+pub mod Spreading
+pub mod Placements
+pub mod PlacementView
+pub mod Sweeps
 pub mod Placing
 pub mod Nearing
 pub mod Waits

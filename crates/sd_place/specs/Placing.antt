@@ -6,9 +6,9 @@ use Rattle.sd_topo.specs.Network.{Network, Each, joins}
 use Rattle.sd_topo.specs.declared.Side.TheVariants as side
 use Rattle.sd_plan.specs.declared.Hop.{Hop}
 use Rattle.sd_plan.specs.declared.Absent.{Absent}
-use Rattle.sd_usable.specs.Usable.{takes_part, all_members, is_usable, are_neighbours}
-use Rattle.sd_spread.specs.declared.Placed.{Placed}
-use Rattle.sd_spread.specs.Spreading.{is_placed, depth_of, below_device, spread}
+use Rattle.sd_place.specs.Usable.{takes_part, all_members, is_usable, are_neighbours}
+use Rattle.sd_place.specs.declared.placement.Placed.{Placed}
+use Rattle.sd_place.specs.Spreading.{is_placed, depth_of, below_device, spread, IsBelow}
 
 -- p comes before q, or is q, by depth and then by number
 abbrev pub no_later : Placed → Placed → Bool
@@ -46,29 +46,29 @@ module _ (net : Network) (absent : Absent) where
 
 module _ (net : Network) (root : ℕ) (absent : Absent) where
   -- the backup root: the first candidate that is a member other than the root, else the root itself
-  abbrev pub standby : ℕ
-  standby = of_some (find (λ d. takes_part net absent d && not (nat_eq d root)) net.roots) root (λ d. d)
+  abbrev pub backup_root_of : ℕ
+  backup_root_of = of_some (find (λ d. takes_part net absent d && not (nat_eq d root)) net.roots) root (λ d. d)
 
   -- The steps
 
   -- what may be passed on the root's side: the members that are neither root nor backup root nor on the backup side
   abbrev pub through_root : ℕ → Bool
-  through_root d = takes_part net absent d && not (nat_eq d root) && not (nat_eq d standby) && not (is_on_backup_side net d)
+  through_root d = takes_part net absent d && not (nat_eq d root) && not (nat_eq d backup_root_of) && not (is_on_backup_side net d)
 
   -- the root, and what is reached from it through these
   abbrev pub root_part : List Placed
   root_part = record { device = root; depth = 0; hop = None } ∷ spread net absent root through_root 0
 
   -- then the backup root below its nearest neighbour
-  abbrev pub with_standby : List Placed
-  with_standby = if nat_eq standby root then root_part else with_device net absent root_part standby
+  abbrev pub with_backup_root : List Placed
+  with_backup_root = if nat_eq backup_root_of root then root_part else with_device net absent root_part backup_root_of
 
   -- then what is reached from the backup root through these
   abbrev pub both_parts : List Placed
   both_parts =
-      if not (nat_eq standby root) && is_placed with_standby standby
-      then with_standby ++ spread net absent standby (through_backup net absent with_standby) (depth_of with_standby standby)
-      else with_standby
+      if not (nat_eq backup_root_of root) && is_placed with_backup_root backup_root_of
+      then with_backup_root ++ spread net absent backup_root_of (through_backup net absent with_backup_root) (depth_of with_backup_root backup_root_of)
+      else with_backup_root
 
   -- then what is left
   abbrev pub placed_all : List Placed
@@ -77,18 +77,6 @@ module _ (net : Network) (root : ℕ) (absent : Absent) where
   -- the placed devices, in their order: none where the root is absent
   unfoldable pub placed : List Placed
   placed = if takes_part net absent root then placed_all else []
-
--- p was placed below one of these, over a usable link
-pub record IsBelow (net : Network) (absent : Absent) (earlier : List Placed) (p : Placed) : Type 0 where
-  pub hop : Hop
-  pub place : ℕ
-  pub parent : Placed
-  pub has_hop : p.hop ≡ Some hop
-  pub before : slice_get earlier place ≡ Some parent
-  pub leads : parent.device ≡ hop.parent
-  pub deeper : p.depth ≡ parent.depth + 1
-  pub usable : IsTrue (is_usable net absent hop.link && joins net hop.link p.device hop.parent)
-  pub link : hop.link < length net.links
 
 -- the placed devices make a tree that grew one by one from the root: members, none twice, each below one that was placed before it
 pub record Grows (net : Network) (root : ℕ) (absent : Absent) (list : List Placed) : Type 0 where

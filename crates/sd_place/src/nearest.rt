@@ -1,17 +1,15 @@
 //! Placing a device below its nearest placed neighbour.
 ghost use Rattle.std.specs.Prelude.{◌≡◌, ◌<◌, ◌≤◌, ◌^◌, ◌+◌, length, false, All, Some, OnOk};
-ghost use Rattle.sd_topo.specs.Topologies.{network};
-ghost use Rattle.sd_usable.specs.Usable.{all_hops};
-ghost use Rattle.sd_spread.specs.Spreading.{is_placed};
+ghost use Rattle.sd_place.specs.Views.{net_of, left_out};
+ghost use Rattle.sd_place.specs.Spreading.{is_placed};
 ghost use Rattle.sd_place.specs.Placing as placing;
 ghost use Rattle.sd_place.specs.Nearing as nearing;
 ghost use Rattle.sd_place.specs.Nearing.{AreKnown, IsNearest};
 
+use crate::placement::{Placed, Placement};
+use crate::present::{Neighbour, Present};
 use sd_num::NoMemory;
-use sd_plan::{Absent, Hop};
-use sd_spread::{Placed, Placement};
-use sd_topo::Topology;
-use sd_usable::UsableHops;
+use sd_plan::Hop;
 
 /// A placed neighbour, and the link to it.
 #[derive(Clone, Copy)]
@@ -27,17 +25,17 @@ fn no_later(p: Placed, q: Placed) -> bool
     p.depth < q.depth || (p.depth == q.depth && p.device <= q.device)
 }
 
-/// The better of the best one so far and the one that a hop leads to, if that is placed.
-fn closer(placement: &Placement, best: Option<Near>, hop: Hop) -> Option<Near>
-    requires { hop.parent < placement.now.count }
-    ensures { result ≡ nearing.closer placement.now.order best hop }
+/// The better of the best one so far and a neighbour, if that is placed.
+fn closer(placement: &Placement, best: Option<Near>, neighbour: Neighbour) -> Option<Near>
+    requires { neighbour.device < placement.now.count }
+    ensures { result ≡ nearing.closer placement.now.order best neighbour }
 {
-    let Some(placed) = placement.find(hop.parent) else {
+    let Some(placed) = placement.find(neighbour.device) else {
         return best;
     };
     let near = Near {
         placed,
-        link: hop.link,
+        link: neighbour.link,
     };
     match best {
         None => Some(near),
@@ -51,15 +49,15 @@ fn closer(placement: &Placement, best: Option<Near>, hop: Hop) -> Option<Near>
     }
 }
 
-/// The nearest placed device that hops lead to, with the first link to it.
-fn nearest_of(hops: &[Hop], placement: &Placement) -> Option<Near>
-    requires hops { All (λ hop. hop.parent < placement.now.count) hops.now }
+/// The nearest of some neighbours that are placed, with the first link to it.
+fn nearest_of(neighbours: &[Neighbour], placement: &Placement) -> Option<Near>
+    requires neighbours { All (λ neighbour. neighbour.device < placement.now.count) neighbours.now }
     requires known { AreKnown placement.now.count placement.now.order }
-    ensures { IsNearest placement.now.order hops.now result }
+    ensures { IsNearest placement.now.order neighbours.now result }
 {
     let mut best = None;
-    for hop in hops {
-        best = closer(placement, best, *hop);
+    for neighbour in neighbours {
+        best = closer(placement, best, *neighbour);
     }
     best
 }
@@ -85,20 +83,13 @@ fn below(near: Near, d: u32) -> Placed
 }
 
 /// A device as it is placed below its nearest placed neighbour, if it has one.
-fn below_nearest(
-    topo: &Topology,
-    absent: &Absent,
-    hops: &UsableHops,
-    placement: &Placement,
-    d: u32,
-) -> Option<Placed>
-    requires range { d < length (network topo.now).devices }
-    requires count { placement.now.count ≡ length (network topo.now).devices }
-    requires hops { hops.now ≡ all_hops (network topo.now) absent.now }
+fn below_nearest(present: &Present, placement: &Placement, d: u32) -> Option<Placed>
+    requires range { d < length (net_of present.now).devices }
+    requires count { placement.now.count ≡ length (net_of present.now).devices }
     requires known { AreKnown placement.now.count placement.now.order }
-    ensures { result ≡ placing.below_nearest (network topo.now) absent.now placement.now.order d }
+    ensures { result ≡ placing.below_nearest (net_of present.now) (left_out present.now) placement.now.order d }
 {
-    match nearest_of(hops.from(d), placement) {
+    match nearest_of(present.neighbours_of(d), placement) {
         Some(near) => Some(below(near, d)),
         None => None,
     }
@@ -106,23 +97,20 @@ fn below_nearest(
 
 /// Places a device below its nearest placed neighbour, if it has one.
 pub(crate) fn place_nearest(
-    topo: &Topology,
-    absent: &Absent,
-    hops: &UsableHops,
+    present: &Present,
     placement: &mut Placement,
     d: u32,
 ) -> Result<(), NoMemory>
-    requires range { d < length (network topo.now).devices }
+    requires range { d < length (net_of present.now).devices }
     requires fresh { is_placed placement.old.order d ≡ false }
-    requires count { placement.old.count ≡ length (network topo.now).devices }
-    requires hops { hops.now ≡ all_hops (network topo.now) absent.now }
+    requires count { placement.old.count ≡ length (net_of present.now).devices }
     requires known { AreKnown placement.old.count placement.old.order }
     ensures { OnOk result (placement.new ≡ record {
-      order = placing.with_device (network topo.now) absent.now placement.old.order d;
+      order = placing.with_device (net_of present.now) (left_out present.now) placement.old.order d;
       count = placement.old.count;
     }) }
 {
-    match below_nearest(topo, absent, hops, placement, d) {
+    match below_nearest(present, placement, d) {
         Some(placed) => placement.add(placed),
         None => Ok(()),
     }

@@ -1,132 +1,107 @@
 //! The root's side, the backup root, its side, and what is left.
 ghost use Rattle.std.specs.Prelude.{◌≡◌, ◌<◌, true, false, nat_eq, length, IfOk, OnOk};
-ghost use Rattle.sd_topo.specs.Topologies.{network};
-ghost use Rattle.sd_usable.specs.Usable.{IsAbsentOf, takes_part, all_hops};
+ghost use Rattle.sd_place.specs.Usable.{takes_part};
+ghost use Rattle.sd_place.specs.Views.{net_of, left_out};
 ghost use Rattle.sd_place.specs.Placing as placing;
 ghost use Rattle.sd_place.specs.Placing.{Grows};
 
 use crate::left::place_left;
 use crate::nearest::place_nearest;
-use crate::roots::{lists, standby};
+use crate::placement::{Placed, Placement};
+use crate::present::Present;
+use crate::roots::backup_root_of;
 use crate::sides::{backup_side, root_side};
+use crate::spreading::spread;
 use sd_num::NoMemory;
-use sd_plan::Absent;
-use sd_spread::{Placed, Placement, spread};
-use sd_topo::Topology;
-use sd_usable::UsableHops;
 use std::alloc::Global;
 
 /// Places the root, and what is reached from it through the members on its side.
-fn place_root_part(
-    alloc: Global,
-    topo: &Topology,
-    hops: &UsableHops,
-    root: u32,
-    absent: &Absent,
-) -> Result<Placement, NoMemory>
-    requires root { root < length (network topo.now).devices }
-    requires absent { IsAbsentOf (network topo.now) absent.now }
-    requires hops { hops.now ≡ all_hops (network topo.now) absent.now }
+fn place_root_part(alloc: Global, present: &Present, root: u32) -> Result<Placement, NoMemory>
+    requires { root < length (net_of present.now).devices }
     ensures { IfOk result (λ p. p ≡ record {
-      order = placing.root_part (network topo.now) root absent.now;
-      count = length (network topo.now).devices;
+      order = placing.root_part (net_of present.now) root (left_out present.now);
+      count = length (net_of present.now).devices;
     }) }
 {
-    let through = root_side(alloc, topo, absent, root, standby(topo, root, absent))?;
-    let mut placement = Placement::new(alloc, topo.devices())?;
-    placement.add(Placed {
+    let through = root_side(alloc, present, root, backup_root_of(present, root))?;
+    let mut placement = Placement::new(alloc, present.topo.devices())?;
+    let first = Placed {
         device: root,
         depth: 0,
         hop: None,
-    })?;
-    spread(hops, &through, &mut placement, root, 0)?;
+    };
+    placement.add(first)?;
+    spread(present, &through, &mut placement, first)?;
     Ok(placement)
 }
 
 /// Places what is reached from the backup root through the members on the backup side.
 fn place_backup_part(
     alloc: Global,
-    topo: &Topology,
-    hops: &UsableHops,
+    present: &Present,
     root: u32,
-    absent: &Absent,
     placement: &mut Placement,
 ) -> Result<(), NoMemory>
-    requires root { root < length (network topo.now).devices }
-    requires present { takes_part (network topo.now) absent.now root ≡ true }
-    requires absent { IsAbsentOf (network topo.now) absent.now }
-    requires hops { hops.now ≡ all_hops (network topo.now) absent.now }
+    requires root { root < length (net_of present.now).devices }
+    requires present { takes_part (net_of present.now) (left_out present.now) root ≡ true }
     requires so_far { placement.old ≡ record {
-      order = placing.with_standby (network topo.now) root absent.now;
-      count = length (network topo.now).devices;
+      order = placing.with_backup_root (net_of present.now) root (left_out present.now);
+      count = length (net_of present.now).devices;
     } }
-    requires differs { nat_eq (placing.standby (network topo.now) root absent.now) root ≡ false }
+    requires differs { nat_eq (placing.backup_root_of (net_of present.now) root (left_out present.now)) root ≡ false }
     ensures { OnOk result (placement.new ≡ record {
-      order = placing.both_parts (network topo.now) root absent.now;
-      count = length (network topo.now).devices;
+      order = placing.both_parts (net_of present.now) root (left_out present.now);
+      count = length (net_of present.now).devices;
     }) }
 {
-    let backup_root = standby(topo, root, absent);
-    let Some(placed) = placement.find(backup_root) else {
+    let Some(source) = placement.find(backup_root_of(present, root)) else {
         return Ok(());
     };
-    let through = backup_side(alloc, topo, absent, placement)?;
-    spread(hops, &through, placement, backup_root, placed.depth)
+    let through = backup_side(alloc, present, placement)?;
+    spread(present, &through, placement, source)
 }
 
 /// Places the backup root below its nearest placed neighbour, and then what is reached from it.
 fn place_backup_side(
     alloc: Global,
-    topo: &Topology,
-    hops: &UsableHops,
+    present: &Present,
     root: u32,
-    absent: &Absent,
     placement: &mut Placement,
 ) -> Result<(), NoMemory>
-    requires root { root < length (network topo.now).devices }
-    requires present { takes_part (network topo.now) absent.now root ≡ true }
-    requires absent { IsAbsentOf (network topo.now) absent.now }
-    requires hops { hops.now ≡ all_hops (network topo.now) absent.now }
+    requires root { root < length (net_of present.now).devices }
+    requires present { takes_part (net_of present.now) (left_out present.now) root ≡ true }
     requires so_far { placement.old ≡ record {
-      order = placing.root_part (network topo.now) root absent.now;
-      count = length (network topo.now).devices;
+      order = placing.root_part (net_of present.now) root (left_out present.now);
+      count = length (net_of present.now).devices;
     } }
     ensures { OnOk result (placement.new ≡ record {
-      order = placing.both_parts (network topo.now) root absent.now;
-      count = length (network topo.now).devices;
+      order = placing.both_parts (net_of present.now) root (left_out present.now);
+      count = length (net_of present.now).devices;
     }) }
 {
-    let backup_root = standby(topo, root, absent);
+    let backup_root = backup_root_of(present, root);
     if backup_root == root {
         return Ok(());
     }
-    place_nearest(topo, absent, hops, placement, backup_root)?;
-    place_backup_part(alloc, topo, hops, root, absent, placement)
+    place_nearest(present, placement, backup_root)?;
+    place_backup_part(alloc, present, root, placement)
 }
 
 /// Places the devices that the greedy plan places, in its order: the root with its side, the backup
-/// root with its side, and what is left.
-pub fn place(
-    alloc: Global,
-    topo: &Topology,
-    hops: &UsableHops,
-    root: u32,
-    absent: &Absent,
-) -> Result<Placement, NoMemory>
-    requires root { root < length (network topo.now).devices }
-    requires absent { IsAbsentOf (network topo.now) absent.now }
-    requires hops { hops.now ≡ all_hops (network topo.now) absent.now }
+/// root with its side, and what is left. Nothing is placed where the root is absent.
+pub fn place(alloc: Global, present: &Present, root: u32) -> Result<Placement, NoMemory>
+    requires root { root < length (net_of present.now).devices }
     ensures order { IfOk result (λ p. p ≡ record {
-      order = placing.placed (network topo.now) root absent.now;
-      count = length (network topo.now).devices;
+      order = placing.placed (net_of present.now) root (left_out present.now);
+      count = length (net_of present.now).devices;
     }) }
-    ensures grows { IfOk result (λ p. Grows (network topo.now) root absent.now p.order) }
+    ensures grows { IfOk result (λ p. Grows (net_of present.now) root (left_out present.now) p.order) }
 {
-    if lists(absent.devices.as_slice(), root) {
-        return Placement::new(alloc, topo.devices());
+    if !present.takes_part(root) {
+        return Placement::new(alloc, present.topo.devices());
     }
-    let mut placement = place_root_part(alloc, topo, hops, root, absent)?;
-    place_backup_side(alloc, topo, hops, root, absent, &mut placement)?;
-    place_left(alloc, topo, absent, hops, &mut placement)?;
+    let mut placement = place_root_part(alloc, present, root)?;
+    place_backup_side(alloc, present, root, &mut placement)?;
+    place_left(alloc, present, &mut placement)?;
     Ok(placement)
 }

@@ -1,38 +1,25 @@
 //! The backup root.
-ghost use Rattle.std.specs.Prelude.{◌≡◌, ◌&&◌, not, nat_eq, find};
-ghost use Rattle.sd_topo.specs.Topologies.{network};
-ghost use Rattle.sd_usable.specs.Usable.{IsAbsentOf};
-ghost use Rattle.sd_num.specs.Lists.{has};
+ghost use Rattle.std.specs.Prelude.{◌≡◌, ◌<◌, ◌&&◌, not, nat_eq, find, length};
+ghost use Rattle.sd_place.specs.Usable.{takes_part};
+ghost use Rattle.sd_place.specs.Views.{net_of, left_out};
 ghost use Rattle.sd_place.specs.Placing as placing;
 
-use sd_plan::Absent;
-use sd_topo::Topology;
-
-/// Whether numbers have one among them.
-pub(crate) fn lists(numbers: &[u32], d: u32) -> bool
-    ensures { result ≡ has numbers.now d }
-{
-    for i in 0..numbers.len() {
-        if numbers[i] == d {
-            return true;
-        }
-    }
-    false
-}
+use crate::present::Present;
 
 /// Whether a candidate may be the backup root: it takes part and is not the root.
-fn may_stand_by(root: u32, absent: &Absent, d: u32) -> bool
-    ensures { result ≡ (not (has absent.now.devices d) && not (nat_eq d root)) }
+fn may_be_backup_root(present: &Present, root: u32, d: u32) -> bool
+    requires { d < length (net_of present.now).devices }
+    ensures { result ≡ (takes_part (net_of present.now) (left_out present.now) d && not (nat_eq d root)) }
 {
-    !lists(absent.devices.as_slice(), d) && d != root
+    present.takes_part(d) && d != root
 }
 
 /// The first candidate that may be the backup root.
-fn first_standby(roots: &[u32], root: u32, absent: &Absent) -> Option<u32>
-    ensures { result ≡ find (λ d. not (has absent.now.devices d) && not (nat_eq d root)) roots.now }
+fn first_candidate(present: &Present, root: u32) -> Option<u32>
+    ensures { result ≡ find (λ d. takes_part (net_of present.now) (left_out present.now) d && not (nat_eq d root)) (net_of present.now).roots }
 {
-    for d in roots {
-        if may_stand_by(root, absent, *d) {
+    for d in present.topo.roots() {
+        if may_be_backup_root(present, root, *d) {
             return Some(*d);
         }
     }
@@ -40,11 +27,10 @@ fn first_standby(roots: &[u32], root: u32, absent: &Absent) -> Option<u32>
 }
 
 /// The backup root: the first candidate that takes part, other than the root, or else the root.
-pub fn standby(topo: &Topology, root: u32, absent: &Absent) -> u32
-    requires absent { IsAbsentOf (network topo.now) absent.now }
-    ensures { result ≡ placing.standby (network topo.now) root absent.now }
+pub fn backup_root_of(present: &Present, root: u32) -> u32
+    ensures { result ≡ placing.backup_root_of (net_of present.now) root (left_out present.now) }
 {
-    match first_standby(topo.roots(), root, absent) {
+    match first_candidate(present, root) {
         Some(d) => d,
         None => root,
     }

@@ -1,20 +1,18 @@
 //! Placing over topologies that are read.
 ghost use Rattle.std.specs.Prelude.{IfOk};
 ghost use Rattle.sd_topo.specs.Topologies.{network};
-ghost use Rattle.sd_usable.specs.Usable.{IsAbsentOf};
+ghost use Rattle.sd_place.specs.Usable.{IsAbsentOf};
 
 use super::*;
+use crate::placement::Placed;
+use crate::present::Neighbour;
+use sd_examples::FABRIC;
 use sd_plan::{Absent, DeviceList};
-use sd_spread::{Placed, Placement};
-use sd_topo::{Topology, read_topology};
-use sd_usable::UsableHops;
+use sd_topo::Topology;
+use sd_topotext::read_topology;
 use std::alloc::Global;
 use std::process::Abort;
 use std::test::Fail;
-
-/// Spines s1, s2 (0, 1), leaves l1, l2, l3 (2 to 4), and the links a1 to a3 and b1 to b3.
-const FABRIC: &str =
-    "version = 2\nppm = 200\ngrain = 1000\nperiod = 100000000\ntick = 10000000\nloss = 1\ndepth = 8\nroots = [\"s1\", \"s2\"]\n[[device]]\nname = \"s1\"\n[[device]]\nname = \"s2\"\n[[device]]\nname = \"l1\"\n[[device]]\nname = \"l2\"\n[[device]]\nname = \"l3\"\n[[link]]\nname = \"a1\"\nends = [\"s1\", \"l1\"]\nmin = 400000\nmax = 1000000\n[[link]]\nname = \"a2\"\nends = [\"s1\", \"l2\"]\nmin = 400000\nmax = 1000000\n[[link]]\nname = \"a3\"\nends = [\"s1\", \"l3\"]\nmin = 400000\nmax = 1000000\n[[link]]\nname = \"b1\"\nends = [\"s2\", \"l1\"]\nmin = 400000\nmax = 1000000\n[[link]]\nname = \"b2\"\nends = [\"s2\", \"l2\"]\nmin = 400000\nmax = 1000000\n[[link]]\nname = \"b3\"\nends = [\"s2\", \"l3\"]\nmin = 400000\nmax = 1000000\n";
 
 /// r, b, w, x, u (0 to 4), y and z of the backup side (5, 6), and far and off (7, 8), which no link
 /// joins to the others.
@@ -45,20 +43,6 @@ fn all_but(rt: &(impl Abort + AllocGlobal), topo: &Topology, d: u32) -> Result<A
     })
 }
 
-/// The order from a root.
-fn order_from(
-    rt: &(impl Abort + AllocGlobal),
-    topo: &Topology,
-    root: u32,
-    absent: &Absent,
-) -> Result<Placement, Fail>
-    requires { IsAbsentOf (network topo.now) absent.now }
-{
-    assert!(rt; root < topo.devices());
-    let hops = UsableHops::new(rt.alloc(), topo, absent)?;
-    Ok(place(rt.alloc(), topo, &hops, root, absent)?)
-}
-
 /// The placed devices in their order, each as `DEVICE/DEPTH<PARENT:LINK`.
 fn shown(alloc: Global, order: &[Placed]) -> Result<String, Fail> {
     let mut text = String::new(alloc);
@@ -74,24 +58,24 @@ fn shown(alloc: Global, order: &[Placed]) -> Result<String, Fail> {
 }
 
 /// The order from a root, shown.
-fn order_of(
-    rt: &(impl Abort + AllocGlobal),
-    topo: &Topology,
-    root: u32,
-    absent: &Absent,
-) -> Result<String, Fail>
-    requires { IsAbsentOf (network topo.now) absent.now }
-{
-    let placed = order_from(rt, topo, root, absent)?;
-    shown(rt.alloc(), placed.order())
+fn order_of(rt: &(impl Abort + AllocGlobal), present: &Present, root: u32) -> Result<String, Fail> {
+    assert!(rt; root < present.topo.devices());
+    let placement = place(rt.alloc(), present, root)?;
+    shown(rt.alloc(), placement.order())
+}
+
+/// A neighbour.
+fn over(device: u32, link: u32) -> Neighbour {
+    Neighbour { device, link }
 }
 
 #[test]
 fn the_fabric(rt: HostRuntime) -> Result<(), Fail> {
     let topo = read_topology(rt.alloc(), FABRIC.as_bytes())?;
     let absent = all_there(rt.alloc(), &topo);
-    assert_eq!(rt; standby(&topo, 0, &absent), 1);
-    let order = order_of(&rt, &topo, 0, &absent)?;
+    let present = Present::new(rt.alloc(), &topo, &absent)?;
+    assert_eq!(rt; backup_root_of(&present, 0), 1);
+    let order = order_of(&rt, &present, 0)?;
     assert_eq!(rt; order.as_str(), " 0/0 2/1<0:0 3/1<0:1 4/1<0:2 1/2<2:3");
     Ok(())
 }
@@ -99,8 +83,13 @@ fn the_fabric(rt: HostRuntime) -> Result<(), Fail> {
 #[test]
 fn both_sides_and_what_is_left(rt: HostRuntime) -> Result<(), Fail> {
     let topo = read_topology(rt.alloc(), SIDES.as_bytes())?;
+    assert!(rt; topo.devices() == 9);
     let absent = all_there(rt.alloc(), &topo);
-    let order = order_of(&rt, &topo, 0, &absent)?;
+    let present = Present::new(rt.alloc(), &topo, &absent)?;
+    assert!(rt; present.takes_part(1));
+    let of_b = [over(2, 2), over(3, 3), over(5, 6), over(5, 7)];
+    assert_eq!(rt; present.neighbours_of(1), of_b.as_slice());
+    let order = order_of(&rt, &present, 0)?;
     assert_eq!(rt;
         order.as_str(),
         " 0/0 3/1<0:0 2/2<3:1 1/2<3:3 5/3<1:6 6/4<5:8 4/4<5:5"
@@ -112,11 +101,13 @@ fn both_sides_and_what_is_left(rt: HostRuntime) -> Result<(), Fail> {
 fn what_is_absent(rt: HostRuntime) -> Result<(), Fail> {
     let topo = read_topology(rt.alloc(), SIDES.as_bytes())?;
     let no_root = all_but(&rt, &topo, 0)?;
-    assert_eq!(rt; order_of(&rt, &topo, 0, &no_root)?.as_str(), "");
-    assert_eq!(rt; standby(&topo, 0, &no_root), 1);
+    let without_root = Present::new(rt.alloc(), &topo, &no_root)?;
+    assert_eq!(rt; order_of(&rt, &without_root, 0)?.as_str(), "");
+    assert_eq!(rt; backup_root_of(&without_root, 0), 1);
     let no_backup_root = all_but(&rt, &topo, 1)?;
-    assert_eq!(rt; standby(&topo, 0, &no_backup_root), 0);
-    let order = order_of(&rt, &topo, 0, &no_backup_root)?;
+    let without_backup_root = Present::new(rt.alloc(), &topo, &no_backup_root)?;
+    assert_eq!(rt; backup_root_of(&without_backup_root, 0), 0);
+    let order = order_of(&rt, &without_backup_root, 0)?;
     assert_eq!(rt;
         order.as_str(),
         " 0/0 3/1<0:0 2/2<3:1 5/1<0:9 4/2<5:5 6/2<5:8"

@@ -1,14 +1,14 @@
 //! The devices that wait for their place: not placed, with a placed neighbour.
 ghost use Rattle.std.specs.Prelude.{◌≡◌, ℕ, ◌<◌, ◌||◌, ◌&&◌, not, [], All, nat_eq, length, OnOk, IfOk};
 ghost use Rattle.sd_num.specs.Lists.{has};
-ghost use Rattle.sd_spread.specs.Spreading.{is_placed};
+ghost use Rattle.sd_place.specs.Spreading.{is_placed};
 ghost use Rattle.sd_place.specs.Waits.{IsTaken, AreWaiting, lead_to};
-ghost use Rattle.sd_usable.specs.Gathered.{LeadWithin};
+ghost use Rattle.sd_place.specs.Usable.{neighbours_of};
+ghost use Rattle.sd_place.specs.Views.{net_of, left_out};
 
+use crate::placement::Placement;
+use crate::present::{Neighbour, Present};
 use sd_num::NoMemory;
-use sd_plan::Hop;
-use sd_spread::Placement;
-use sd_usable::UsableHops;
 use std::alloc::Global;
 use std::collections::BTreeSet;
 use std::marker::Model;
@@ -55,21 +55,21 @@ impl Waiting {
     }
 }
 
-/// Adds the devices that hops lead to and that are not placed.
+/// Adds those of some neighbours that are not placed.
 pub(crate) fn add_neighbours(
     waiting: &mut Waiting,
     placement: &Placement,
-    hops: &[Hop],
+    neighbours: &[Neighbour],
 ) -> Result<(), NoMemory>
-    requires { All (λ hop. hop.parent < placement.now.count) hops.now }
+    requires { All (λ neighbour. neighbour.device < placement.now.count) neighbours.now }
     ensures { OnOk result ((x : ℕ) → has waiting.new x
-        ≡ (has waiting.old x || (not (is_placed placement.now.order x) && lead_to hops.now x))) }
+        ≡ (has waiting.old x || (not (is_placed placement.now.order x) && lead_to neighbours.now x))) }
 {
-    for hop in hops {
-        if placement.has(hop.parent) {
+    for neighbour in neighbours {
+        if placement.has(neighbour.device) {
             continue;
         }
-        match waiting.add(hop.parent) {
+        match waiting.add(neighbour.device) {
             Ok(()) => {}
             Err(fault) => return Err(fault),
         }
@@ -80,17 +80,17 @@ pub(crate) fn add_neighbours(
 /// All devices that wait.
 pub(crate) fn all_waiting(
     alloc: Global,
-    hops: &UsableHops,
+    present: &Present,
     placement: &Placement,
 ) -> Result<Waiting, NoMemory>
-    requires count { length hops.now ≡ placement.now.count }
-    requires hops { LeadWithin placement.now.count hops.now }
-    ensures { IfOk result (λ waiting. AreWaiting hops.now placement.now.order placement.now.order waiting) }
+    requires { placement.now.count ≡ length (net_of present.now).devices }
+    ensures { IfOk result (λ waiting.
+        AreWaiting (neighbours_of (net_of present.now) (left_out present.now)) placement.now.order placement.now.order waiting) }
 {
     let mut waiting = Waiting::new(alloc);
     for placed in placement.order() {
-        let from = hops.from(placed.device);
-        match add_neighbours(&mut waiting, placement, from) {
+        let neighbours = present.neighbours_of(placed.device);
+        match add_neighbours(&mut waiting, placement, neighbours) {
             Ok(()) => {}
             Err(fault) => return Err(fault),
         }

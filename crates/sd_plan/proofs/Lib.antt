@@ -1,8 +1,10 @@
+pub mod Versions
 mod Rows
 pub mod Steps
 pub mod Fitting
 pub mod Numbered
 pub mod Rules
+pub mod Walking
 mod Over
 mod Joined
 mod Whole
@@ -12,5 +14,5 @@ pub mod Cutting
 mod Subtrees
 mod Times
 mod Below
-mod Listing
+pub mod Listing
 mod Indexing

@@ -1,19 +1,23 @@
 //! Plans: who follows whom, over which link, and what each device is told.
 #![tactic(auto)]
 
+mod flags;
 mod hops;
 mod index;
+mod indexed;
 mod lists;
 mod paths;
+mod structure;
 mod table;
-#[cfg(test)]
-mod tests;
 
+pub use flags::present;
 pub use hops::{backup_of, primary_of};
 pub use index::{Span, WalkIndex};
+pub use indexed::Indexed;
 pub use lists::{DeviceList, RowList, ThingList};
 pub use paths::{epath, path};
 use sd_num::{Bounds, Rates};
+pub use structure::{Rule, structure_breach};
 pub use table::{PlanTable, Row};
 
 /// A parent, and the link to it.

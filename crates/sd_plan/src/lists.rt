@@ -55,6 +55,13 @@ impl DeviceList {
     {
         self.items.as_slice()
     }
+
+    /// The numbers in their order, without memory.
+    pub fn into_vec(self) -> Vec<u32>
+        ensures { result.items ≡ self }
+    {
+        self.items
+    }
 }
 
 /// Perhaps a row for each device.
@@ -106,6 +113,13 @@ impl RowList {
     {
         self.items.as_slice()
     }
+
+    /// The rows in their order, without memory.
+    pub fn into_vec(self) -> Vec<Option<PlanRow>>
+        ensures { result.items ≡ self }
+    {
+        self.items
+    }
 }
 
 /// Devices and links one after another, as those of a path.
@@ -149,5 +163,12 @@ impl ThingList {
         ensures { result.now ≡ self.now }
     {
         self.items.as_slice()
+    }
+
+    /// The things in their order, without memory.
+    pub fn into_vec(self) -> Vec<Thing>
+        ensures { result.items ≡ self }
+    {
+        self.items
     }
 }

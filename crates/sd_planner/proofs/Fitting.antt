@@ -4,7 +4,7 @@ use Rattle.sd_topo.specs.Network.{Network}
 use Rattle.sd_plan.specs.declared.Absent.{Absent}
 use Rattle.sd_plan.specs.declared.PlanRow.{PlanRow}
 use Rattle.sd_plan.proofs.Numbered.{length-numbered}
-use Rattle.sd_backup.specs.Serving.{greedy_row, greedy_rows}
+use Rattle.sd_planner.specs.Serving.{greedy_row, greedy_rows}
 
 pub one_each : (net : Network) (root : ℕ) (absent : Absent) (rows : List (Option PlanRow)) → rows ≡ greedy_rows net root absent → length rows ≡ length net.devices
 unfolding greedy_rows

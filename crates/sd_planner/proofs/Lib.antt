@@ -1,3 +1,19 @@
+pub mod Versions
+mod Members
+mod Setting
+mod Trees
+mod Leading
+mod Listing
+mod Walking
+mod Placing
+mod Joining
+mod Serving
+mod Adding
+mod Near
+mod Within
+mod ByBackupRoot
+mod Rowing
+mod RowFitting
 mod Least
 mod Bounds
 mod Rows

@@ -4,8 +4,8 @@ use Rattle.sd_topo.specs.Network.{least_low, greatest_up}
 use Rattle.sd_plan.specs.declared.Absent.{Absent}
 use Rattle.sd_check_root.specs.Timing.{silence}
 use Rattle.sd_plan.specs.Examples.{fabric, fabric_rows, hop}
-use Rattle.sd_place.specs.Placing.{standby, placed}
-use Rattle.sd_backup.specs.Serving.{greedy_rows, primaries, walk_up}
+use Rattle.sd_place.specs.Placing.{backup_root_of, placed}
+use Rattle.sd_planner.specs.Serving.{greedy_rows, primaries, walk_up}
 
 abbrev nothing : Absent
 nothing = record { devices = []; links = [] }
@@ -27,5 +27,5 @@ ordinary_wait = refl
 ordinary_no_less : nat_le (2 * greatest_up fabric 712269454 + 6 * (silence fabric + 10000000)) (least_low fabric 3561917199) ≡ false
 ordinary_no_less = refl
 
-without_root : standby fabric 0 (record { devices = 0 ∷ []; links = [] }) ≡ 1
+without_root : backup_root_of fabric 0 (record { devices = 0 ∷ []; links = [] }) ≡ 1
 without_root = refl

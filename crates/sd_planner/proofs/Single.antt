@@ -33,4 +33,4 @@ same_greedy net root absent p q a b =
     let long : ℕ → ℕ → ℕ = λ x y. greatest_up net x + greatest_up net y + 6 * (silence net + net.params.tick) in
     let ordinary : IsLeastWait net (long q.wait_first q.wait_second) p.wait =
     subst (λ (x : ℕ). IsLeastWait net (long q.wait_first x) p.wait) second (subst (λ (x : ℕ). IsLeastWait net (long x p.wait_second) p.wait) first a.ordinary) in
-    same_parts p q (a.from_root ∙ sym b.from_root) (a.to_standby ∙ sym b.to_standby) first second (same_wait net _ p.wait q.wait ordinary b.ordinary) (a.leaves_out ∙ sym b.leaves_out) (a.rows ∙ sym b.rows)
+    same_parts p q (a.from_root ∙ sym b.from_root) (a.to_backup_root ∙ sym b.to_backup_root) first second (same_wait net _ p.wait q.wait ordinary b.ordinary) (a.leaves_out ∙ sym b.leaves_out) (a.rows ∙ sym b.rows)

@@ -4,8 +4,8 @@ use Rattle.sd_topo.specs.Network.{Network, least_low, greatest_up}
 use Rattle.sd_plan.specs.declared.Plan.{Plan}
 use Rattle.sd_plan.specs.declared.Absent.{Absent}
 use Rattle.sd_check_root.specs.Timing.{silence}
-use Rattle.sd_place.specs.Placing.{standby}
-use Rattle.sd_backup.specs.Serving.{greedy_rows}
+use Rattle.sd_place.specs.Placing.{backup_root_of}
+use Rattle.sd_planner.specs.Serving.{greedy_rows}
 
 -- x is the least wait whose counter surely takes this long
 pub record IsLeastWait (net : Network) (long x : ℕ) : Type 0 where
@@ -15,7 +15,7 @@ pub record IsLeastWait (net : Network) (long x : ℕ) : Type 0 where
 -- the plan is the greedy one from this root without what is absent
 pub record IsGreedy (net : Network) (root : ℕ) (absent : Absent) (plan : Plan) : Type 0 where
   pub from_root : plan.root ≡ root
-  pub to_standby : plan.backup_root ≡ standby net root absent
+  pub to_backup_root : plan.backup_root ≡ backup_root_of net root absent
   pub leaves_out : plan.absent ≡ absent
   pub rows : plan.rows ≡ greedy_rows net root absent
   pub first : IsLeastWait net (2 * (silence net + net.params.tick)) plan.wait_first

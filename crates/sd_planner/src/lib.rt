@@ -1,12 +1,13 @@
-//! The greedy planner.
+//! The greedy planner: the backups of the placed devices, the least waits, and the plan.
 #![tactic(auto)]
 
-mod planning;
+mod backups;
+mod plan;
 #[cfg(test)]
 mod tests;
 mod waits;
 
-pub use planning::plan_for;
+pub use plan::plan_for;
 use sd_checker::Breach;
 use sd_plan::Plan;
 

@@ -5,31 +5,11 @@ mod plain;
 use super::*;
 use counted::{counted, text_of};
 use plain::plain_rows;
+use sd_examples::FABRIC;
 use sd_plan::{Absent, DeviceList, Hop, Plan, PlanRow};
-use sd_topo::read_topology;
+use sd_topotext::read_topology;
 use std::process::Abort;
 use std::test::Fail;
-
-/// Two spines and three leaves.
-const FABRIC: &str = r#"
-    version = 1
-    ppm = 200
-    grain = 1000
-    period = 100000000
-    tick = 10000000
-    loss = 1
-    depth = 3
-    roots = ["s1", "s2"]
-    device = [{ name = "s1" }, { name = "s2" }, { name = "l1" }, { name = "l2" }, { name = "l3" }]
-    link = [
-        { name = "a1", ends = ["s1", "l1"], min = 400000, max = 1000000 },
-        { name = "a2", ends = ["s1", "l2"], min = 400000, max = 1000000 },
-        { name = "a3", ends = ["s1", "l3"], min = 400000, max = 1000000 },
-        { name = "b1", ends = ["s2", "l1"], min = 400000, max = 1000000 },
-        { name = "b2", ends = ["s2", "l2"], min = 400000, max = 1000000 },
-        { name = "b3", ends = ["s2", "l3"], min = 400000, max = 1000000 },
-    ]
-"#;
 
 /// A row with a primary and a backup.
 fn row(parent: u32, link: u32, backup: u32, backup_link: u32) -> Option<PlanRow> {

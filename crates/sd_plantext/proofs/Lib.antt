@@ -1,3 +1,4 @@
+pub mod Versions
 pub mod Sound
 pub mod Rows
 pub mod Trees

@@ -1,13 +1,11 @@
 //! Texts with their faults, and good texts with what they say.
 use super::*;
+use sd_examples::TRIANGLE;
 use sd_plan::{Hop, Plan, PlanRow};
-use sd_topo::{Topology, read_topology};
+use sd_topo::Topology;
+use sd_topotext::read_topology;
 use std::alloc::{AllocError, Global};
 use std::test::Fail;
-
-/// Devices r, b, x (0, 1, 2), and the links rb, rx and bx between them.
-const TRIANGLE: &str =
-    "version = 1\nppm = 200\ngrain = 1000\nperiod = 100000000\ntick = 90000000\nloss = 1\ndepth = 2\nroots = [\"r\", \"b\"]\n[[device]]\nname = \"r\"\n[[device]]\nname = \"b\"\n[[device]]\nname = \"x\"\n[[link]]\nname = \"rb\"\nends = [\"r\", \"b\"]\nmin = 400000\nmax = 1000000\n[[link]]\nname = \"rx\"\nends = [\"r\", \"x\"]\nmin = 400000\nmax = 1000000\n[[link]]\nname = \"bx\"\nends = [\"b\", \"x\"]\nmin = 400000\nmax = 1000000\n";
 
 /// A plan of the triangle.
 const PLAN: &str =

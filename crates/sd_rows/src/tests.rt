@@ -1,6 +1,7 @@
 ghost use Rattle.std.specs.Prelude.{◌≡◌, ◌≤◌, false, IfOk};
 
 mod check;
+mod faults;
 mod migrate;
 mod plan;
 mod texts;
@@ -32,17 +33,32 @@ fn run_words(
     Ok((status, out))
 }
 
+/// A shelf that holds these texts under their names.
+fn shelf_of(
+    alloc: Global,
+    texts: &[(&str, &[u8])],
+    piece: usize,
+    failing: &[u64],
+) -> Result<MemShelf, Fail>
+    requires { 1 ≤ piece }
+    ensures { IfOk result (λ shelf. shelf.begun ≡ false) }
+{
+    let mut files = Vec::new(alloc);
+    for (name, text) in texts {
+        files.push((
+            String::from_str(alloc, name)?,
+            Vec::from_slice(alloc, text)?,
+        ))?;
+    }
+    Ok(MemShelf::new(files, piece, Vec::from_slice(alloc, failing)?))
+}
+
 /// A shelf that holds a text under the name `file`.
 fn shelf_with(alloc: Global, text: &[u8], piece: usize, failing: &[u64]) -> Result<MemShelf, Fail>
     requires { 1 ≤ piece }
     ensures { IfOk result (λ shelf. shelf.begun ≡ false) }
 {
-    let mut files = Vec::new(alloc);
-    files.push((
-        String::from_str(alloc, "file")?,
-        Vec::from_slice(alloc, text)?,
-    ))?;
-    Ok(MemShelf::new(files, piece, Vec::from_slice(alloc, failing)?))
+    shelf_of(alloc, &[("file", text)], piece, failing)
 }
 
 /// One schedule over a shelf in memory: what is written and answered.
@@ -294,8 +310,12 @@ fn each_write_fails(rt: HostRuntime) -> Result<(), Fail> {
 
 #[test]
 fn other_words_are_usage(rt: HostRuntime) -> Result<(), Fail> {
-    let cases: [&[&str]; 12] = [
+    let cases: [&[&str]; 14] = [
+        // the worked row
         &[],
+        &["check", "topology"],
+        &["case", "1", "1", "3"],
+        // one word too few or too many, another case, another order
         &["solo"],
         &["schedule", "solo"],
         &["Solo", "schedule"],

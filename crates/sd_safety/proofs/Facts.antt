@@ -18,7 +18,8 @@ use Rattle.sd_plan.proofs.Numbered.{both_none}
 use Rattle.std.specs.Option.{option_or}
 use Rattle.sd_check_root.specs.Timing.{round_gap}
 use Rattle.sd_check_root.specs.Roots.{root_breach, fallback_breach}
-use Rattle.sd_checker.specs.Verdicts.{IsAccepted, RootHolds}
+use Rattle.sd_checker.specs.Conditions.{RootHolds}
+use Rattle.sd_checker.specs.Verdicts.{IsAccepted}
 use Rattle.sd_sched.specs.declared.Event.{Event}
 use Rattle.sd_history.specs.World.{Setting}
 use Rattle.sd_history.specs.Steps.{Step}
@@ -62,7 +63,7 @@ pub sound_now : (setting : Setting) (history : List Event) → IsFair setting �
 sound_now setting history fair is =
     let plan = plan_now setting (chronicle setting history) in
     let accepted : IsAccepted setting.net plan = in_force_too (IsAccepted setting.net) setting history fair.accepted fair.some_plan is in
-    let structured = accepted.domain_safe.loop_free.rooted.timely.well_formed.structure in
+    let structured = accepted.structure in
     let roots = roots_of setting.net plan structured in
     record {
       accepted = accepted;
@@ -70,7 +71,7 @@ sound_now setting history fair is =
       rules = keeps_rules setting.net plan structured;
       backup_member = roots.0;
       apart = turned plan.root plan.backup_root roots.1;
-      timed = timed_by setting.net plan fair.network.tick.0 accepted.domain_safe.loop_free.rooted.timely.timing;
+      timed = timed_by setting.net plan fair.network.tick.0 accepted.timing;
     }
 
 -- root and backup root are not both in one domain
@@ -85,7 +86,7 @@ not_both_failed setting steps h accepted failed =
     let net = setting.net in
     let plan = plan_now setting steps in
     let f = h.domain in
-    let holds_ : root_breach net plan f ≡ None = each_among (RootHolds net plan) (domains net) f accepted.domain_safe.loop_free.rooted.root h.among in
+    let holds_ : root_breach net plan f ≡ None = each_among (RootHolds net plan) (domains net) f accepted.root h.among in
     let off : holds_device net f plan.backup_root ≡ false =
     not_both_roots (holds_device net f plan.root) (holds_device net f plan.backup_root) (hits net f (path net plan plan.backup_root)) (fallback_breach net plan f) (thing.Device plan.backup_root) holds_
     (held net f (failed_now steps) (thing.Device plan.root) h.all failed) in

@@ -14,7 +14,8 @@ use Rattle.sd_plan.specs.declared.Plan.{Plan}
 use Rattle.sd_plan.specs.Walks.{path}
 use Rattle.sd_plan.proofs.Numbered.{none_found, both_none}
 use Rattle.sd_check_root.specs.Roots.{fallback_devices, fallback_links, fallback_breach, root_breach}
-use Rattle.sd_checker.specs.Verdicts.{IsAccepted, RootHolds}
+use Rattle.sd_checker.specs.Conditions.{RootHolds}
+use Rattle.sd_checker.specs.Verdicts.{IsAccepted}
 use Rattle.sd_sched.specs.declared.Event.{Event}
 use Rattle.sd_sched.specs.declared.Event.TheVariants as event
 use Rattle.sd_history.specs.Things.{failure_of}
@@ -88,7 +89,7 @@ off_fallback : (setting : Setting) (plan : Plan) (steps : List Step) (h : Holdin
 off_fallback setting plan steps h accepted hit_ =
     let net = setting.net in
     let f = h.domain in
-    let holds_ : root_breach net plan f ≡ None = each_among (RootHolds net plan) (domains net) f accepted.domain_safe.loop_free.rooted.root h.among in
+    let holds_ : root_breach net plan f ≡ None = each_among (RootHolds net plan) (domains net) f accepted.root h.among in
     let none : fallback_breach net plan f ≡ None =
     breach_when (holds_device net f plan.root && holds_device net f plan.backup_root) (hits net f (path net plan plan.backup_root)) (fallback_breach net plan f) None (thing.Device plan.backup_root) holds_ hit_ in
     let both =

@@ -37,7 +37,7 @@ has_fallback setting e history fair clean core =
       devices = fallback_devices_sound setting all clean.is held accepted core.causes.move;
       links = fallback_links_sound setting all clean.is held accepted core.causes.move;
       stay =
-          fallback_stay setting (chronicle setting all) (fits_now setting e history fair clean) accepted.domain_safe.loop_free.rooted.timely.well_formed
+          fallback_stay setting (chronicle setting all) (fits_now setting e history fair clean) accepted
           (fallback_devices_sound setting all clean.is held accepted core.causes.move) (fallback_links_sound setting all clean.is held accepted core.causes.move)
           core.causes.backups core.census.outsiders;
     }

@@ -32,14 +32,14 @@ use Rattle.sd_safety.proofs.Sides.{implied, not_both, stands, same_is_some, root
 module _ (setting : Setting) (history : List Event) (inv : Invariant setting (chronicle setting history)) (held : Holding setting (chronicle setting history))
     (fits : Fits setting.net (plan_now setting (chronicle setting history))) (accepted : IsAccepted setting.net (plan_now setting (chronicle setting history))) where
   rules : KeepsRules setting.net (plan_now setting (chronicle setting history))
-  rules = keeps_rules setting.net (plan_now setting (chronicle setting history)) accepted.domain_safe.loop_free.rooted.timely.well_formed.structure
+  rules = keeps_rules setting.net (plan_now setting (chronicle setting history)) accepted.structure
 
   -- following parents comes back to nobody
   pub comes_back_to_none : (n d : ℕ) → follow (counted_parent setting (chronicle setting history)) (suc n) d ≡ Some d → ⊥
   comes_back_to_none n d same =
       let plan = plan_now setting (chronicle setting history) in
       no_cycle (counted_parent setting (chronicle setting history)) plan (root_stops setting history inv) setting.net held.domain (edge setting history inv held)
-      (each_among (HasNoCycle setting.net plan) (domains setting.net) held.domain accepted.domain_safe.loop_free.loop held.among)
+      (each_among (HasNoCycle setting.net plan) (domains setting.net) held.domain accepted.loop held.among)
       (backup_root_stops setting history inv fits rules) n d same
 
   on_no_loop : (d : ℕ) → is_on_loop setting (chronicle setting history) d ≡ false

@@ -13,7 +13,7 @@ use Rattle.sd_plan.specs.declared.Plan.{Plan}
 use Rattle.sd_plan.specs.Plans.{is_member, is_present, is_root}
 use Rattle.sd_plan.specs.Walks.{path, epath}
 use Rattle.sd_check_root.specs.Roots.{root_breach}
-use Rattle.sd_checker.specs.Verdicts.{RootHolds}
+use Rattle.sd_checker.specs.Conditions.{RootHolds}
 use Rattle.sd_core.specs.Words.{has_moved}
 use Rattle.sd_sched.specs.declared.Event.{Event}
 use Rattle.sd_history.specs.World.{Setting, is_up, is_untouched, link_has_failed, has_commit, joined_in_window, staged_epoch, is_counted}
@@ -148,7 +148,7 @@ module _ (setting : Setting) (e : Event) (history : List Event) (fair : IsFair s
       let p = plan_now setting two in
       let h : Holding setting two = held_now setting e history clean in
       let holds_ : root_breach setting.net p h.domain ≡ None =
-      each_among (RootHolds setting.net p) (domains setting.net) h.domain (accepted_now setting e history fair clean).domain_safe.loop_free.rooted.root h.among in
+      each_among (RootHolds setting.net p) (domains setting.net) h.domain (accepted_now setting e history fair clean).root h.among in
       not_both (holds_device setting.net h.domain p.root && holds_device setting.net h.domain p.backup_root)
       (and_from (holds_device setting.net h.domain p.root) (holds_device setting.net h.domain p.backup_root)
       (held setting.net h.domain (failed_now two) (thing.Device p.root) h.all root_) (held setting.net h.domain (failed_now two) (thing.Device p.backup_root) h.all backup_))

@@ -81,4 +81,4 @@ links_tell {setting} fair epoch = go (slice_get setting.plans (epoch - 1)) refl
   where
     go : (o : Option Plan) → slice_get setting.plans (epoch - 1) ≡ o → TellsParent (of_some o no_plan (λ plan. plan))
     go None is = λ d x y link one two. absurd (no_row d one.hop one.is)
-    go (Some plan) is = tells_of setting.net plan (fair.fit (epoch - 1) plan is) (fair.accepted (epoch - 1) plan is).domain_safe.loop_free.rooted.timely.well_formed.structure
+    go (Some plan) is = tells_of setting.net plan (fair.fit (epoch - 1) plan is) (fair.accepted (epoch - 1) plan is).structure

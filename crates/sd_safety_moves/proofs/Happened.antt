@@ -59,7 +59,7 @@ pub roots_of : (setting : Setting) (history : List Event) → IsFair setting →
 roots_of setting history fair is =
     let plan = plan_now setting (chronicle setting history) in
     let accepted : IsAccepted setting.net plan = in_force_too (IsAccepted setting.net) setting history fair.accepted fair.some_plan is in
-    let formed : structure_breach setting.net plan ≡ None = accepted.domain_safe.loop_free.rooted.timely.well_formed.structure in
+    let formed : structure_breach setting.net plan ≡ None = accepted.structure in
     let fits : Fits setting.net plan = in_force_too (Fits setting.net) setting history fair.fit fair.some_plan is in
     let both = two_roots (is_member plan plan.root) (is_member plan plan.backup_root) (nat_eq plan.root plan.backup_root) plan.root plan.backup_root (unmapped (roots_breach plan) (first_none (option_map (λ d. (1, d)) (roots_breach plan)) _ formed)) in
     record {
@@ -68,7 +68,7 @@ roots_of setting history fair is =
       backup_within = fits.backup_root;
       backup_member = both.0;
       apart = false_from_ne_true (nat_eq plan.backup_root plan.root) (λ is. both_ways (nat_eq plan.root plan.backup_root) both.1 (eq-eqb plan.root plan.backup_root (sym (eqb-true plan.backup_root plan.root is))));
-      timed = timed_by setting.net plan fair.network.tick.0 accepted.domain_safe.loop_free.rooted.timely.timing;
+      timed = timed_by setting.net plan fair.network.tick.0 accepted.timing;
     }
 
 module _ (setting : Setting) (r d c : ℕ) (history : List Event) (comes : Comes setting history (event.Tick r d c)) (p : Past) (there : past_in (chronicle setting history) d ≡ Some p) where

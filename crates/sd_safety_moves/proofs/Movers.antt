@@ -227,7 +227,7 @@ module _ (setting : Setting) (r d c : ℕ) (history : List Event) (comes : Comes
             let due : r ≤ latest_tick (seen_of steps) d + setting.net.params.tick = leb-true r (latest_tick (seen_of steps) d + setting.net.params.tick) mine in
             let latest : latest_tick (seen_of steps) d ≤ latest_reference (seen_of steps) = tick_within setting steps (timed setting history timely_then) d in
             let since : beginning (seen_of steps) ≤ heard_at steps d = subst (λ h. beginning (seen_of steps) ≤ h) (sym (heard_is setting steps (timed setting history timely_then) d)) (since_first history there timely_then) in
-            let bounds = timed_by setting.net (plan_now setting steps) comes.fair.network.tick.0 accepted_then.domain_safe.loop_free.rooted.timely.timing in
+            let bounds = timed_by setting.net (plan_now setting steps) comes.fair.network.tick.0 accepted_then.timing in
             far setting.net.params.loss setting.net.params.depth (delay setting.net) (round_gap setting.net) setting.net.params.tick r (heard_at steps d) (beginning (seen_of steps)) (latest_tick (seen_of steps) d) (latest_reference (seen_of steps))
             bounds.gap silent_long since due latest early
           where

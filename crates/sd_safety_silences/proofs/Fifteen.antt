@@ -182,7 +182,7 @@ module _ (setting : Setting) (x : Event) (h : List Event) (e : Event) (s0 : ℕ)
 
   pub rests_by : reference_of e ≤ s0 + rounds_gap setting.net + (depth setting.net + 1) * delay setting.net
   rests_by =
-      let hop = the_hop (backup_of plan b) (falls setting.net plan fine.accepted.domain_safe.loop_free.rooted.timely.well_formed.structure fine.fits.backup_root) in
+      let hop = the_hop (backup_of plan b) (falls setting.net plan fine.accepted.structure fine.fits.backup_root) in
       fallback_by hop.0 hop.1
 
 rest_sum : (r h m r0 q p a b : ℕ) → r ≤ max (max h m) (r0 + q) + a + b → r0 ≤ h → q + 1 ≤ p → r - max h m ≤ a + p + b

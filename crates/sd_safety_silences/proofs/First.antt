@@ -217,7 +217,7 @@ module _ (setting : Setting) (x : Event) (h : List Event) (e : Event) (s0 : ℕ)
   spacing = emissions_are_apart setting (x ∷ h) (before setting e (x ∷ h) (times setting x h e phase.comes))
 
   rule : IsApart setting.net
-  rule = apart_by_rule setting.net (plan_now setting steps') (sound setting x h e phase.comes).accepted.domain_safe.loop_free.rooted.timely.timing
+  rule = apart_by_rule setting.net (plan_now setting steps') (sound setting x h e phase.comes).accepted.timing
 
   -- where all emissions are later than the reference they are of one life of the root, and of one term
   pub first_led : ((p : Moment) → IsIn p (chronicle setting (x ∷ h)) → (y : ℕ) (m : Message) → Emits p y m → s0 < when p) → IsLed setting (chronicle setting (x ∷ h)) s0

@@ -62,7 +62,7 @@ whole_path_always setting (x ∷ h) e comes first_era calm d lives old primary p
     next_event setting x h e comes d s.live (old_is_member setting steps d ((now setting x h e comes).core.census.outsiders d) old) in
     let by = lately_by setting (x ∷ h) e comes first_era calm d lives old primary path_ in
     let both = whole_path_lately setting (x ∷ h) e comes first_era calm d lives (or_left (not (has_commit (seen_of steps))) _ (ap not calm)) old primary path_ in
-    let rule : IsApart net = apart_by_rule net (plan_now setting steps) (sound setting x h e comes).accepted.domain_safe.loop_free.rooted.timely.timing in (
+    let rule : IsApart net = apart_by_rule net (plan_now setting steps) (sound setting x h e comes).accepted.timing in (
       always_sum (reference_of e) (latest_reference (seen_of steps)) (heard_at steps d) (beginning (seen_of steps)) (tick_gap net) (greatest_up net net.params.period) (round_gap net) (rounds_gap net) (depth net * delay net) (least_low net net.params.period)
           gap by.0 by.1 refl (least_below_greatest net net.params.period) (apart_low (2 * (net.params.depth + 1) * greatest_delay net) net.params.tick (least_low net net.params.period) rule),
       λ heard. more (reference_of e) (latest_reference (seen_of steps)) (heard_at steps d) (tick_gap net) (rounds_gap net + depth net * delay net) gap (both.1 heard),

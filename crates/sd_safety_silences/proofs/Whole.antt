@@ -85,7 +85,7 @@ module _ (setting : Setting) (x : Event) (h : List Event) (e : Event) (s0 : ℕ)
         loss = premises.loss;
         life = led.life;
         spacing = emissions_are_apart setting (x ∷ h) (before setting e (x ∷ h) (times setting x h e phase.comes));
-        rule = apart_by_rule setting.net plan s.accepted.domain_safe.loop_free.rooted.timely.timing;
+        rule = apart_by_rule setting.net plan s.accepted.timing;
         epoch_is = root_epoch setting x h e s0 phase kept;
         newest = led.newest;
         current = λ q here late. inl (sym (phase.same q (behind here) late).0);

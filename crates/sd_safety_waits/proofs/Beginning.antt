@@ -81,7 +81,7 @@ module _ (setting : Setting) (fair : IsFair setting) (e : Event) (d c : ℕ) (ol
       calm_emission setting (next_step setting (chronicle setting (x ∷ history)) e) (next_step setting (chronicle setting history) x) (chronicle setting history) d c old (rate_is_low setting.net d t.network) (tick_of (x ∷ history) t act is) duty.0 duty.1 sends in
       let least : least_low setting.net duty.0.period ≤ low (rates_of setting.net d) duty.0.period = least_is_low setting.net d duty.0.period (ticker_is_known (x ∷ history) t act) in
       let accepted : IsAccepted setting.net (plan_now setting (chronicle setting (x ∷ history))) = in_force_too (IsAccepted setting.net) setting (x ∷ history) fair.accepted fair.some_plan t.is.0 in
-      let plan : IsTimed setting.net (plan_now setting (chronicle setting (x ∷ history))) = plan_is_timed setting.net (plan_now setting (chronicle setting (x ∷ history))) accepted.domain_safe.loop_free.rooted.timely.timing in
+      let plan : IsTimed setting.net (plan_now setting (chronicle setting (x ∷ history))) = plan_is_timed setting.net (plan_now setting (chronicle setting (x ∷ history))) accepted.timing in
       let long : setting.net.params.tick < least_low setting.net duty.0.period =
       subst (λ p. setting.net.params.tick < least_low setting.net p) (sym period) (drop_first (2 * (setting.net.params.depth + 1) * _) setting.net.params.tick (least_low setting.net setting.net.params.period) plan.period) in
       omega (arith, apart, least, long)

@@ -49,7 +49,7 @@ LongDuty net duty = (wait : ℕ) → wait_to_move duty ≡ Some wait → 2 * (si
 
 accepted_is_long : (net : Network) (plan : Plan) → IsNetwork net → IsAccepted net plan → LongPlan net plan
 accepted_is_long net plan is accepted =
-    let t : IsTimed net plan = plan_is_timed net plan accepted.domain_safe.loop_free.rooted.timely.timing in (
+    let t : IsTimed net plan = plan_is_timed net plan accepted.timing in (
       t.first,
       longest (silence net) net.params.tick _ _ (least_low net plan.wait) t.wait,
     )

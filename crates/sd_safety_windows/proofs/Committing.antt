@@ -112,7 +112,7 @@ commit_asks setting r d c history fair clean =
     let prepared : (x : ℕ) → x < length setting.net.devices → is_member (staged_plan setting steps) x ≡ true → is_prepared setting (seen_of steps) x ≡ true =
     (λ x known member. passes (is_prepared setting (seen_of steps)) (filter_in (is_member (staged_plan setting steps)) x _ (among_below (length setting.net.devices) x known) member) two.0) in
     let accepted : IsAccepted setting.net (staged_plan setting steps) = staged_too (IsAccepted setting.net) setting history fair.accepted clean.is.0 asks.opened in
-    let rules : KeepsRules setting.net (staged_plan setting steps) = keeps_rules setting.net (staged_plan setting steps) accepted.domain_safe.loop_free.rooted.timely.well_formed.structure in
+    let rules : KeepsRules setting.net (staged_plan setting steps) = keeps_rules setting.net (staged_plan setting steps) accepted.structure in
     record {
       opened = asks.opened;
       first_one = asks.first_one;

@@ -70,7 +70,7 @@ module _ (setting : Setting) (history : List Event) (clean : IsHistory setting h
             turned x (staged_plan setting (chronicle setting history)).root (sym (ap (nat_eq x) root) ∙ not-true (nat_eq x (staged_root setting (chronicle setting history))) parts.1) in
             let of : IsLinked (chronicle setting history) x = each x parts.0 other in
             let accepted : IsAccepted setting.net (staged_plan setting (chronicle setting history)) = staged_too (IsAccepted setting.net) setting history fair.accepted clean (new_opens x parts.0) in
-            let led = leads setting history each (keeps_rules setting.net (staged_plan setting (chronicle setting history)) accepted.domain_safe.loop_free.rooted.timely.well_formed.structure) clean x parts.0 other in
+            let led = leads setting history each (keeps_rules setting.net (staged_plan setting (chronicle setting history)) accepted.structure) clean x parts.0 other in
             and_from (on_primary (chronicle setting history) x && of_some (parent_in (chronicle setting history) x) false (is_new (chronicle setting history))) _
             (and_from (on_primary (chronicle setting history) x) _ of.primary (ap (λ o. of_some o false (is_new (chronicle setting history))) of.leads ∙ of.new))
             (any_passing (λ k. same_number (follow (parent_in (chronicle setting history)) k x) (staged_root setting (chronicle setting history))) led.steps (below (depth setting.net + 1)) (among_below (depth setting.net + 1) led.steps (less led.steps (depth setting.net) led.few))

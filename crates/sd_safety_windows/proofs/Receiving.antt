@@ -156,7 +156,7 @@ module _ (setting : Setting) (r d c n : ℕ) (history : List Event) (fair : IsFa
               let accepted : IsAccepted setting.net (staged_plan setting (chronicle setting history)) =
               staged_too (IsAccepted setting.net) setting history fair.accepted clean.is.0 (commit_is_open (seen_of (chronicle setting history)) commit) in
               let rules : KeepsRules setting.net (plan_numbered setting f.message.epoch) =
-              subst (λ k. KeepsRules setting.net (plan_numbered setting k)) (sym epoch) (keeps_rules setting.net (staged_plan setting (chronicle setting history)) accepted.domain_safe.loop_free.rooted.timely.well_formed.structure) in
+              subst (λ k. KeepsRules setting.net (plan_numbered setting k)) (sym epoch) (keeps_rules setting.net (staged_plan setting (chronicle setting history)) accepted.structure) in
               let known : d < length setting.net.devices = named_is_known setting (chronicle setting history) (event.Recv r d c n) d clean.is.1 refl in
               let same_parent : edge.parent ≡ f.sender =
               one_parent setting.net (plan_numbered setting f.message.epoch) d edge.parent f.sender f.link rules known

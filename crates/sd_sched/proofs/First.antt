@@ -1,10 +1,11 @@
--- What stands before the first space is the first field.
-use Rattle.std.proofs.Common.{◌≡◌, ℕ, ◌+◌, ◌<◌, Bool, true, false, cond, not, eqb, List, [], ◌∷◌, length, get_or, take, Some, None, Err, refl, sym, ap, ◌∙◌, arith, one-add, take_all, ltb-false}
+-- What stands before the first space is the first field, by which a line is known or unknown.
+use Rattle.std.proofs.Common.{◌≡◌, ℕ, ◌+◌, Bool, true, false, cond, not, eqb, List, [], ◌∷◌, length, get_or, take, drop, Some, None, Err, refl, sym, ap, ◌∙◌, one-add, take_all, ltb-false}
 use Rattle.std.specs.Prelude.{nat_lt}
 use Rattle.std.specs.List.{position, position_or_len}
-use Rattle.sd_sched.specs.Lines.{fields, with_front, first_field, is_word, event_of_line}
+use Rattle.sd_sched.specs.Lines.{fields, first_field, is_word, event_of_fields, event_of_line}
+use Rattle.sd_sched.specs.Reading.{fields_behind}
 use Rattle.sd_sched.specs.declared.LineFault.TheVariants.{UnknownWord}
-use Rattle.sd_sched.proofs.Cuts.{some_field}
+use Rattle.sd_sched.proofs.Cuts.{fields_step}
 use Rattle.sd_sched.proofs.ByWord.{no_word}
 
 -- the bytes before the first space
@@ -34,15 +35,9 @@ first_is_all bytes none = sym (take_all (position_or_len (λ byte. eqb byte 32) 
 
 -- the fields begin with what stands before the first space
 pub first_of_fields : (bytes : List ℕ) → get_or (fields bytes) 0 [] ≡ first_field bytes
-first_of_fields [] = refl
-first_of_fields (byte ∷ bytes) = go (eqb byte 32) (fields bytes) (some_field bytes) (first_of_fields bytes)
-  where
-    go : (space : Bool) (fs : List (List ℕ)) → 0 < length fs → get_or fs 0 [] ≡ first_field bytes → get_or (cond space ([] ∷ fs) (with_front byte fs)) 0 [] ≡ cond space [] (byte ∷ first_field bytes)
-    go true fs some first = refl
-    go false [] some first = absurd (omega arith)
-    go false (f ∷ fs) some first = ap (λ (bs : List ℕ). byte ∷ bs) first
+first_of_fields bytes = ap (λ (fs : List (List ℕ)). get_or fs 0 []) (fields_step bytes)
 
 -- a line whose first field is no word of the schedule
 pub unknown_first : (bytes : List ℕ) → is_word (first_field bytes) ≡ false → event_of_line bytes ≡ Err UnknownWord
-unfolding event_of_line is_word
-unknown_first bytes none = no_word (fields bytes) (some_field bytes) (rw (first_of_fields bytes) none)
+unfolding event_of_line
+unknown_first bytes none = ap event_of_fields (fields_step bytes) ∙ no_word (first_field bytes) (fields_behind (drop (length (first_field bytes)) bytes)) none

@@ -1,5 +1,5 @@
 -- Fields that are joined by spaces are cut into the same fields.
-use Rattle.std.proofs.Common.{◌≡◌, ◌≢◌, ℕ, Bool, true, not, eqb, List, [], ◌∷◌, ◌++◌, refl, ap, ◌∙◌, arith, ne_eqb}
+use Rattle.std.proofs.Common.{◌≡◌, ◌≢◌, ℕ, Bool, true, false, not, eqb, List, [], ◌∷◌, ◌++◌, refl, ap, ◌∙◌, arith, ne_eqb}
 use Rattle.std.proofs.lemmas.Bool.{and_parts, not-true, and_from, leb-true}
 use Rattle.std.specs.Prelude.{nat_le}
 use Rattle.std.specs.List.{list_all, join_with_byte}
@@ -33,11 +33,14 @@ fields-joined first (second ∷ others) clean =
     fields_more first (join_with_byte 32 (second ∷ others)) parts.0 ∙ ap (λ (fs : List (List ℕ)). first ∷ fs) (fields-joined second others parts.1)
 
 -- a digit is no space
-digit_no_space : (byte : ℕ) → is_digit byte ≡ true → not (eqb byte 32) ≡ true
-digit_no_space byte digit =
+pub no_space_digit : (byte : ℕ) → is_digit byte ≡ true → eqb byte 32 ≡ false
+no_space_digit byte digit =
     let range : (nat_le 48 byte ≡ true) × (nat_le byte 57 ≡ true) = and_parts (nat_le 48 byte) (nat_le byte 57) digit in
     let other : byte ≢ 32 = omega (arith, leb-true 48 byte range.0) in
-    rw (ne_eqb byte 32 other) refl
+    ne_eqb byte 32 other
+
+digit_no_space : (byte : ℕ) → is_digit byte ≡ true → not (eqb byte 32) ≡ true
+digit_no_space byte digit = ap not (no_space_digit byte digit)
 
 -- digits have no space among them
 pub digits_no_space : (bytes : List ℕ) → AllDigits bytes → has_no_space bytes ≡ true

@@ -1,8 +1,10 @@
 mod Rows
 pub mod Cuts
-pub mod Cutting
 pub mod Decimals
 pub mod Joined
+pub mod Join
 pub mod ByWord
 pub mod First
+pub mod Front
+pub mod ByLine
 pub mod ReadBack

@@ -1,13 +1,14 @@
 -- The line of an event, read again, is the event.
-use Rattle.std.proofs.Common.{◌≡◌, ℕ, ◌^◌, ◌<◌, Bool, true, false, cond, ◌&&◌, nat_le, List, [], ◌∷◌, ◌++◌, Some, Ok, map, refl, sym, ap, ◌∙◌, suc, ◌+◌, ◌-◌, length, nat_eq, arith, append_assoc, eq-eqb, leb-true}
-use Rattle.std.specs.Prelude.{codes, slice_index}
+use Rattle.std.proofs.Common.{◌≡◌, ℕ, ◌^◌, ◌<◌, Bool, true, false, ◌&&◌, nat_le, List, [], ◌∷◌, ◌++◌, Some, Ok, map, refl, sym, ap, ◌∙◌, suc, ◌+◌, ◌-◌, length, nat_eq, arith, append_assoc, eq-eqb, leb-true}
+use Rattle.std.specs.Prelude.{codes}
 use Rattle.std.specs.Fmt.{decimal}
 use Rattle.std.specs.List.{list_all, join_with_byte}
 use Rattle.std.proofs.lemmas.Bool.{and_parts, and_from}
 use Rattle.std.proofs.lemmas.List.{length-map}
 use Rattle.sd_num.specs.Decimals.{number}
-use Rattle.sd_sched.specs.Lines.{Field, Word, word, is_kind, limit, field_number, field_numbers, has_unknown_kind, event_of_word, event_of_fields, event_of_line, line_of_event, is_within}
-use Rattle.sd_sched.specs.Lines.Field.{Amount, Which, Kind}
+use Rattle.sd_sched.specs.Lines.{Word, word, start_word, tick_word, recv_word, lose_word, fail_word, fix_word, ask_word, stage_word, give_word, commit_word, seal_word, join_word, mend_word, end_word, is_kind, limit, field_number, field_numbers, has_unknown_kind, event_of_word, event_of_fields, event_of_line, line_of_event, is_within}
+use Rattle.sd_sched.specs.declared.words.Field.{Field}
+use Rattle.sd_sched.specs.declared.words.Field.TheVariants.{Amount, Which, Kind}
 use Rattle.sd_sched.specs.Printing.{terminated}
 use Rattle.sd_sched.specs.declared.Event.{Event}
 use Rattle.sd_sched.specs.declared.Event.TheVariants.{Start, Tick, Recv, Lose, FailDevice, FailLink, Fix, Ask, Stage, Give, Commit, Seal, Join, MendDevice, MendLink, End}
@@ -124,19 +125,19 @@ two_swapped false reference within = absurd (cc)
 -- each event within the limits, printed and read
 pub line_back : (e : Event) → is_within e ≡ true → event_of_line (line_of_event e) ≡ Ok e
 unfolding event_of_line line_of_event
-line_back (Start reference device counter clock eps) within = plain_back (word (codes "start") (Amount ∷ Which ∷ Amount ∷ Amount ∷ Amount ∷ []) (λ v. Start (slice_index v 0) (slice_index v 1) (slice_index v 2) (slice_index v 3) (slice_index v 4))) (reference ∷ device ∷ counter ∷ clock ∷ eps ∷ []) refl (λ texts. refl) (reference_first (nat_le device (limit Which)) (nat_le reference (limit Amount)) (list_all (λ n. nat_le n (limit Amount)) (counter ∷ clock ∷ eps ∷ [])) within)
-line_back (Tick reference device counter) within = plain_back (word (codes "tick") (Amount ∷ Which ∷ Amount ∷ []) (λ v. Tick (slice_index v 0) (slice_index v 1) (slice_index v 2))) (reference ∷ device ∷ counter ∷ []) refl (λ texts. refl) (reference_first (nat_le device (limit Which)) (nat_le reference (limit Amount)) (list_all (λ n. nat_le n (limit Amount)) (counter ∷ [])) within)
-line_back (Recv reference device counter message) within = plain_back (word (codes "recv") (Amount ∷ Which ∷ Amount ∷ Amount ∷ []) (λ v. Recv (slice_index v 0) (slice_index v 1) (slice_index v 2) (slice_index v 3))) (reference ∷ device ∷ counter ∷ message ∷ []) refl (λ texts. refl) (reference_first (nat_le device (limit Which)) (nat_le reference (limit Amount)) (list_all (λ n. nat_le n (limit Amount)) (counter ∷ message ∷ [])) within)
-line_back (Lose reference message) within = plain_back (word (codes "lose") (Amount ∷ Amount ∷ []) (λ v. Lose (slice_index v 0) (slice_index v 1))) (reference ∷ message ∷ []) refl (λ texts. refl) within
-line_back (FailDevice reference device) within = kind_back (codes "fail") (codes "device") 0 (λ v. cond (nat_eq (slice_index v 1) 0) (FailDevice (slice_index v 0) (slice_index v 2)) (FailLink (slice_index v 0) (slice_index v 2))) reference device refl refl refl refl (λ texts. refl) within
-line_back (FailLink reference link) within = kind_back (codes "fail") (codes "link") 1 (λ v. cond (nat_eq (slice_index v 1) 0) (FailDevice (slice_index v 0) (slice_index v 2)) (FailLink (slice_index v 0) (slice_index v 2))) reference link refl refl refl refl (λ texts. refl) within
-line_back (Fix reference device counter clock eps) within = plain_back (word (codes "fix") (Amount ∷ Which ∷ Amount ∷ Amount ∷ Amount ∷ []) (λ v. Fix (slice_index v 0) (slice_index v 1) (slice_index v 2) (slice_index v 3) (slice_index v 4))) (reference ∷ device ∷ counter ∷ clock ∷ eps ∷ []) refl (λ texts. refl) (reference_first (nat_le device (limit Which)) (nat_le reference (limit Amount)) (list_all (λ n. nat_le n (limit Amount)) (counter ∷ clock ∷ eps ∷ [])) within)
-line_back (Ask reference device counter) within = plain_back (word (codes "ask") (Amount ∷ Which ∷ Amount ∷ []) (λ v. Ask (slice_index v 0) (slice_index v 1) (slice_index v 2))) (reference ∷ device ∷ counter ∷ []) refl (λ texts. refl) (reference_first (nat_le device (limit Which)) (nat_le reference (limit Amount)) (list_all (λ n. nat_le n (limit Amount)) (counter ∷ [])) within)
-line_back (Stage reference) within = plain_back (word (codes "stage") (Amount ∷ []) (λ v. Stage (slice_index v 0))) (reference ∷ []) refl (λ texts. refl) (with_true (nat_le reference (limit Amount)) within)
-line_back (Give reference device) within = plain_back (word (codes "give") (Amount ∷ Which ∷ []) (λ v. Give (slice_index v 0) (slice_index v 1))) (reference ∷ device ∷ []) refl (λ texts. refl) (two_swapped (nat_le device (limit Which)) (nat_le reference (limit Amount)) within)
-line_back (Commit reference device counter) within = plain_back (word (codes "commit") (Amount ∷ Which ∷ Amount ∷ []) (λ v. Commit (slice_index v 0) (slice_index v 1) (slice_index v 2))) (reference ∷ device ∷ counter ∷ []) refl (λ texts. refl) (reference_first (nat_le device (limit Which)) (nat_le reference (limit Amount)) (list_all (λ n. nat_le n (limit Amount)) (counter ∷ [])) within)
-line_back (Seal reference device) within = plain_back (word (codes "seal") (Amount ∷ Which ∷ []) (λ v. Seal (slice_index v 0) (slice_index v 1))) (reference ∷ device ∷ []) refl (λ texts. refl) (two_swapped (nat_le device (limit Which)) (nat_le reference (limit Amount)) within)
-line_back (Join reference device counter clock eps) within = plain_back (word (codes "join") (Amount ∷ Which ∷ Amount ∷ Amount ∷ Amount ∷ []) (λ v. Join (slice_index v 0) (slice_index v 1) (slice_index v 2) (slice_index v 3) (slice_index v 4))) (reference ∷ device ∷ counter ∷ clock ∷ eps ∷ []) refl (λ texts. refl) (reference_first (nat_le device (limit Which)) (nat_le reference (limit Amount)) (list_all (λ n. nat_le n (limit Amount)) (counter ∷ clock ∷ eps ∷ [])) within)
-line_back (MendDevice reference device) within = kind_back (codes "mend") (codes "device") 0 (λ v. cond (nat_eq (slice_index v 1) 0) (MendDevice (slice_index v 0) (slice_index v 2)) (MendLink (slice_index v 0) (slice_index v 2))) reference device refl refl refl refl (λ texts. refl) within
-line_back (MendLink reference link) within = kind_back (codes "mend") (codes "link") 1 (λ v. cond (nat_eq (slice_index v 1) 0) (MendDevice (slice_index v 0) (slice_index v 2)) (MendLink (slice_index v 0) (slice_index v 2))) reference link refl refl refl refl (λ texts. refl) within
-line_back (End reference) within = plain_back (word (codes "end") (Amount ∷ []) (λ v. End (slice_index v 0))) (reference ∷ []) refl (λ texts. refl) (with_true (nat_le reference (limit Amount)) within)
+line_back (Start reference device counter clock eps) within = plain_back start_word (reference ∷ device ∷ counter ∷ clock ∷ eps ∷ []) refl (λ texts. refl) (reference_first (nat_le device (limit Which)) (nat_le reference (limit Amount)) (list_all (λ n. nat_le n (limit Amount)) (counter ∷ clock ∷ eps ∷ [])) within)
+line_back (Tick reference device counter) within = plain_back tick_word (reference ∷ device ∷ counter ∷ []) refl (λ texts. refl) (reference_first (nat_le device (limit Which)) (nat_le reference (limit Amount)) (list_all (λ n. nat_le n (limit Amount)) (counter ∷ [])) within)
+line_back (Recv reference device counter message) within = plain_back recv_word (reference ∷ device ∷ counter ∷ message ∷ []) refl (λ texts. refl) (reference_first (nat_le device (limit Which)) (nat_le reference (limit Amount)) (list_all (λ n. nat_le n (limit Amount)) (counter ∷ message ∷ [])) within)
+line_back (Lose reference message) within = plain_back lose_word (reference ∷ message ∷ []) refl (λ texts. refl) within
+line_back (FailDevice reference device) within = kind_back fail_word.spelled (codes "device") 0 fail_word.event reference device refl refl refl refl (λ texts. refl) within
+line_back (FailLink reference link) within = kind_back fail_word.spelled (codes "link") 1 fail_word.event reference link refl refl refl refl (λ texts. refl) within
+line_back (Fix reference device counter clock eps) within = plain_back fix_word (reference ∷ device ∷ counter ∷ clock ∷ eps ∷ []) refl (λ texts. refl) (reference_first (nat_le device (limit Which)) (nat_le reference (limit Amount)) (list_all (λ n. nat_le n (limit Amount)) (counter ∷ clock ∷ eps ∷ [])) within)
+line_back (Ask reference device counter) within = plain_back ask_word (reference ∷ device ∷ counter ∷ []) refl (λ texts. refl) (reference_first (nat_le device (limit Which)) (nat_le reference (limit Amount)) (list_all (λ n. nat_le n (limit Amount)) (counter ∷ [])) within)
+line_back (Stage reference) within = plain_back stage_word (reference ∷ []) refl (λ texts. refl) (with_true (nat_le reference (limit Amount)) within)
+line_back (Give reference device) within = plain_back give_word (reference ∷ device ∷ []) refl (λ texts. refl) (two_swapped (nat_le device (limit Which)) (nat_le reference (limit Amount)) within)
+line_back (Commit reference device counter) within = plain_back commit_word (reference ∷ device ∷ counter ∷ []) refl (λ texts. refl) (reference_first (nat_le device (limit Which)) (nat_le reference (limit Amount)) (list_all (λ n. nat_le n (limit Amount)) (counter ∷ [])) within)
+line_back (Seal reference device) within = plain_back seal_word (reference ∷ device ∷ []) refl (λ texts. refl) (two_swapped (nat_le device (limit Which)) (nat_le reference (limit Amount)) within)
+line_back (Join reference device counter clock eps) within = plain_back join_word (reference ∷ device ∷ counter ∷ clock ∷ eps ∷ []) refl (λ texts. refl) (reference_first (nat_le device (limit Which)) (nat_le reference (limit Amount)) (list_all (λ n. nat_le n (limit Amount)) (counter ∷ clock ∷ eps ∷ [])) within)
+line_back (MendDevice reference device) within = kind_back mend_word.spelled (codes "device") 0 mend_word.event reference device refl refl refl refl (λ texts. refl) within
+line_back (MendLink reference link) within = kind_back mend_word.spelled (codes "link") 1 mend_word.event reference link refl refl refl refl (λ texts. refl) within
+line_back (End reference) within = plain_back end_word (reference ∷ []) refl (λ texts. refl) (with_true (nat_le reference (limit Amount)) within)

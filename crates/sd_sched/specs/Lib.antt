@@ -1,5 +1,4 @@
 pub mod Lines
 pub mod Events
-pub mod Fields
 pub mod Reading
 pub mod Printing

@@ -6,6 +6,8 @@ use Rattle.sd_num.specs.Decimals.{number}
 use Rattle.sd_num.specs.declared.NumFault.{NumFault}
 use Rattle.sd_sched.specs.declared.Event.{Event}
 use Rattle.sd_sched.specs.declared.Event.TheVariants.{Start, Tick, Recv, Lose, FailDevice, FailLink, Fix, Ask, Stage, Give, Commit, Seal, Join, MendDevice, MendLink, End}
+use Rattle.sd_sched.specs.declared.words.Field.{Field}
+use Rattle.sd_sched.specs.declared.words.Field.TheVariants.{Amount, Which, Kind}
 use Rattle.sd_sched.specs.declared.LineFault.{LineFault}
 use Rattle.sd_sched.specs.declared.LineFault.TheVariants.{UnknownWord, FieldCount, Number}
 
@@ -24,10 +26,6 @@ abbrev pub first_field : List ℕ → List ℕ
 first_field [] = []
 first_field (byte ∷ bytes) = if nat_eq byte 32 then [] else byte ∷ first_field bytes
 
--- what a field is: a time or a count, the number of a device or link, or the word that says which of the two
-pub data Field : Type 0 where
-  Amount Which Kind : Field
-
 -- a word of the schedule, its fields, and the event of their numbers; the kind counts as 0 for a device and 1 for a link
 pub record Word : Type 0 where
   pub spelled : List ℕ
@@ -39,22 +37,64 @@ abbrev pub word : List ℕ → List Field → (List ℕ → Event) → Word
 word spelled shape event = record { spelled = spelled; shape = shape; event = event }
 
 -- the fourteen words
+abbrev pub start_word : Word
+start_word = word (codes "start") (Amount ∷ Which ∷ Amount ∷ Amount ∷ Amount ∷ []) (λ v. Start (slice_index v 0) (slice_index v 1) (slice_index v 2) (slice_index v 3) (slice_index v 4))
+
+abbrev pub tick_word : Word
+tick_word = word (codes "tick") (Amount ∷ Which ∷ Amount ∷ []) (λ v. Tick (slice_index v 0) (slice_index v 1) (slice_index v 2))
+
+abbrev pub recv_word : Word
+recv_word = word (codes "recv") (Amount ∷ Which ∷ Amount ∷ Amount ∷ []) (λ v. Recv (slice_index v 0) (slice_index v 1) (slice_index v 2) (slice_index v 3))
+
+abbrev pub lose_word : Word
+lose_word = word (codes "lose") (Amount ∷ Amount ∷ []) (λ v. Lose (slice_index v 0) (slice_index v 1))
+
+abbrev pub fail_word : Word
+fail_word = word (codes "fail") (Amount ∷ Kind ∷ Which ∷ []) (λ v. if nat_eq (slice_index v 1) 0 then FailDevice (slice_index v 0) (slice_index v 2) else FailLink (slice_index v 0) (slice_index v 2))
+
+abbrev pub fix_word : Word
+fix_word = word (codes "fix") (Amount ∷ Which ∷ Amount ∷ Amount ∷ Amount ∷ []) (λ v. Fix (slice_index v 0) (slice_index v 1) (slice_index v 2) (slice_index v 3) (slice_index v 4))
+
+abbrev pub ask_word : Word
+ask_word = word (codes "ask") (Amount ∷ Which ∷ Amount ∷ []) (λ v. Ask (slice_index v 0) (slice_index v 1) (slice_index v 2))
+
+abbrev pub stage_word : Word
+stage_word = word (codes "stage") (Amount ∷ []) (λ v. Stage (slice_index v 0))
+
+abbrev pub give_word : Word
+give_word = word (codes "give") (Amount ∷ Which ∷ []) (λ v. Give (slice_index v 0) (slice_index v 1))
+
+abbrev pub commit_word : Word
+commit_word = word (codes "commit") (Amount ∷ Which ∷ Amount ∷ []) (λ v. Commit (slice_index v 0) (slice_index v 1) (slice_index v 2))
+
+abbrev pub seal_word : Word
+seal_word = word (codes "seal") (Amount ∷ Which ∷ []) (λ v. Seal (slice_index v 0) (slice_index v 1))
+
+abbrev pub join_word : Word
+join_word = word (codes "join") (Amount ∷ Which ∷ Amount ∷ Amount ∷ Amount ∷ []) (λ v. Join (slice_index v 0) (slice_index v 1) (slice_index v 2) (slice_index v 3) (slice_index v 4))
+
+abbrev pub mend_word : Word
+mend_word = word (codes "mend") (Amount ∷ Kind ∷ Which ∷ []) (λ v. if nat_eq (slice_index v 1) 0 then MendDevice (slice_index v 0) (slice_index v 2) else MendLink (slice_index v 0) (slice_index v 2))
+
+abbrev pub end_word : Word
+end_word = word (codes "end") (Amount ∷ []) (λ v. End (slice_index v 0))
+
 abbrev pub words : List Word
 words =
-    word (codes "start") (Amount ∷ Which ∷ Amount ∷ Amount ∷ Amount ∷ []) (λ v. Start (slice_index v 0) (slice_index v 1) (slice_index v 2) (slice_index v 3) (slice_index v 4))
-    ∷ word (codes "tick") (Amount ∷ Which ∷ Amount ∷ []) (λ v. Tick (slice_index v 0) (slice_index v 1) (slice_index v 2))
-    ∷ word (codes "recv") (Amount ∷ Which ∷ Amount ∷ Amount ∷ []) (λ v. Recv (slice_index v 0) (slice_index v 1) (slice_index v 2) (slice_index v 3))
-    ∷ word (codes "lose") (Amount ∷ Amount ∷ []) (λ v. Lose (slice_index v 0) (slice_index v 1))
-    ∷ word (codes "fail") (Amount ∷ Kind ∷ Which ∷ []) (λ v. if nat_eq (slice_index v 1) 0 then FailDevice (slice_index v 0) (slice_index v 2) else FailLink (slice_index v 0) (slice_index v 2))
-    ∷ word (codes "fix") (Amount ∷ Which ∷ Amount ∷ Amount ∷ Amount ∷ []) (λ v. Fix (slice_index v 0) (slice_index v 1) (slice_index v 2) (slice_index v 3) (slice_index v 4))
-    ∷ word (codes "ask") (Amount ∷ Which ∷ Amount ∷ []) (λ v. Ask (slice_index v 0) (slice_index v 1) (slice_index v 2))
-    ∷ word (codes "stage") (Amount ∷ []) (λ v. Stage (slice_index v 0))
-    ∷ word (codes "give") (Amount ∷ Which ∷ []) (λ v. Give (slice_index v 0) (slice_index v 1))
-    ∷ word (codes "commit") (Amount ∷ Which ∷ Amount ∷ []) (λ v. Commit (slice_index v 0) (slice_index v 1) (slice_index v 2))
-    ∷ word (codes "seal") (Amount ∷ Which ∷ []) (λ v. Seal (slice_index v 0) (slice_index v 1))
-    ∷ word (codes "join") (Amount ∷ Which ∷ Amount ∷ Amount ∷ Amount ∷ []) (λ v. Join (slice_index v 0) (slice_index v 1) (slice_index v 2) (slice_index v 3) (slice_index v 4))
-    ∷ word (codes "mend") (Amount ∷ Kind ∷ Which ∷ []) (λ v. if nat_eq (slice_index v 1) 0 then MendDevice (slice_index v 0) (slice_index v 2) else MendLink (slice_index v 0) (slice_index v 2))
-    ∷ word (codes "end") (Amount ∷ []) (λ v. End (slice_index v 0))
+    start_word
+    ∷ tick_word
+    ∷ recv_word
+    ∷ lose_word
+    ∷ fail_word
+    ∷ fix_word
+    ∷ ask_word
+    ∷ stage_word
+    ∷ give_word
+    ∷ commit_word
+    ∷ seal_word
+    ∷ join_word
+    ∷ mend_word
+    ∷ end_word
     ∷ []
 
 -- the two lists of bytes are equal

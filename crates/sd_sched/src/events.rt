@@ -1,3 +1,4 @@
+//! What an event says of itself.
 ghost use Rattle.std.specs.Prelude.{◌≡◌};
 ghost use Rattle.sd_sched.specs.Events.{reference_of, device_of, counter_of};
 

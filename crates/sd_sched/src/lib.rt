@@ -16,7 +16,7 @@
 
 mod events;
 mod fields;
-mod numbers;
+mod making;
 mod printing;
 mod reading;
 #[cfg(test)]

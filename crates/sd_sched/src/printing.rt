@@ -1,3 +1,4 @@
+//! An event's line.
 ghost use Rattle.std.specs.Prelude.{◌≡◌, ◌∷◌, ◌++◌, [], IfOk, IsNone, IsSome, IsTrue};
 ghost use Rattle.std.specs.String.{string_bytes};
 ghost use Rattle.sd_sched.specs.Events.{counter_of, clock_of};

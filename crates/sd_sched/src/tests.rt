@@ -1,3 +1,4 @@
+//! A line for each word and kind, and lines that are refused.
 use crate::{Event, LineFault, first_field, line_text, read_line};
 use std::test::Fail;
 

@@ -1,6 +1,7 @@
-ghost use Rattle.std.specs.Prelude.{◌≡◌, IfSome, IfNone, false};
+//! The words of the schedule, and the fields that each has.
+ghost use Rattle.std.specs.Prelude.{◌≡◌, ◌≤◌, length, IfSome, IfNone, false};
 ghost use Rattle.sd_sched.specs.Lines.{is_word};
-ghost use Rattle.sd_sched.specs.Reading.{word_spelled};
+ghost use Rattle.sd_sched.specs.Reading.{row_of};
 
 /// The words that a line may begin with.
 #[derive(Clone, Copy)]
@@ -21,11 +22,25 @@ pub enum Word {
     End,
 }
 
+/// What a field behind a word is.
+#[derive(Clone, Copy)]
+pub enum Field {
+    /// A time or a counter, an uncertainty or the number of a message: at most 2^60.
+    Amount,
+    /// The number of a device or a link: at most 2^32 - 1.
+    Which,
+    /// Which of the two follows: `device`, which counts as 0, or `link`, which counts as 1.
+    Kind,
+}
+
+/// How many fields may stand behind a word.
+pub const MOST_FIELDS: usize = 5;
+
 impl Word {
     /// The word that a field spells.
     #[tactic(auto, unfolding(crate::specs::Lines::is_word))]
     pub fn of(field: &[u8]) -> Option<Word>
-        ensures known { IfSome result (λ word. field.now ≡ word_spelled word) }
+        ensures known { IfSome result (λ word. field.now ≡ (row_of word).spelled) }
         ensures unknown { IfNone result (is_word field.now ≡ false) }
     {
         match field {
@@ -44,6 +59,23 @@ impl Word {
             b"mend" => Some(Word::Mend),
             b"end" => Some(Word::End),
             _ => None,
+        }
+    }
+
+    /// The fields behind the word.
+    pub fn shape(self) -> &'static [Field]
+        ensures shape { result.now ≡ (row_of self).shape }
+        ensures few { length result.now ≤ MOST_FIELDS }
+    {
+        use Field::{Amount, Kind, Which};
+        match self {
+            Word::Start | Word::Fix | Word::Join => &[Amount, Which, Amount, Amount, Amount],
+            Word::Recv => &[Amount, Which, Amount, Amount],
+            Word::Tick | Word::Ask | Word::Commit => &[Amount, Which, Amount],
+            Word::Fail | Word::Mend => &[Amount, Kind, Which],
+            Word::Give | Word::Seal => &[Amount, Which],
+            Word::Lose => &[Amount, Amount],
+            Word::Stage | Word::End => &[Amount],
         }
     }
 }

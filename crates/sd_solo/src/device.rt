@@ -1,3 +1,4 @@
+//! What the device does at each event, and what it refuses.
 ghost use Rattle.std.specs.Prelude.{◌≡◌, ◌≤◌, ◌^◌, List, [], ◌∷◌, IsTrue, None, Some, IfOk, IfErr, IfSome, OnOk, OnErr, length, count_by};
 ghost use Rattle.std.specs.List.{list_any};
 

@@ -1,3 +1,4 @@
+//! How a refusal is printed.
 ghost use Rattle.std.specs.Prelude.{Some};
 ghost use Rattle.sd_solo.specs.Faults.{fault_name};
 

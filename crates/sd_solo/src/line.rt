@@ -1,5 +1,6 @@
+//! A line of a schedule, as one device alone reads it.
 ghost use Rattle.std.specs.Prelude.{◌≡◌, IfOk, IsTrue};
-ghost use Rattle.sd_solo.specs.Histories.{is_known};
+ghost use Rattle.sd_solo.specs.Histories.{is_known as is_known_event};
 ghost use Rattle.sd_solo.specs.Lines.{solo_event, knows};
 
 use sd_sched::{Event, LineFault, first_field, read_line};
@@ -9,13 +10,35 @@ use sd_sched::{Event, LineFault, first_field, read_line};
 #[tactic(auto, unfolding(crate::specs::Lines::solo_event))]
 pub fn read_solo_line(line: &[u8]) -> Result<Event, LineFault>
     ensures event { result ≡ solo_event line.now }
-    ensures known { IfOk result (λ e. IsTrue (is_known e)) }
+    ensures known { IfOk result (λ e. IsTrue (is_known_event e)) }
 {
-    if is_known_word(first_field(line)) {
-        read_line(line)
-    } else {
-        Err(LineFault::UnknownWord)
+    // The event tells whether its word is known, so that a line with one is looked at once.
+    match read_line(line) {
+        Ok(event) => {
+            if is_known(&event) {
+                Ok(event)
+            } else {
+                Err(LineFault::UnknownWord)
+            }
+        }
+        Err(fault) => {
+            if is_known_word(first_field(line)) {
+                Err(fault)
+            } else {
+                Err(LineFault::UnknownWord)
+            }
+        }
     }
+}
+
+/// Whether an event is one of those that are known here.
+fn is_known(event: &Event) -> bool
+    ensures { result ≡ is_known_event event.now }
+{
+    matches!(
+        event,
+        Event::Start { .. } | Event::Fix { .. } | Event::Ask { .. } | Event::End { .. }
+    )
 }
 
 /// Whether a word is one of the four that are known here.

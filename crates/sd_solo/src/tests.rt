@@ -1,3 +1,4 @@
+//! Refusals in their order.
 use super::*;
 use sd_sched::Event;
 

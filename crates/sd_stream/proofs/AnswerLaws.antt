@@ -1,3 +1,4 @@
+-- How the answer for a text follows from that for its first bytes.
 use Rattle.std.proofs.Common.{◌≡◌, ℕ, ◌+◌, ◌^◌, ◌<◌, ◌≤◌, ◌⊎◌, Bool, true, false, cond, List, length, Option, Ok, Err, refl, arith, inl, inr, min, ◌++◌}
 use Rattle.std.proofs.lemmas.Bool.{le-leb, lt-leb, lt-ltb, le-ltb, leb-true, leb-false, ltb-true, ltb-false, and_from, and_left, and_right, and_parts, and_cases}
 use Rattle.std.proofs.lemmas.List.{length-append}

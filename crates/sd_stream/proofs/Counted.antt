@@ -1,3 +1,4 @@
+-- The lines of a text, counted one after the other.
 use Rattle.std.proofs.Common.{◌≡◌, ℕ, ◌+◌, List, Option, None, Some, Ok, IfSome, ap, length, arith}
 use Rattle.sd_stream.specs.Lines.{lines, after_line}
 use Rattle.sd_stream.specs.Limits.{answer_of}

@@ -1,3 +1,4 @@
+-- What was found among the first bytes holds of the whole text.
 use Rattle.std.proofs.Common.{◌≡◌, ℕ, ◌+◌, ◌-◌, ◌<◌, ◌≤◌, ◌==◌, Bool, true, false, cond, zero, suc, min, List, [], ◌∷◌, ◌++◌, Option, None, Some, refl, sym, ap, length, take, drop, slice_range, unwrap_or, arith}
 use Rattle.memchr.specs.Find.{IsFirstByte, Passes, is_byte}
 use Rattle.sd_stream.specs.Lines.{line_len}

@@ -1,3 +1,4 @@
+-- The cases of judging the first bytes.
 use Rattle.std.proofs.Common.{◌≡◌, ℕ, ◌+◌, ◌^◌, ◌<◌, ◌≤◌, min, List, length, take, Some, Ok, Err, ap, ◌∙◌, arith}
 use Rattle.sd_stream.specs.declared.faults.StreamFault.TheVariants.{LongLine, Limit}
 use Rattle.sd_stream.specs.Lines.{line_len}

@@ -1,3 +1,4 @@
+-- What is left of a text from call to call.
 use Rattle.std.proofs.Common.{◌≡◌, ℕ, ◌+◌, ◌≤◌, ◌<◌, List, ◌++◌, Option, None, Some, Ok, Err, Result, IfSome, IfErr, OnErr, sym, ap, subst, ◌∙◌, length, take, drop, slice_range, arith, append_assoc, append-nil}
 use Rattle.std.proofs.lemmas.List.{take-append-drop, length-append, take-append-le, drop-append-le, take_all, nil_from_length}
 use Rattle.std.specs.Io.KnownBytes.{prepend_known, Consumes, Keeps, IsAtEnd}

@@ -1,3 +1,4 @@
+-- Ranges of a buffer.
 use Rattle.std.proofs.Common.{◌≡◌, ℕ, ◌+◌, ◌-◌, ◌≤◌, List, ◌++◌, refl, sym, ap, ◌∙◌, length, take, drop, slice_range, arith}
 use Rattle.std.proofs.lemmas.List.{drop-take, drop-drop, take_all, take_at}
 use Rattle.std.proofs.Math.Seq.{take-add}

@@ -1,3 +1,4 @@
+-- What waits in a buffer.
 use Rattle.std.specs.Prelude.{ℕ, List, slice_range}
 use Rattle.sd_stream.specs.declared.buffer.Buffer.{Buffer}
 

@@ -1,3 +1,4 @@
+-- What the first bytes of a text say of its next line.
 use Rattle.std.specs.Prelude.{◌≡◌, ℕ, ◌+◌, ◌^◌, ◌<◌, ◌≤◌, List, length, take, Some, Ok, Err}
 use Rattle.sd_stream.specs.declared.judge.Finding.{Finding}
 use Rattle.sd_stream.specs.declared.judge.Finding.TheVariants.{Ends, Refused, Open}

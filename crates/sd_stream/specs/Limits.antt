@@ -1,3 +1,4 @@
+-- What a call for the next line answers, by the limits of lines and texts.
 use Rattle.std.specs.Prelude.{◌≡◌, ℕ, ◌+◌, ◌^◌, Bool, ◌&&◌, nat_le, nat_lt, List, length, Option, Result, Ok, Err, if◌then◌else◌, ⊤}
 use Rattle.std.specs.Borrow.{Bor}
 use Rattle.std.specs.Option.{option_copied}

@@ -1,3 +1,4 @@
+-- The lines of a text.
 use Rattle.std.specs.Prelude.{ℕ, ◌+◌, ◌==◌, nat_eq, List, [], ◌∷◌, Option, None, Some, take, drop, if◌then◌else◌}
 
 -- how many bytes stand before the first newline, or all of them

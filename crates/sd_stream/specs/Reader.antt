@@ -1,3 +1,4 @@
+-- What a reader has left, and what each call leaves.
 use Rattle.std.specs.Prelude.{◌≡◌, ◌≢◌, ℕ, ◌+◌, ◌^◌, ◌<◌, ◌≤◌, List, length, Option, None, Some, Ok, [], slice_range, IfSome, IfOk, IfErr, OnOk, OnErr, OnSome, Result, Err, ⊤}
 use Rattle.std.specs.Result.{IsErrOf}
 use Rattle.std.specs.Borrow.{Fml, RattleType, Bor, MutBor}

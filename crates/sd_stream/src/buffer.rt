@@ -1,3 +1,4 @@
+//! The one buffer of a reader.
 ghost use Rattle.std.specs.Prelude.{◌≡◌, ◌≤◌, ◌+◌, ◌-◌, ◌<◌, length, take, drop, [], IsTrue, IfOk, OnErr, vec_len, slice_range};
 ghost use Rattle.std.specs.List.{copy_within};
 ghost use Rattle.std.specs.Io.KnownBytes.{Keeps, IsAtEnd, Consumes, prepend_known};

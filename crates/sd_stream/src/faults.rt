@@ -1,3 +1,5 @@
+//! Why a line was not lent, or a text not read whole.
+
 /// Why no line was lent.
 #[derive(Clone, Copy, Debug, PartialEq, Eq)]
 pub enum StreamFault {

@@ -1,3 +1,4 @@
+//! What the bytes in the buffer say of the next line.
 ghost use Rattle.std.specs.Prelude.{◌≡◌, ◌≤◌, ◌+◌, ◌^◌, length};
 ghost use Rattle.sd_stream.specs.Lines.{line_len};
 ghost use Rattle.sd_stream.specs.Findings.{Shows};

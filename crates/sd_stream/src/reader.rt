@@ -1,3 +1,4 @@
+//! A text lent line by line.
 ghost use Rattle.std.specs.Prelude.{◌≡◌, ◌≢◌, ◌≤◌, ◌+◌, ◌^◌, ◌<◌, length, take, drop, [], Some, Err, true, IsTrue, IfOk, IfSome, IfErr, OnOk, OnErr, OnSome, slice_range};
 ghost use Rattle.std.specs.Result.{IsErrOf};
 ghost use Rattle.std.specs.Io.KnownBytes.{Keeps};
@@ -14,6 +15,20 @@ use std::alloc::Global;
 
 /// A shelf whose begun text is lent line by line, from one buffer. A line has at most 4096 bytes,
 /// its newline not counted, and a text at most 2^32.
+///
+/// ```
+/// shelf.begin("schedule")?;
+/// let mut reader = LineReader::new(alloc, &mut shelf)?;
+/// loop {
+///     match reader.next_line() {
+///         Ok(Some(line)) => take(line),
+///         Ok(None) => break,
+///         // The next call goes on from the same place.
+///         Err(StreamFault::ReadFault) => {}
+///         Err(fault) => return Err(fault),
+///     }
+/// }
+/// ```
 pub struct LineReader<'s, S: Shelf, B = Buffer> {
     shelf: &'s mut S,
     buffer: B,

@@ -1,3 +1,4 @@
+//! Lines from any pieces, refusals, and a caller's loop.
 ghost use Rattle.std.specs.Prelude.{◌≡◌, ◌≤◌, [], length, IsTrue, IfOk, IfSome};
 ghost use Rattle.std.specs.Result.{IsErrOf};
 ghost use Rattle.sd_outside.specs.Causes.{Rose};

@@ -1,5 +1,5 @@
 -- How far a run has come, line by line, and that it then ends as its outcome says.
-use Rattle.std.proofs.Common.{◌≡◌, ℕ, ◌+◌, true, List, [], ◌∷◌, ◌++◌, Option, Some, None, Result, Ok, Err, refl, sym, ap, ◌∙◌, subst, length, take, drop, append_assoc, append-nil, take-append-drop, arith}
+use Rattle.std.proofs.Common.{◌≡◌, ℕ, ◌+◌, true, List, [], ◌∷◌, ◌++◌, Option, Some, None, Result, Ok, Err, refl, inr, sym, ap, ◌∙◌, subst, length, take, drop, append_assoc, append-nil, take-append-drop, arith}
 use Rattle.std.proofs.Math.Seq.{take-append_seam}
 use Rattle.std.specs.Prelude.{IfSome, IsErrAnd, codes, decimal}
 use Rattle.std.specs.List.{join_with_byte}
@@ -17,14 +17,14 @@ use Rattle.sd_solo.specs.Histories.{all_bytes, bytes_of, report_text, report_by}
 use Rattle.sd_solo.specs.Registers.{StandsFor}
 use Rattle.sd_solo.specs.declared.Solo.{Solo}
 use Rattle.sd_num.specs.Lists.{of_some}
-use Rattle.sd_top.specs.Schedules.{Reading, reading, reading_from, last_text, written_for, status_for, text_behind}
-use Rattle.sd_top.specs.Outcome.{Meets, WritesLines, are_lines, solo_outcome}
-use Rattle.sd_top.specs.Steps.{Step, Adds, Makes, HasCome, step_of, step_bytes}
-use Rattle.sd_top.specs.Stops.{status_in, status_of}
-use Rattle.sd_top.specs.declared.Status.{Status}
-use Rattle.sd_top.specs.declared.stop.Stop.{Stop}
-use Rattle.sd_top.specs.declared.stop.Stop.TheVariants as stop
-use Rattle.sd_top.specs.declared.ScheduleFault.{ScheduleFault}
+use Rattle.sd_top.specs.Schedules.{IsSolo, Reading, reading, reading_from, last_text, written_for, status_for, refused_part, text_behind}
+use Rattle.sd_top.specs.Promise.{WritesLines, are_lines}
+use Rattle.sd_top.specs.Ends.{LeavesAt}
+use Rattle.sd_top.specs.Steps.{Step, Makes, HasCome, step_of, step_bytes}
+use Rattle.sd_files.specs.Writes.{Adds}
+use Rattle.sd_files.specs.declared.Status.{Status}
+use Rattle.sd_files.specs.declared.ended.Stop.{Stop}
+use Rattle.sd_files.specs.declared.ended.Stop.TheVariants as stop
 use Rattle.sd_top.proofs.Reading.{reads_on, reads_end, EndsWith, begins_with_step}
 use Rattle.sd_top.proofs.Writing.{AddsNext}
 
@@ -101,7 +101,7 @@ all_lines (e ∷ earlier) = report_lines (all_bytes earlier) (length earlier + 1
 -- the outcome begins with what was written, and goes on with the next step
 outcome_begins : {S : Type 0} (g : Ghosts S) (text : List ℕ) (reader : LineReader S Buffer g) (device : Solo) (first before : Option (List ℕ)) (h : HasCome g text reader device first before)
     → (more : List ℕ)
-    × ((solo_outcome text).bytes ≡ (all_bytes h.events ++ step_bytes h.events (step_of (bytes_before reader + length (text_behind (length h.events) text)) (bytes_before reader) h.events (lines (text_behind (length h.events) text)))) ++ more)
+    × ((written_for (reading text)) ≡ (all_bytes h.events ++ step_bytes h.events (step_of (bytes_before reader + length (text_behind (length h.events) text)) (bytes_before reader) h.events (lines (text_behind (length h.events) text)))) ++ more)
 outcome_begins g text reader device first before h =
     let left = text_behind (length h.events) text in
     let begun = begins_with_step (bytes_before reader + length left) (bytes_before reader) h.events (lines left) in
@@ -109,7 +109,7 @@ outcome_begins g text reader device first before h =
 
 -- a run that was stopped has written a front of its outcome
 pub stops : {S : Type 0} (g : Ghosts S) (text : List ℕ) (reader : LineReader S Buffer g) (device : Solo) (first before after : Option (List ℕ)) (why : Stop) → HasCome g text reader device first before
-    → AddsNext {T = Option Status} (text_left g reader) (bytes_before reader) device before after (Err why) → Meets (solo_outcome text) first after (status_of why)
+    → AddsNext {T = Option Status} (text_left g reader) (bytes_before reader) device before after (Err why) → LeavesAt true (IsSolo text) first after (Err why)
 stops g text reader device first before after why h adds =
     by why (outcome_begins g text reader device first before h) (subst (λ (l : Option (List ℕ)). AddsNext {T = Option Status} l (bytes_before reader) device before after (Err why)) h.left adds h.events h.stands)
   where
@@ -119,48 +119,44 @@ stops g text reader device first before after why h adds =
     step : Step
     step = step_of (bytes_before reader + length left) (bytes_before reader) h.events (lines left)
 
-    front : (more : List ℕ) → (solo_outcome text).bytes ≡ (all_bytes h.events ++ step_bytes h.events step) ++ more → Keeps before after → WritesLines first after (solo_outcome text).bytes
+    front : (more : List ℕ) → (written_for (reading text)) ≡ (all_bytes h.events ++ step_bytes h.events step) ++ more → Keeps before after → WritesLines first after (written_for (reading text))
     front more same kept =
-        let taken : take (length (all_bytes h.events)) (solo_outcome text).bytes ≡ all_bytes h.events =
+        let taken : take (length (all_bytes h.events)) (written_for (reading text)) ≡ all_bytes h.events =
         ap (take (length (all_bytes h.events))) (same ∙ append_assoc (all_bytes h.events) (step_bytes h.events step) more) ∙ take-append_seam (all_bytes h.events) (step_bytes h.events step ++ more) in (
           length (all_bytes h.events),
           ap are_lines taken ∙ all_lines h.events,
           subst (Appends first after) (sym taken) (Appends-kept first before after (all_bytes h.events) h.written kept),
         )
 
-    cut : (more : List ℕ) → (solo_outcome text).bytes ≡ (all_bytes h.events ++ step_bytes h.events step) ++ more → WritesFront before after (step_bytes h.events step) → WritesFront first after (solo_outcome text).bytes
+    cut : (more : List ℕ) → (written_for (reading text)) ≡ (all_bytes h.events ++ step_bytes h.events step) ++ more → WritesFront before after (step_bytes h.events step) → WritesFront first after (written_for (reading text))
     cut more same written =
         let part = take written.0 (step_bytes h.events step) in
         let rest = drop written.0 (step_bytes h.events step) in
-        let split : (solo_outcome text).bytes ≡ (all_bytes h.events ++ part) ++ (rest ++ more) =
+        let split : (written_for (reading text)) ≡ (all_bytes h.events ++ part) ++ (rest ++ more) =
         same ∙ ap (λ (l : List ℕ). (all_bytes h.events ++ l) ++ more) (sym (take-append-drop written.0 (step_bytes h.events step))) ∙ regroup (all_bytes h.events) part rest more in (
           length (all_bytes h.events ++ part),
           subst (Appends first after) (sym (ap (take (length (all_bytes h.events ++ part))) split ∙ take-append_seam (all_bytes h.events ++ part) (rest ++ more)))
               (Appends-trans first before after (all_bytes h.events) part h.written written.1),
         )
 
-    by : (cause : Stop) → (more : List ℕ) × ((solo_outcome text).bytes ≡ (all_bytes h.events ++ step_bytes h.events step) ++ more) → Adds {T = Option Status} (step_bytes h.events step) before after (Err cause)
-        → Meets (solo_outcome text) first after (status_of cause)
-    by stop.Shelf begun kept = front begun.0 begun.1 kept
-    by stop.Sink begun written = cut begun.0 begun.1 written
-    by stop.Memory begun kept = front begun.0 begun.1 kept
-
-ends_by : (refused : Option ScheduleFault) (bytes : List ℕ) (first after : Option (List ℕ)) → Appends first after bytes → Meets (record { bytes = bytes; status = status_for refused }) first after (status_for refused)
-ends_by None bytes first after written = (written, refl)
-ends_by (Some why) bytes first after written = (written, refl)
+    by : (cause : Stop) → (more : List ℕ) × ((written_for (reading text)) ≡ (all_bytes h.events ++ step_bytes h.events step) ++ more) → Adds {T = Option Status} (step_bytes h.events step) before after (Err cause)
+        → LeavesAt true (IsSolo text) first after (Err cause)
+    by stop.Shelf begun kept = inr ((written_for (reading text)), status_for (reading text).refused, (refl, refl), front begun.0 begun.1 kept)
+    by stop.Sink begun written = ((written_for (reading text)), status_for (reading text).refused, (refl, refl), cut begun.0 begun.1 written)
+    by stop.Memory begun kept = inr ((written_for (reading text)), status_for (reading text).refused, (refl, refl), front begun.0 begun.1 kept)
 
 -- what is written where a reading ends is all that is written for it
 ends_reading : (r : Reading) (events : List Event) (bytes : List ℕ) (status : Status) (first after : Option (List ℕ)) → EndsWith r events bytes status → Appends first after (all_bytes events ++ bytes)
-    → Meets (record { bytes = written_for r; status = status_for r.refused }) first after status
+    → (written : List ℕ) × ((written ≡ written_for r) × (status ≡ status_for r.refused)) × Appends first after written
 ends_reading r events bytes status first after e written =
     let same : all_bytes events ++ bytes ≡ written_for r =
     sym (ap (λ (es : List Event). all_bytes es ++ last_text es r.refused) e.events_are ∙ ap (λ (l : List ℕ). all_bytes events ++ l) e.bytes_are) in
-    subst (Meets (record { bytes = written_for r; status = status_for r.refused }) first after) e.status_is (ends_by r.refused (written_for r) first after (subst (Appends first after) same written))
+    (all_bytes events ++ bytes, (same, sym e.status_is), written)
 
 -- a run that ended has written its outcome, and answers its status
 pub ends : {S : Type 0} (g : Ghosts S) (text : List ℕ) (reader : LineReader S Buffer g) (device next : Solo) (first before after : Option (List ℕ)) (status : Status) → HasCome g text reader device first before
     → MakesNext (text_left g reader) (bytes_before reader) device next (Ok (Some status)) → AddsNext {T = Option Status} (text_left g reader) (bytes_before reader) device before after (Ok (Some status))
-    → Meets (solo_outcome text) first after status
+    → LeavesAt true (IsSolo text) first after (Ok status)
 ends g text reader device next first before after status h makes adds =
     let left = text_behind (length h.events) text in
     let total = bytes_before reader + length left in
@@ -203,23 +199,23 @@ told_comes_on g (Some text) old new device next first before after h makes adds 
     when (Some t) gone = gone refl
 
 pub told_stops : {S : Type 0} (g : Ghosts S) (rest : Option (List ℕ)) (reader : LineReader S Buffer g) (device : Solo) (first before after : Option (List ℕ)) (why : Stop) → IfSome rest (λ text. HasCome g text reader device first before)
-    → AddsNext {T = Option Status} (text_left g reader) (bytes_before reader) device before after (Err why) → IfSome rest (λ text. Meets (solo_outcome text) first after (status_of why))
+    → AddsNext {T = Option Status} (text_left g reader) (bytes_before reader) device before after (Err why) → IfSome rest (λ text. LeavesAt true (IsSolo text) first after (Err why))
 told_stops g None reader device first before after why h adds = tt
 told_stops g (Some text) reader device first before after why h adds = stops g text reader device first before after why h adds
 
 pub told_ends : {S : Type 0} (g : Ghosts S) (rest : Option (List ℕ)) (reader : LineReader S Buffer g) (device next : Solo) (first before after : Option (List ℕ)) (status : Status) → IfSome rest (λ text. HasCome g text reader device first before)
     → MakesNext (text_left g reader) (bytes_before reader) device next (Ok (Some status)) → AddsNext {T = Option Status} (text_left g reader) (bytes_before reader) device before after (Ok (Some status))
-    → IfSome rest (λ text. Meets (solo_outcome text) first after status)
+    → IfSome rest (λ text. LeavesAt true (IsSolo text) first after (Ok status))
 told_ends g None reader device next first before after status h makes adds = tt
 told_ends g (Some text) reader device next first before after status h makes adds = ends g text reader device next first before after status h makes adds
 
 pub told_near : {S : Type 0} (g : Ghosts S) (rest shelf : Option (List ℕ)) (reader : LineReader S Buffer g) (device next : Solo) (first before : Option (List ℕ)) (status : Status) → IfSome rest (λ text. HasCome g text reader device first before)
     → MakesNext (text_left g reader) (bytes_before reader) device next (Ok (Some status)) → IsNear (text_left g reader) shelf
-    → IfSome rest (λ text. IsNear (Some (text_behind (length (reading text).events) text)) shelf)
+    → IfSome rest (λ text. IsNear (Some (refused_part text)) shelf)
 told_near g None shelf reader device next first before status h makes near = tt
 told_near g (Some text) shelf reader device next first before status h makes near = subst (λ (l : Option (List ℕ)). IsNear l shelf) (ends_behind g text reader device next first before status h makes) near
 
--- a stop that is handed on keeps its status
-pub status_handed_on : (result : Result Status Stop) (why : Stop) → IsErrAnd result (λ other. other ≡ why) → status_of why ≡ status_in result
-status_handed_on (Ok status) why same = absurd same
-status_handed_on (Err other) why same = ap status_of (sym same)
+-- a stop that is handed on stays what it was
+pub handed_on : (result : Result Status Stop) (why : Stop) → IsErrAnd result (λ other. other ≡ why) → Err why ≡ result
+handed_on (Ok status) why same = absurd same
+handed_on (Err other) why same = ap Err (sym same)

@@ -2,8 +2,9 @@ pub mod Stepping
 pub mod Writing
 pub mod Reading
 pub mod Coming
-pub mod Commands
-pub mod Migrating
-pub mod PlanReading
-pub mod Completing
 pub mod Planned
+pub mod Performing
+pub mod Holding
+pub mod Migrating
+pub mod Unique
+pub mod Lawful

@@ -1,44 +1,142 @@
--- What is read of a topology is what its file says.
-use Rattle.std.proofs.Common.{◌≡◌, ℕ, ◌^◌, ◌<◌, ◌≤◌, Bool, cond, List, Option, Some, None, Result, Err, refl, sym, ap, ◌∙◌, subst, length}
-use Rattle.std.specs.Prelude.{IfSome, IfOk}
-use Rattle.std.proofs.lemmas.Bool.{lt-ltb, le-ltb}
-use Rattle.sd_topo.specs.Gives.{Fails}
+-- The migration law: what a command answers is carried from a network with one version to the same with another, file by file.
+use Rattle.std.proofs.Common.{◌≡◌, ℕ, List, [], ◌∷◌, Option, Some, None, Result, Ok, Err, ap, sym, ◌∙◌, subst, arith}
+use Rattle.std.specs.Prelude.{◌≢◌, All}
+use Rattle.serde_json.specs.Data.{Data}
 use Rattle.sd_topo.specs.Network.{Network}
-use Rattle.sd_topo.specs.Meaning.{network_of}
-use Rattle.sd_topo.specs.Reading.{tree_of}
-use Rattle.sd_topo.specs.declared.fault.TopoFault.{TopoFault}
-use Rattle.sd_topo.specs.declared.fault.TopoFault.TheVariants as topo
-use Rattle.sd_top.specs.Loads.{Says, refused_with}
-use Rattle.sd_top.specs.Migration.{topology_of, of_text}
-use Rattle.sd_top.specs.declared.TopologyFault.TheVariants.{TooLong, Text}
+use Rattle.sd_topo.proofs.Versions.{with_version}
+use Rattle.sd_plan.specs.declared.Absent.{Absent}
+use Rattle.sd_plan.specs.declared.Plan.{Plan}
+use Rattle.sd_plantext.specs.Reading.{tree_of}
+use Rattle.sd_plantext.specs.declared.fault.PlanFault.{PlanFault}
+use Rattle.sd_plantext.proofs.Versions.{plan_of-with_version, absent_of-with_version, plan_text-with_version}
+use Rattle.sd_checker.specs.declared.Verdict.{Verdict}
+use Rattle.sd_checker.specs.declared.Verdict.TheVariants.{Accepted, Refused}
+use Rattle.sd_checker.proofs.Versions.{accepted_line-with_version, refused_line-with_version, IsVerdict-with_version}
+use Rattle.sd_planner.proofs.Versions.{IsGreedy-with_version}
+use Rattle.sd_files.specs.Answering.{May, After}
+use Rattle.sd_files.specs.Inputs.{topology_of, in_file, plan_in_file, absent_in_file}
+use Rattle.sd_files.specs.Texts.{Texts}
+use Rattle.sd_files.specs.declared.Status.{Status}
+use Rattle.sd_files.specs.declared.ended.FileFault.TheVariants as fault
+use Rattle.sd_files.specs.declared.ended.Input.TheVariants as input
+use Rattle.sd_files.specs.declared.ended.Refusal.{Refusal}
+use Rattle.sd_top.specs.Checks.{IsCheck, IsJudged, verdict_text}
+use Rattle.sd_top.specs.Migration.{IsMigrated, IsMigration}
+use Rattle.sd_top.specs.Plannings.{IsPlanning, IsPlanOf, IsRenewal, planned_text, first_root, renewed_root, nothing}
+use Rattle.sd_top.specs.Promise.{Answers}
+use Rattle.sd_top.specs.Versions.{MigrationLaw}
+use Rattle.sd_top.specs.Words.{Command, File, OfTopology, OfPlan, OfAbsent, files_of, name_of}
+use Rattle.sd_top.specs.Words.Command.{Solo, Plan as PlanOf, Check, Renew, Migrate}
 
--- a text past the limit
-pub says_too_long : (rest : Option (List ℕ)) → IfSome rest (λ text. 2 ^ 26 < length text) → IfSome rest (λ text. topology_of text ≡ Err TooLong)
-unfolding topology_of
-says_too_long None long = tt
-says_too_long (Some text) long = rw (lt-ltb (2 ^ 26) (length text) long) refl
+-- what comes after a file that says the same
+after_carried : {X : Type 0} (before after : Result X Refusal) (Then Later : X → May) (bytes : List ℕ) (status : Status) → before ≡ after → ((x : X) → Then x bytes status → Later x bytes status) → After before Then bytes status
+    → After after Later bytes status
+after_carried {X = X} before after Then Later bytes status same carried written = subst (λ (s : Result X Refusal). After s Later bytes status) same (by before written)
+  where
+    by : (says : Result X Refusal) → After says Then bytes status → After says Later bytes status
+    by (Ok x) h = carried x h
+    by (Err why) h = h
 
--- a text within it
-pub says_text : (rest : Option (List ℕ)) (bytes slice : List ℕ) (count : ℕ) (read : Result Network TopoFault) → slice ≡ bytes → length slice ≡ count → IfSome rest (λ text. bytes ≡ text) → count ≤ 2 ^ 26 → network_of (tree_of slice) ≡ read
-    → IfSome rest (λ text. topology_of text ≡ of_text read)
-unfolding topology_of
-says_text None bytes slice count read same counted whole short said = tt
-says_text (Some text) bytes slice count read same counted whole short said =
-    let within : length slice ≤ 2 ^ 26 = subst (λ (n : ℕ). n ≤ 2 ^ 26) (sym counted) short in
-    subst (λ (t : List ℕ). topology_of t ≡ of_text read) (same ∙ whole) (ap (λ (long : Bool). cond long (Err TooLong) (of_text (network_of (tree_of slice)))) (le-ltb (2 ^ 26) (length slice) within) ∙ ap of_text said)
+-- after a topology that is read with another version
+topology_carried : (text other : List ℕ) (old new : Network) (Then Later : Network → May) (bytes : List ℕ) (status : Status) → topology_of text ≡ Ok old → topology_of other ≡ Ok new → (Then old bytes status → Later new bytes status)
+    → After (topology_of text) Then bytes status → After (topology_of other) Later bytes status
+topology_carried text other old new Then Later bytes status reads rereads carried written =
+    subst (λ (s : Result Network Refusal). After s Later bytes status) (sym rereads) (carried (subst (λ (s : Result Network Refusal). After s Then bytes status) reads written))
 
-refused_text : (rest : Option (List ℕ)) (why : TopoFault) (read : Result Network TopoFault) → read ≡ Err why → IfSome rest (λ text. topology_of text ≡ of_text read) → IfSome rest (λ text. topology_of text ≡ Err (Text why))
-refused_text None why read is says = tt
-refused_text (Some text) why read is says = says ∙ ap of_text is
+module _ (v w : ℕ) (net : Network) where
+  plan_file : (place : ℕ) (text : List ℕ) → plan_in_file (with_version v net) place text ≡ plan_in_file (with_version w net) place text
+  plan_file place text = ap (λ (meaning : Option Data → Result Plan PlanFault). in_file (input.Plan place) fault.Plan (λ t. meaning (tree_of t)) text) (plan_of-with_version v w net)
 
--- a text with a fault gives what it says
-pub says_refused : (rest : Option (List ℕ)) (why : TopoFault) (read : Result Network TopoFault) → Fails why read → IfSome rest (λ text. topology_of text ≡ of_text read) → IfOk (refused_with why) (λ what. IfSome rest (λ text. Says (topology_of text) what))
-says_refused rest topo.NotToml read fails says = refused_text rest topo.NotToml read fails says
-says_refused rest (topo.Missing p) read fails says = refused_text rest (topo.Missing p) read fails says
-says_refused rest (topo.WrongKind p) read fails says = refused_text rest (topo.WrongKind p) read fails says
-says_refused rest (topo.Range p) read fails says = refused_text rest (topo.Range p) read fails says
-says_refused rest (topo.TwiceNamed p) read fails says = refused_text rest (topo.TwiceNamed p) read fails says
-says_refused rest (topo.UnknownName p) read fails says = refused_text rest (topo.UnknownName p) read fails says
-says_refused rest (topo.SelfLink p) read fails says = refused_text rest (topo.SelfLink p) read fails says
-says_refused rest (topo.Limit k) read fails says = refused_text rest (topo.Limit k) read fails says
-says_refused rest topo.Memory read fails says = tt
+  absent_file : (text : List ℕ) → absent_in_file (with_version v net) text ≡ absent_in_file (with_version w net) text
+  absent_file text = ap (λ (meaning : Option Data → Result Absent PlanFault). in_file input.Absent fault.Plan (λ t. meaning (tree_of t)) text) (absent_of-with_version v w net)
+
+  verdict_line : (verdict : Verdict) → verdict_text (with_version v net) verdict ≡ verdict_text (with_version w net) verdict
+  verdict_line Accepted = accepted_line-with_version v w net
+  verdict_line (Refused breach) = refused_line-with_version v w net 1 breach
+
+  judged_carried : (plan : Plan) (bytes : List ℕ) (status : Status) → IsJudged (with_version v net) plan bytes status → IsJudged (with_version w net) plan bytes status
+  judged_carried plan bytes status (verdict, says, printed, answered) = (verdict, IsVerdict-with_version v w net plan verdict says, printed ∙ verdict_line verdict, answered)
+
+  planned_line : (plan : Plan) (verdict : Verdict) → planned_text (with_version v net) plan verdict ≡ planned_text (with_version w net) plan verdict
+  planned_line plan Accepted = plan_text-with_version v w net plan
+  planned_line plan (Refused breach) = refused_line-with_version v w net 1 breach
+
+  planning_carried : (root : ℕ) (absent : Absent) (bytes : List ℕ) (status : Status) → IsPlanning (with_version v net) root absent bytes status → IsPlanning (with_version w net) root absent bytes status
+  planning_carried root absent bytes status (plan, verdict, greedy, says, printed, answered) =
+      (plan, verdict, IsGreedy-with_version v w net root absent plan greedy, IsVerdict-with_version v w net plan verdict says, printed ∙ planned_line plan verdict, answered)
+
+  module _ (text other : List ℕ) (reads : topology_of text ≡ Ok (with_version v net)) (rereads : topology_of other ≡ Ok (with_version w net)) (bytes : List ℕ) (status : Status) where
+    migration_stays : IsMigration text bytes status → IsMigration other bytes status
+    migration_stays written = topology_carried text other (with_version v net) (with_version w net) IsMigrated IsMigrated bytes status reads rereads (λ h. h) written
+
+    plan_stays : IsPlanOf text bytes status → IsPlanOf other bytes status
+    plan_stays written =
+        topology_carried text other (with_version v net) (with_version w net) (λ n. IsPlanning n (first_root n) nothing) (λ n. IsPlanning n (first_root n) nothing) bytes status reads rereads
+        (planning_carried (first_root net) nothing bytes status) written
+
+    check_stays : (plan plan' : List ℕ) → plan' ≡ plan → IsCheck text plan bytes status → IsCheck other plan' bytes status
+    check_stays plan plan' same written =
+        subst (λ (p : List ℕ). IsCheck other p bytes status) (sym same)
+        (
+        topology_carried text other (with_version v net) (with_version w net) (λ n. After (plan_in_file n 1 plan) (IsJudged n)) (λ n. After (plan_in_file n 1 plan) (IsJudged n)) bytes status reads rereads
+        (
+        after_carried (plan_in_file (with_version v net) 1 plan) (plan_in_file (with_version w net) 1 plan) (IsJudged (with_version v net)) (IsJudged (with_version w net)) bytes status (plan_file 1 plan)
+        (λ p. judged_carried p bytes status)
+        )
+        written
+        )
+
+    renewal_over : (plan absent : List ℕ) → IsRenewal text plan absent bytes status → IsRenewal other plan absent bytes status
+    renewal_over plan absent written =
+        topology_carried text other (with_version v net) (with_version w net) (λ n. After (plan_in_file n 1 plan) (λ old. After (absent_in_file n absent) (λ left. IsPlanning n (renewed_root old left) left)))
+        (λ n. After (plan_in_file n 1 plan) (λ old. After (absent_in_file n absent) (λ left. IsPlanning n (renewed_root old left) left))) bytes status reads rereads
+        (
+        after_carried (plan_in_file (with_version v net) 1 plan) (plan_in_file (with_version w net) 1 plan)
+        (λ old. After (absent_in_file (with_version v net) absent) (λ left. IsPlanning (with_version v net) (renewed_root old left) left))
+        (λ old. After (absent_in_file (with_version w net) absent) (λ left. IsPlanning (with_version w net) (renewed_root old left) left)) bytes status (plan_file 1 plan)
+        (
+        λ old. after_carried (absent_in_file (with_version v net) absent) (absent_in_file (with_version w net) absent) (λ left. IsPlanning (with_version v net) (renewed_root old left) left)
+        (λ left. IsPlanning (with_version w net) (renewed_root old left) left) bytes status (absent_file absent) (λ left. planning_carried (renewed_root old left) left bytes status)
+        )
+        )
+        written
+
+    renewal_stays : (plan plan' absent absent' : List ℕ) → plan' ≡ plan → absent' ≡ absent → IsRenewal text plan absent bytes status → IsRenewal other plan' absent' bytes status
+    renewal_stays plan plan' absent absent' same_plan same_absent written =
+        subst (λ (p : List ℕ). IsRenewal other p absent' bytes status) (sym same_plan) (subst (λ (a : List ℕ). IsRenewal other plan a bytes status) (sym same_absent) (renewal_over plan absent written))
+
+-- a command over its files
+module _ (topology : List ℕ) (before after : Texts) (net : Network) (v w : ℕ) (reads : topology_of (before topology) ≡ Ok (with_version v net)) (rereads : topology_of (after topology) ≡ Ok (with_version w net))
+    (elsewhere : (other : List ℕ) → other ≢ topology → after other ≡ before other) (bytes : List ℕ) (status : Status) where
+  reads_at : (name : List ℕ) → name ≡ topology → topology_of (before name) ≡ Ok (with_version v net)
+  reads_at name same = subst (λ (t : List ℕ). topology_of (before t) ≡ Ok (with_version v net)) (sym same) reads
+
+  rereads_at : (name : List ℕ) → name ≡ topology → topology_of (after name) ≡ Ok (with_version w net)
+  rereads_at name same = subst (λ (t : List ℕ). topology_of (after t) ≡ Ok (with_version w net)) (sym same) rereads
+
+  answers_stay : (command : Option Command) (others : List File) → files_of command ≡ OfTopology topology ∷ others → All (λ file. name_of file ≢ topology) others → Answers command before bytes status → Answers command after bytes status
+  answers_stay None others files apart written = cc
+  answers_stay (Some (Solo schedule)) others files apart written = cc
+  answers_stay (Some (PlanOf name)) others files apart written =
+      let same : name ≡ topology = cc in
+      plan_stays v w net (before name) (after name) (reads_at name same) (rereads_at name same) bytes status written
+  answers_stay (Some (Check name plan)) others files apart written =
+      let same : name ≡ topology = cc in
+      let rest : others ≡ OfPlan plan ∷ [] = cc in
+      let elsewhere_all = subst (λ (fs : List File). All (λ file. name_of file ≢ topology) fs) rest apart in
+      check_stays v w net (before name) (after name) (reads_at name same) (rereads_at name same) bytes status (before plan) (after plan) (elsewhere plan (elsewhere_all 0 (OfTopology []) (omega arith))) written
+  answers_stay (Some (Renew name plan absent)) others files apart written =
+      let same : name ≡ topology = cc in
+      let rest : others ≡ OfPlan plan ∷ OfAbsent absent ∷ [] = cc in
+      let elsewhere_all = subst (λ (fs : List File). All (λ file. name_of file ≢ topology) fs) rest apart in
+      renewal_stays v w net (before name) (after name) (reads_at name same) (rereads_at name same) bytes status (before plan) (after plan) (before absent) (after absent) (elsewhere plan (elsewhere_all 0 (OfTopology []) (omega arith)))
+      (elsewhere absent (elsewhere_all 1 (OfTopology []) (omega arith))) written
+  answers_stay (Some (Migrate name)) others files apart written =
+      let same : name ≡ topology = cc in
+      migration_stays v w net (before name) (after name) (reads_at name same) (rereads_at name same) bytes status written
+
+pub migration_law : MigrationLaw
+migration_law command topology others files apart before after rewritten bytes status = (
+  answers_stay topology before after rewritten.network rewritten.network.version 2 rewritten.reads rewritten.rereads rewritten.elsewhere bytes status command others files apart,
+  answers_stay topology after before rewritten.network 2 rewritten.network.version rewritten.rereads rewritten.reads (λ other unlike. sym (rewritten.elsewhere other unlike)) bytes status command others files apart,
+)

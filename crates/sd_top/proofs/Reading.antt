@@ -9,8 +9,8 @@ use Rattle.sd_solo.specs.Histories.{all_bytes, bytes_of, done_text}
 use Rattle.sd_top.specs.Reasons.{refused_text}
 use Rattle.sd_top.specs.Schedules.{Reading, judged, read_on, reading_from, written_for, last_text, status_for}
 use Rattle.sd_top.specs.Steps.{Next, Last, step_for, step_of, step_bytes}
-use Rattle.sd_top.specs.declared.Status.{Status}
-use Rattle.sd_top.specs.declared.Status.TheVariants.{Done, InputRefused}
+use Rattle.sd_files.specs.declared.Status.{Status}
+use Rattle.sd_files.specs.declared.Status.TheVariants.{Done, InputRefused}
 use Rattle.sd_top.specs.declared.ScheduleFault.{ScheduleFault}
 use Rattle.sd_top.specs.declared.ScheduleFault.TheVariants as fault
 

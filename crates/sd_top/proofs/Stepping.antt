@@ -18,9 +18,9 @@ use Rattle.sd_top.specs.Schedules.{accepted, judged}
 use Rattle.sd_top.specs.Steps.{Step, Last, Takes, step_for, step_of, end_step}
 use Rattle.sd_top.specs.declared.taking.Taken.{Taken}
 use Rattle.sd_top.specs.declared.taking.Taken.TheVariants as taken
-use Rattle.sd_top.specs.declared.Status.{Status}
-use Rattle.sd_top.specs.declared.Status.TheVariants.{InputRefused}
-use Rattle.sd_top.specs.declared.stop.Stop.{Stop}
+use Rattle.sd_files.specs.declared.Status.{Status}
+use Rattle.sd_files.specs.declared.Status.TheVariants.{InputRefused}
+use Rattle.sd_files.specs.declared.ended.Stop.{Stop}
 use Rattle.sd_top.specs.declared.ScheduleFault.TheVariants as fault
 
 -- which tests hold where an answer is known

@@ -9,10 +9,11 @@ use Rattle.sd_solo.specs.Histories.{report_by, report_text}
 use Rattle.sd_solo.specs.Registers.{StandsFor}
 use Rattle.sd_solo.specs.declared.Solo.{Solo}
 use Rattle.sd_top.specs.Reasons.{refused_text}
-use Rattle.sd_top.specs.Steps.{Step, Adds, Takes, step_of, step_bytes}
+use Rattle.sd_files.specs.Writes.{Adds}
+use Rattle.sd_top.specs.Steps.{Step, Takes, step_of, step_bytes}
 use Rattle.sd_top.specs.declared.taking.Taken.{Taken}
 use Rattle.sd_top.specs.declared.taking.Taken.TheVariants as taken
-use Rattle.sd_top.specs.declared.stop.Stop.{Stop}
+use Rattle.sd_files.specs.declared.ended.Stop.{Stop}
 use Rattle.sd_top.specs.declared.ScheduleFault.{ScheduleFault}
 use Rattle.sd_top.proofs.Stepping.{TakesNext}
 

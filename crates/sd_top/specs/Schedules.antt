@@ -1,5 +1,5 @@
 -- What the schedule of one device alone says, line by line, and what is written for it.
-use Rattle.std.specs.Prelude.{ℕ, zero, suc, ◌+◌, ◌^◌, ◌&&◌, List, [], ◌∷◌, ◌++◌, length, nat_le, nat_lt, Option, None, Some, Result, Ok, Err, if◌then◌else◌}
+use Rattle.std.specs.Prelude.{◌≡◌, ℕ, zero, suc, ◌+◌, ◌^◌, ◌&&◌, List, [], ◌∷◌, ◌++◌, length, nat_le, nat_lt, Option, None, Some, Result, Ok, Err, IsTrue, if◌then◌else◌}
 use Rattle.std.specs.List.{list_any}
 use Rattle.sd_stream.specs.Lines.{lines, after_line}
 use Rattle.sd_sched.specs.declared.Event.{Event}
@@ -8,9 +8,10 @@ use Rattle.sd_sched.specs.Events.{is_end}
 use Rattle.sd_solo.specs.declared.SoloFault.{SoloFault}
 use Rattle.sd_solo.specs.Histories.{refusal, all_bytes, done_text}
 use Rattle.sd_solo.specs.Lines.{solo_event}
+use Rattle.sd_solo.specs.Promises.{start_holds, drift_holds, reports_truly}
 use Rattle.sd_top.specs.Reasons.{refused_text}
-use Rattle.sd_top.specs.declared.Status.{Status}
-use Rattle.sd_top.specs.declared.Status.TheVariants.{Done, InputRefused}
+use Rattle.sd_files.specs.declared.Status.{Status}
+use Rattle.sd_files.specs.declared.Status.TheVariants.{Done, InputRefused}
 use Rattle.sd_top.specs.declared.ScheduleFault.{ScheduleFault}
 use Rattle.sd_top.specs.declared.ScheduleFault.TheVariants as fault
 
@@ -73,3 +74,20 @@ status_for (Some why) = InputRefused
 abbrev pub text_behind : ℕ → List ℕ → List ℕ
 text_behind zero text = text
 text_behind (suc n) text = after_line (text_behind n text)
+
+-- what `solo` writes and answers for the text of a schedule
+abbrev pub IsSolo : List ℕ → List ℕ → Status → Type 0
+IsSolo text bytes status = (bytes ≡ written_for (reading text)) × (status ≡ status_for (reading text).refused)
+
+-- what stands in the text from the line on at which it is refused
+abbrev pub refused_part : List ℕ → List ℕ
+refused_part text = text_behind (length (reading text).events) text
+
+-- of each of these events, the newest first: where the clock that each start and fix set was right, and the oscillator kept its rates, up to that event, the report that it prints has its reference time inside
+abbrev pub ReportsTruly : List Event → Type 0
+ReportsTruly [] = Unit {0}
+ReportsTruly (e ∷ earlier) = ReportsTruly earlier × (IsTrue (start_holds (e ∷ earlier)) → IsTrue (drift_holds (e ∷ earlier)) → IsTrue (reports_truly earlier e))
+
+-- a schedule that is not refused is done
+abbrev pub SoloCompletes : Type 0
+SoloCompletes = (schedule : List ℕ) → (reading schedule).refused ≡ None → (bytes : List ℕ) (status : Status) → IsSolo schedule bytes status → status ≡ Done

@@ -1,9 +1,8 @@
 -- What one line of a schedule does, and how far a run has come.
 use Rattle.std.specs.Prelude.{◌≡◌, ℕ, ◌+◌, List, [], ◌∷◌, length, Option, None, Some, Result, Ok, Err, if◌then◌else◌}
 use Rattle.std.specs.List.{list_any}
-use Rattle.std.specs.Io.KnownBytes.{Appends, Keeps}
+use Rattle.std.specs.Io.KnownBytes.{Appends}
 use Rattle.sd_outside.specs.declared.shelf.Shelf.{Ghosts}
-use Rattle.sd_outside.specs.Fronts.{WritesFront}
 use Rattle.sd_stream.specs.Lines.{lines}
 use Rattle.sd_stream.specs.Reader.{text_left, bytes_before}
 use Rattle.sd_stream.specs.declared.reader.LineReader.{LineReader}
@@ -17,19 +16,11 @@ use Rattle.sd_top.specs.Reasons.{refused_text}
 use Rattle.sd_top.specs.Schedules.{judged, reading, reading_from, text_behind}
 use Rattle.sd_top.specs.declared.ScheduleFault.{ScheduleFault}
 use Rattle.sd_top.specs.declared.ScheduleFault.TheVariants as fault
-use Rattle.sd_top.specs.declared.Status.{Status}
-use Rattle.sd_top.specs.declared.Status.TheVariants.{Done, InputRefused}
+use Rattle.sd_files.specs.declared.Status.{Status}
+use Rattle.sd_files.specs.declared.Status.TheVariants.{Done, InputRefused}
 use Rattle.sd_top.specs.declared.taking.Taken.{Taken}
 use Rattle.sd_top.specs.declared.taking.Taken.TheVariants as taken
-use Rattle.sd_top.specs.declared.stop.Stop.{Stop}
-use Rattle.sd_top.specs.declared.stop.Stop.TheVariants as stop
-
--- the bytes were added; or the run was stopped, and where that was by the sink some front of them was
-abbrev pub Adds : {T : Type 0} → List ℕ → Option (List ℕ) → Option (List ℕ) → Result T Stop → Type 0
-Adds bytes old new (Ok done) = Appends old new bytes
-Adds bytes old new (Err stop.Shelf) = Keeps old new
-Adds bytes old new (Err stop.Sink) = WritesFront old new bytes
-Adds bytes old new (Err stop.Memory) = Keeps old new
+use Rattle.sd_files.specs.declared.ended.Stop.{Stop}
 
 -- what comes next in a schedule: an event, or the end of the run with its last line and its status
 pub data Step : Type 0 where

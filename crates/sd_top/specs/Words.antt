@@ -35,11 +35,24 @@ command_of (word ∷ first ∷ second ∷ []) = with_two_files word first second
 command_of (word ∷ first ∷ second ∷ third ∷ []) = with_three_files word first second third
 command_of (word ∷ first ∷ second ∷ third ∷ fourth ∷ others) = None
 
+-- a file that is read, by its name
+pub data File : Type 0 where
+  OfTopology : (name : List ℕ) → File
+  OfPlan : (name : List ℕ) → File
+  OfAbsent : (name : List ℕ) → File
+  OfSchedule : (name : List ℕ) → File
+
+abbrev pub name_of : File → List ℕ
+name_of (OfTopology name) = name
+name_of (OfPlan name) = name
+name_of (OfAbsent name) = name
+name_of (OfSchedule name) = name
+
 -- the files that a command reads, in the order of its work
-abbrev pub files_of : Option Command → List (List ℕ)
+abbrev pub files_of : Option Command → List File
 files_of None = []
-files_of (Some (Solo schedule)) = schedule ∷ []
-files_of (Some (Plan topology)) = topology ∷ []
-files_of (Some (Check topology plan)) = topology ∷ plan ∷ []
-files_of (Some (Renew topology plan absent)) = topology ∷ plan ∷ absent ∷ []
-files_of (Some (Migrate topology)) = topology ∷ []
+files_of (Some (Solo schedule)) = OfSchedule schedule ∷ []
+files_of (Some (Plan topology)) = OfTopology topology ∷ []
+files_of (Some (Check topology plan)) = OfTopology topology ∷ OfPlan plan ∷ []
+files_of (Some (Renew topology plan absent)) = OfTopology topology ∷ OfPlan plan ∷ OfAbsent absent ∷ []
+files_of (Some (Migrate topology)) = OfTopology topology ∷ []

@@ -1,15 +1,15 @@
 //! Making a plan, and what is written of it.
-ghost use Rattle.std.specs.Prelude.{◌≡◌, ◌<◌, length, IsTrue, IfErr, IfOk};
+ghost use Rattle.std.specs.Prelude.{◌≡◌, ◌<◌, [], ◌∷◌, length, IsTrue, IfErr, IfOk};
 ghost use Rattle.sd_plan.specs.Plans.{Fits};
 ghost use Rattle.sd_topo.specs.Topologies.{network};
-ghost use Rattle.sd_top.specs.Plannings.{IfPlan, IsPlanning, text_of_planned, status_of_planned};
-ghost use Rattle.sd_top.specs.Stops.{is_final};
-ghost use Rattle.sd_usable.specs.Usable.{IsAbsentOf};
+ghost use Rattle.sd_files.specs.Writes.{Makes};
+ghost use Rattle.sd_top.specs.Gives.{GivesAmong};
+ghost use Rattle.sd_top.specs.Plannings.{IsPlanning};
+ghost use Rattle.sd_top.specs.PlannedAnswers.{IfPlan, text_of_planned, status_of_planned};
+ghost use Rattle.sd_place.specs.Usable.{IsAbsentOf};
 
-use crate::Status;
-use crate::answer::Answer;
-use crate::stop::Stop;
 use sd_checker::refused_line;
+use sd_files::{Answer, Ended, Status};
 use sd_plan::Absent;
 use sd_planner::{Planned, plan_for};
 use sd_plantext::plan_text;
@@ -17,12 +17,11 @@ use sd_topo::Topology;
 use std::alloc::Global;
 
 /// The text of a plan that was made, or the line of its breach.
-fn planned_answer(alloc: Global, topo: &Topology, planned: &Planned) -> Result<Answer, Stop>
+fn planned_answer(alloc: Global, topo: &Topology, planned: &Planned) -> Result<Answer, Ended>
     requires { IfPlan (Fits (network topo.now)) planned.now }
     ensures text { IfOk result (λ answer. answer.text.items ≡ text_of_planned (network topo.now) planned.now) }
     ensures status { IfOk result (λ answer. answer.status ≡ status_of_planned planned.now) }
-    ensures not_stopped { IfOk result (λ answer. IsTrue (is_final answer.status)) }
-    ensures only { IfErr result (λ why. why ≡ Stop.Memory) }
+    ensures only { IfErr result (λ why. why ≡ Ended.Memory) }
 {
     match planned {
         Planned::Plan(plan) => Ok(Answer {
@@ -38,12 +37,12 @@ fn planned_answer(alloc: Global, topo: &Topology, planned: &Planned) -> Result<A
 
 /// Makes the greedy plan from a root without what is absent: its text, or the line of its breach.
 #[tactic(auto, using(crate::proofs::Planned::planned_fits))]
-pub fn planning(alloc: Global, topo: &Topology, root: u32, absent: &Absent) -> Result<Answer, Stop>
+pub fn planning(alloc: Global, topo: &Topology, root: u32, absent: &Absent) -> Result<Answer, Ended>
     requires root { root < length (network topo.now).devices }
     requires absent { IsAbsentOf (network topo.now) absent.now }
-    ensures planning { IfOk result (λ answer. IsPlanning (network topo.now) root absent.now answer.text.items answer.status) }
-    ensures not_stopped { IfOk result (λ answer. IsTrue (is_final answer.status)) }
-    ensures only { IfErr result (λ why. why ≡ Stop.Memory) }
+    ensures makes { Makes (IsPlanning (network topo.now) root absent.now) result }
+    ensures gives { GivesAmong (Status.Done ∷ Status.PlanRefused ∷ Status.InputRefused ∷ []) result }
+    ensures only { IfErr result (λ why. why ≡ Ended.Memory) }
 {
     let planned = plan_for(alloc, topo, root, absent)?;
     planned_answer(alloc, topo, &planned)

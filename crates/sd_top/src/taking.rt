@@ -1,3 +1,4 @@
+//! The next line of a schedule, and what it does to the device.
 ghost use Rattle.std.specs.Prelude.{◌≡◌, ◌<◌, ◌≤◌, ◌+◌, ◌^◌, List, length, Ok, Err, IfOk, IfErr, IfSome};
 ghost use Rattle.sd_outside.specs.Causes.{Rose};
 ghost use Rattle.sd_stream.specs.Lines.{lines};
@@ -9,8 +10,8 @@ ghost use Rattle.sd_top.specs.Schedules.{accepted};
 ghost use Rattle.sd_top.specs.Steps.{Takes, IsEvent, step_for, step_of};
 
 use crate::ScheduleFault;
-use crate::stop::Stop;
 use sd_clock::Report;
+use sd_files::Stop;
 use sd_outside::Shelf;
 use sd_solo::{Solo, read_solo_line};
 use sd_stream::{LineReader, StreamFault};

@@ -7,8 +7,7 @@ use Rattle.std.proofs.lemmas.Bool.Decides.{nat_tests}
 use Rattle.std.proofs.lemmas.List.Elements.{All-head, All-tail, All-cons}
 use Rattle.std.proofs.lemmas.List.Sorted.{list_any-IsPermutation, All-permutation, IsNonDecreasingBy-from_sort}
 use Rattle.std.proofs.lemmas.Map.Keys.{IsDistinct-IsPermutation, IsStrictlyIncreasing-from_distinct, sorted_from_strictly_increasing}
-use Rattle.sd_num.specs.Lists.{below, has}
-use Rattle.sd_topo.specs.Meaning.{ascending}
+use Rattle.sd_num.specs.Lists.{below, has, ascending}
 
 -- the numbers ascend strictly from a on
 abbrev pub Rises : ℕ → List ℕ → Type 0

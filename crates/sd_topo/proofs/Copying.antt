@@ -4,11 +4,11 @@ use Rattle.std.specs.List.{list_any, AllZip, IsDistinct, AllByRecursion, slice_g
 use Rattle.std.specs.Str.{bytes_eq}
 use Rattle.std.specs.Map.{keys_of}
 use Rattle.std.specs.Cmp.Lexicographic.{pointwise}
-use Rattle.sd_topo.specs.declared.topology.Station.{Station}
-use Rattle.sd_topo.specs.declared.topology.Group.{Group}
+use Rattle.sd_topo.specs.declared.parts.Station.{Station}
+use Rattle.sd_topo.specs.declared.parts.Group.{Group}
 use Rattle.sd_topo.specs.declared.LinkEntry.{LinkEntry}
 use Rattle.sd_topo.specs.Seen.{device_seen, link_seen, domain_seen, network_seen}
-use Rattle.sd_topo.specs.declared.topology.Tables.TheInside.{Inside}
+use Rattle.sd_topo.specs.declared.parts.Parts.{Parts}
 use Rattle.indexmap.specs.IndexMap.{IndexMap}
 use Rattle.std.specs.Prelude.{Vec}
 use Rattle.std.specs.declared.hash.FoldHasher.{FoldHasher}
@@ -81,8 +81,8 @@ same_domains (e ∷ es) (c ∷ cs) copied =
     let first : domain_seen c ≡ domain_seen e = rw (copied.0.0, copied.0.1.0, copied.0.1.1) refl in
     rw (first, same_domains es cs copied.1) refl
 
--- copied tables stand for the same network
-pub copied_network : (t : Inside) (devices : IndexMap (String Global) Station Hasher) (links : IndexMap (String Global) LinkEntry Hasher) (domains : IndexMap (String Global) Group Hasher) (roots : Vec ℕ Global)
+-- copied parts stand for the same network
+pub copied_network : (t : Parts) (devices : IndexMap (String Global) Station Hasher) (links : IndexMap (String Global) LinkEntry Hasher) (domains : IndexMap (String Global) Group Hasher) (roots : Vec ℕ Global)
     → AllZip (IsCopy (λ a b. b ≡ a)) t.devices.entries devices.entries → AllZip (IsCopy (λ a b. b ≡ a)) t.links.entries links.entries
     → AllZip (IsCopy (λ a b. (b.devices.items ≡ a.devices.items) × (b.links.items ≡ a.links.items))) t.domains.entries domains.entries → roots.items ≡ t.roots.items
     → network_seen (record t { devices = devices; links = links; domains = domains; roots = roots }) ≡ network_seen t

@@ -7,7 +7,7 @@ use Rattle.std.proofs.lemmas.Option.{slice_get-map}
 use Rattle.sd_num.specs.Lists.{at_place}
 use Rattle.sd_topo.specs.Network.{name_at, no_domain, number_in}
 use Rattle.sd_topo.specs.Seen.{domain_seen}
-use Rattle.sd_topo.specs.declared.topology.Group.{Group}
+use Rattle.sd_topo.specs.declared.parts.Group.{Group}
 
 -- what is at a place of a list, seen through a function
 pub at_place-map : {A B C : Type 0} (see : A → B) (xs : List A) (i : ℕ) (x : A) (d : C) (f : B → C) → slice_get xs i ≡ Some x → at_place (map see xs) i d f ≡ f (see x)

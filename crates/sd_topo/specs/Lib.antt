@@ -1,10 +1,6 @@
 pub mod Network
 pub mod Joined
 pub mod Seen
+pub mod TablesView
 pub mod Topologies
 pub mod Copies
-pub mod Keys
-pub mod Gives
-pub mod Meaning
-pub mod Reading
-pub mod Printed

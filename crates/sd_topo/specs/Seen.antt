@@ -1,11 +1,11 @@
--- What the tables of a topology stand for.
+-- What the parts of a topology stand for.
 use Rattle.std.specs.Prelude.{◌≡◌, ℕ, List, [], ◌∷◌, ◌++◌, map, String, string_bytes}
 use Rattle.std.specs.declared.alloc.Global.{Global}
 use Rattle.indexmap.specs.IndexMap.{IndexMap, keys}
 use Rattle.sd_topo.specs.declared.LinkEntry.{LinkEntry}
-use Rattle.sd_topo.specs.declared.topology.Station.{Station}
-use Rattle.sd_topo.specs.declared.topology.Group.{Group}
-use Rattle.sd_topo.specs.declared.topology.Tables.TheInside.{Inside}
+use Rattle.sd_topo.specs.declared.parts.Station.{Station}
+use Rattle.sd_topo.specs.declared.parts.Group.{Group}
+use Rattle.sd_topo.specs.declared.parts.Parts.{Parts}
 use Rattle.sd_topo.specs.Network.{Network, Device, Link, Domain}
 
 -- a device from its name and the rest
@@ -40,13 +40,13 @@ pub record Adds {V S : Type 0} (old new : IndexMap (String Global) V S) (name : 
   pub named : string_bytes key ≡ name
   pub last : new.entries ≡ old.entries ++ (key, added) ∷ []
 
--- the network that the tables stand for
-abbrev pub network_seen : Inside → Network
-network_seen t = record {
-  version = t.version;
-  params = t.params;
-  devices = devices_seen t.devices;
-  links = links_seen t.links;
-  domains = domains_seen t.domains;
-  roots = t.roots.items;
+-- the network that the parts stand for
+abbrev pub network_seen : Parts → Network
+network_seen p = record {
+  version = p.version;
+  params = p.params;
+  devices = devices_seen p.devices;
+  links = links_seen p.links;
+  domains = domains_seen p.domains;
+  roots = p.roots.items;
 }

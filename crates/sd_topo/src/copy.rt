@@ -6,8 +6,7 @@ ghost use Rattle.sd_topo.specs.Seen.{names_seen};
 ghost use Rattle.sd_topo.specs.Copies.{IsCopy, AddsCopy};
 
 use crate::LinkEntry;
-use crate::read::add;
-use crate::topology::{Group, Station};
+use crate::parts::{Group, Station, add_named};
 use indexmap::IndexMap;
 use sd_num::NoMemory;
 use std::alloc::Global;
@@ -69,10 +68,8 @@ fn copy_entry<V: CopyIn>(
     ensures { OnOk result (AddsCopy V.same copies.old copies.new name.now value.now) }
 {
     let copy = value.copy_in(alloc)?;
-    match add(alloc, copies, name, copy) {
-        Ok(()) => return Ok(()),
-        Err(_) => return Err(NoMemory),
-    }
+    add_named(alloc, copies, name, copy)?;
+    Ok(())
 }
 
 /// A copy of a table of named things.

@@ -1,18 +1,12 @@
 //! A datacenter's topology: devices with their oscillators, links with the delays of both
-//! directions, and listed fault domains; read from text and printed with `toml`.
+//! directions, and listed fault domains.
 #![tactic(auto)]
 
 mod copy;
-mod fault;
-mod print;
-mod read;
-#[cfg(test)]
-mod tests;
+mod parts;
 mod topology;
 
-pub use fault::{Key, Kind, Place, TopoFault};
-pub use print::topology_text;
-pub use read::read_topology;
+pub use parts::{Group, Parts, Station, add_named};
 pub use topology::Topology;
 
 /// A device or a link, by its number.

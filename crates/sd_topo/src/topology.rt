@@ -1,52 +1,30 @@
 //! A topology, and what it answers of its devices, links and domains.
-ghost use Rattle.std.specs.Prelude.{◌≡◌};
 ghost use Rattle.sd_topo.specs.Network.{IsNetwork};
 
 use crate::copy::{copy_numbers, copy_table};
-use crate::{Delay, LinkEntry, Params, Side};
-use indexmap::IndexMap;
+use crate::parts::longest_delay;
+use crate::{Delay, LinkEntry, Params, Parts, Side};
 use sd_num::{Bounds, NoMemory, Rates};
 use std::alloc::Global;
 use std::marker::Model;
 
-/// What a device has beside its name.
-#[derive(Clone, Copy)]
-pub(crate) struct Station {
-    pub(crate) side: Side,
-    pub(crate) rates: Rates,
-}
-
-/// What a listed domain has beside its name: numbers, ascending.
+/// The parts of a topology, and the greatest delay of its links.
 #[derive(Drop)]
-pub(crate) struct Group {
-    pub(crate) devices: Vec<u32>,
-    pub(crate) links: Vec<u32>,
-}
-
-/// The tables of a topology; names are found by hashing.
-#[derive(Drop)]
-pub(crate) struct Tables {
-    pub(crate) version: u32,
-    pub(crate) params: Params,
-    pub(crate) devices: IndexMap<String, Station>,
-    pub(crate) links: IndexMap<String, LinkEntry>,
-    pub(crate) domains: IndexMap<String, Group>,
-    pub(crate) roots: Vec<u32>,
-    pub(crate) longest_delay: u64,
+struct Tables {
+    parts: Parts,
+    longest_delay: u64,
 }
 
 impl Model for Tables {
-    ghost use Rattle.std.specs.Prelude.{◌≡◌};
     ghost use Rattle.sd_topo.specs.Network.{Network};
 
     ghost Value = { Network };
 
-    ghost use Rattle.sd_topo.specs.Network.{greatest_delay};
-    ghost use Rattle.sd_topo.specs.Seen.{network_seen};
+    ghost use Rattle.sd_topo.specs.TablesView.{tables_seen, AreTables};
 
-    ghost view = { network_seen };
+    ghost view = { tables_seen };
 
-    ghost invariant = { λ t. t.longest_delay ≡ greatest_delay (network_seen t) };
+    ghost invariant = { AreTables };
 }
 
 /// A datacenter: devices, links with the delays of both directions, and listed fault domains,
@@ -59,15 +37,29 @@ pub struct Topology {
 
 impl Topology {
     ghost use Rattle.std.specs.Prelude.{◌≡◌, ◌<◌, length, IsTrue, IfOk};
+    ghost use Rattle.sd_topo.specs.Seen.{network_seen};
     ghost use Rattle.sd_topo.specs.Network.{rates_of, link_of, delay_of, bounds_of, is_end, greatest_delay, side_of, device_names, link_names, domain_names, name_at, domain_of, number_in};
     ghost use Rattle.sd_topo.specs.Topologies.{network};
+
+    /// The topology of some parts.
+    pub fn new(parts: Parts) -> Topology
+        requires { IsNetwork (network_seen parts) }
+        ensures { network result ≡ network_seen parts }
+    {
+        let longest_delay = longest_delay(&parts.links);
+        let tables = Tables {
+            parts,
+            longest_delay,
+        };
+        Topology { tables }
+    }
 
     /// 1 or 2.
     pub fn version(&self) -> u32
         ensures { result ≡ (network self.now).version }
     {
         let tables = &self.tables;
-        tables.version
+        tables.parts.version
     }
 
     /// The numbers of the keys at the top; the rates are those of a device that names none.
@@ -75,7 +67,7 @@ impl Topology {
         ensures { result ≡ (network self.now).params }
     {
         let tables = &self.tables;
-        tables.params
+        tables.parts.params
     }
 
     /// How many devices there are.
@@ -83,7 +75,7 @@ impl Topology {
         ensures { result ≡ length (network self.now).devices }
     {
         let tables = &self.tables;
-        tables.devices.len() as u32
+        tables.parts.devices.len() as u32
     }
 
     /// How many links there are.
@@ -91,7 +83,7 @@ impl Topology {
         ensures { result ≡ length (network self.now).links }
     {
         let tables = &self.tables;
-        tables.links.len() as u32
+        tables.parts.links.len() as u32
     }
 
     /// How many domains are listed.
@@ -99,7 +91,7 @@ impl Topology {
         ensures { result ≡ length (network self.now).domains }
     {
         let tables = &self.tables;
-        tables.domains.len() as u32
+        tables.parts.domains.len() as u32
     }
 
     /// The name of a device.
@@ -108,7 +100,7 @@ impl Topology {
         ensures { result.now ≡ name_at (device_names (network self.now)) d }
     {
         let tables = &self.tables;
-        match tables.devices.get_index(d as usize) {
+        match tables.parts.devices.get_index(d as usize) {
             Some((name, _)) => name.as_str(),
             None => unreachable!(),
         }
@@ -120,7 +112,7 @@ impl Topology {
         ensures { result.now ≡ name_at (link_names (network self.now)) l }
     {
         let tables = &self.tables;
-        match tables.links.get_index(l as usize) {
+        match tables.parts.links.get_index(l as usize) {
             Some((name, _)) => name.as_str(),
             None => unreachable!(),
         }
@@ -132,7 +124,7 @@ impl Topology {
         ensures { result.now ≡ name_at (domain_names (network self.now)) f }
     {
         let tables = &self.tables;
-        match tables.domains.get_index(f as usize) {
+        match tables.parts.domains.get_index(f as usize) {
             Some((name, _)) => name.as_str(),
             None => unreachable!(),
         }
@@ -144,7 +136,7 @@ impl Topology {
         ensures { result ≡ side_of (network self.now) d }
     {
         let tables = &self.tables;
-        tables.devices[d as usize].side
+        tables.parts.devices[d as usize].side
     }
 
     /// The rates of a device's own oscillator.
@@ -153,7 +145,7 @@ impl Topology {
         ensures { result ≡ rates_of (network self.now) d }
     {
         let tables = &self.tables;
-        tables.devices[d as usize].rates
+        tables.parts.devices[d as usize].rates
     }
 
     /// The ends of a link, and its delays both ways.
@@ -162,7 +154,7 @@ impl Topology {
         ensures { result ≡ link_of (network self.now) l }
     {
         let tables = &self.tables;
-        tables.links[l as usize]
+        tables.parts.links[l as usize]
     }
 
     /// The delays of a link's direction towards a receiver, which is one of its ends.
@@ -201,7 +193,7 @@ impl Topology {
         ensures { result.now ≡ (domain_of (network self.now) f).devices }
     {
         let tables = &self.tables;
-        let group = &tables.domains[f as usize];
+        let group = &tables.parts.domains[f as usize];
         group.devices.as_slice()
     }
 
@@ -211,7 +203,7 @@ impl Topology {
         ensures { result.now ≡ (domain_of (network self.now) f).links }
     {
         let tables = &self.tables;
-        let group = &tables.domains[f as usize];
+        let group = &tables.parts.domains[f as usize];
         group.links.as_slice()
     }
 
@@ -220,7 +212,7 @@ impl Topology {
         ensures { result.now ≡ (network self.now).roots }
     {
         let tables = &self.tables;
-        tables.roots.as_slice()
+        tables.parts.roots.as_slice()
     }
 
     /// The number of the device with a name.
@@ -228,7 +220,7 @@ impl Topology {
         ensures { result ≡ number_in (device_names (network self.now)) name.now }
     {
         let tables = &self.tables;
-        match tables.devices.get_index_of(name) {
+        match tables.parts.devices.get_index_of(name) {
             Some(number) => Some(number as u32),
             None => None,
         }
@@ -239,7 +231,7 @@ impl Topology {
         ensures { result ≡ number_in (link_names (network self.now)) name.now }
     {
         let tables = &self.tables;
-        match tables.links.get_index_of(name) {
+        match tables.parts.links.get_index_of(name) {
             Some(number) => Some(number as u32),
             None => None,
         }
@@ -250,20 +242,18 @@ impl Topology {
         ensures { IfOk result (λ topo. network topo ≡ network self.now) }
     {
         let tables = &self.tables;
-        let devices = copy_table(alloc, &tables.devices)?;
-        let links = copy_table(alloc, &tables.links)?;
-        let domains = copy_table(alloc, &tables.domains)?;
-        let roots = copy_numbers(alloc, tables.roots.as_slice())?;
-        let tables = Tables {
-            version: tables.version,
-            params: tables.params,
+        let devices = copy_table(alloc, &tables.parts.devices)?;
+        let links = copy_table(alloc, &tables.parts.links)?;
+        let domains = copy_table(alloc, &tables.parts.domains)?;
+        let roots = copy_numbers(alloc, tables.parts.roots.as_slice())?;
+        Ok(Topology::new(Parts {
+            version: tables.parts.version,
+            params: tables.parts.params,
             devices,
             links,
             domains,
             roots,
-            longest_delay: tables.longest_delay,
-        };
-        Ok(over_tables(tables))
+        }))
     }
 
     /// The greatest delay of a link in either direction, in picoseconds; 0 where there is no link.
@@ -273,12 +263,4 @@ impl Topology {
         let tables = &self.tables;
         tables.longest_delay
     }
-}
-
-/// A topology over its tables.
-pub(crate) fn over_tables(tables: Tables) -> Topology
-    requires { IsNetwork tables }
-    ensures { result.tables ≡ tables }
-{
-    Topology { tables }
 }

@@ -168,3 +168,32 @@ fn ten_thousand_flights_are_taken_backwards(rt: HostRuntime) {
         );
     }
 }
+
+/// How many are on their way at once, and how many are taken meanwhile.
+const ON_THEIR_WAY: u64 = 10_000;
+
+const TAKES: u64 = 100_000;
+
+/// Of each sixteen the latest is taken first, and after each take another is sent.
+#[test]
+fn many_on_their_way_are_taken_in_about_their_order(rt: HostRuntime) {
+    let sent = flight(4, 3, 1_000, true);
+    let mut tried = Tried::new(rt.alloc());
+    for number in 1..=ON_THEIR_WAY {
+        assert_eq!(rt;
+            tried.call(rt.alloc(), Call::Send(sent)),
+            Answer::Sent(number)
+        );
+    }
+    for turn in 0..TAKES {
+        let number = turn / 16 * 16 + 16 - turn % 16;
+        assert_eq!(rt;
+            tried.call(rt.alloc(), take(number, 3)),
+            numbered(number, sent)
+        );
+        assert_eq!(rt;
+            tried.call(rt.alloc(), Call::Send(sent)),
+            Answer::Sent(ON_THEIR_WAY + 1 + turn)
+        );
+    }
+}

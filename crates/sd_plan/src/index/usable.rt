@@ -8,34 +8,13 @@ ghost use Rattle.sd_plan.specs.Structure.{structure_breach};
 ghost use Rattle.sd_plan.specs.Indexed as indexed;
 ghost use Rattle.sd_plan.specs.Usable.{usable_before, usable_below};
 
+use crate::flags::present;
 use crate::table::duties::is_member;
 use crate::table::ends::{EndList, no_ends};
 use crate::{End, Plan};
 use sd_num::NoMemory;
 use sd_topo::Topology;
 use std::alloc::Global;
-
-/// True for each number.
-fn all_present(alloc: Global, count: u32) -> Result<Vec<bool>, NoMemory>
-    ensures { IfOk result (λ flags. flags.items ≡ replicate count true) }
-{
-    match vec![in alloc; true; count as usize] {
-        Ok(flags) => Ok(flags),
-        Err(_) => Err(NoMemory),
-    }
-}
-
-/// Whether each number is none of those that are left out.
-fn present(alloc: Global, count: u32, absent: &[u32]) -> Result<Vec<bool>, NoMemory>
-    requires { IsTrue (all_below count absent.now) }
-    ensures { IfOk result (λ flags. flags.items ≡ map (λ x. not (has absent.now x)) (below count)) }
-{
-    let mut flags = all_present(alloc, count)?;
-    for number in absent {
-        flags[*number as usize] = false;
-    }
-    Ok(flags)
-}
 
 /// Adds one end of a link to the usable ends of the other, if it is a member.
 fn add_usable(

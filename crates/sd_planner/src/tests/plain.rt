@@ -267,7 +267,7 @@ fn serves(
     Ok((other_side || before) && !joined(net, own.device, primary, hop))
 }
 
-fn serves_standby(
+fn serves_backup_root(
     alloc: Global,
     net: &Small,
     seats: &[Seat],
@@ -310,7 +310,7 @@ fn first_to(
         if joins(*ends, own.device, parent) {
             let hop = Hop { parent, link };
             let good = if own.device == 1 {
-                serves_standby(alloc, net, seats, primary, hop)?
+                serves_backup_root(alloc, net, seats, primary, hop)?
             } else {
                 serves(alloc, net, seats, own, primary, hop)?
             };

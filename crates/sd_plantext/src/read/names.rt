@@ -1,7 +1,7 @@
 //! Names of devices and links, alone and in lists.
 ghost use Rattle.std.specs.Prelude.{◌≡◌, ◌<◌, ℕ, length, All, OnOk, IfOk, IfErr, []};
 ghost use Rattle.serde_json.specs.View.{view, items_view};
-ghost use Rattle.sd_topo.specs.Meaning.{ascending};
+ghost use Rattle.sd_num.specs.Lists.{ascending};
 ghost use Rattle.sd_topo.specs.Network.{number_in};
 ghost use Rattle.sd_topo.specs.Topologies.{network};
 ghost use Rattle.sd_plantext.specs.Counted.{names_of};

@@ -1,33 +1,13 @@
 //! `check`: verdicts on plans, and texts that are refused.
-ghost use Rattle.std.specs.Prelude.{◌≡◌, ◌≤◌, false, IfOk};
 
-use super::run_words;
 use super::texts::*;
-use sd_outside::MemShelf;
+use super::{run_words, shelf_of};
 use sd_top::Status;
-use std::alloc::Global;
 use std::process::Abort;
 use std::test::Fail;
 
 /// A text in which the first part is replaced by the second, wherever it stands.
 type Changed = (&'static str, &'static str, &'static str);
-
-/// A shelf that holds a topology and a plan.
-fn shelf_of(alloc: Global, topology: &[u8], plan: &[u8], piece: usize) -> Result<MemShelf, Fail>
-    requires { 1 ≤ piece }
-    ensures { IfOk result (λ shelf. shelf.begun ≡ false) }
-{
-    let mut files = Vec::new(alloc);
-    files.push((
-        String::from_str(alloc, "topology")?,
-        Vec::from_slice(alloc, topology)?,
-    ))?;
-    files.push((
-        String::from_str(alloc, "plan")?,
-        Vec::from_slice(alloc, plan)?,
-    ))?;
-    Ok(MemShelf::new(files, piece, Vec::new(alloc)))
-}
 
 /// One topology and plan: what is written and answered.
 fn assert_check(
@@ -39,7 +19,8 @@ fn assert_check(
 ) -> Result<(), Fail> {
     let alloc = rt.alloc();
     for piece in [7, 8192] {
-        let mut shelf = shelf_of(alloc, topology, plan, piece)?;
+        let texts = [("topology", topology), ("plan", plan)];
+        let mut shelf = shelf_of(alloc, &texts, piece, &[])?;
         let words = ["check", "topology", "plan"];
         let (answer, out) = run_words(alloc, &words, &mut shelf, Vec::new(alloc))?;
         assert_eq!(rt; std::str::from_utf8(out.bytes()), Ok(output));
@@ -238,7 +219,7 @@ fn a_plan_text_that_is_no_plan_is_refused(rt: HostRuntime) -> Result<(), Fail> {
 #[test]
 fn the_topology_is_judged_before_the_plan_is_sought(rt: HostRuntime) -> Result<(), Fail> {
     let alloc = rt.alloc();
-    let mut shelf = shelf_of(alloc, b"", b"", 8192)?;
+    let mut shelf = shelf_of(alloc, &[("topology", b"")], 8192, &[])?;
     let words = ["check", "topology", "elsewhere"];
     let (answer, out) = run_words(alloc, &words, &mut shelf, Vec::new(alloc))?;
     let output = "input topology Missing version 0\n";

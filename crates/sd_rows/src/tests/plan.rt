@@ -1,52 +1,15 @@
 //! `plan` and `renew`: greedy plans, and texts that are refused.
-ghost use Rattle.std.specs.Prelude.{◌≡◌, ◌≤◌, false, IfOk};
 
-use super::run_words;
 use super::texts::*;
-use sd_outside::MemShelf;
+use super::{run_words, shelf_of};
 use sd_top::Status;
 use std::alloc::Global;
 use std::process::Abort;
 use std::test::Fail;
 
-/// The greedy plan of the fabric.
-const FABRIC_GREEDY: &str =
-    "{\"absent_devices\":[],\"absent_links\":[],\"backup_root\":\"s2\",\"root\":\"s1\",\"rows\":[{\"backup\":\"l2\",\"backup_link\":\"b2\",\"device\":\"s2\",\"link\":\"b1\",\"parent\":\"l1\"},{\"backup\":\"s2\",\"backup_link\":\"b1\",\"device\":\"l1\",\"link\":\"a1\",\"parent\":\"s1\"},{\"backup\":\"s2\",\"backup_link\":\"b2\",\"device\":\"l2\",\"link\":\"a2\",\"parent\":\"s1\"},{\"backup\":\"s2\",\"backup_link\":\"b3\",\"device\":\"l3\",\"link\":\"a3\",\"parent\":\"s1\"}],\"version\":1,\"wait\":3561917200,\"wait_first\":712269454,\"wait_second\":712269454}\n";
-
-/// The plan of the fabric without its leaf l3.
-const FABRIC_RENEWED: &str =
-    "{\"absent_devices\":[\"l3\"],\"absent_links\":[],\"backup_root\":\"s2\",\"root\":\"s1\",\"rows\":[{\"backup\":\"l2\",\"backup_link\":\"b2\",\"device\":\"s2\",\"link\":\"b1\",\"parent\":\"l1\"},{\"backup\":\"s2\",\"backup_link\":\"b1\",\"device\":\"l1\",\"link\":\"a1\",\"parent\":\"s1\"},{\"backup\":\"s2\",\"backup_link\":\"b2\",\"device\":\"l2\",\"link\":\"a2\",\"parent\":\"s1\"}],\"version\":1,\"wait\":3561917200,\"wait_first\":712269454,\"wait_second\":712269454}\n";
-
 /// One device, which is the only candidate for the root.
 const ALONE: &str =
     "version = 1\nppm = 200\ngrain = 1000\nperiod = 100000000\ntick = 10000000\nloss = 1\ndepth = 3\nroots = [\"one\"]\ndevice = [{ name = \"one\" }]\n";
-
-/// A shelf that holds a topology, a plan and what is absent.
-fn shelf_of(
-    alloc: Global,
-    topology: &[u8],
-    plan: &[u8],
-    absent: &[u8],
-    piece: usize,
-) -> Result<MemShelf, Fail>
-    requires { 1 ≤ piece }
-    ensures { IfOk result (λ shelf. shelf.begun ≡ false) }
-{
-    let mut files = Vec::new(alloc);
-    files.push((
-        String::from_str(alloc, "topology")?,
-        Vec::from_slice(alloc, topology)?,
-    ))?;
-    files.push((
-        String::from_str(alloc, "plan")?,
-        Vec::from_slice(alloc, plan)?,
-    ))?;
-    files.push((
-        String::from_str(alloc, "absent")?,
-        Vec::from_slice(alloc, absent)?,
-    ))?;
-    Ok(MemShelf::new(files, piece, Vec::new(alloc)))
-}
 
 /// One plan of a topology: what is written and answered.
 fn assert_plan(
@@ -56,7 +19,7 @@ fn assert_plan(
     status: Status,
 ) -> Result<(), Fail> {
     let alloc = rt.alloc();
-    let mut shelf = shelf_of(alloc, topology, b"", b"", 4096)?;
+    let mut shelf = shelf_of(alloc, &[("topology", topology)], 4096, &[])?;
     let words = ["plan", "topology"];
     let (answer, out) = run_words(alloc, &words, &mut shelf, Vec::new(alloc))?;
     assert_eq!(rt; std::str::from_utf8(out.bytes()), Ok(output));
@@ -74,13 +37,12 @@ fn assert_renewal(
     let alloc = rt.alloc();
     for piece in [7, 8192] {
         let (topology, plan, absent) = texts;
-        let mut shelf = shelf_of(
-            alloc,
-            topology.as_bytes(),
-            plan.as_bytes(),
-            absent.as_bytes(),
-            piece,
-        )?;
+        let texts = [
+            ("topology", topology.as_bytes()),
+            ("plan", plan.as_bytes()),
+            ("absent", absent.as_bytes()),
+        ];
+        let mut shelf = shelf_of(alloc, &texts, piece, &[])?;
         let words = ["renew", "topology", "plan", "absent"];
         let (answer, out) = run_words(alloc, &words, &mut shelf, Vec::new(alloc))?;
         assert_eq!(rt; std::str::from_utf8(out.bytes()), Ok(output));

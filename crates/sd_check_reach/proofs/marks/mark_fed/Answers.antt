@@ -1,6 +1,6 @@
 use Rattle.std.proofs.Common.{◌<◌, length, arith, get_or}
 use Rattle.std.proofs.lemmas.Option.{slice_get-get_or}
-use Rattle.sd_check_reach.proofs.Places.{has_at}
+use Rattle.sd_num.proofs.Places.{has_at}
 use Rattle.sd_check_reach.proofs.Following.{marked_more}
 use Rattle.sd_check_reach.proofs.marks.mark_fed.Goals as goal
 

@@ -8,23 +8,20 @@ use Rattle.sd_topo.specs.Topologies.{network}
 use Rattle.sd_check_root.proofs.Domains.{device_at}
 use Rattle.sd_check_root.proofs.fallback.hits_device.Goals as goal
 
-pub path_has-requires-clause-device : goal.path_has-requires-clause-device
-path_has-requires-clause-device c =
-    omega (arith, c.requires.indexed.spans, device_at (network c.args.topo.now) c.args.f c.devices_in-d-items.result.now c.loop-d.d-index c.args.topo.now.is_network c.requires.domain c.devices_in-d-items.ensures c.loop-d-test.true)
+pub path_has_device-requires : goal.path_has_device-requires
+path_has_device-requires c =
+    omega (arith, device_at (network c.args.planned.topo.now) c.args.domain c.devices_in-d-items.result.now c.loop-d.d-index c.args.planned.topo.now.is_network c.requires c.devices_in-d-items.ensures c.loop-d-test.true)
 
-pub path_has-requires-clause-cut : goal.path_has-requires-clause-cut
-path_has-requires-clause-cut c = omega (arith, c.requires.indexed.spans, c.requires.indexed.fits.backup_root)
-
-pub returns-then-path_has : goal.returns-then-path_has
-returns-then-path_has c =
-    let test = has_device (path (network c.args.topo.now) c.args.plan.now c.args.plan.now.backup_root) in
+pub returns-then-path_has_device : goal.returns-then-path_has_device
+returns-then-path_has_device c =
+    let test = has_device (path (network c.args.planned.topo.now) c.args.planned.plan.now c.args.planned.plan.now.backup_root) in
     sym
     (ap (list_any test) (sym c.devices_in-d-items.ensures)
-    ∙ list_any_at test c.devices_in-d-items.result.now c.loop-d.d-index 0 c.loop-d-test.true (sym (c.path_has.ensures (network c.args.topo.now) c.requires.indexed) ∙ c.if-path_has.true))
+    ∙ list_any_at test c.devices_in-d-items.result.now c.loop-d.d-index 0 c.loop-d-test.true (sym (c.path_has_device.ensures) ∙ c.if-path_has_device.true))
 
 pub loop-d-preserved : goal.loop-d-preserved
 loop-d-preserved c =
-    let test = has_device (path (network c.args.topo.now) c.args.plan.now c.args.plan.now.backup_root) in
+    let test = has_device (path (network c.args.planned.topo.now) c.args.planned.plan.now c.args.planned.plan.now.backup_root) in
     let items = c.devices_in-d-items.result.now in
     list_any_more test items c.loop-d.d-index 0 c.loop-d-test.true
-    ∙ or_from _ (test (get_or items c.loop-d.d-index 0)) c.loop-d.invariant (sym (c.path_has.ensures (network c.args.topo.now) c.requires.indexed) ∙ c.if-path_has.false)
+    ∙ or_from _ (test (get_or items c.loop-d.d-index 0)) c.loop-d.invariant (sym (c.path_has_device.ensures) ∙ c.if-path_has_device.false)

@@ -6,34 +6,26 @@ use Rattle.sd_plan.specs.Indexed.{has_link}
 use Rattle.sd_plan.specs.Walks.{path}
 use Rattle.sd_topo.specs.Topologies.{network}
 use Rattle.sd_check_root.proofs.Domains.{link_at}
-use Rattle.sd_check_root.proofs.Paths.{carried_length, backup_root_member}
 use Rattle.sd_check_root.proofs.fallback.hits_link.Goals as goal
 
-pub walk_has_link-requires-clause-device : goal.walk_has_link-requires-clause-device
-walk_has_link-requires-clause-device c = omega (arith, c.requires.indexed.spans, c.requires.indexed.fits.backup_root)
+pub path_has_link-requires : goal.path_has_link-requires
+path_has_link-requires c =
+    omega (arith, link_at (network c.args.planned.topo.now) c.args.domain c.links_in-l-items.result.now c.loop-l.l-index c.args.planned.topo.now.is_network c.requires c.links_in-l-items.ensures c.loop-l-test.true)
 
-pub walk_has_link-requires-clause-range : goal.walk_has_link-requires-clause-range
-walk_has_link-requires-clause-range c =
-    omega (
-      arith,
-      carried_length (network c.args.topo.now) c.args.plan.now c.args.index.now c.requires.indexed,
-      link_at (network c.args.topo.now) c.args.f c.links_in-l-items.result.now c.loop-l.l-index c.args.topo.now.is_network c.requires.domain c.links_in-l-items.ensures c.loop-l-test.true,
-    )
-
-pub returns-then-walk_has_link : goal.returns-then-walk_has_link
-returns-then-walk_has_link c =
-    let net = network c.args.topo.now in
-    let test = has_link (path net c.args.plan.now c.args.plan.now.backup_root) in
+pub returns-then-path_has_link : goal.returns-then-path_has_link
+returns-then-path_has_link c =
+    let net = network c.args.planned.topo.now in
+    let test = has_link (path net c.args.planned.plan.now c.args.planned.plan.now.backup_root) in
     sym
     (ap (list_any test) (sym c.links_in-l-items.ensures)
     ∙ list_any_at test c.links_in-l-items.result.now c.loop-l.l-index 0 c.loop-l-test.true
-    (sym (c.walk_has_link.ensures net c.args.plan.now c.requires.indexed (backup_root_member net c.args.plan.now c.requires.indexed.structured)) ∙ c.if-walk_has_link.true))
+    (sym (c.path_has_link.ensures) ∙ c.if-path_has_link.true))
 
 pub loop-l-preserved : goal.loop-l-preserved
 loop-l-preserved c =
-    let net = network c.args.topo.now in
-    let test = has_link (path net c.args.plan.now c.args.plan.now.backup_root) in
+    let net = network c.args.planned.topo.now in
+    let test = has_link (path net c.args.planned.plan.now c.args.planned.plan.now.backup_root) in
     let items = c.links_in-l-items.result.now in
     list_any_more test items c.loop-l.l-index 0 c.loop-l-test.true
     ∙ or_from _ (test (get_or items c.loop-l.l-index 0)) c.loop-l.invariant
-    (sym (c.walk_has_link.ensures net c.args.plan.now c.requires.indexed (backup_root_member net c.args.plan.now c.requires.indexed.structured)) ∙ c.if-walk_has_link.false)
+    (sym (c.path_has_link.ensures) ∙ c.if-path_has_link.false)

@@ -10,18 +10,18 @@ use Rattle.sd_check_root.proofs.fallback.is_hit.Goals as goal
 
 pub returns-then-hits_device : goal.returns-then-hits_device
 returns-then-hits_device c =
-    let net = network c.args.topo.now in
-    let things = path net c.args.plan.now c.args.plan.now.backup_root in
+    let net = network c.args.planned.topo.now in
+    let things = path net c.args.planned.plan.now c.args.planned.plan.now.backup_root in
     c.if-hits_device.true
     ∙ sym
-    (hits_lists net c.args.f things c.requires.domain
-    ∙ or_left (list_any (has_device things) (devices_in net c.args.f)) (list_any (has_link things) (links_in net c.args.f)) (sym c.hits_device.ensures ∙ c.if-hits_device.true))
+    (hits_lists net c.args.domain things c.requires
+    ∙ or_left (list_any (has_device things) (devices_in net c.args.domain)) (list_any (has_link things) (links_in net c.args.domain)) (sym c.hits_device.ensures ∙ c.if-hits_device.true))
 
 pub returns-else-hits_device : goal.returns-else-hits_device
 returns-else-hits_device c =
-    let net = network c.args.topo.now in
-    let things = path net c.args.plan.now c.args.plan.now.backup_root in
+    let net = network c.args.planned.topo.now in
+    let things = path net c.args.planned.plan.now c.args.planned.plan.now.backup_root in
     c.hits_link.ensures
     ∙ sym
-    (hits_lists net c.args.f things c.requires.domain
-    ∙ ap (λ t. t || list_any (has_link things) (links_in net c.args.f)) (sym c.hits_device.ensures ∙ c.if-hits_device.false))
+    (hits_lists net c.args.domain things c.requires
+    ∙ ap (λ t. t || list_any (has_link things) (links_in net c.args.domain)) (sym c.hits_device.ensures ∙ c.if-hits_device.false))

@@ -6,4 +6,4 @@ use Rattle.sd_checker.proofs.ancestor.ancestor_breach.Given as goal
 
 -- none of those before is above its backup parent
 abbrev pub invariant-loop-d : goal.invariant-loop-d
-invariant-loop-d l = find (λ d. not (is_no_ancestor (network l.topo) l.plan d)) (below l.d) ≡ None
+invariant-loop-d l = find (λ d. not (is_no_ancestor (network l.planned.topo.now) l.planned.plan.now d)) (below l.d) ≡ None

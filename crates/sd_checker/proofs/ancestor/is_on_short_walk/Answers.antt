@@ -7,7 +7,7 @@ use Rattle.sd_checker.proofs.ancestor.is_on_short_walk.Goals as goal
 
 pub returns : goal.returns
 returns c =
-    let net = network c.args.topo.now in
-    let plan = c.args.plan.now in
-    let no_root : is_root plan c.args.x ≡ false = ne_eqb plan.root c.args.x (λ same. c.if-x-plan.false (sym same)) in
-    c.epath_has_device.ensures net plan c.requires.indexed c.requires.member (ap not no_root) ∙ above_by net plan c.args.x c.args.d c.if-d-x.false c.if-x-plan.false c.if-x-plan-2.false
+    let net = network c.args.planned.topo.now in
+    let plan = c.args.planned.plan.now in
+    let no_root : is_root plan c.args.x ≡ false = ne_eqb plan.root c.args.x (λ same. c.if-x-planned.false (sym same)) in
+    c.epath_has_device.ensures net plan c.args.planned.is_index c.requires.member (ap not no_root) ∙ above_by net plan c.args.x c.args.d c.if-d-x.false c.if-x-planned.false c.if-x-planned-2.false

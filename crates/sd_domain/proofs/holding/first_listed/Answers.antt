@@ -2,7 +2,7 @@ use Rattle.std.proofs.Common.{length, sym, arith}
 use Rattle.sd_topo.specs.Topologies.{network}
 use Rattle.sd_domain.specs.Within.{has_all}
 use Rattle.sd_domain.specs.declared.DomainId.TheVariants as domain
-use Rattle.sd_domain.proofs.Firsts.{find_below_here, find_below_more}
+use Rattle.sd_num.proofs.Firsts.{find_below_here, find_below_more}
 use Rattle.sd_domain.proofs.holding.first_listed.Goals as goal
 
 pub returns-then-is_within-clause-first : goal.returns-then-is_within-clause-first

@@ -1,7 +1,7 @@
 use Rattle.std.proofs.Common.{refl}
 use Rattle.sd_topo.specs.Topologies.{network}
 use Rattle.sd_domain.specs.Failures.{things_of}
-use Rattle.sd_domain.proofs.Firsts.{within_one-parts}
+use Rattle.sd_domain.proofs.Listed.{within_one-parts}
 use Rattle.sd_domain.proofs.holding.within_one.Goals as goal
 
 pub returns-in-Some-clause-first : goal.returns-in-Some-clause-first

@@ -4,9 +4,9 @@ use Rattle.sd_place.specs.Nearing.{IsNearest}
 use Rattle.sd_place.proofs.Finding.{nearest_turn}
 use Rattle.sd_place.proofs.nearest.nearest_of.Goals as goal
 
-pub loop-hop-preserved : goal.loop-hop-preserved
-loop-hop-preserved c =
-    nearest_turn c.args.placement.now.order c.args.hops.now c.loop-hop.hop-index _ c.loop-hop.best c.closer-best.result c.loop-hop-test.true c.loop-hop.invariant c.closer-best.ensures
+pub loop-neighbour-preserved : goal.loop-neighbour-preserved
+loop-neighbour-preserved c =
+    nearest_turn c.args.placement.now.order c.args.neighbours.now c.loop-neighbour.neighbour-index _ c.loop-neighbour.best c.closer-best.result c.loop-neighbour-test.true c.loop-neighbour.invariant c.closer-best.ensures
 
 pub returns : goal.returns
-returns c = subst (λ hops. IsNearest c.args.placement.now.order hops c.loop-hop.best) (take_all c.loop-hop.hop-index c.args.hops.now c.loop-hop-test.false) c.loop-hop.invariant
+returns c = subst (λ neighbours. IsNearest c.args.placement.now.order neighbours c.loop-neighbour.best) (take_all c.loop-neighbour.neighbour-index c.args.neighbours.now c.loop-neighbour-test.false) c.loop-neighbour.invariant

@@ -1,10 +1,8 @@
-use Rattle.std.proofs.Common.{◌≡◌, ℕ, List, [], ◌∷◌, ◌++◌, length, arith, sym, ap, ◌∙◌, subst}
-use Rattle.sd_topo.specs.Topologies.{network}
-use Rattle.sd_usable.specs.Gathered.{LeadWithin}
-use Rattle.sd_usable.proofs.Laws.{hops_count, hops_within}
-use Rattle.sd_spread.specs.Placements.{Placements}
-use Rattle.sd_spread.specs.declared.Placed.{Placed}
-use Rattle.sd_spread.specs.Spreading.{is_placed, spread}
+use Rattle.std.proofs.Common.{◌≡◌, ℕ, List, [], ◌∷◌, ◌++◌, length, arith, sym, ap, ◌∙◌}
+use Rattle.sd_place.specs.Placements.{Placements}
+use Rattle.sd_place.specs.Views.{net_of, left_out}
+use Rattle.sd_place.specs.declared.placement.Placed.{Placed}
+use Rattle.sd_place.specs.Spreading.{is_placed, spread}
 use Rattle.sd_place.specs.Placing.{through_root}
 use Rattle.sd_place.proofs.Growing.{root_placed, root_fresh}
 use Rattle.sd_place.proofs.Steps.{flag_tells, flags_fresh, flags_count}
@@ -18,34 +16,28 @@ with_more p more = record { order = p.order ++ more; count = p.count }
 abbrev none_of : ℕ → Placements
 none_of n = record { order = []; count = n }
 
-pub spread-requires-clause-devices : goal.spread-requires-clause-devices
-spread-requires-clause-devices c =
-    ap length c.requires.hops ∙ hops_count (network c.args.topo.now) c.args.absent.now ∙ sym (ap (λ p. p.count) c.in_ok-add.ensures ∙ ap (λ p. p.count) c.in_ok-placement.ensures ∙ c.devices.ensures)
+pub spread-requires-clause-count : goal.spread-requires-clause-count
+spread-requires-clause-count c = ap (λ p. p.count) c.in_ok-add.ensures ∙ ap (λ p. p.count) c.in_ok-placement.ensures ∙ c.devices.ensures
 
 pub spread-requires-clause-flags : goal.spread-requires-clause-flags
 spread-requires-clause-flags c =
-    let net = network c.args.topo.now in
-    flags_count (through_root net c.args.root c.args.absent.now) (length net.devices) c.deref.result.now (c.deref.ensures.value ∙ c.in_ok-through.ensures)
-    ∙ sym (ap (λ p. p.count) c.in_ok-add.ensures ∙ ap (λ p. p.count) c.in_ok-placement.ensures ∙ c.devices.ensures)
-
-pub spread-requires-clause-parents : goal.spread-requires-clause-parents
-spread-requires-clause-parents c =
-    let net = network c.args.topo.now in
-    let count : c.add.new.self.count ≡ length net.devices = ap (λ p. p.count) c.in_ok-add.ensures ∙ ap (λ p. p.count) c.in_ok-placement.ensures ∙ c.devices.ensures in
-    subst (λ n. LeadWithin n c.args.hops.now) (sym count) (subst (LeadWithin (length net.devices)) (sym c.requires.hops) (hops_within net c.args.absent.now))
+    let net = net_of c.args.present.now in
+    let absent = left_out c.args.present.now in
+    flags_count (through_root net c.args.root absent) (length net.devices) c.deref.result.now (c.deref.ensures.value ∙ c.in_ok-through.ensures) ∙ sym (spread-requires-clause-count c)
 
 pub spread-requires-clause-fresh : goal.spread-requires-clause-fresh
 spread-requires-clause-fresh c =
-    let net = network c.args.topo.now in
-    flags_fresh (through_root net c.args.root c.args.absent.now) (length net.devices) c.deref.result.now c.add.new.self.order (c.deref.ensures.value ∙ c.in_ok-through.ensures) (λ d passes.
-    ap (λ list. is_placed list d) (ap (λ p. p.order) c.in_ok-add.ensures ∙ ap (λ p. p.order ++ root_placed net c.args.root c.args.absent.now ∷ []) c.in_ok-placement.ensures)
-    ∙ (root_fresh net c.args.root c.args.absent.now d passes).1)
+    let net = net_of c.args.present.now in
+    let absent = left_out c.args.present.now in
+    flags_fresh (through_root net c.args.root absent) (length net.devices) c.deref.result.now c.add.new.self.order (c.deref.ensures.value ∙ c.in_ok-through.ensures) (λ d passes.
+    ap (λ list. is_placed list d) (ap (λ p. p.order) c.in_ok-add.ensures ∙ ap (λ p. p.order ++ root_placed net c.args.root absent ∷ []) c.in_ok-placement.ensures)
+    ∙ (root_fresh net c.args.root absent d passes).1)
 
 pub returns : goal.returns
 returns c =
-    let net = network c.args.topo.now in
-    let absent = c.args.absent.now in
+    let net = net_of c.args.present.now in
+    let absent = left_out c.args.present.now in
     let through = through_root net c.args.root absent in
     let count : c.add.new.self.count ≡ length net.devices = ap (λ p. p.count) c.in_ok-add.ensures ∙ ap (λ p. p.count) c.in_ok-placement.ensures ∙ c.devices.ensures in
-    c.in_ok-spread.ensures net absent through c.args.topo.now.is_network c.requires.hops (λ d within. flag_tells through (length net.devices) c.deref.result.now (c.deref.ensures.value ∙ c.in_ok-through.ensures) d (omega arith))
+    c.in_ok-spread.ensures through (λ d within. flag_tells through (length net.devices) c.deref.result.now (c.deref.ensures.value ∙ c.in_ok-through.ensures) d (omega arith))
     ∙ ap (λ (p : Placements). with_more p (spread net absent c.args.root through 0)) (c.in_ok-add.ensures ∙ ap (λ (p : Placements). with_more p (root_placed net c.args.root absent ∷ [])) (c.in_ok-placement.ensures ∙ ap none_of c.devices.ensures))

@@ -1,21 +1,13 @@
-use Rattle.std.proofs.Common.{◌++◌, ◌∷◌, [], map, sym, ap, ◌∙◌, arith}
+use Rattle.std.proofs.Common.{◌++◌, ◌∷◌, [], map, sym, ap, ◌∙◌}
 use Rattle.sd_num.specs.Lists.{below}
-use Rattle.sd_topo.specs.Topologies.{network}
 use Rattle.sd_plan.proofs.Numbered.{numbered_more}
+use Rattle.sd_place.specs.Views.{net_of, left_out}
 use Rattle.sd_place.specs.Placing.{through_backup}
-use Rattle.sd_place.proofs.Passing.{members_count, backup_flag}
 use Rattle.sd_place.proofs.sides.backup_side.Goals as goal
-
-pub may_pass_backup-requires-clause-members : goal.may_pass_backup-requires-clause-members
-may_pass_backup-requires-clause-members c =
-    members_count c.as_slice.result.now c.devices.result c.deref.result.now (c.deref.ensures.value ∙ c.in_ok-members.ensures) ∙ c.devices.ensures
 
 pub loop-d-preserved : goal.loop-d-preserved
 loop-d-preserved c =
-    let through = through_backup (network c.args.topo.now) c.args.absent.now c.args.placement.now.order in
+    let through = through_backup (net_of c.args.present.now) (left_out c.args.present.now) c.args.placement.now.order in
     c.in-Ok.ensures.items ∙ ap (λ xs. xs ++ c.may_pass_backup.result ∷ []) c.loop-d.invariant
-    ∙ ap (λ b. map through (below c.loop-d.d) ++ b ∷ [])
-    (c.may_pass_backup.ensures
-    ∙ backup_flag (network c.args.topo.now) c.args.absent.now c.args.placement.now.order c.as_slice.result.now c.devices.result c.loop-d.d c.deref.result.now (c.deref.ensures.value ∙ c.in_ok-members.ensures) c.as_slice.ensures
-    c.devices.ensures (omega (arith, c.devices.ensures, c.devices-d-end.ensures)))
+    ∙ ap (λ b. map through (below c.loop-d.d) ++ b ∷ []) c.may_pass_backup.ensures
     ∙ sym (numbered_more through c.loop-d.d)

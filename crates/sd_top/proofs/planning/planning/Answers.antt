@@ -1,6 +1,7 @@
 use Rattle.sd_topo.specs.Topologies.{network}
-use Rattle.sd_top.proofs.Planned.{planning_ok}
+use Rattle.sd_top.proofs.Planned.{planning_makes}
 use Rattle.sd_top.proofs.planning.planning.Goals as goal
 
-pub returns-clause-planning : goal.returns-clause-planning
-returns-clause-planning c = planning_ok (network c.args.topo.now) c.args.root c.args.absent.now _ c.planned_answer.result c.in_ok-planned.ensures c.planned_answer.ensures.text c.planned_answer.ensures.status
+pub returns-clause-makes : goal.returns-clause-makes
+returns-clause-makes c =
+    planning_makes (network c.args.topo.now) c.args.root c.args.absent.now _ c.planned_answer.result c.in_ok-planned.ensures c.planned_answer.ensures.text c.planned_answer.ensures.status c.planned_answer.ensures.only

@@ -1,7 +1,9 @@
-use Rattle.std.proofs.Common.{rules, IfSome, subst}
-use Rattle.sd_top.specs.declared.Status.{Status}
-use Rattle.sd_top.proofs.Coming.{told_comes, told_comes_on, told_stops, told_ends, told_near, status_handed_on}
-use Rattle.sd_top.specs.Outcome.{solo_outcome, Meets}
+use Rattle.std.proofs.Common.{rules, IfSome, Result, subst, true}
+use Rattle.sd_files.specs.declared.Status.{Status}
+use Rattle.sd_top.proofs.Coming.{told_comes, told_comes_on, told_stops, told_ends, told_near, handed_on}
+use Rattle.sd_top.specs.Ends.{LeavesAt}
+use Rattle.sd_top.specs.Schedules.{IsSolo}
+use Rattle.sd_files.specs.declared.ended.Stop.{Stop}
 use Rattle.sd_top.proofs.solo.replay_solo.Goals as goal
 
 pub lines-init : goal.lines-init
@@ -17,8 +19,8 @@ lines-init g c =
 
 pub returns-in_err-status-clause-outcome : goal.returns-in_err-status-clause-outcome
 returns-in_err-status-clause-outcome g c =
-    subst (λ (status : Status). IfSome (g.S.Shelf.rest c.args.shelf.now) (λ text. Meets (solo_outcome text) (g.O.Sink.written c.args.out.now) (g.O.Sink.written c.take_line.new.out) status))
-    (status_handed_on c.from_residual.result _ c.from_residual.ensures.1)
+    subst (λ (r : Result Status Stop). IfSome (g.S.Shelf.rest c.args.shelf.now) (λ text. LeavesAt true (IsSolo text) (g.O.Sink.written c.args.out.now) (g.O.Sink.written c.take_line.new.out) r))
+    (handed_on c.from_residual.result _ c.from_residual.ensures.1)
     (told_stops _ _ c.lines.reader c.lines.device _ _ _ _ c.lines.invariant.come c.in_err-status.ensures.writes)
 
 pub returns-in-Some-clause-outcome : goal.returns-in-Some-clause-outcome

@@ -1,5 +1,5 @@
 use Rattle.std.proofs.Common.{Ok}
-use Rattle.sd_top.specs.declared.Status.{Status}
+use Rattle.sd_files.specs.declared.Status.{Status}
 use Rattle.sd_top.proofs.Writing.{adds_handed_on, adds_refused, adds_event}
 use Rattle.sd_top.proofs.solo.take_line.Goals as goal
 

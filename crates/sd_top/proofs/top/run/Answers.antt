@@ -1,38 +1,22 @@
-use Rattle.std.proofs.Common.{Some, sym, ap, ◌∙◌}
-use Rattle.sd_solo.proofs.Contained.{reports_contain}
-use Rattle.sd_top.specs.Parsed.{named}
-use Rattle.sd_top.specs.declared.words.Command.{Command as Parsed}
-use Rattle.sd_top.proofs.Completing.{plan_complete, check_complete, renew_complete}
+use Rattle.sd_top.proofs.Holding.{keeps_promise}
+use Rattle.sd_top.proofs.Lawful as lawful
+use Rattle.sd_top.proofs.Performing.{ended_meets, stopped_meets}
 use Rattle.sd_top.proofs.top.run.Goals as goal
 
-pub returns-in-Some-Solo-clause-contained : goal.returns-in-Some-Solo-clause-contained
-returns-in-Some-Solo-clause-contained g c = reports_contain
+pub returns-in-Ok-clause-outcome : goal.returns-in-Ok-clause-outcome
+returns-in-Ok-clause-outcome g c = ended_meets _ _ _ _ c.in-Ok.status c.in-Ok.ensures.gives c.in-Ok.ensures.outcome
 
-pub returns-in-Some-Plan-clause-complete : goal.returns-in-Some-Plan-clause-complete
-returns-in-Some-Plan-clause-complete g c =
-    plan_complete _ c.args.words.now c.in-Some-Plan.topology.now _ _ _ _ _ (ap (λ (x : Parsed). Some (named x)) (sym c.in-Some-Plan.field-0-is) ∙ c.in-Some-Plan.ensures) c.plan.ensures.outcome c.plan.ensures.shelf c.plan.ensures.sink
+pub returns-in-Ok-clause-promise : goal.returns-in-Ok-clause-promise
+returns-in-Ok-clause-promise g c = keeps_promise _ _
 
-pub returns-in-Some-Plan-clause-contained : goal.returns-in-Some-Plan-clause-contained
-returns-in-Some-Plan-clause-contained g c = reports_contain
+pub returns-in-Ok-clause-laws : goal.returns-in-Ok-clause-laws
+returns-in-Ok-clause-laws g c = lawful.laws
 
-pub returns-in-Some-Check-clause-complete : goal.returns-in-Some-Check-clause-complete
-returns-in-Some-Check-clause-complete g c =
-    check_complete _ c.args.words.now c.in-Some-Check.topology.now c.in-Some-Check.plan.now _ _ _ _ _ (ap (λ (x : Parsed). Some (named x)) (sym c.in-Some-Check.field-0-is) ∙ c.in-Some-Check.ensures) c.check.ensures.outcome c.check.ensures.shelf
-    c.check.ensures.sink
+pub returns-in-Err-clause-outcome : goal.returns-in-Err-clause-outcome
+returns-in-Err-clause-outcome g c = stopped_meets _ _ _ _ c.in-Err.stop c.status.result c.status.ensures c.in-Err.ensures.outcome
 
-pub returns-in-Some-Check-clause-contained : goal.returns-in-Some-Check-clause-contained
-returns-in-Some-Check-clause-contained g c = reports_contain
+pub returns-in-Err-clause-promise : goal.returns-in-Err-clause-promise
+returns-in-Err-clause-promise g c = keeps_promise _ _
 
-pub returns-in-Some-Renew-clause-complete : goal.returns-in-Some-Renew-clause-complete
-returns-in-Some-Renew-clause-complete g c =
-    renew_complete _ c.args.words.now c.in-Some-Renew.topology.now c.in-Some-Renew.plan.now c.in-Some-Renew.absent.now _ _ _ _ _ (ap (λ (x : Parsed). Some (named x)) (sym c.in-Some-Renew.field-0-is) ∙ c.in-Some-Renew.ensures)
-    c.renew.ensures.outcome c.renew.ensures.shelf c.renew.ensures.sink
-
-pub returns-in-Some-Renew-clause-contained : goal.returns-in-Some-Renew-clause-contained
-returns-in-Some-Renew-clause-contained g c = reports_contain
-
-pub returns-in-Some-Migrate-clause-contained : goal.returns-in-Some-Migrate-clause-contained
-returns-in-Some-Migrate-clause-contained g c = reports_contain
-
-pub returns-in-None-clause-contained : goal.returns-in-None-clause-contained
-returns-in-None-clause-contained g c = reports_contain
+pub returns-in-Err-clause-laws : goal.returns-in-Err-clause-laws
+returns-in-Err-clause-laws g c = lawful.laws

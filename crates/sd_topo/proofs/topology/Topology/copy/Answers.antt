@@ -1,19 +1,14 @@
-use Rattle.std.proofs.Common.{ap, sym, subst, ◌∙◌}
-use Rattle.sd_topo.specs.Network.{IsNetwork, greatest_delay}
+use Rattle.std.proofs.Common.{sym, subst, ◌∙◌}
+use Rattle.sd_topo.specs.Network.{IsNetwork}
 use Rattle.sd_topo.proofs.Copying.{copied_network}
 use Rattle.sd_topo.proofs.topology.Topology.copy.Goals as goal
 
-pub invariant_of-tables : goal.invariant_of-tables
-invariant_of-tables c =
-    let same = copied_network c.tables.inside c.in_ok-devices.devices c.in_ok-links.links c.in_ok-domains.domains c.in_ok-roots.roots c.in_ok-devices.ensures c.in_ok-links.ensures c.in_ok-domains.ensures (c.in_ok-roots.ensures ∙ c.as_slice.ensures.value) in
-    c.tables.invariant ∙ ap greatest_delay (sym same)
-
-pub over_tables-requires : goal.over_tables-requires
-over_tables-requires c =
-    let same = copied_network c.tables.inside c.in_ok-devices.devices c.in_ok-links.links c.in_ok-domains.domains c.in_ok-roots.roots c.in_ok-devices.ensures c.in_ok-links.ensures c.in_ok-domains.ensures (c.in_ok-roots.ensures ∙ c.as_slice.ensures.value) in
+pub new-requires : goal.new-requires
+new-requires c =
+    let same = copied_network c.tables.inside.parts c.in_ok-devices.devices c.in_ok-links.links c.in_ok-domains.domains c.in_ok-roots.roots c.in_ok-devices.ensures c.in_ok-links.ensures c.in_ok-domains.ensures (c.in_ok-roots.ensures ∙ c.as_slice.ensures.value) in
     subst IsNetwork (sym (same ∙ c.tables.view_is)) c.args.self.now.is_network
 
 pub returns : goal.returns
 returns c =
-    let same = copied_network c.tables.inside c.in_ok-devices.devices c.in_ok-links.links c.in_ok-domains.domains c.in_ok-roots.roots c.in_ok-devices.ensures c.in_ok-links.ensures c.in_ok-domains.ensures (c.in_ok-roots.ensures ∙ c.as_slice.ensures.value) in
-    c.over_tables.ensures ∙ same ∙ c.tables.view_is
+    let same = copied_network c.tables.inside.parts c.in_ok-devices.devices c.in_ok-links.links c.in_ok-domains.domains c.in_ok-roots.roots c.in_ok-devices.ensures c.in_ok-links.ensures c.in_ok-domains.ensures (c.in_ok-roots.ensures ∙ c.as_slice.ensures.value) in
+    c.new.ensures ∙ same ∙ c.tables.view_is

@@ -6,5 +6,5 @@ use Rattle.sd_topo.proofs.topology.Topology.device_name.Goals as goal
 
 pub returns : goal.returns
 returns c =
-    let named = at_name device_seen (λ device. device.name) c.tables.inside.devices.entries c.args.d _ (sym c.in-Some.ensures.entry) in
+    let named = at_name device_seen (λ device. device.name) c.tables.inside.parts.devices.entries c.args.d _ (sym c.in-Some.ensures.entry) in
     c.as_str.ensures.value ∙ sym (subst (λ (net : Network). name_at (device_names net) c.args.d ≡ string_bytes c.in-Some.name.now) c.tables.view_is named)

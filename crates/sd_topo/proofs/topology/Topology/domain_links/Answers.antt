@@ -5,5 +5,5 @@ use Rattle.sd_topo.proofs.topology.Topology.domain_links.Goals as goal
 
 pub returns : goal.returns
 returns c =
-    let told = at_domain c.tables.inside.domains.entries c.args.f c.index-group.result.now c.index-group.ensures in
+    let told = at_domain c.tables.inside.parts.domains.entries c.args.f c.index-group.result.now c.index-group.ensures in
     c.as_slice.ensures.value ∙ sym (subst (λ (net : Network). (domain_of net c.args.f).links ≡ c.index-group.result.now.links.items) c.tables.view_is told.1)

@@ -6,5 +6,5 @@ use Rattle.sd_topo.proofs.topology.Topology.domain_name.Goals as goal
 
 pub returns : goal.returns
 returns c =
-    let named = at_name domain_seen (λ domain. domain.name) c.tables.inside.domains.entries c.args.f _ (sym c.in-Some.ensures.entry) in
+    let named = at_name domain_seen (λ domain. domain.name) c.tables.inside.parts.domains.entries c.args.f _ (sym c.in-Some.ensures.entry) in
     c.as_str.ensures.value ∙ sym (subst (λ (net : Network). name_at (domain_names net) c.args.f ≡ string_bytes c.in-Some.name.now) c.tables.view_is named)

@@ -7,5 +7,5 @@ use Rattle.sd_topo.proofs.topology.Topology.link.Goals as goal
 
 pub returns : goal.returns
 returns c =
-    let told = at_value link_seen (λ link. link.entry) (λ value. value) (λ e. refl) no_link c.tables.inside.links.entries c.args.l _ c.index.ensures in
+    let told = at_value link_seen (λ link. link.entry) (λ value. value) (λ e. refl) no_link c.tables.inside.parts.links.entries c.args.l _ c.index.ensures in
     sym (subst (λ (net : Network). link_of net c.args.l ≡ c.index.result.now) c.tables.view_is told)

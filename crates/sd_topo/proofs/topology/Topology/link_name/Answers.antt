@@ -6,5 +6,5 @@ use Rattle.sd_topo.proofs.topology.Topology.link_name.Goals as goal
 
 pub returns : goal.returns
 returns c =
-    let named = at_name link_seen (λ link. link.name) c.tables.inside.links.entries c.args.l _ (sym c.in-Some.ensures.entry) in
+    let named = at_name link_seen (λ link. link.name) c.tables.inside.parts.links.entries c.args.l _ (sym c.in-Some.ensures.entry) in
     c.as_str.ensures.value ∙ sym (subst (λ (net : Network). name_at (link_names net) c.args.l ≡ string_bytes c.in-Some.name.now) c.tables.view_is named)

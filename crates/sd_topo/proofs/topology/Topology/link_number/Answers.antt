@@ -6,11 +6,11 @@ use Rattle.sd_topo.proofs.topology.Topology.link_number.Goals as goal
 
 pub returns-in-Some : goal.returns-in-Some
 returns-in-Some c =
-    let told = numbered link_seen (λ link. link.name) (λ e. refl) c.args.name.now c.tables.inside.links.entries in
+    let told = numbered link_seen (λ link. link.name) (λ e. refl) c.args.name.now c.tables.inside.parts.links.entries in
     subst (λ (net : Network). Some c.in-Some.number ≡ number_in (link_names net) c.args.name.now) c.tables.view_is (c.in-Some.ensures.index ∙ sym told)
 
 pub returns-in-None : goal.returns-in-None
 returns-in-None c =
-    let told = numbered link_seen (λ link. link.name) (λ e. refl) c.args.name.now c.tables.inside.links.entries in
+    let told = numbered link_seen (λ link. link.name) (λ e. refl) c.args.name.now c.tables.inside.parts.links.entries in
     let none : Option ℕ = None in
     subst (λ (net : Network). none ≡ number_in (link_names net) c.args.name.now) c.tables.view_is (c.in-None.ensures.index ∙ sym told)

@@ -6,11 +6,11 @@ use Rattle.sd_topo.proofs.topology.Topology.number_of.Goals as goal
 
 pub returns-in-Some : goal.returns-in-Some
 returns-in-Some c =
-    let told = numbered device_seen (λ device. device.name) (λ e. refl) c.args.name.now c.tables.inside.devices.entries in
+    let told = numbered device_seen (λ device. device.name) (λ e. refl) c.args.name.now c.tables.inside.parts.devices.entries in
     subst (λ (net : Network). Some c.in-Some.number ≡ number_in (device_names net) c.args.name.now) c.tables.view_is (c.in-Some.ensures.index ∙ sym told)
 
 pub returns-in-None : goal.returns-in-None
 returns-in-None c =
-    let told = numbered device_seen (λ device. device.name) (λ e. refl) c.args.name.now c.tables.inside.devices.entries in
+    let told = numbered device_seen (λ device. device.name) (λ e. refl) c.args.name.now c.tables.inside.parts.devices.entries in
     let none : Option ℕ = None in
     subst (λ (net : Network). none ≡ number_in (device_names net) c.args.name.now) c.tables.view_is (c.in-None.ensures.index ∙ sym told)

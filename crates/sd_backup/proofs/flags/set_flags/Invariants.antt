@@ -1,6 +1,0 @@
-use Rattle.std.proofs.Common.{take}
-use Rattle.sd_backup.specs.Flags.{AreSet}
-use Rattle.sd_backup.proofs.flags.set_flags.Given as goal
-
-abbrev pub invariant-loop-number : goal.invariant-loop-number
-invariant-loop-number l = AreSet (take l.number-index l.numbers) l.value l.fn.flags l.flags

@@ -1,5 +1,0 @@
-use Rattle.sd_backup.specs.Flags.{AreOver}
-use Rattle.sd_backup.proofs.over.led_over.Given as goal
-
-abbrev pub invariant-loop-placed : goal.invariant-loop-placed
-invariant-loop-placed l = AreOver l.devices l.links l.placement.order l.placed-index l.over.items

@@ -1,6 +1,0 @@
-use Rattle.sd_topo.specs.Topologies.{network}
-use Rattle.sd_backup.specs.Things.{AddsAll, met_device, met_link}
-use Rattle.sd_backup.proofs.things.Things.add_met.Given as goal
-
-abbrev pub invariant-loop-domain : goal.invariant-loop-domain
-invariant-loop-domain l = AddsAll (met_device (network l.topo) l.others l.domain) (met_link (network l.topo) l.others l.domain) l.fn.self l.self

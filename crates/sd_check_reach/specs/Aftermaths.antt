@@ -1,0 +1,27 @@
+-- What contracts see of a plan under an outage, and when an outage can do no harm.
+use Rattle.std.specs.Prelude.{◌≡◌, ℕ, ◌<◌, true, false, List, length, ◌⊎◌}
+use Rattle.sd_topo.specs.Network.{Network}
+use Rattle.sd_domain.specs.Domains.{holds_device}
+use Rattle.sd_domain.specs.declared.DomainId.{DomainId}
+use Rattle.sd_plan.specs.Walks.{is_hit}
+use Rattle.sd_plan.specs.declared.Plan.{Plan}
+use Rattle.sd_hit.specs.Outages as outages
+use Rattle.sd_check_reach.specs.Reach.{acting_end}
+use Rattle.sd_check_reach.specs.declared.aftermath.Aftermath.{Aftermath}
+
+-- the network, the plan and the domain, and the devices that it hits
+abbrev pub net_of : Aftermath → Network
+net_of a = outages.net_of a.outage
+
+abbrev pub plan_of : Aftermath → Plan
+plan_of a = outages.plan_of a.outage
+
+abbrev pub domain_of : Aftermath → DomainId
+domain_of a = a.outage.domain
+
+abbrev pub hit_of : Aftermath → List ℕ
+hit_of a = a.outage.hit.now
+
+-- the domain hits no device, or it has the acting end
+pub record IsHarmless (net : Network) (plan : Plan) (f : DomainId) : Type 0 where
+  pub harmless : ((d : ℕ) → d < length net.devices → is_hit net plan f d ≡ false) ⊎ (holds_device net f (acting_end net plan f) ≡ true)

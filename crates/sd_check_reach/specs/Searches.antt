@@ -1,0 +1,16 @@
+-- What is known of who is cut off under a domain.
+use Rattle.std.specs.Prelude.{◌≡◌, true, length, Some}
+use Rattle.sd_topo.specs.Network.{Network}
+use Rattle.sd_domain.specs.declared.DomainId.{DomainId}
+use Rattle.sd_plan.specs.declared.Plan.{Plan}
+use Rattle.sd_check_reach.specs.Reached.{BackupReaches, IsDry}
+use Rattle.sd_check_reach.specs.declared.search.Search.{Search}
+
+-- there is room for each device
+pub record HasRoom (net : Network) (search : Search) : Type 0 where
+  pub devices : search.visited.bound ≡ length net.devices
+
+-- what the search has visited is cut off under the domain, and its trust in the backup root is right
+pub record IsSearchOf (net : Network) (plan : Plan) (f : DomainId) (search : Search) : Type 0 where
+  pub dry : IsDry net plan f search.visited.numbers
+  pub trusted : search.trusted ≡ Some true → BackupReaches net plan f

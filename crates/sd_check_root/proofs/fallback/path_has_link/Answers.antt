@@ -1,0 +1,18 @@
+use Rattle.std.proofs.Common.{arith}
+use Rattle.sd_topo.specs.Topologies.{network}
+use Rattle.sd_check_root.proofs.Paths.{carried_length, backup_root_member}
+use Rattle.sd_check_root.proofs.fallback.path_has_link.Goals as goal
+
+pub walk_has_link-requires-clause-device : goal.walk_has_link-requires-clause-device
+walk_has_link-requires-clause-device c = let law = c.args.planned.is_index in omega (arith, law.spans, law.fits.backup_root)
+
+pub walk_has_link-requires-clause-range : goal.walk_has_link-requires-clause-range
+walk_has_link-requires-clause-range c =
+    omega (arith, carried_length (network c.args.planned.topo.now) c.args.planned.plan.now c.args.planned.index.now c.args.planned.is_index, c.requires)
+
+pub returns : goal.returns
+returns c =
+    let net = network c.args.planned.topo.now in
+    let plan = c.args.planned.plan.now in
+    let law = c.args.planned.is_index in
+    c.walk_has_link.ensures net plan law (backup_root_member net plan law.structured)

@@ -1,0 +1,73 @@
+//! The conditions on what a fault domain hits (loop, domain, reach), all asked of one domain before
+//! the next, so that what it hits is found once.
+ghost use Rattle.std.specs.Prelude.{IfOk};
+ghost use Rattle.sd_check_reach.specs.Searches.{HasRoom, IsSearchOf};
+ghost use Rattle.sd_checker.specs.Findings.{Judges, Finds, IsSound, IsOfHits};
+ghost use Rattle.sd_hit.specs.Outages.{net_of, plan_of};
+ghost use Rattle.sd_topo.specs.Topologies.{network};
+
+use crate::Breach;
+use crate::order::{domain_at, domain_count};
+use sd_check_loop::loop_breach_of;
+use sd_check_reach::Search;
+use sd_hit::{Impact, Outage};
+use sd_num::NoMemory;
+use sd_plan::Indexed;
+use std::alloc::Global;
+
+/// The first of these conditions that a domain breaks, of those that come before the condition of
+/// what was found among earlier domains.
+fn earlier_breach(
+    alloc: Global,
+    outage: &Outage<'_>,
+    search: &mut Search,
+    found: &Option<Breach>,
+) -> Result<Option<Breach>, NoMemory>
+    requires search { IsSearchOf (net_of outage.now) (plan_of outage.now) outage.now.domain search.old }
+    requires room { HasRoom (net_of outage.now) search.old }
+    requires found { IsOfHits found.now }
+    ensures judged { IfOk result (Judges (net_of outage.now) (plan_of outage.now) found.now outage.now.domain) }
+    ensures room { HasRoom (net_of outage.now) search.new }
+{
+    let domain = outage.domain;
+    if matches!(found, Some(Breach::Loop { .. })) {
+        return Ok(None);
+    }
+    if let Some(cycle) = loop_breach_of(alloc, outage)? {
+        return Ok(Some(Breach::Loop { domain, cycle }));
+    }
+    if matches!(found, Some(Breach::Domain { .. })) {
+        return Ok(None);
+    }
+    if let Some(device) = search.domain_breach(alloc, outage)? {
+        return Ok(Some(Breach::Domain { domain, device }));
+    }
+    if found.is_some() {
+        return Ok(None);
+    }
+    match search.reach_breach(alloc, outage)? {
+        Some(chain) => Ok(Some(Breach::Reach { domain, chain })),
+        None => Ok(None),
+    }
+}
+
+/// The first breach of a plan that meets the other conditions, in the order of the conditions and
+/// then of the domains.
+pub(crate) fn hit_breach(alloc: Global, planned: Indexed<'_>) -> Result<Option<Breach>, NoMemory>
+    requires { IsSound (network planned.topo.now) planned.plan.now }
+    ensures { IfOk result (Finds (network planned.entry.topo.now) planned.entry.plan.now) }
+{
+    let mut impact = Impact::new(alloc, planned.topo)?;
+    let mut search = Search::new(alloc, planned.topo)?;
+    let mut found = None;
+    for place in 0..domain_count(planned.topo) {
+        let domain = domain_at(planned.topo, place);
+        impact.strike(alloc, planned, domain)?;
+        search.clear();
+        let outage = impact.outage(planned, domain);
+        if let Some(breach) = earlier_breach(alloc, &outage, &mut search, &found)? {
+            found = Some(breach);
+        }
+    }
+    Ok(found)
+}

@@ -1,6 +1,0 @@
-use Rattle.std.proofs.Common.{◌∙◌}
-use Rattle.sd_domain.proofs.Ascending.{is_ok-searched}
-use Rattle.sd_domain.proofs.holding.lists.Goals as goal
-
-pub returns : goal.returns
-returns c = c.is_ok.ensures.value ∙ is_ok-searched c.args.numbers.now c.args.number c.binary_search.result c.binary_search.ensures.position c.requires

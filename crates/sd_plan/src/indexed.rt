@@ -1,0 +1,17 @@
+//! A plan that fits its topology and is well structured, with the index of its walks.
+ghost use Rattle.std.proofs.Props.{props};
+ghost use Rattle.sd_topo.specs.Topologies.{network};
+ghost use Rattle.sd_plan.specs.Props.{IsRow-prop};
+ghost use Rattle.sd_plan.specs.Indexed.{IsIndexOf};
+
+use crate::{Plan, WalkIndex};
+use sd_topo::Topology;
+
+/// A topology, a plan of right structure that fits it, and the index of the plan's walks.
+#[derive(Clone, Copy)]
+pub struct Indexed<'a> {
+    pub topo: &'a Topology,
+    pub plan: &'a Plan,
+    pub index: &'a WalkIndex,
+    pub ghost is_index: { IsIndexOf (network topo.now) plan.now index.now } by { Prim.hlevel (props, IsRow-prop) },
+}

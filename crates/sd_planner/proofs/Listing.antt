@@ -1,0 +1,65 @@
+-- Lists of domains, a domain at a time.
+use Rattle.std.proofs.Common.{◌≡◌, ℕ, ◌+◌, ◌<◌, ◌≤◌, Bool, true, false, ◌&&◌, ◌||◌, List, [], ◌∷◌, ◌++◌, length, take, nat_eq, get_or, set, refl, sym, ap, ◌∙◌, arith, inl, inr}
+use Rattle.std.proofs.lemmas.Bool.{cases_lt, cases_eq, lt-ltb, le-ltb, ne_eqb, eq-eqb}
+use Rattle.std.proofs.lemmas.List.{get_or-set_same, get_or-set_other, take_more}
+use Rattle.sd_num.specs.Lists.{has}
+use Rattle.sd_planner.specs.Listed.{listed, ListUnder}
+use Rattle.sd_planner.proofs.Setting.{has_more}
+
+plain : (t : Bool) → (t || false) ≡ t
+plain true = refl
+plain false = refl
+
+-- a thing more has the domain
+pub thing_more : (lists old : List (List ℕ)) (more : List ℕ) (domain : ℕ) (things : List ℕ) (i : ℕ) → i < length things → get_or things i 0 < length lists
+    → ((x k : ℕ) → has (listed lists x) k ≡ (has (listed old x) k || (nat_eq k domain && has (take i things) x))) → more ≡ listed lists (get_or things i 0) ++ domain ∷ []
+    → (x k : ℕ) → has (listed (set lists (get_or things i 0) more) x) k ≡ (has (listed old x) k || (nat_eq k domain && has (take (i + 1) things) x))
+thing_more lists old more domain things i within inside so_far pushed x k =
+    let y = get_or things i 0 in
+    let taken : has (take (i + 1) things) x ≡ (has (take i things) x || nat_eq x y) = ap (λ xs. has xs x) (take_more things i 0 within) ∙ has_more (take i things) y x in
+    elim (cases_eq x y) [
+      | inl same ↦
+          ap (λ z. has (listed (set lists y more) z) k) same ∙ ap (λ xs. has xs k) (get_or-set_same lists y more [] inside ∙ pushed)
+          ∙ has_more (listed lists y) domain k
+          ∙ ap (λ z. has (listed lists z) k || nat_eq k domain) (sym same)
+          ∙ ap (λ t. t || nat_eq k domain) (so_far x k)
+          ∙ joined (has (listed old x) k) (nat_eq k domain) (has (take i things) x)
+          ∙ sym (ap (λ t. has (listed old x) k || (nat_eq k domain && t)) (taken ∙ ap (λ t. has (take i things) x || t) (eq-eqb x y same)))
+      | inr apart ↦
+          ap (λ xs. has xs k) (get_or-set_other lists y x more [] apart) ∙ so_far x k
+          ∙ sym (ap (λ t. has (listed old x) k || (nat_eq k domain && t)) (taken ∙ ap (λ t. has (take i things) x || t) (ne_eqb x y apart) ∙ plain (has (take i things) x)))
+    ]
+  where
+    joined : (a e t : Bool) → ((a || (e && t)) || e) ≡ (a || (e && (t || true)))
+    joined true e t = refl
+    joined false true true = refl
+    joined false true false = refl
+    joined false false t = refl
+
+-- a domain more
+pub domain_more : (f : ℕ → List ℕ) (n : ℕ) (old new : List (List ℕ)) (things : List ℕ) → ListUnder f n old → things ≡ f n
+    → ((x k : ℕ) → has (listed new x) k ≡ (has (listed old x) k || (nat_eq k n && has things x))) → ListUnder f (n + 1) new
+domain_more f n old new things under are added x k =
+    added x k
+    ∙ ap (λ t. t || (nat_eq k n && has things x)) (under x k)
+    ∙ elim (cases_lt k n) [
+      | inl before ↦
+          ap (λ t. (t && has (f k) x) || (nat_eq k n && has things x)) (lt-ltb k n before)
+          ∙ ap (λ t. has (f k) x || (t && has things x)) (ne_eqb k n (λ same. omega arith))
+          ∙ plain (has (f k) x)
+          ∙ sym (ap (λ t. t && has (f k) x) (lt-ltb k (n + 1) (omega arith)))
+      | inr later ↦
+          ap (λ t. (t && has (f k) x) || (nat_eq k n && has things x)) (le-ltb k n later)
+          ∙ elim (cases_eq k n) [
+            | inl same ↦
+                ap (λ t. t && has things x) (eq-eqb k n same)
+                ∙ ap (λ xs. has xs x) (are ∙ ap f (sym same))
+                ∙ sym (ap (λ t. t && has (f k) x) (lt-ltb k (n + 1) (omega arith)))
+            | inr apart ↦
+                ap (λ t. t && has things x) (ne_eqb k n apart)
+                ∙ sym (ap (λ t. t && has (f k) x) (le-ltb k (n + 1) (past apart later)))
+          ]
+    ]
+  where
+    past : (k ≡ n → ⊥) → n ≤ k → n + 1 ≤ k
+    past apart later = elim (cases_lt n k) [ inl more ↦ omega arith | inr same ↦ absurd (apart (omega arith)) ]

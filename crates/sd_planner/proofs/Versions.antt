@@ -1,0 +1,43 @@
+-- The greedy plan, and what the planner answers, are the same in a network with each version.
+use Rattle.std.specs.Prelude.{◌≡◌, ℕ}
+use Rattle.std.proofs.Common.{refl, ◌∙◌}
+use Rattle.sd_topo.specs.Network.{Network}
+use Rattle.sd_topo.proofs.Versions.{with_version}
+use Rattle.sd_plan.specs.declared.Absent.{Absent}
+use Rattle.sd_plan.specs.declared.Plan.{Plan}
+use Rattle.sd_plan.proofs.Versions.{Fits-with_version}
+use Rattle.sd_checker.specs.declared.Verdict.TheVariants.{Accepted, Refused}
+use Rattle.sd_checker.proofs.Versions.{IsVerdict-with_version}
+use Rattle.sd_place.specs.Placing.{placed}
+use Rattle.sd_planner.specs.Serving.{primaries, walk_up, greedy_rows}
+use Rattle.sd_planner.specs.Greedy.{IsLeastWait, IsGreedy}
+use Rattle.sd_planner.specs.Planning.{IsPlanned}
+use Rattle.sd_planner.specs.declared.Planned.{Planned}
+use Rattle.sd_planner.specs.declared.Planned.TheVariants as planned
+
+module _ (v w : ℕ) (net : Network) where
+  pub IsLeastWait-with_version : (long x : ℕ) → IsLeastWait (with_version v net) long x → IsLeastWait (with_version w net) long x
+  IsLeastWait-with_version long x wait = record { enough = wait.enough; least = wait.least }
+
+  module _ (root : ℕ) (absent : Absent) where
+    pub greedy_rows-with_version : greedy_rows (with_version v net) root absent ≡ greedy_rows (with_version w net) root absent
+    unfolding greedy_rows walk_up primaries placed
+    greedy_rows-with_version = refl
+
+    pub IsGreedy-with_version : (plan : Plan) → IsGreedy (with_version v net) root absent plan → IsGreedy (with_version w net) root absent plan
+    IsGreedy-with_version plan greedy =
+        record {
+          from_root = greedy.from_root;
+          to_backup_root = greedy.to_backup_root;
+          leaves_out = greedy.leaves_out;
+          rows = greedy.rows ∙ greedy_rows-with_version;
+          first = IsLeastWait-with_version _ plan.wait_first greedy.first;
+          second = IsLeastWait-with_version _ plan.wait_second greedy.second;
+          ordinary = IsLeastWait-with_version _ plan.wait greedy.ordinary;
+        }
+
+    pub IsPlanned-with_version : (answer : Planned) → IsPlanned (with_version v net) root absent answer → IsPlanned (with_version w net) root absent answer
+    IsPlanned-with_version (planned.Plan plan) holds =
+        (IsGreedy-with_version plan holds.0, Fits-with_version v w net plan holds.1, IsVerdict-with_version v w net plan Accepted holds.2)
+    IsPlanned-with_version (planned.NoPlan plan breach) holds =
+        (IsGreedy-with_version plan holds.0, Fits-with_version v w net plan holds.1, IsVerdict-with_version v w net plan (Refused breach) holds.2)

@@ -1,0 +1,92 @@
+//! The listed domains of each device and of each link.
+ghost use Rattle.std.specs.Prelude.{◌≡◌, ◌<◌, ℕ, ◌&&◌, ◌||◌, true, [], length, replicate, nat_eq, IfOk, OnOk};
+ghost use Rattle.sd_num.specs.Lists.{has};
+ghost use Rattle.sd_topo.specs.Topologies.{network};
+ghost use Rattle.sd_planner.specs.Listed as words;
+ghost use Rattle.sd_planner.specs.Listed.{AreListed};
+
+use sd_num::NoMemory;
+use sd_plan::DeviceList;
+use sd_topo::Topology;
+use std::alloc::Global;
+use std::marker::Model;
+
+/// The listed domains of each device and of each link.
+#[derive(Drop)]
+pub(crate) struct DomainLists {
+    devices: Vec<DeviceList>,
+    links: Vec<DeviceList>,
+}
+
+impl Model for DomainLists {
+    ghost use Rattle.sd_planner.specs.Listed.{Lists};
+
+    ghost Value = { Lists };
+
+    ghost view = { λ l. record { devices = l.devices.items; links = l.links.items } };
+}
+
+/// So many empty lists.
+fn no_lists(alloc: Global, count: u32) -> Result<Vec<DeviceList>, NoMemory>
+    ensures { IfOk result (λ lists. lists.items ≡ replicate count []) }
+{
+    let mut lists = Vec::new(alloc);
+    for _ in 0..count {
+        let Ok(()) = lists.push(DeviceList::new(alloc)) else {
+            return Err(NoMemory);
+        };
+    }
+    Ok(lists)
+}
+
+/// Adds a domain to the lists of its things.
+fn add_domain(
+    alloc: Global,
+    lists: &mut [DeviceList],
+    things: &[u32],
+    domain: u32,
+) -> Result<(), NoMemory>
+    requires { (x : ℕ) → has things.now x ≡ true → x < length lists.old }
+    ensures { OnOk result ((x k : ℕ) → has (words.listed lists.new x) k
+        ≡ (has (words.listed lists.old x) k || (nat_eq k domain && has things.now x))) }
+{
+    for thing in things {
+        lists[*thing as usize].push(alloc, domain)?;
+    }
+    Ok(())
+}
+
+impl DomainLists {
+    /// The lists of a topology.
+    pub(crate) fn new(alloc: Global, topo: &Topology) -> Result<DomainLists, NoMemory>
+        ensures { IfOk result (AreListed (network topo.now) (length (network topo.now).domains)) }
+    {
+        let mut devices = no_lists(alloc, topo.devices())?;
+        let mut links = no_lists(alloc, topo.links())?;
+        for k in 0..topo.domains() {
+            add_domain(alloc, &mut devices, topo.domain_devices(k), k)?;
+            add_domain(alloc, &mut links, topo.domain_links(k), k)?;
+        }
+        Ok(DomainLists { devices, links })
+    }
+
+    /// The domains that have a device.
+    pub(crate) fn of_device(&self, d: u32) -> &[u32]
+        ensures { result.now ≡ words.listed self.now.devices d }
+    {
+        match self.devices.get(d as usize) {
+            Some(list) => list.as_slice(),
+            None => &[],
+        }
+    }
+
+    /// The domains that have a link.
+    pub(crate) fn of_link(&self, l: u32) -> &[u32]
+        ensures { result.now ≡ words.listed self.now.links l }
+    {
+        match self.links.get(l as usize) {
+            Some(list) => list.as_slice(),
+            None => &[],
+        }
+    }
+}

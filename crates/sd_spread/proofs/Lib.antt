@@ -1,9 +1,0 @@
-pub mod Lists
-pub mod Walks
-pub mod Rings
-pub mod Places
-pub mod Queue
-pub mod Turning
-pub mod Sweeping
-pub mod Ringwise
-pub mod Growing

@@ -1,4 +1,0 @@
-pub mod Spreading
-pub mod Placements
-pub mod PlacementView
-pub mod Sweeps

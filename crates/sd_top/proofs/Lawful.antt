@@ -1,0 +1,77 @@
+-- The laws of the answers.
+use Rattle.std.proofs.Common.{◌≡◌, ℕ, List, Result, Ok, ap, ◌∙◌, subst}
+use Rattle.sd_solo.proofs.Contained.{reports_contain}
+use Rattle.sd_topo.specs.Network.{Network}
+use Rattle.sd_plan.specs.declared.Absent.{Absent}
+use Rattle.sd_plan.specs.declared.Plan.{Plan}
+use Rattle.sd_checker.specs.Verdicts.{IsAccepted, IsVerdict}
+use Rattle.sd_checker.specs.declared.Verdict.{Verdict}
+use Rattle.sd_checker.specs.declared.Verdict.TheVariants.{Accepted, Refused}
+use Rattle.sd_checker.proofs.Exclusive.{accepted_unbroken}
+use Rattle.sd_planner.proofs.Single.{same_greedy}
+use Rattle.sd_files.specs.Answering.{May, After}
+use Rattle.sd_files.specs.Inputs.{topology_of, plan_in_file, absent_in_file}
+use Rattle.sd_files.specs.declared.Status.{Status}
+use Rattle.sd_files.specs.declared.Status.TheVariants.{Done}
+use Rattle.sd_files.specs.declared.ended.Refusal.{Refusal}
+use Rattle.sd_top.specs.Checks.{CheckCompletes, IsJudged, verdict_status}
+use Rattle.sd_top.specs.Laws.{Laws}
+use Rattle.sd_top.specs.Migration.{IsMigrated, MigrationCompletes}
+use Rattle.sd_top.specs.Plannings.{IsPlanning, IsPlannable, PlanCompletes, RenewalCompletes, first_root, nothing, renewed_root}
+use Rattle.sd_top.specs.Schedules.{SoloCompletes, status_for}
+use Rattle.sd_top.proofs.Migrating.{migration_law}
+use Rattle.sd_top.proofs.Unique.{one_answer}
+
+-- a file that is not refused
+after_file : {X : Type 0} (says : Result X Refusal) (x : X) (Then : X → May) (bytes : List ℕ) (status : Status) → says ≡ Ok x → After says Then bytes status → Then x bytes status
+after_file {X = X} says x Then bytes status is written = subst (λ (s : Result X Refusal). After s Then bytes status) is written
+
+-- the verdict on an accepted plan
+verdict_done : (net : Network) (plan : Plan) (verdict : Verdict) (status : Status) → IsAccepted net plan → IsVerdict net plan verdict → status ≡ verdict_status verdict → status ≡ Done
+verdict_done net plan Accepted status accepted says is = is
+verdict_done net plan (Refused breach) status accepted says is = absurd (accepted_unbroken net plan breach accepted says)
+
+-- a greedy plan that is accepted
+planning_done : (net : Network) (root : ℕ) (absent : Absent) (bytes : List ℕ) (status : Status) → IsPlannable net root absent → IsPlanning net root absent bytes status → status ≡ Done
+planning_done net root absent bytes status right (plan, verdict, greedy, says, printed, answered) =
+    verdict_done net plan verdict status (subst (IsAccepted net) (same_greedy net root absent right.plan plan right.greedy greedy) right.accepted) says answered
+
+solo_completes : SoloCompletes
+solo_completes schedule right bytes status (printed, answered) = answered ∙ ap status_for right
+
+migration_completes : MigrationCompletes
+migration_completes topology net read bytes status written =
+    let (means, answered) = after_file (topology_of topology) net IsMigrated bytes status read written in answered
+
+check_completes : CheckCompletes
+check_completes topology plan right bytes status written =
+    let over = after_file (topology_of topology) right.network (λ net. After (plan_in_file net 1 plan) (IsJudged net)) bytes status right.has_network written in
+    let (verdict, says, printed, answered) = after_file (plan_in_file right.network 1 plan) right.plan (IsJudged right.network) bytes status right.has_plan over in
+    verdict_done right.network right.plan verdict status right.accepted says answered
+
+plan_completes : PlanCompletes
+plan_completes topology right bytes status written =
+    planning_done right.network (first_root right.network) nothing bytes status right.plannable
+    (after_file (topology_of topology) right.network (λ net. IsPlanning net (first_root net) nothing) bytes status right.has_network written)
+
+renewal_completes : RenewalCompletes
+renewal_completes topology plan absent right bytes status written =
+    let over =
+    after_file (topology_of topology) right.network (λ net. After (plan_in_file net 1 plan) (λ old. After (absent_in_file net absent) (λ left. IsPlanning net (renewed_root old left) left))) bytes status right.has_network written in
+    let without =
+    after_file (plan_in_file right.network 1 plan) right.old (λ old. After (absent_in_file right.network absent) (λ left. IsPlanning right.network (renewed_root old left) left)) bytes status right.has_plan over in
+    planning_done right.network (renewed_root right.old right.left) right.left bytes status right.plannable
+    (after_file (absent_in_file right.network absent) right.left (λ left. IsPlanning right.network (renewed_root right.old left) left) bytes status right.has_absent without)
+
+pub laws : Laws
+laws =
+    record {
+      one_answer = one_answer;
+      solo_completes = solo_completes;
+      plan_completes = plan_completes;
+      check_completes = check_completes;
+      renewal_completes = renewal_completes;
+      migration_completes = migration_completes;
+      migration_law = migration_law;
+      reports_contain = reports_contain;
+    }

@@ -1,0 +1,65 @@
+-- Over the same texts a command has one answer: a plan has one verdict, and there is one greedy plan.
+use Rattle.std.proofs.Common.{◌≡◌, ℕ, List, Some, None, Result, Ok, Err, ap, sym, ◌∙◌, subst}
+use Rattle.sd_topo.specs.Network.{Network}
+use Rattle.sd_topotext.specs.Meaning.{network_of}
+use Rattle.sd_topotext.specs.Reading.{tree_of}
+use Rattle.sd_plan.specs.declared.Absent.{Absent}
+use Rattle.sd_plan.specs.declared.Plan.{Plan}
+use Rattle.sd_checker.specs.Verdicts.{IsVerdict}
+use Rattle.sd_checker.proofs.Unique.{one_verdict}
+use Rattle.sd_planner.proofs.Single.{same_greedy}
+use Rattle.sd_files.specs.Answering.{May, After}
+use Rattle.sd_files.specs.Inputs.{topology_of, plan_in_file, absent_in_file}
+use Rattle.sd_files.specs.declared.Status.{Status}
+use Rattle.sd_files.specs.declared.ended.Refusal.{Refusal}
+use Rattle.sd_top.specs.Checks.{IsJudged, verdict_status, verdict_text}
+use Rattle.sd_top.specs.Migration.{IsMigrated}
+use Rattle.sd_top.specs.Plannings.{IsPlanning, first_root, nothing, planned_text, renewed_root}
+use Rattle.sd_top.specs.Unique.{HasOneAnswer}
+use Rattle.sd_top.specs.Words.Command.{Solo, Plan as PlanOf, Check, Renew, Migrate}
+
+-- at most one status, and bytes that are alike
+abbrev IsOne : (List ℕ → List ℕ → Type 0) → May → Type 0
+IsOne Like Writes = (bytes other : List ℕ) (status also : Status) → Writes bytes status → Writes other also → (status ≡ also) × Like bytes other
+
+-- after a file there is one answer, where there is one after what it says
+after_one : {X : Type 0} (Like : List ℕ → List ℕ → Type 0) (same : (bytes other : List ℕ) → bytes ≡ other → Like bytes other) (says : Result X Refusal) (Then : X → May) → ((x : X) → IsOne Like (Then x)) → IsOne Like (After says Then)
+after_one Like same (Ok x) Then one bytes other status also is too = one x bytes other status also is too
+after_one Like same (Err why) Then one bytes other status also (printed, answered) (printed', answered') = (answered ∙ sym answered', same bytes other (printed ∙ sym printed'))
+
+-- the same bytes
+equal : (bytes other : List ℕ) → bytes ≡ other → bytes ≡ other
+equal bytes other same = same
+
+judged_one : (net : Network) (plan : Plan) → IsOne (λ bytes other. bytes ≡ other) (IsJudged net plan)
+judged_one net plan bytes other status also (verdict, says, printed, answered) (verdict', says', printed', answered') =
+    let same : verdict ≡ verdict' = one_verdict net plan verdict verdict' says says' in
+    (answered ∙ ap verdict_status same ∙ sym answered', printed ∙ ap (verdict_text net) same ∙ sym printed')
+
+planning_one : (net : Network) (root : ℕ) (absent : Absent) → IsOne (λ bytes other. bytes ≡ other) (IsPlanning net root absent)
+planning_one net root absent bytes other status also (plan, verdict, greedy, says, printed, answered) (plan', verdict', greedy', says', printed', answered') =
+    let one : plan ≡ plan' = same_greedy net root absent plan plan' greedy greedy' in
+    let same : verdict ≡ verdict' = one_verdict net plan' verdict verdict' (subst (λ (p : Plan). IsVerdict net p verdict) one says) says' in
+    (answered ∙ ap verdict_status same ∙ sym answered', printed ∙ ap (λ (p : Plan). planned_text net p verdict) one ∙ ap (planned_text net plan') same ∙ sym printed')
+
+migrated_one : (net : Network) → IsOne (λ bytes other. network_of (tree_of bytes) ≡ network_of (tree_of other)) (IsMigrated net)
+migrated_one net bytes other status also (means, answered) (means', answered') = (answered ∙ sym answered', means ∙ sym means')
+
+pub one_answer : HasOneAnswer
+one_answer None texts bytes other status also (printed, answered) (printed', answered') = (answered ∙ sym answered', printed ∙ sym printed')
+one_answer (Some (Solo schedule)) texts bytes other status also (printed, answered) (printed', answered') = (answered ∙ sym answered', printed ∙ sym printed')
+one_answer (Some (PlanOf topology)) texts bytes other status also is too =
+    after_one (λ b o. b ≡ o) equal (topology_of (texts topology)) (λ net. IsPlanning net (first_root net) nothing) (λ net. planning_one net (first_root net) nothing) bytes other status also is too
+one_answer (Some (Check topology plan)) texts bytes other status also is too =
+    after_one (λ b o. b ≡ o) equal (topology_of (texts topology)) (λ net. After (plan_in_file net 1 (texts plan)) (IsJudged net))
+    (λ net. after_one (λ b o. b ≡ o) equal (plan_in_file net 1 (texts plan)) (IsJudged net) (judged_one net)) bytes other status also is too
+one_answer (Some (Renew topology plan absent)) texts bytes other status also is too =
+    after_one (λ b o. b ≡ o) equal (topology_of (texts topology))
+    (λ net. After (plan_in_file net 1 (texts plan)) (λ old. After (absent_in_file net (texts absent)) (λ left. IsPlanning net (renewed_root old left) left)))
+    (
+    λ net. after_one (λ b o. b ≡ o) equal (plan_in_file net 1 (texts plan)) (λ old. After (absent_in_file net (texts absent)) (λ left. IsPlanning net (renewed_root old left) left))
+    (λ old. after_one (λ b o. b ≡ o) equal (absent_in_file net (texts absent)) (λ left. IsPlanning net (renewed_root old left) left) (λ left. planning_one net (renewed_root old left) left))
+    )
+    bytes other status also is too
+one_answer (Some (Migrate topology)) texts bytes other status also is too =
+    after_one (λ b o. network_of (tree_of b) ≡ network_of (tree_of o)) (λ b o same. ap (λ (l : List ℕ). network_of (tree_of l)) same) (topology_of (texts topology)) IsMigrated migrated_one bytes other status also is too

@@ -1,5 +1,0 @@
-use Rattle.std.proofs.Common.{◌∙◌, append_assoc}
-use Rattle.sd_top.proofs.lines.refused_line.Goals as goal
-
-pub returns : goal.returns
-returns c = c.in_ok-text.ensures.ok ∙ simp append_assoc

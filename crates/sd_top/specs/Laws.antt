@@ -1,0 +1,22 @@
+-- What holds of the answers themselves, whatever a run does.
+use Rattle.sd_solo.specs.Promises.{ReportsContain}
+use Rattle.sd_top.specs.Checks.{CheckCompletes}
+use Rattle.sd_top.specs.Migration.{MigrationCompletes}
+use Rattle.sd_top.specs.Plannings.{PlanCompletes, RenewalCompletes}
+use Rattle.sd_top.specs.Schedules.{SoloCompletes}
+use Rattle.sd_top.specs.Unique.{HasOneAnswer}
+use Rattle.sd_top.specs.Versions.{MigrationLaw}
+
+pub record Laws : Type 0 where
+  -- a command has one answer over the same texts
+  pub one_answer : HasOneAnswer
+  -- right files are answered with Done
+  pub solo_completes : SoloCompletes
+  pub plan_completes : PlanCompletes
+  pub check_completes : CheckCompletes
+  pub renewal_completes : RenewalCompletes
+  pub migration_completes : MigrationCompletes
+  -- a topology that is written again with version 2 changes no answer
+  pub migration_law : MigrationLaw
+  -- whatever the events that one device alone accepts, an honest report has its reference time inside
+  pub reports_contain : ReportsContain

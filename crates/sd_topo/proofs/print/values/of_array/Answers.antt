@@ -1,5 +1,0 @@
-use Rattle.toml.proofs.Views.{view-Array}
-use Rattle.sd_topo.proofs.print.values.of_array.Goals as goal
-
-pub returns : goal.returns
-returns c = view-Array c.args.items

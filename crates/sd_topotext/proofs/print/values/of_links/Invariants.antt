@@ -1,0 +1,9 @@
+use Rattle.std.proofs.Common.{◌≡◌, map, take}
+use Rattle.toml.specs.Data.{string}
+use Rattle.toml.specs.View.{items_of, items_view}
+use Rattle.sd_topo.specs.Network.{link_names, name_at}
+use Rattle.sd_topo.specs.Topologies.{network}
+use Rattle.sd_topotext.proofs.print.values.of_links.Given as goal
+
+abbrev pub invariant-loop-l : goal.invariant-loop-l
+invariant-loop-l l = items_view l.items.items ≡ items_of (map (λ n. string (name_at (link_names (network l.topo)) n)) (take l.l-index l.links))

@@ -1,0 +1,12 @@
+//! Topologies as texts: read from TOML with every check, and printed, with `toml`.
+#![tactic(auto)]
+
+mod fault;
+mod print;
+mod read;
+#[cfg(test)]
+mod tests;
+
+pub use fault::{Key, Kind, Place, TopoFault};
+pub use print::topology_text;
+pub use read::read_topology;

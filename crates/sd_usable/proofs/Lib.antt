@@ -1,5 +1,0 @@
-mod Listing
-mod Over
-mod Turned
-pub mod Laws
-mod Single

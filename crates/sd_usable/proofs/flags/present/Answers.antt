@@ -1,5 +1,0 @@
-use Rattle.sd_usable.proofs.Listing.{all_struck}
-use Rattle.sd_usable.proofs.flags.present.Goals as goal
-
-pub returns : goal.returns
-returns c = all_struck c.args.absent.now c.loop-number.number-index c.args.count c.loop-number.flags.items c.loop-number-test.false c.loop-number.invariant.size c.loop-number.invariant.each
