@@ -1,3 +1,4 @@
+//! A device: its registers behind the trait that the fleet drives.
 use crate::registers::{Mode, Registers};
 use crate::{Effect, Node};
 use sd_clock::{Estimate, Report};

@@ -1,3 +1,4 @@
+//! What every kind of device states of itself: its steps as relations, what it owes and is owed, and its laws.
 ghost use Rattle.std.specs.Prelude.{◌≡◌, ◌≤◌, ◌<◌, ◌+◌, ◌^◌, ◌⊎◌, ℕ, Bool, true, false, IsTrue, Option, Some, None, is_some, max, option_map};
 ghost use Rattle.sd_topo.specs.Network.{IsRates};
 ghost use Rattle.sd_clock.specs.declared.Report.{Report};

@@ -1,3 +1,4 @@
+//! What a message makes of a device: it enters the epoch of a given duty, accepts from its parent, or stays as it is.
 ghost use Rattle.std.specs.Prelude.{◌≡◌, ◌<◌, ◌^◌, option_and_then};
 ghost use Rattle.sd_core.specs.Words.{over_link as over};
 

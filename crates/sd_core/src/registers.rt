@@ -1,3 +1,4 @@
+//! What a device keeps, and how the calls that bring no message and no tick change it.
 ghost use Rattle.std.specs.Prelude.{◌≡◌, ◌≤◌, ◌<◌, ◌^◌, Some};
 ghost use Rattle.sd_topo.specs.Network.{IsRates};
 

@@ -1,3 +1,4 @@
+//! What a tick makes of a device: it moves to its backup, takes over, emits as the acting root, or stays as it is.
 ghost use Rattle.std.specs.Prelude.{◌≡◌, ◌≤◌, ◌<◌, ◌^◌, ◌&&◌, nat_le, false};
 ghost use Rattle.sd_num.specs.Lists.{of_some};
 ghost use Rattle.sd_topo.specs.Network.{IsRates};

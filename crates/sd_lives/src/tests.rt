@@ -1,3 +1,4 @@
+//! The device beside a plain program over its whole list of calls, and callers of any kind of node.
 mod callers;
 mod driven;
 mod numbers;

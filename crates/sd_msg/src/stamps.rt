@@ -1,3 +1,4 @@
+//! The order of stamps.
 ghost use Rattle.std.specs.Prelude.{◌≡◌};
 ghost use Rattle.sd_msg.specs.Stamps.{is_newer as is_newer_stamp};
 

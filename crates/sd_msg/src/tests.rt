@@ -1,3 +1,4 @@
+//! Stamps, the book of flights beside plain lists, and observers.
 mod books;
 mod calls;
 mod flagged;

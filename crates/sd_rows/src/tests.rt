@@ -1,3 +1,4 @@
+//! Worked runs of the whole program: bytes, statuses, pieces and faults.
 ghost use Rattle.std.specs.Prelude.{◌≡◌, ◌≤◌, false, IfOk};
 
 mod check;
