@@ -9,6 +9,15 @@ use std::marker::Model;
 
 /// A device that follows its plan: it relays what comes from its parent, moves to its backup parent
 /// or takes over as root after a silence, and takes up the duties of later plans.
+///
+/// ```
+/// // a leaf with a backup parent: it hears from its parent, and then of nothing for its wait
+/// let mut leaf = Device::start(duty, counter, clock, eps);
+/// let relayed = leaf.on_message(link, message, counter + 1000);
+/// // Effect::Send: what it heard goes on to those below
+/// let _: Effect = leaf.on_tick(counter + 1000 + duty.wait);
+/// // leaf.parent() is its backup parent, and leaf.report(..) has grown its uncertainty meanwhile
+/// ```
 #[derive(Drop)]
 pub struct Device {
     registers: Registers,
