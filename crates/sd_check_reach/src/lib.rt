@@ -42,7 +42,7 @@ pub fn domain_breach(
     domain_breach_in(alloc, topo, plan, &index, f)
 }
 
-/// The same by an index of this plan, which serves all domains.
+/// What `domain_breach` answers, by an index of this plan, which serves all domains.
 pub fn domain_breach_in(
     alloc: Global,
     topo: &Topology,
@@ -78,7 +78,7 @@ pub fn reach_breach(
     reach_breach_in(alloc, topo, plan, &index, f)
 }
 
-/// The same by an index of this plan, which serves all domains.
+/// What `reach_breach` answers, by an index of this plan, which serves all domains.
 pub fn reach_breach_in(
     alloc: Global,
     topo: &Topology,
