@@ -17,7 +17,8 @@ use Rattle.sd_check_loop.specs.Shown.{IsStep, CycleIs, IsAnswer, AnswersFor}
 use Rattle.sd_check_loop.specs.declared.graph.Successors.{Successors}
 use Rattle.sd_check_loop.specs.declared.marking.Mark.{Mark}
 use Rattle.sd_check_loop.specs.declared.marking.Mark.TheVariants as mark
-use Rattle.sd_check_loop.proofs.Judging.{hit_ascends, none_endless, first_least, next_shown}
+use Rattle.sd_check_loop.proofs.Listed.{hit_ascends}
+use Rattle.sd_check_loop.proofs.Judging.{none_endless, first_least, next_shown}
 use Rattle.sd_check_loop.proofs.Places.{place_in-at}
 
 -- what holds of each two neighbours
@@ -33,36 +34,36 @@ first_map P Q each (x ∷ xs) first = each x first
 ending_endless : mark.Ending ≡ mark.Endless → ⊥
 ending_endless same = cc
 
-module _ (net : Network) (plan : Plan) (f : DomainId) (fits : Fits net plan) (structured : structure_breach net plan ≡ None) (hit : List ℕ) (is : hit ≡ hit_by net plan f) where
+module _ (net : Network) (plan : Plan) (domain : DomainId) (fits : Fits net plan) (structured : structure_breach net plan ≡ None) (hit : List ℕ) (is : hit ≡ hit_by net plan domain) where
   -- the place of a device that stands there
   place_at : (d i : ℕ) → slice_get hit i ≡ Some d → place_in hit d ≡ Some i
   place_at d i at =
       subst (λ (x : ℕ). place_in hit x ≡ Some i) (get_or_from_slice_get hit i d 0 at)
-      (place_in-at hit i (hit_ascends net plan f fits structured hit is) (slice_get_within hit i d at))
+      (place_in-at hit i (hit_ascends net plan domain hit is) (slice_get_within hit i d at))
 
   module _ (marks : List Mark) (marked : IsMarked (graph_of plan hit) marks) where
-    goes : (d e : ℕ) → IsStep hit (graph_of plan hit) marks d e → IsNextShown net plan f d e
+    goes : (d e : ℕ) → IsStep hit (graph_of plan hit) marks d e → IsNextShown net plan domain d e
     goes d e step =
-        next_shown net plan f fits structured hit is (graph_of plan hit) refl marks marked d e step.here step.there (place_at d step.here step.from) (place_at e step.there step.to) step.next
+        next_shown net plan domain fits structured hit is (graph_of plan hit) refl marks marked d e step.here step.there (place_at d step.here step.from) (place_at e step.there step.to) step.next
 
     shows : (begin : ℕ) → begin < length hit → mark_at marks begin ≡ mark.Endless → ((k : ℕ) → k < begin → mark_at marks k ≢ mark.Endless)
-        → (cycle : List ℕ) → CycleIs hit (graph_of plan hit) marks (get_or hit begin 0) cycle → ShowsCycle net plan f cycle
+        → (cycle : List ℕ) → CycleIs hit (graph_of plan hit) marks (get_or hit begin 0) cycle → ShowsCycle net plan domain cycle
     shows begin within endless before [] none = none
     shows begin within endless before (first ∷ others) c =
-        let at = place_in-at hit begin (hit_ascends net plan f fits structured hit is) within in
-        let least : IsLeast (IsEndless net plan f) (get_or hit begin 0) = first_least net plan f fits structured hit is (graph_of plan hit) refl marks marked (get_or hit begin 0) begin at endless before in
+        let at = place_in-at hit begin (hit_ascends net plan domain hit is) within in
+        let least : IsLeast (IsEndless net plan domain) (get_or hit begin 0) = first_least net plan domain fits structured hit is (graph_of plan hit) refl marks marked (get_or hit begin 0) begin at endless before in
         record {
           lead = c.lead;
           begins =
-              first_map (λ d. d ≡ get_or hit begin 0) (IsLeast (IsEndless net plan f)) (λ d same. subst (λ (x : ℕ). IsLeast (IsEndless net plan f) x) (sym same) least)
+              first_map (λ d. d ≡ get_or hit begin 0) (IsLeast (IsEndless net plan domain)) (λ d same. subst (λ (x : ℕ). IsLeast (IsEndless net plan domain) x) (sym same) least)
               (c.lead ++ first ∷ others) c.begins;
-          goes_on = chain_map (IsStep hit (graph_of plan hit) marks) (IsNextShown net plan f) goes (c.lead ++ (first ∷ others) ++ first ∷ []) c.goes_on;
+          goes_on = chain_map (IsStep hit (graph_of plan hit) marks) (IsNextShown net plan domain) goes (c.lead ++ (first ∷ others) ++ first ∷ []) c.goes_on;
           once = c.once;
         }
 
-    by_answer : (shown : Option (List ℕ)) → IsAnswer hit (graph_of plan hit) marks shown → LoopShown net plan f shown
+    by_answer : (shown : Option (List ℕ)) → IsAnswer hit (graph_of plan hit) marks shown → LoopShown net plan domain shown
     by_answer None none =
-        none_endless net plan f fits structured hit is (graph_of plan hit) refl marks marked
+        none_endless net plan domain fits structured hit is (graph_of plan hit) refl marks marked
         (λ i endless.
         elim (cases_lt i (length marks)) [
           | inl before ↦ none i before endless
@@ -71,13 +72,13 @@ module _ (net : Network) (plan : Plan) (f : DomainId) (fits : Fits net plan) (st
     by_answer (Some cycle) a = shows a.0 a.1 a.2 a.3 cycle a.4
 
   -- an answer by marks is the answer for the domain
-  pub answered : (shown : Option (List ℕ)) → AnswersFor plan hit shown → LoopShown net plan f shown
+  pub answered : (shown : Option (List ℕ)) → AnswersFor plan hit shown → LoopShown net plan domain shown
   answered shown a = by_answer a.0 a.1 shown a.2
 
 -- where nobody is hit, nothing is endless
-pub none_hit : (net : Network) (plan : Plan) (f : DomainId) → Fits net plan → structure_breach net plan ≡ None → (hit : List ℕ) → hit ≡ hit_by net plan f → hit ≡ [] → LoopShown net plan f None
-none_hit net plan f fits structured hit is none =
-    answered net plan f fits structured [] (sym none ∙ is) None (
+pub none_hit : (net : Network) (plan : Plan) (domain : DomainId) → Fits net plan → structure_breach net plan ≡ None → (hit : List ℕ) → hit ≡ hit_by net plan domain → hit ≡ [] → LoopShown net plan domain None
+none_hit net plan domain fits structured hit is none =
+    answered net plan domain fits structured [] (sym none ∙ is) None (
       [],
       record {
         size = refl;

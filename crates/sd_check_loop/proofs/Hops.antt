@@ -98,15 +98,15 @@ by_led member ends hit primary backup e led =
           (subst (λ (b : Bool). list_any (λ hop. nat_eq hop.parent e) (if b then option_to_list backup else []) ≡ true) (sym there.0) (parent_one backup e there.1))
     ]))
 
-module _ (net : Network) (plan : Plan) (f : DomainId) where
+module _ (net : Network) (plan : Plan) (domain : DomainId) where
   abbrev pub IsLed : ℕ → ℕ → Type 0
-  IsLed d e = Led (is_member plan d) (is_end plan d) (is_hit net plan f d) (primary_of plan d) (backup_of plan d) e
+  IsLed d e = Led (is_member plan d) (is_end plan d) (is_hit net plan domain d) (primary_of plan d) (backup_of plan d) e
 
-  pub led : (d e : ℕ) → LeadsTo net plan f d e → IsLed d e
-  led d e some = led_by (is_member plan d) (is_end plan d) (is_hit net plan f d) (primary_of plan d) (backup_of plan d) e some
+  pub led : (d e : ℕ) → LeadsTo net plan domain d e → IsLed d e
+  led d e some = led_by (is_member plan d) (is_end plan d) (is_hit net plan domain d) (primary_of plan d) (backup_of plan d) e some
 
-  pub leads_to : (d e : ℕ) → IsLed d e → LeadsTo net plan f d e
-  leads_to d e led = by_led (is_member plan d) (is_end plan d) (is_hit net plan f d) (primary_of plan d) (backup_of plan d) e led
+  pub leads_to : (d e : ℕ) → IsLed d e → LeadsTo net plan domain d e
+  leads_to d e led = by_led (is_member plan d) (is_end plan d) (is_hit net plan domain d) (primary_of plan d) (backup_of plan d) e led
 
 -- a hop is there only in a row
 primary_row : (o : Option PlanRow) (hop : Hop) → option_map (λ row. row.primary) o ≡ Some hop → of_some o false (λ row. true) ≡ true
@@ -131,5 +131,5 @@ row_within plan d there = by (slice_get plan.rows d) refl there
     by None at some = cc
     by (Some row) at some = slice_get_within plan.rows d row at
 
-pub led_row : (net : Network) (plan : Plan) (f : DomainId) (d e : ℕ) → IsLed net plan f d e → has_row plan d ≡ true
-led_row net plan f d e led = elim led.parent [ inl here ↦ has_primary_row plan d e here | inr there ↦ has_backup_row plan d e there.1 ]
+pub led_row : (net : Network) (plan : Plan) (domain : DomainId) (d e : ℕ) → IsLed net plan domain d e → has_row plan d ≡ true
+led_row net plan domain d e led = elim led.parent [ inl here ↦ has_primary_row plan d e here | inr there ↦ has_backup_row plan d e there.1 ]

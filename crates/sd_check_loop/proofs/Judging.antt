@@ -1,10 +1,10 @@
 -- What the marks of the hit devices say of the devices.
 use Rattle.std.specs.Prelude.{◌≡◌, ◌≢◌, ℕ, zero, suc, ◌+◌, ◌<◌, ◌≤◌, Bool, true, false, ◌||◌, List, [], ◌∷◌, length, Option, Some, None, IfSome, IsTrue}
 use Rattle.std.specs.List.{list_any}
-use Rattle.std.proofs.Common.{refl, sym, ap, ◌∙◌, subst, arith, ◌⊎◌, inl, inr, get_or, All}
+use Rattle.std.proofs.Common.{refl, sym, ap, ◌∙◌, subst, arith, ◌⊎◌, inl, inr, get_or}
 use Rattle.std.proofs.lemmas.Bool.{and_from, and_parts, or_left, or_right, or_cases, cases_lt, cases_Bool, cond-true, cond-false, eq-eqb, both_ways, false_from_ne_true}
 use Rattle.std.proofs.lemmas.List.{get_or-map, length-map}
-use Rattle.sd_num.specs.Lists.{ascends, has, same_number}
+use Rattle.sd_num.specs.Lists.{has, same_number}
 use Rattle.sd_topo.specs.Network.{Network}
 use Rattle.sd_domain.specs.declared.DomainId.{DomainId}
 use Rattle.sd_plan.specs.declared.Hop.{Hop}
@@ -23,8 +23,9 @@ use Rattle.sd_check_loop.specs.declared.marking.Mark.{Mark}
 use Rattle.sd_check_loop.specs.declared.marking.Mark.TheVariants as mark
 use Rattle.sd_check_loop.proofs.Hops.{IsParent, any_parent, parent_any, IsLed, OneLeads, led, leads_to, row_within, led_row, has_primary_row, has_backup_row}
 use Rattle.sd_check_loop.proofs.Least.{next_parts, next_least}
+use Rattle.sd_check_loop.proofs.Listed.{hit_ascends}
 use Rattle.sd_check_loop.proofs.Markers.{same_number-some, both_at, place_of}
-use Rattle.sd_check_loop.proofs.Places.{rise_over, place_in-some, place_in-at, passing_ascend, passing_within, passing_at, passing_has}
+use Rattle.sd_check_loop.proofs.Places.{rise_over, place_in-some, place_in-at, passing_at, passing_has}
 use Rattle.sd_check_loop.proofs.Ranks.{no_cycle}
 use Rattle.sd_check_loop.proofs.Unhit.{not_root, short_count, GoesUnhit, goes_unhit}
 
@@ -41,37 +42,29 @@ at_parent hit None j at = cc
 at_parent hit (Some hop) j at = (hop.parent, (hop, refl, refl), at)
 
 -- the hit devices of a domain, as the graph has them
-module _ (net : Network) (plan : Plan) (f : DomainId) (fits : Fits net plan) (structured : structure_breach net plan ≡ None) (hit : List ℕ) (is : hit ≡ hit_by net plan f) where
-  pub hit_ascends : ascends hit ≡ true
-  hit_ascends = subst (λ (xs : List ℕ). ascends xs ≡ true) (sym is) (passing_ascend (is_hit net plan f) (length net.devices))
-
-  pub hit_within : All (λ d. d < length plan.rows) hit
-  hit_within =
-      subst (λ (n : ℕ). All (λ d. d < n) hit) (sym fits.entries)
-      (subst (λ (xs : List ℕ). All (λ d. d < length net.devices) xs) (sym is) (passing_within (is_hit net plan f) (length net.devices)))
-
+module _ (net : Network) (plan : Plan) (domain : DomainId) (fits : Fits net plan) (structured : structure_breach net plan ≡ None) (hit : List ℕ) (is : hit ≡ hit_by net plan domain) where
   -- what is listed is hit
-  hit_here : (d i : ℕ) → place_in hit d ≡ Some i → is_hit net plan f d ≡ true
+  hit_here : (d i : ℕ) → place_in hit d ≡ Some i → is_hit net plan domain d ≡ true
   hit_here d i at =
       let place = place_in-some hit d i at in
-      subst (λ (x : ℕ). is_hit net plan f x ≡ true) place.1
-      (subst (λ (xs : List ℕ). i < length xs → is_hit net plan f (get_or xs i 0) ≡ true) (sym is) (λ within. passing_at (is_hit net plan f) (length net.devices) i within) place.0)
+      subst (λ (x : ℕ). is_hit net plan domain x ≡ true) place.1
+      (subst (λ (xs : List ℕ). i < length xs → is_hit net plan domain (get_or xs i 0) ≡ true) (sym is) (λ within. passing_at (is_hit net plan domain) (length net.devices) i within) place.0)
 
   -- what is hit is listed
-  unplaced : (d : ℕ) → d < length net.devices → place_in hit d ≡ None → is_hit net plan f d ≡ false
+  unplaced : (d : ℕ) → d < length net.devices → place_in hit d ≡ None → is_hit net plan domain d ≡ false
   unplaced d within none =
-      false_from_ne_true (is_hit net plan f d) (λ hits.
-      let listed : has hit d ≡ true = subst (λ (xs : List ℕ). has xs d ≡ true) (sym is) (passing_has (is_hit net plan f) (length net.devices) d within hits) in
+      false_from_ne_true (is_hit net plan domain d) (λ hits.
+      let listed : has hit d ≡ true = subst (λ (xs : List ℕ). has xs d ≡ true) (sym is) (passing_has (is_hit net plan domain) (length net.devices) d within hits) in
       let place = place_of hit d listed in
-      let there : place_in hit d ≡ Some place.0 = subst (λ (x : ℕ). place_in hit x ≡ Some place.0) place.2 (place_in-at hit place.0 hit_ascends place.1) in
+      let there : place_in hit d ≡ Some place.0 = subst (λ (x : ℕ). place_in hit x ≡ Some place.0) place.2 (place_in-at hit place.0 (hit_ascends net plan domain hit is) place.1) in
       differ place.0 (sym none ∙ there))
     where
       differ : (i : ℕ) → ◌≡◌ {A = Option ℕ} None (Some i) → ⊥
       differ i same = cc
 
   -- a device with a hop is one of the network
-  led_within : (d e : ℕ) → IsLed net plan f d e → d < length net.devices
-  led_within d e known = let within = row_within plan d (led_row net plan f d e known) in omega (arith, within, fits.entries)
+  led_within : (d e : ℕ) → IsLed net plan domain d e → d < length net.devices
+  led_within d e known = let within = row_within plan d (led_row net plan domain d e known) in omega (arith, within, fits.entries)
 
   -- a device with a row that ends no walk is a member
   row_member : (d : ℕ) → has_row plan d ≡ true → is_end plan d ≡ false → is_member plan d ≡ true
@@ -99,20 +92,20 @@ module _ (net : Network) (plan : Plan) (f : DomainId) (fits : Fits net plan) (st
     successors_end d ends = cond-true (is_end plan d) no_successors (of_parents d) ends
 
     -- where a device leads to another, so do their places
-    leads_on : (d e i j : ℕ) → place_in hit d ≡ Some i → place_in hit e ≡ Some j → LeadsTo net plan f d e → leads graph i j ≡ true
+    leads_on : (d e i j : ℕ) → place_in hit d ≡ Some i → place_in hit e ≡ Some j → LeadsTo net plan domain d e → leads graph i j ≡ true
     leads_on d e i j at_d at_e leads_e =
-        let known = led net plan f d e leads_e in
+        let known = led net plan domain d e leads_e in
         subst (λ (s : Successors). leads_by s j ≡ true) (sym (successors_there d i at_d ∙ successors_on d known.ends_not)) (by known.parent)
       where
         same : (o : Option ℕ) → o ≡ Some j → same_number o j ≡ true
         same o some = subst (λ (found : Option ℕ). same_number found j ≡ true) (sym some) (eq-eqb j j refl)
 
-        by : OneLeads (is_hit net plan f d) (primary_of plan d) (backup_of plan d) e → leads_by (of_parents d) j ≡ true
+        by : OneLeads (is_hit net plan domain d) (primary_of plan d) (backup_of plan d) e → leads_by (of_parents d) j ≡ true
         by (inl here) = or_left (same_number (parent_place hit (primary_of plan d)) j) (same_number (parent_place hit (backup_of plan d)) j) (same (parent_place hit (primary_of plan d)) (parent_at hit (primary_of plan d) e j here at_e))
         by (inr there) = or_right (same_number (parent_place hit (primary_of plan d)) j) (same_number (parent_place hit (backup_of plan d)) j) (same (parent_place hit (backup_of plan d)) (parent_at hit (backup_of plan d) e j there.1 at_e))
 
     -- where a place leads to another, so do their devices
-    led_on : (d i j : ℕ) → place_in hit d ≡ Some i → leads graph i j ≡ true → (e : ℕ) × (place_in hit e ≡ Some j) × LeadsTo net plan f d e
+    led_on : (d i j : ℕ) → place_in hit d ≡ Some i → leads graph i j ≡ true → (e : ℕ) × (place_in hit e ≡ Some j) × LeadsTo net plan domain d e
     led_on d i j at_d leads_j =
         elim (cases_Bool (is_end plan d)) [
           | inl ends ↦ absurd (none (subst (λ (s : Successors). leads_by s j ≡ true) (successors_there d i at_d ∙ successors_end d ends) leads_j))
@@ -123,19 +116,19 @@ module _ (net : Network) (plan : Plan) (f : DomainId) (fits : Fits net plan) (st
         none : leads_by no_successors j ≡ true → ⊥
         none same = cc
 
-        by : is_end plan d ≡ false → (same_number (parent_place hit (primary_of plan d)) j ≡ true) ⊎ (same_number (parent_place hit (backup_of plan d)) j ≡ true) → (e : ℕ) × (place_in hit e ≡ Some j) × LeadsTo net plan f d e
+        by : is_end plan d ≡ false → (same_number (parent_place hit (primary_of plan d)) j ≡ true) ⊎ (same_number (parent_place hit (backup_of plan d)) j ≡ true) → (e : ℕ) × (place_in hit e ≡ Some j) × LeadsTo net plan domain d e
         by other (inl here) =
             let found = at_parent hit (primary_of plan d) j (same_number-some (parent_place hit (primary_of plan d)) j here) in (
               found.0,
               found.2,
-              leads_to net plan f d found.0
+              leads_to net plan domain d found.0
                   (record { member_is = row_member d (has_primary_row plan d found.0 found.1) other; ends_not = other; parent = inl found.1 }),
             )
         by other (inr there) =
             let found = at_parent hit (backup_of plan d) j (same_number-some (parent_place hit (backup_of plan d)) j there) in (
               found.0,
               found.2,
-              leads_to net plan f d found.0
+              leads_to net plan domain d found.0
                   (record { member_is = row_member d (has_backup_row plan d found.0 found.1) other; ends_not = other; parent = inr (hit_here d i at_d, found.1) }),
             )
 
@@ -166,21 +159,21 @@ module _ (net : Network) (plan : Plan) (f : DomainId) (fits : Fits net plan) (st
           marked.done j (λ endless.
           let next = marked.goes_on j endless in
           let on = led_on e j next.0 at next.1 in
-          both_ways (is_end plan e) (led net plan f e on.0 on.2).ends_not ends)
+          both_ways (is_end plan e) (led net plan domain e on.0 on.2).ends_not ends)
 
       -- where a device that is not listed leads
-      unlisted : (d e : ℕ) → place_in hit d ≡ None → LeadsTo net plan f d e → GoesUnhit net plan f d e
+      unlisted : (d e : ℕ) → place_in hit d ≡ None → LeadsTo net plan domain d e → GoesUnhit net plan domain d e
       unlisted d e none leads_e =
-          let known = led net plan f d e leads_e in
+          let known = led net plan domain d e leads_e in
           let within = led_within d e known in
           let unhit = unplaced d within none in
           elim known.parent [
-            | inl here ↦ subst (λ (x : ℕ). GoesUnhit net plan f d x) here.2 (goes_unhit net plan f d here.0 structured within known.member_is known.ends_not here.1 unhit)
-            | inr there ↦ absurd (both_ways (is_hit net plan f d) unhit there.0)
+            | inl here ↦ subst (λ (x : ℕ). GoesUnhit net plan domain d x) here.2 (goes_unhit net plan domain d here.0 structured within known.member_is known.ends_not here.1 unhit)
+            | inr there ↦ absurd (both_ways (is_hit net plan domain d) unhit there.0)
           ]
 
       -- all that it leads to ends
-      ends_on : (d e : ℕ) → Ends d → LeadsTo net plan f d e → Ends e
+      ends_on : (d e : ℕ) → Ends d → LeadsTo net plan domain d e → Ends e
       unfolding Ends
       ends_on d e ends leads_e j at_e =
           by (place_in hit d) refl
@@ -190,16 +183,16 @@ module _ (net : Network) (plan : Plan) (f : DomainId) (fits : Fits net plan) (st
           by None none =
               elim (cases_Bool (is_end plan e)) [
                 | inl last ↦ ends_end e last j at_e
-                | inr more ↦ absurd (both_ways (is_hit net plan f e) ((unlisted d e none leads_e).unhit more) (hit_here e j at_e))
+                | inr more ↦ absurd (both_ways (is_hit net plan domain e) ((unlisted d e none leads_e).unhit more) (hit_here e j at_e))
               ]
 
       -- and has a lower rank
-      falls : (d e : ℕ) → Ends d → LeadsTo net plan f d e → rank e < rank d
+      falls : (d e : ℕ) → Ends d → LeadsTo net plan domain d e → rank e < rank d
       unfolding Ends
       falls d e ends leads_e = by (place_in hit d) refl (is_end plan e) refl (place_in hit e) refl
         where
           open_here : is_end plan d ≡ false
-          open_here = (led net plan f d e leads_e).ends_not
+          open_here = (led net plan domain d e leads_e).ends_not
 
           by : (at_d : Option ℕ) → place_in hit d ≡ at_d → (last : Bool) → is_end plan e ≡ last → (at_e : Option ℕ) → place_in hit e ≡ at_e → rank e < rank d
           by (Some i) here true last at_e there = rw (rank_is d false (Some i) open_here here, rank_is e true at_e last there) (omega arith)
@@ -213,42 +206,42 @@ module _ (net : Network) (plan : Plan) (f : DomainId) (fits : Fits net plan) (st
           by None none false more None there =
               rw (rank_is d false None open_here none, rank_is e false None more there) (unlisted d e none leads_e).fewer
           by None none false more (Some j) there =
-              absurd (both_ways (is_hit net plan f e) ((unlisted d e none leads_e).unhit more) (hit_here e j there))
+              absurd (both_ways (is_hit net plan domain e) ((unlisted d e none leads_e).unhit more) (hit_here e j there))
 
       -- a first hop leads to its parent
-      hop_leads : (d : ℕ) (hop : Hop) → IsTrue (list_any (same_hop hop) (hops_of net plan f d)) → LeadsTo net plan f d hop.parent
-      hop_leads d hop some = parent_any (hops_of net plan f d) hop some
+      hop_leads : (d : ℕ) (hop : Hop) → IsTrue (list_any (same_hop hop) (hops_of net plan domain d)) → LeadsTo net plan domain d hop.parent
+      hop_leads d hop some = parent_any (hops_of net plan domain d) hop some
 
       -- a walk has no more hops than the rank
-      bounded : (d : ℕ) (hs : List Hop) → Ends d → IsTrue (is_walk net plan f d hs) → length hs ≤ rank d
+      bounded : (d : ℕ) (hs : List Hop) → Ends d → IsTrue (is_walk net plan domain d hs) → length hs ≤ rank d
       bounded d [] ends walked = omega arith
       bounded d (hop ∷ hs) ends walked =
-          let both : (list_any (same_hop hop) (hops_of net plan f d) ≡ true) × (is_walk net plan f hop.parent hs ≡ true) =
-          and_parts (list_any (same_hop hop) (hops_of net plan f d)) (is_walk net plan f hop.parent hs) walked in
+          let both : (list_any (same_hop hop) (hops_of net plan domain d) ≡ true) × (is_walk net plan domain hop.parent hs ≡ true) =
+          and_parts (list_any (same_hop hop) (hops_of net plan domain d)) (is_walk net plan domain hop.parent hs) walked in
           let leads_e = hop_leads d hop both.0 in
           let rest : length hs ≤ rank hop.parent = bounded hop.parent hs (ends_on d hop.parent ends leads_e) both.1 in
           omega (arith, rest, falls d hop.parent ends leads_e)
 
-      not_endless : (d : ℕ) → Ends d → IsEndless net plan f d → ⊥
+      not_endless : (d : ℕ) → Ends d → IsEndless net plan domain d → ⊥
       not_endless d ends endless =
           let walk = endless (suc (rank d)) in
           omega (arith, bounded d walk.0 ends walk.2, walk.1)
 
       -- walks of each length begin at an endless place
-      endless_walk : (n d i : ℕ) → place_in hit d ≡ Some i → mark_at marks i ≡ mark.Endless → (hs : List Hop) × (length hs ≡ n) × IsTrue (is_walk net plan f d hs)
+      endless_walk : (n d i : ℕ) → place_in hit d ≡ Some i → mark_at marks i ≡ mark.Endless → (hs : List Hop) × (length hs ≡ n) × IsTrue (is_walk net plan domain d hs)
       endless_walk zero d i at endless = ([], refl, refl)
       endless_walk (suc n) d i at endless =
           let next = marked.goes_on i endless in
           let on = led_on d i next.0 at next.1 in
-          let first = any_parent (hops_of net plan f d) on.0 on.2 in
+          let first = any_parent (hops_of net plan domain d) on.0 on.2 in
           let rest = endless_walk n on.0 next.0 on.1 next.2 in (
             first.0 ∷ rest.0,
             ap (λ (k : ℕ). suc k) rest.1,
-            and_from (list_any (same_hop first.0) (hops_of net plan f d)) (is_walk net plan f first.0.parent rest.0) first.1
-                (subst (λ (x : ℕ). is_walk net plan f x rest.0 ≡ true) (sym first.2) rest.2),
+            and_from (list_any (same_hop first.0) (hops_of net plan domain d)) (is_walk net plan domain first.0.parent rest.0) first.1
+                (subst (λ (x : ℕ). is_walk net plan domain x rest.0 ≡ true) (sym first.2) rest.2),
           )
 
-      marked_endless : (d : ℕ) → IsMarkedEndless d → IsEndless net plan f d
+      marked_endless : (d : ℕ) → IsMarkedEndless d → IsEndless net plan domain d
       marked_endless d here n = endless_walk n d here.0 here.1 here.2
 
       -- each device ends or is marked as endless
@@ -286,16 +279,16 @@ module _ (net : Network) (plan : Plan) (f : DomainId) (fits : Fits net plan) (st
       not_before d e i j at_d at_e order =
           let first = place_in-some hit d i at_d in
           let second = place_in-some hit e j at_e in
-          let up = rise_over hit hit_ascends i j order second.0 in
+          let up = rise_over hit (hit_ascends net plan domain hit is) i j order second.0 in
           omega (arith, up, first.1, second.1)
 
       -- where no place is endless, there is no cycle
-      pub none_endless : ((i : ℕ) → mark_at marks i ≢ mark.Endless) → HasNoCycle net plan f
+      pub none_endless : ((i : ℕ) → mark_at marks i ≢ mark.Endless) → HasNoCycle net plan domain
       unfolding Ends
-      none_endless none = no_cycle net plan f rank (λ d hop some. falls d hop.parent (λ i at. marked.done i (none i)) (hop_leads d hop some))
+      none_endless none = no_cycle net plan domain rank (λ d hop some. falls d hop.parent (λ i at. marked.done i (none i)) (hop_leads d hop some))
 
       -- the device of the first endless place is the least endless one
-      pub first_least : (d i : ℕ) → place_in hit d ≡ Some i → mark_at marks i ≡ mark.Endless → ((k : ℕ) → k < i → mark_at marks k ≢ mark.Endless) → IsLeast (IsEndless net plan f) d
+      pub first_least : (d i : ℕ) → place_in hit d ≡ Some i → mark_at marks i ≡ mark.Endless → ((k : ℕ) → k < i → mark_at marks k ≢ mark.Endless) → IsLeast (IsEndless net plan domain) d
       first_least d i at endless before = (
         marked_endless d (i, at, endless),
         λ e less is_endless.
@@ -309,12 +302,12 @@ module _ (net : Network) (plan : Plan) (f : DomainId) (fits : Fits net plan) (st
       )
 
       -- the least endless successor of a place is that of its device
-      pub next_shown : (d e i j : ℕ) → place_in hit d ≡ Some i → place_in hit e ≡ Some j → next_endless graph marks i ≡ Some j → IsNextShown net plan f d e
+      pub next_shown : (d e i j : ℕ) → place_in hit d ≡ Some i → place_in hit e ≡ Some j → next_endless graph marks i ≡ Some j → IsNextShown net plan domain d e
       next_shown d e i j at_d at_e next =
           let parts = next_parts graph marks i j next in
           let on = led_on d i j at_d parts.0 in
           let same : on.0 ≡ e = one on.0 on.1 in (
-            (subst (λ (x : ℕ). LeadsTo net plan f d x) same on.2, marked_endless e (j, at_e, parts.1)),
+            (subst (λ (x : ℕ). LeadsTo net plan domain d x) same on.2, marked_endless e (j, at_e, parts.1)),
             λ x less both.
                 elim (either x) [
                   | inl ends ↦ not_endless x ends both.1
@@ -332,7 +325,7 @@ module _ (net : Network) (plan : Plan) (f : DomainId) (fits : Fits net plan) (st
     pub is_graph : IsGraph graph
     is_graph i within =
         let before : i < length hit = omega (arith, ap (λ (g : List Successors). length g) made, length-map hit (successors_of plan hit)) in
-        let at = place_in-at hit i hit_ascends before in
+        let at = place_in-at hit i (hit_ascends net plan domain hit is) before in
         subst (λ (s : Successors). BothAre (λ j. j < length graph) s) (sym (successors_there (get_or hit i 0) i at)) (by (cases_Bool (is_end plan (get_or hit i 0))))
       where
         size : length graph ≡ length hit

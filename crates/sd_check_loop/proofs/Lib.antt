@@ -3,6 +3,7 @@ pub mod Ranks
 mod Markers
 mod Searching
 mod Places
+mod Listed
 mod Unhit
 mod Hops
 mod Least

@@ -1,11 +1,7 @@
 -- The places of numbers in a list that ascends.
-use Rattle.std.proofs.Common.{◌≡◌, ◌≢◌, ℕ, zero, suc, ◌+◌, ◌<◌, ◌≤◌, Bool, true, false, cond, ◌⊎◌, List, [], ◌∷◌, length, get_or, filter, nat_eq, nat_le, Option, Some, None, option_map, Result, Ok, Err, refl, sym, ap, subst, inl, inr, arith, All}
-use Rattle.std.specs.Ordering.{nat_cmp}
-use Rattle.std.specs.List.Sorted.{IsBinarySearchResult}
-use Rattle.std.specs.Result.{MatchResult, result_ok}
-use Rattle.std.proofs.lemmas.Bool.{and_parts, leb-true, le-leb, eq-eqb, ne_eqb, eqb-true, or_cases, or_left, or_right, cond-true, cases_lt, both_ways}
+use Rattle.std.proofs.Common.{◌≡◌, ◌≢◌, ℕ, zero, suc, ◌+◌, ◌<◌, ◌≤◌, Bool, true, false, cond, ◌⊎◌, List, [], ◌∷◌, length, get_or, filter, nat_eq, nat_le, Option, Some, None, option_map, refl, sym, ap, subst, inl, inr, arith}
+use Rattle.std.proofs.lemmas.Bool.{le-leb, eq-eqb, ne_eqb, eqb-true, or_cases, or_left, or_right, cond-true, cases_lt, both_ways}
 use Rattle.std.proofs.lemmas.List.Elements.{All-get_or, filter_passes}
-use Rattle.std.proofs.lemmas.List.Sorted.{searched}
 use Rattle.std.proofs.lemmas.List.Folds.{list_any_at}
 use Rattle.sd_num.specs.Lists.{ascends, has, below}
 use Rattle.sd_num.proofs.Ascending.{tail_ascends, first_below}
@@ -68,21 +64,6 @@ place_in-at (x ∷ xs) (suc i) up within =
     let other : nat_eq x (get_or xs i 0) ≡ false = ne_eqb x (get_or xs i 0) (λ same. omega arith) in
     rw (other, place_in-at xs i (tail_ascends x xs up) (omega arith)) refl
 
--- what a search among numbers that ascend finds
-pub search_place : (xs : List ℕ) (x : ℕ) (found : Result ℕ ℕ) → IsBinarySearchResult (λ y. nat_cmp y x) xs found → ascends xs ≡ true → result_ok found ≡ place_in xs x
-search_place xs x found result up = by found (searched xs x found result (rise_over xs up))
-  where
-    by : (r : Result ℕ ℕ)
-        → MatchResult r (λ i. (i < length xs) × (get_or xs i 0 ≡ x)) (λ i. (i ≤ length xs) × ((k : ℕ) → k < i → get_or xs k 0 < x) × ((k : ℕ) → i ≤ k → k < length xs → x < get_or xs k 0))
-        → result_ok r ≡ place_in xs x
-    by (Ok i) at = sym (subst (λ (y : ℕ). place_in xs y ≡ Some i) at.1 (place_in-at xs i up at.0))
-    by (Err i) apart =
-        sym (place_in-none xs x (λ k within same.
-        elim (cases_lt k i) [
-          | inl before ↦ omega (arith, apart.1 k before, same)
-          | inr after ↦ omega (arith, apart.2 k after within, same)
-        ]))
-
 -- a rising list ascends
 ascends-rising : (a : ℕ) (xs : List ℕ) → Rises a xs → ascends xs ≡ true
 ascends-rising a [] up = refl
@@ -95,9 +76,6 @@ ascends-rising a (x ∷ y ∷ ys) up =
 module _ (test : ℕ → Bool) (bound : ℕ) where
   pub passing_ascend : ascends (filter test (below bound)) ≡ true
   passing_ascend = ascends-rising 0 (filter test (below bound)) (rising test bound).0
-
-  pub passing_within : All (λ n. n < bound) (filter test (below bound))
-  passing_within = (rising test bound).1
 
   pub passing_at : (i : ℕ) → i < length (filter test (below bound)) → test (get_or (filter test (below bound)) i 0) ≡ true
   passing_at i within = All-get_or (λ n. test n ≡ true) (filter test (below bound)) i 0 within (filter_passes test (below bound))

@@ -19,20 +19,20 @@ and_second false b h = cc
 
 -- each hop that a device may be on leads to a lower rank
 abbrev pub Falls : Network → Plan → DomainId → (ℕ → ℕ) → Type 0
-Falls net plan f rank = (d : ℕ) (hop : Hop) → IsTrue (list_any (same_hop hop) (hops_of net plan f d)) → rank hop.parent < rank d
+Falls net plan domain rank = (d : ℕ) (hop : Hop) → IsTrue (list_any (same_hop hop) (hops_of net plan domain d)) → rank hop.parent < rank d
 
-module _ (net : Network) (plan : Plan) (f : DomainId) (rank : ℕ → ℕ) (falls : Falls net plan f rank) where
+module _ (net : Network) (plan : Plan) (domain : DomainId) (rank : ℕ → ℕ) (falls : Falls net plan domain rank) where
   -- a walk leads to no higher rank
-  no_higher : (d : ℕ) (hs : List Hop) → IsTrue (is_walk net plan f d hs) → rank (end_of d hs) ≤ rank d
+  no_higher : (d : ℕ) (hs : List Hop) → IsTrue (is_walk net plan domain d hs) → rank (end_of d hs) ≤ rank d
   no_higher d [] walked = omega arith
   no_higher d (hop ∷ hs) walked =
-      let step : rank hop.parent < rank d = falls d hop (and_first (list_any (same_hop hop) (hops_of net plan f d)) (is_walk net plan f hop.parent hs) walked) in
-      let rest : rank (end_of hop.parent hs) ≤ rank hop.parent = no_higher hop.parent hs (and_second (list_any (same_hop hop) (hops_of net plan f d)) (is_walk net plan f hop.parent hs) walked) in
+      let step : rank hop.parent < rank d = falls d hop (and_first (list_any (same_hop hop) (hops_of net plan domain d)) (is_walk net plan domain hop.parent hs) walked) in
+      let rest : rank (end_of hop.parent hs) ≤ rank hop.parent = no_higher hop.parent hs (and_second (list_any (same_hop hop) (hops_of net plan domain d)) (is_walk net plan domain hop.parent hs) walked) in
       omega (arith, step, rest)
 
-  pub no_cycle : HasNoCycle net plan f
+  pub no_cycle : HasNoCycle net plan domain
   no_cycle d hop hs walked same =
-      let step : rank hop.parent < rank d = falls d hop (and_first (list_any (same_hop hop) (hops_of net plan f d)) (is_walk net plan f hop.parent hs) walked) in
-      let rest : rank (end_of hop.parent hs) ≤ rank hop.parent = no_higher hop.parent hs (and_second (list_any (same_hop hop) (hops_of net plan f d)) (is_walk net plan f hop.parent hs) walked) in
+      let step : rank hop.parent < rank d = falls d hop (and_first (list_any (same_hop hop) (hops_of net plan domain d)) (is_walk net plan domain hop.parent hs) walked) in
+      let rest : rank (end_of hop.parent hs) ≤ rank hop.parent = no_higher hop.parent hs (and_second (list_any (same_hop hop) (hops_of net plan domain d)) (is_walk net plan domain hop.parent hs) walked) in
       let back : rank (end_of hop.parent hs) ≡ rank d = ap rank same in
       omega (arith, step, rest, back)

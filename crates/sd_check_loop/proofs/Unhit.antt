@@ -79,23 +79,23 @@ short_count net plan d =
     ]
 
 -- what the step of a walk that is not hit leads to
-pub record GoesUnhit (net : Network) (plan : Plan) (f : DomainId) (d e : ℕ) : Type 0 where
+pub record GoesUnhit (net : Network) (plan : Plan) (domain : DomainId) (d e : ℕ) : Type 0 where
   pub fewer : length (short_walk net plan e) < length (short_walk net plan d)
-  pub unhit : is_end plan e ≡ false → is_hit net plan f e ≡ false
+  pub unhit : is_end plan e ≡ false → is_hit net plan domain e ≡ false
 
 -- the step where the count is n + 1
-step_at : (net : Network) (plan : Plan) (f : DomainId) (d n : ℕ) (hop : Hop) → net.params.depth ≡ suc n → is_end plan d ≡ false → primary_of plan d ≡ Some hop
-    → Comes plan net.params.depth d → is_hit net plan f d ≡ false → GoesUnhit net plan f d hop.parent
-step_at net plan f d n hop depth other primary comes none =
+step_at : (net : Network) (plan : Plan) (domain : DomainId) (d n : ℕ) (hop : Hop) → net.params.depth ≡ suc n → is_end plan d ≡ false → primary_of plan d ≡ Some hop
+    → Comes plan net.params.depth d → is_hit net plan domain d ≡ false → GoesUnhit net plan domain d hop.parent
+step_at net plan domain d n hop depth other primary comes none =
     let e = hop.parent in
     let whole : short_walk net plan d ≡ hop ∷ after (is_end plan) (hops (is_end plan) plan n) e =
     short_walk-is net plan d other ∙ ap (λ (m : ℕ). hops (is_end plan) plan m d) depth ∙ ap (λ (found : Option Hop). onward (is_end plan) (hops (is_end plan) plan n) found) primary in
     let path_is : short_path net plan d ≡ hop ∷ after (is_end plan) (hops (is_end plan) plan n) e =
     sym (cond-false (is_end plan d) [] (short_path net plan d) other) ∙ whole in
-    let free : hits net f (things_of (hop ∷ after (is_end plan) (hops (is_end plan) plan n) e)) ≡ false =
-    subst (λ (hs : List Hop). hits net f (things_of hs) ≡ false) path_is none in
-    let rest_free : hits net f (things_of (after (is_end plan) (hops (is_end plan) plan n) e)) ≡ false =
-    (or_parts (holds_device net f e) (hits net f (things_of (after (is_end plan) (hops (is_end plan) plan n) e))) (or_parts (holds_link net f hop.link) (holds_device net f e || hits net f (things_of (after (is_end plan) (hops (is_end plan) plan n) e))) free).1).1 in
+    let free : hits net domain (things_of (hop ∷ after (is_end plan) (hops (is_end plan) plan n) e)) ≡ false =
+    subst (λ (hs : List Hop). hits net domain (things_of hs) ≡ false) path_is none in
+    let rest_free : hits net domain (things_of (after (is_end plan) (hops (is_end plan) plan n) e)) ≡ false =
+    (or_parts (holds_device net domain e) (hits net domain (things_of (after (is_end plan) (hops (is_end plan) plan n) e))) (or_parts (holds_link net domain hop.link) (holds_device net domain e || hits net domain (things_of (after (is_end plan) (hops (is_end plan) plan n) e))) free).1).1 in
     let arrives : is_root plan (end_of e (after (is_root plan) (hops (is_root plan) plan n) e)) ≡ true =
     subst (λ (found : Option Hop). is_root plan (end_of d (onward (is_root plan) (hops (is_root plan) plan n) found)) ≡ true) primary
     (subst (λ (m : ℕ). Comes plan m d) depth comes) in
@@ -108,8 +108,8 @@ step_at net plan f d n hop depth other primary comes none =
     ]
   where
     goes : (e : ℕ) → is_end plan e ≡ false → short_walk net plan d ≡ hop ∷ after (is_end plan) (hops (is_end plan) plan n) e
-        → hits net f (things_of (after (is_end plan) (hops (is_end plan) plan n) e)) ≡ false → is_root plan (end_of e (after (is_root plan) (hops (is_root plan) plan n) e)) ≡ true
-        → GoesUnhit net plan f d e
+        → hits net domain (things_of (after (is_end plan) (hops (is_end plan) plan n) e)) ≡ false → is_root plan (end_of e (after (is_root plan) (hops (is_root plan) plan n) e)) ≡ true
+        → GoesUnhit net plan domain d e
     goes e on whole free arrives =
         let here : is_root plan e ≡ false = not_root plan e on in
         let comes_on : Comes plan n e = subst (λ (b : Bool). is_root plan (end_of e (cut b (hops (is_root plan) plan n e))) ≡ true) here arrives in
@@ -119,13 +119,13 @@ step_at net plan f d n hop depth other primary comes none =
         let path_is : short_path net plan e ≡ hops (is_end plan) plan n e = sym (cond-false (is_end plan e) [] (short_path net plan e) on) ∙ short_is in
         record {
           fewer = rw (whole, rest_is, short_is) (omega arith);
-          unhit = λ _. subst (λ (hs : List Hop). hits net f (things_of hs) ≡ false) (rest_is ∙ sym path_is) free;
+          unhit = λ _. subst (λ (hs : List Hop). hits net domain (things_of hs) ≡ false) (rest_is ∙ sym path_is) free;
         }
 
 -- the primary hop of a member that is not hit leads to a device that is not hit, with a shorter walk
-pub goes_unhit : (net : Network) (plan : Plan) (f : DomainId) (d : ℕ) (hop : Hop) → structure_breach net plan ≡ None → d < length net.devices → is_member plan d ≡ true → is_end plan d ≡ false
-    → primary_of plan d ≡ Some hop → is_hit net plan f d ≡ false → GoesUnhit net plan f d hop.parent
-goes_unhit net plan f d hop structured within member other primary none =
+pub goes_unhit : (net : Network) (plan : Plan) (domain : DomainId) (d : ℕ) (hop : Hop) → structure_breach net plan ≡ None → d < length net.devices → is_member plan d ≡ true → is_end plan d ≡ false
+    → primary_of plan d ≡ Some hop → is_hit net plan domain d ≡ false → GoesUnhit net plan domain d hop.parent
+goes_unhit net plan domain d hop structured within member other primary none =
     by net.params.depth refl
     (subst (λ (hs : List Hop). is_root plan (end_of d hs) ≡ true) (cond-false (is_root plan d) [] (hops (is_root plan) plan net.params.depth d) (not_root plan d other))
     (right (is_member plan d) (is_root plan (end_of d (walk net plan d))) member ((keeps_rules net plan structured).reaches d within)))
@@ -134,6 +134,6 @@ goes_unhit net plan f d hop structured within member other primary none =
     right true b is h = h
     right false b is h = cc
 
-    by : (depth : ℕ) → net.params.depth ≡ depth → Comes plan net.params.depth d → GoesUnhit net plan f d hop.parent
+    by : (depth : ℕ) → net.params.depth ≡ depth → Comes plan net.params.depth d → GoesUnhit net plan domain d hop.parent
     by zero depth comes = absurd (both_ways (is_root plan d) (not_root plan d other) (subst (λ (m : ℕ). Comes plan m d) depth comes))
-    by (suc n) depth comes = step_at net plan f d n hop depth other primary comes none
+    by (suc n) depth comes = step_at net plan domain d n hop depth other primary comes none

@@ -98,15 +98,15 @@ way_of R one P lead first others begins goes_on once =
         record { begin = x; rest = xs; whole = is; least = begins; chain = chain; run = run_of R one (λ z. ⊥) x xs first chain different (λ z seen. absurd seen) (inr there) }
 
 -- there is at most one cycle to be shown
-pub one_cycle : (net : Network) (plan : Plan) (f : DomainId) (a b : List ℕ) → ShowsCycle net plan f a → ShowsCycle net plan f b → a ≡ b
-one_cycle net plan f [] b shown other = absurd shown
-one_cycle net plan f (x ∷ xs) [] shown other = absurd other
-one_cycle net plan f (x ∷ xs) (y ∷ ys) shown other =
-    let R : ℕ → ℕ → Type 0 = IsNextShown net plan f in
+pub one_cycle : (net : Network) (plan : Plan) (domain : DomainId) (a b : List ℕ) → ShowsCycle net plan domain a → ShowsCycle net plan domain b → a ≡ b
+one_cycle net plan domain [] b shown other = absurd shown
+one_cycle net plan domain (x ∷ xs) [] shown other = absurd other
+one_cycle net plan domain (x ∷ xs) (y ∷ ys) shown other =
+    let R : ℕ → ℕ → Type 0 = IsNextShown net plan domain in
     let one : (d e g : ℕ) → R d e → R d g → e ≡ g = λ d e g to also. one_least _ e g to also in
-    let way = way_of R one (IsLeast (IsEndless net plan f)) shown.lead x xs shown.begins shown.goes_on shown.once in
-    let way' = way_of R one (IsLeast (IsEndless net plan f)) other.lead y ys other.begins other.goes_on other.once in
-    let begin : way'.begin ≡ way.begin = one_least (IsEndless net plan f) way'.begin way.begin way'.least way.least in
+    let way = way_of R one (IsLeast (IsEndless net plan domain)) shown.lead x xs shown.begins shown.goes_on shown.once in
+    let way' = way_of R one (IsLeast (IsEndless net plan domain)) other.lead y ys other.begins other.goes_on other.once in
+    let begin : way'.begin ≡ way.begin = one_least (IsEndless net plan domain) way'.begin way.begin way'.least way.least in
     let run' : IsRun R (λ z. ⊥) (way.begin ∷ way'.rest) = subst (λ (v : ℕ). IsRun R (λ z. ⊥) (v ∷ way'.rest)) begin way'.run in
     let rest : way.rest ≡ way'.rest = same_run R one (λ z. ⊥) way.begin way.rest way'.rest way.run run' in
     let chain' : IsChain R (way.begin ∷ (way.rest ++ y ∷ [])) = subst (λ (v : ℕ). IsChain R (v ∷ (way.rest ++ y ∷ []))) begin (subst (λ (vs : List ℕ). IsChain R (way'.begin ∷ (vs ++ y ∷ []))) (sym rest) way'.chain) in

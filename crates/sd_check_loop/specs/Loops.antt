@@ -10,9 +10,9 @@ use Rattle.sd_plan.specs.Walks.{is_end, is_hit, end_of}
 
 -- the hops that a device may be on while things of the domain fail: its primary, and where the domain hits it its backup too
 abbrev pub hops_of : Network → Plan → DomainId → ℕ → List Hop
-hops_of net plan f d =
+hops_of net plan domain d =
     if is_member plan d && not (is_end plan d)
-    then option_to_list (primary_of plan d) ++ (if is_hit net plan f d then option_to_list (backup_of plan d) else [])
+    then option_to_list (primary_of plan d) ++ (if is_hit net plan domain d then option_to_list (backup_of plan d) else [])
     else []
 
 abbrev pub same_hop : Hop → Hop → Bool
@@ -20,16 +20,16 @@ same_hop a b = nat_eq a.parent b.parent && nat_eq a.link b.link
 
 -- the hops make a walk from d: each is one of those that the device may be on to which the one before it led
 abbrev pub is_walk : Network → Plan → DomainId → ℕ → List Hop → Bool
-is_walk net plan f d [] = true
-is_walk net plan f d (hop ∷ hs) = list_any (same_hop hop) (hops_of net plan f d) && is_walk net plan f hop.parent hs
+is_walk net plan domain d [] = true
+is_walk net plan domain d (hop ∷ hs) = list_any (same_hop hop) (hops_of net plan domain d) && is_walk net plan domain hop.parent hs
 
 -- no walk of at least one hop leads from a device to itself
 abbrev pub HasNoCycle : Network → Plan → DomainId → Type 0
-HasNoCycle net plan f = (d : ℕ) (hop : Hop) (hs : List Hop) → IsTrue (is_walk net plan f d (hop ∷ hs)) → end_of hop.parent hs ≢ d
+HasNoCycle net plan domain = (d : ℕ) (hop : Hop) (hs : List Hop) → IsTrue (is_walk net plan domain d (hop ∷ hs)) → end_of hop.parent hs ≢ d
 
 -- from the device some walk never ends: there are walks of each length
 abbrev pub IsEndless : Network → Plan → DomainId → ℕ → Type 0
-IsEndless net plan f d = (n : ℕ) → (hs : List Hop) × (length hs ≡ n) × IsTrue (is_walk net plan f d hs)
+IsEndless net plan domain d = (n : ℕ) → (hs : List Hop) × (length hs ≡ n) × IsTrue (is_walk net plan domain d hs)
 
 -- the least number with the property
 abbrev pub IsLeast : (ℕ → Type 0) → ℕ → Type 0
@@ -37,11 +37,11 @@ IsLeast P d = P d × ((e : ℕ) → e < d → ¬ P e)
 
 -- a device to which d may lead directly
 abbrev pub LeadsTo : Network → Plan → DomainId → ℕ → ℕ → Type 0
-LeadsTo net plan f d e = IsTrue (list_any (λ hop. nat_eq hop.parent e) (hops_of net plan f d))
+LeadsTo net plan domain d e = IsTrue (list_any (λ hop. nat_eq hop.parent e) (hops_of net plan domain d))
 
 -- where the shown cycle goes from d: the least device below which a walk never ends
 abbrev pub IsNextShown : Network → Plan → DomainId → ℕ → ℕ → Type 0
-IsNextShown net plan f d = IsLeast (λ e. LeadsTo net plan f d e × IsEndless net plan f e)
+IsNextShown net plan domain d = IsLeast (λ e. LeadsTo net plan domain d e × IsEndless net plan domain e)
 
 -- each element and the next are related
 abbrev pub IsChain : (ℕ → ℕ → Type 0) → List ℕ → Type 0
@@ -60,18 +60,18 @@ AreDifferent (x ∷ xs) = IsTrue (not (list_any (nat_eq x) xs)) × AreDifferent 
 
 -- The cycle that is shown: begin at the least device from which a walk never ends, go on to the least such device each time, and
 -- keep the devices from the first that comes again on.
-pub record IsShownCycle (net : Network) (plan : Plan) (f : DomainId) (first : ℕ) (others : List ℕ) : Type 0 where
+pub record IsShownCycle (net : Network) (plan : Plan) (domain : DomainId) (first : ℕ) (others : List ℕ) : Type 0 where
   pub lead : List ℕ
-  pub begins : IsFirstOf (lead ++ first ∷ others) (IsLeast (IsEndless net plan f))
-  pub goes_on : IsChain (IsNextShown net plan f) (lead ++ (first ∷ others) ++ first ∷ [])
+  pub begins : IsFirstOf (lead ++ first ∷ others) (IsLeast (IsEndless net plan domain))
+  pub goes_on : IsChain (IsNextShown net plan domain) (lead ++ (first ∷ others) ++ first ∷ [])
   pub once : AreDifferent (lead ++ first ∷ others)
 
 -- the cycle that is shown has at least one device
 abbrev pub ShowsCycle : Network → Plan → DomainId → List ℕ → Type 0
-ShowsCycle net plan f [] = ⊥
-ShowsCycle net plan f (first ∷ others) = IsShownCycle net plan f first others
+ShowsCycle net plan domain [] = ⊥
+ShowsCycle net plan domain (first ∷ others) = IsShownCycle net plan domain first others
 
 -- what is to be answered: nothing where there is no cycle, else the one to be shown
 abbrev pub LoopShown : Network → Plan → DomainId → Option (List ℕ) → Type 0
-LoopShown net plan f None = HasNoCycle net plan f
-LoopShown net plan f (Some cycle) = ShowsCycle net plan f cycle
+LoopShown net plan domain None = HasNoCycle net plan domain
+LoopShown net plan domain (Some cycle) = ShowsCycle net plan domain cycle

@@ -84,25 +84,25 @@ module _ (hit : List ℕ) (passes : ℕ → ℕ → Bool) where
       }
 
 -- a domain takes the backup or it does not
-is_lost : (o : Option Hop) (net : Network) (f : DomainId) → of_some o false (λ hop. holds_link net f hop.link || holds_device net f hop.parent) ≡ true
-    → (hop : Hop) × (o ≡ Some hop) × ((holds_link net f hop.link || holds_device net f hop.parent) ≡ true)
-is_lost None net f lost = cc
-is_lost (Some hop) net f lost = (hop, refl, lost)
+is_lost : (o : Option Hop) (net : Network) (domain : DomainId) → of_some o false (λ hop. holds_link net domain hop.link || holds_device net domain hop.parent) ≡ true
+    → (hop : Hop) × (o ≡ Some hop) × ((holds_link net domain hop.link || holds_device net domain hop.parent) ≡ true)
+is_lost None net domain lost = cc
+is_lost (Some hop) net domain lost = (hop, refl, lost)
 
-module _ (net : Network) (plan : Plan) (f : DomainId) (hit : List ℕ) (are : hit ≡ hit_by net plan f) (fits : Fits net plan) (rules : KeepsRules net plan) where
+module _ (net : Network) (plan : Plan) (domain : DomainId) (hit : List ℕ) (are : hit ≡ hit_by net plan domain) (fits : Fits net plan) (rules : KeepsRules net plan) where
   -- the devices that lose their backup
-  pub losing_all : (chosen : List ℕ) → Chooses hit (λ j d. loses net plan f d) (length hit) chosen → AreAll (IsLosing net plan f) chosen
-  losing_all chosen known = all_chosen hit (λ j d. loses net plan f d) (IsLosing net plan f) chosen known there back
+  pub losing_all : (chosen : List ℕ) → Chooses hit (λ j d. loses net plan domain d) (length hit) chosen → AreAll (IsLosing net plan domain) chosen
+  losing_all chosen known = all_chosen hit (λ j d. loses net plan domain d) (IsLosing net plan domain) chosen known there back
     where
-      there : (j d : ℕ) → slice_get hit j ≡ Some d → loses net plan f d ≡ true → IsLosing net plan f d
+      there : (j d : ℕ) → slice_get hit j ≡ Some d → loses net plan domain d ≡ true → IsLosing net plan domain d
       there j d at lost =
-          let is : (is_hit net plan f d ≡ true) × (d < length net.devices) = hit_at net plan f hit j d are at in
-          let parts : ((not (holds_device net f d) && not (is_end plan d)) ≡ true) × (of_some (backup_of plan d) false (λ hop. holds_link net f hop.link || holds_device net f hop.parent) ≡ true) =
-          and_parts (not (holds_device net f d) && not (is_end plan d)) (of_some (backup_of plan d) false (λ hop. holds_link net f hop.link || holds_device net f hop.parent)) lost in
-          let first : (not (holds_device net f d) ≡ true) × (not (is_end plan d) ≡ true) = and_parts (not (holds_device net f d)) (not (is_end plan d)) parts.0 in
-          let backup : (hop : Hop) × (backup_of plan d ≡ Some hop) × ((holds_link net f hop.link || holds_device net f hop.parent) ≡ true) = is_lost (backup_of plan d) net f parts.1 in
+          let is : (is_hit net plan domain d ≡ true) × (d < length net.devices) = hit_at net plan domain hit j d are at in
+          let parts : ((not (holds_device net domain d) && not (is_end plan d)) ≡ true) × (of_some (backup_of plan d) false (λ hop. holds_link net domain hop.link || holds_device net domain hop.parent) ≡ true) =
+          and_parts (not (holds_device net domain d) && not (is_end plan d)) (of_some (backup_of plan d) false (λ hop. holds_link net domain hop.link || holds_device net domain hop.parent)) lost in
+          let first : (not (holds_device net domain d) ≡ true) × (not (is_end plan d) ≡ true) = and_parts (not (holds_device net domain d)) (not (is_end plan d)) parts.0 in
+          let backup : (hop : Hop) × (backup_of plan d ≡ Some hop) × ((holds_link net domain hop.link || holds_device net domain hop.parent) ≡ true) = is_lost (backup_of plan d) net domain parts.1 in
           record {
-            sound = hit_sound net plan f fits rules d is.0 (not-true (holds_device net f d) first.0);
+            sound = hit_sound net plan domain fits rules d is.0 (not-true (holds_device net domain d) first.0);
             no_root = first.1;
             hit = is.0;
             backup = backup.0;
@@ -110,46 +110,46 @@ module _ (net : Network) (plan : Plan) (f : DomainId) (hit : List ℕ) (are : hi
             lost = backup.2;
           }
 
-      back : (d : ℕ) → IsLosing net plan f d → (j : ℕ) × (slice_get hit j ≡ Some d) × (loses net plan f d ≡ true)
+      back : (d : ℕ) → IsLosing net plan domain d → (j : ℕ) × (slice_get hit j ≡ Some d) × (loses net plan domain d ≡ true)
       back d q =
-          let place : (i : ℕ) × (slice_get hit i ≡ Some d) = at_hit net plan f hit d are (hit_device net plan f d fits rules q.hit).within q.hit in (
+          let place : (i : ℕ) × (slice_get hit i ≡ Some d) = at_hit net plan domain hit d are (hit_device net plan domain d fits rules q.hit).within q.hit in (
             place.0,
             place.1,
-            and_from (not (holds_device net f d) && not (is_end plan d)) (of_some (backup_of plan d) false (λ hop. holds_link net f hop.link || holds_device net f hop.parent))
-                (and_from (not (holds_device net f d)) (not (is_end plan d)) (and_parts (is_member plan d) (not (holds_device net f d)) q.sound).1 q.no_root)
-                (subst (λ (o : Option Hop). of_some o false (λ hop. holds_link net f hop.link || holds_device net f hop.parent) ≡ true) (sym q.has_backup) q.lost),
+            and_from (not (holds_device net domain d) && not (is_end plan d)) (of_some (backup_of plan d) false (λ hop. holds_link net domain hop.link || holds_device net domain hop.parent))
+                (and_from (not (holds_device net domain d)) (not (is_end plan d)) (and_parts (is_member plan d) (not (holds_device net domain d)) q.sound).1 q.no_root)
+                (subst (λ (o : Option Hop). of_some o false (λ hop. holds_link net domain hop.link || holds_device net domain hop.parent) ≡ true) (sym q.has_backup) q.lost),
           )
 
   -- a sound device that is marked as not fed is not fed
-  unfed_right : (marks : List Mark) (d : ℕ) → AreMarks net plan f hit (λ e. ⊥) marks → IsUnfed hit marks d → ¬ Fed net plan f d
+  unfed_right : (marks : List Mark) (d : ℕ) → AreMarks net plan domain hit (λ e. ⊥) marks → IsUnfed hit marks d → ¬ Fed net plan domain d
   unfed_right marks d right unfed fed = fed_within (λ x. IsUnfed hit marks x → ⊥) closed fed unfed
     where
-      hit_of : (x : ℕ) → IsUnfed hit marks x → is_hit net plan f x ≡ true
-      hit_of x u = (hit_at net plan f hit u.place x are u.at).0
+      hit_of : (x : ℕ) → IsUnfed hit marks x → is_hit net plan domain x ≡ true
+      hit_of x u = (hit_at net plan domain hit u.place x are u.at).0
 
-      held : (x : ℕ) → IsUnfed hit marks x → IsHeld net plan f (λ e. IsUnfed hit marks e ⊎ ⊥) x
+      held : (x : ℕ) → IsUnfed hit marks x → IsHeld net plan domain (λ e. IsUnfed hit marks e ⊎ ⊥) x
       held x u = right.unfed u.place x u.at u.marked
 
-      no_actor : (x : ℕ) (b : Bool) → IsTrue (is_sound net plan f x) → x ≡ (if b then plan.backup_root else plan.root) → IsUnfed hit marks x → ⊥
+      no_actor : (x : ℕ) (b : Bool) → IsTrue (is_sound net plan domain x) → x ≡ (if b then plan.backup_root else plan.root) → IsUnfed hit marks x → ⊥
       no_actor x true sound same u = ((held x u).held sound).0 same
-      no_actor x false sound same u = both_ways (is_root plan x) (hit_device net plan f x fits rules (hit_of x u)).no_root (root_is x same)
+      no_actor x false sound same u = both_ways (is_root plan x) (hit_device net plan domain x fits rules (hit_of x u)).no_root (root_is x same)
         where
           root_is : (x : ℕ) → x ≡ plan.root → is_root plan x ≡ true
           root_is x same = eq-eqb plan.root x (sym same)
 
-      closed : IsClosed net plan f (λ x. IsUnfed hit marks x → ⊥)
+      closed : IsClosed net plan domain (λ x. IsUnfed hit marks x → ⊥)
       closed = record {
-        has_acting = λ x sound same u. no_actor x (holds_device net f plan.root) sound same u;
+        has_acting = λ x sound same u. no_actor x (holds_device net domain plan.root) sound same u;
         has_standby = λ x sound same u. ((held x u).held sound).0 same;
-        has_spared = λ x sound free u. both_ways (is_hit net plan f x) (not-true (is_hit net plan f x) free) (hit_of x u);
+        has_spared = λ x sound free u. both_ways (is_hit net plan domain x) (not-true (is_hit net plan domain x) free) (hit_of x u);
         has_turned = λ x hop sound hits next link parent out u.
-            elim (((held x u).held sound).1 hop next (and_from (not (holds_link net f hop.link)) (not (holds_device net f hop.parent)) link parent)) [ inl more ↦ out more | inr none ↦ none ];
+            elim (((held x u).held sound).1 hop next (and_from (not (holds_link net domain hop.link)) (not (holds_device net domain hop.parent)) link parent)) [ inl more ↦ out more | inr none ↦ none ];
       }
 
   -- the sound devices that are not fed
-  pub unheard_all : (marks : List Mark) (chosen : List ℕ) → AreMarks net plan f hit (λ e. ⊥) marks → ((i : ℕ) → i < length hit → slice_get marks i ≡ Some mark.Unseen → ⊥)
-      → Chooses hit (λ j d. is_unfed (get_or marks j mark.Unseen) && not (holds_device net f d)) (length hit) chosen → AreAll (IsUnheard net plan f) chosen
-  unheard_all marks chosen right seen known = all_chosen hit (λ j d. is_unfed (get_or marks j mark.Unseen) && not (holds_device net f d)) (IsUnheard net plan f) chosen known there back
+  pub unheard_all : (marks : List Mark) (chosen : List ℕ) → AreMarks net plan domain hit (λ e. ⊥) marks → ((i : ℕ) → i < length hit → slice_get marks i ≡ Some mark.Unseen → ⊥)
+      → Chooses hit (λ j d. is_unfed (get_or marks j mark.Unseen) && not (holds_device net domain d)) (length hit) chosen → AreAll (IsUnheard net plan domain) chosen
+  unheard_all marks chosen right seen known = all_chosen hit (λ j d. is_unfed (get_or marks j mark.Unseen) && not (holds_device net domain d)) (IsUnheard net plan domain) chosen known there back
     where
       marked : (m : Mark) → is_unfed m ≡ true → m ≡ mark.Unfed
       marked mark.Unseen unfed = cc
@@ -159,60 +159,60 @@ module _ (net : Network) (plan : Plan) (f : DomainId) (hit : List ℕ) (are : hi
       at_mark : (j d : ℕ) → slice_get hit j ≡ Some d → slice_get marks j ≡ Some (get_or marks j mark.Unseen)
       at_mark j d at = let inside = slice_get_within hit j d at in slice_get-get_or marks j mark.Unseen (omega (arith, right.size))
 
-      there : (j d : ℕ) → slice_get hit j ≡ Some d → (is_unfed (get_or marks j mark.Unseen) && not (holds_device net f d)) ≡ true → IsUnheard net plan f d
+      there : (j d : ℕ) → slice_get hit j ≡ Some d → (is_unfed (get_or marks j mark.Unseen) && not (holds_device net domain d)) ≡ true → IsUnheard net plan domain d
       there j d at pass =
-          let parts : (is_unfed (get_or marks j mark.Unseen) ≡ true) × (not (holds_device net f d) ≡ true) = and_parts (is_unfed (get_or marks j mark.Unseen)) (not (holds_device net f d)) pass in
+          let parts : (is_unfed (get_or marks j mark.Unseen) ≡ true) × (not (holds_device net domain d) ≡ true) = and_parts (is_unfed (get_or marks j mark.Unseen)) (not (holds_device net domain d)) pass in
           let unfed : slice_get marks j ≡ Some mark.Unfed = at_mark j d at ∙ ap Some (marked (get_or marks j mark.Unseen) parts.0) in
           record {
-            sound = hit_sound net plan f fits rules d (hit_at net plan f hit j d are at).0 (not-true (holds_device net f d) parts.1);
+            sound = hit_sound net plan domain fits rules d (hit_at net plan domain hit j d are at).0 (not-true (holds_device net domain d) parts.1);
             unfed = unfed_right marks d right (record { place = j; at = at; marked = unfed });
           }
 
-      by_mark : (m : Mark) (j d : ℕ) → slice_get hit j ≡ Some d → slice_get marks j ≡ Some m → ¬ Fed net plan f d → is_unfed m ≡ true
+      by_mark : (m : Mark) (j d : ℕ) → slice_get hit j ≡ Some d → slice_get marks j ≡ Some m → ¬ Fed net plan domain d → is_unfed m ≡ true
       by_mark mark.Unseen j d at is unfed = absurd (seen j (slice_get_within hit j d at) is)
       by_mark mark.Fed j d at is unfed = absurd (unfed (right.fed j d at is))
       by_mark mark.Unfed j d at is unfed = refl
 
-      back : (d : ℕ) → IsUnheard net plan f d → (j : ℕ) × (slice_get hit j ≡ Some d) × ((is_unfed (get_or marks j mark.Unseen) && not (holds_device net f d)) ≡ true)
-      back d q = elim (cases_Bool (is_hit net plan f d)) [
+      back : (d : ℕ) → IsUnheard net plan domain d → (j : ℕ) × (slice_get hit j ≡ Some d) × ((is_unfed (get_or marks j mark.Unseen) && not (holds_device net domain d)) ≡ true)
+      back d q = elim (cases_Bool (is_hit net plan domain d)) [
         | inl hits ↦
-            (let place : (i : ℕ) × (slice_get hit i ≡ Some d) = at_hit net plan f hit d are (hit_device net plan f d fits rules hits).within hits in (
+            (let place : (i : ℕ) × (slice_get hit i ≡ Some d) = at_hit net plan domain hit d are (hit_device net plan domain d fits rules hits).within hits in (
               place.0,
               place.1,
-              and_from (is_unfed (get_or marks place.0 mark.Unseen)) (not (holds_device net f d)) (by_mark (get_or marks place.0 mark.Unseen) place.0 d place.1 (at_mark place.0 d place.1) q.unfed)
-                  (and_parts (is_member plan d) (not (holds_device net f d)) q.sound).1,
+              and_from (is_unfed (get_or marks place.0 mark.Unseen)) (not (holds_device net domain d)) (by_mark (get_or marks place.0 mark.Unseen) place.0 d place.1 (at_mark place.0 d place.1) q.unfed)
+                  (and_parts (is_member plan d) (not (holds_device net domain d)) q.sound).1,
             ))
-        | inr free ↦ absurd (q.unfed (spared q.sound (not_from_false (is_hit net plan f d) free)))
+        | inr free ↦ absurd (q.unfed (spared q.sound (not_from_false (is_hit net plan domain d) free)))
       ]
 
-module _ (net : Network) (plan : Plan) (f : DomainId) (hit : List ℕ) (are : hit ≡ hit_by net plan f) (fits : Fits net plan) (rules : KeepsRules net plan) where
+module _ (net : Network) (plan : Plan) (domain : DomainId) (hit : List ℕ) (are : hit ≡ hit_by net plan domain) (fits : Fits net plan) (rules : KeepsRules net plan) where
   -- the marks tell of each sound device
-  pub marks_decide : (marks : List Mark) (chosen : List ℕ) → AreMarks net plan f hit (λ e. ⊥) marks → ((i : ℕ) → i < length hit → slice_get marks i ≡ Some mark.Unseen → ⊥)
-      → Chooses hit (λ j d. is_unfed (get_or marks j mark.Unseen) && not (holds_device net f d)) (length hit) chosen → AreDecided net plan f chosen
+  pub marks_decide : (marks : List Mark) (chosen : List ℕ) → AreMarks net plan domain hit (λ e. ⊥) marks → ((i : ℕ) → i < length hit → slice_get marks i ≡ Some mark.Unseen → ⊥)
+      → Chooses hit (λ j d. is_unfed (get_or marks j mark.Unseen) && not (holds_device net domain d)) (length hit) chosen → AreDecided net plan domain chosen
   marks_decide marks chosen right seen known = record { decided = decide }
     where
-      by_mark : (m : Mark) (j d : ℕ) → slice_get hit j ≡ Some d → slice_get marks j ≡ Some m → not (holds_device net f d) ≡ true
-          → (is_unfed m ≡ true → (i : ℕ) × (slice_get chosen i ≡ Some d)) → Fed net plan f d ⊎ ((i : ℕ) × (slice_get chosen i ≡ Some d))
+      by_mark : (m : Mark) (j d : ℕ) → slice_get hit j ≡ Some d → slice_get marks j ≡ Some m → not (holds_device net domain d) ≡ true
+          → (is_unfed m ≡ true → (i : ℕ) × (slice_get chosen i ≡ Some d)) → Fed net plan domain d ⊎ ((i : ℕ) × (slice_get chosen i ≡ Some d))
       by_mark mark.Unseen j d at is out listed = absurd (seen j (slice_get_within hit j d at) is)
       by_mark mark.Fed j d at is out listed = inl (right.fed j d at is)
       by_mark mark.Unfed j d at is out listed = inr (listed refl)
 
-      decide : (d : ℕ) → is_sound net plan f d ≡ true → Fed net plan f d ⊎ ((i : ℕ) × (slice_get chosen i ≡ Some d))
-      decide d sound = elim (cases_Bool (is_hit net plan f d)) [
+      decide : (d : ℕ) → is_sound net plan domain d ≡ true → Fed net plan domain d ⊎ ((i : ℕ) × (slice_get chosen i ≡ Some d))
+      decide d sound = elim (cases_Bool (is_hit net plan domain d)) [
         | inl hits ↦
-            (let place : (i : ℕ) × (slice_get hit i ≡ Some d) = at_hit net plan f hit d are (hit_device net plan f d fits rules hits).within hits in
+            (let place : (i : ℕ) × (slice_get hit i ≡ Some d) = at_hit net plan domain hit d are (hit_device net plan domain d fits rules hits).within hits in
             let inside : place.0 < length hit = slice_get_within hit place.0 d place.1 in
             let m : Mark = get_or marks place.0 mark.Unseen in
-            let out : not (holds_device net f d) ≡ true = (and_parts (is_member plan d) (not (holds_device net f d)) sound).1 in
+            let out : not (holds_device net domain d) ≡ true = (and_parts (is_member plan d) (not (holds_device net domain d)) sound).1 in
             by_mark m place.0 d place.1 (slice_get-get_or marks place.0 mark.Unseen (omega (arith, right.size))) out
-            (λ unfed. known.all place.0 d inside place.1 (and_from (is_unfed m) (not (holds_device net f d)) unfed out)))
-        | inr free ↦ inl (spared sound (not_from_false (is_hit net plan f d) free))
+            (λ unfed. known.all place.0 d inside place.1 (and_from (is_unfed m) (not (holds_device net domain d)) unfed out)))
+        | inr free ↦ inl (spared sound (not_from_false (is_hit net plan domain d) free))
       ]
 
 -- the first candidate that is joined to the acting end is the least
-pub least_reached : (net : Network) (plan : Plan) (f : DomainId) (Q : ℕ → Type 0) (candidates : List ℕ) (d : ℕ) → AreAll Q candidates → FirstReached net plan f candidates (Some d)
-    → (e : ℕ) → e < d → Q e → ¬ Reaches net plan f e
-least_reached net plan f Q candidates d all found e less q =
+pub least_reached : (net : Network) (plan : Plan) (domain : DomainId) (Q : ℕ → Type 0) (candidates : List ℕ) (d : ℕ) → AreAll Q candidates → FirstReached net plan domain candidates (Some d)
+    → (e : ℕ) → e < d → Q e → ¬ Reaches net plan domain e
+least_reached net plan domain Q candidates d all found e less q =
     let place : (i : ℕ) × (slice_get candidates i ≡ Some e) = all.all e q in
     elim (cases_lt place.0 found.0) [
       | inl before ↦ found.3 place.0 e before place.1
@@ -225,67 +225,67 @@ least_reached net plan f Q candidates d all found e less q =
       ])
     ]
 
-pub none_reached : (net : Network) (plan : Plan) (f : DomainId) (Q : ℕ → Type 0) (candidates : List ℕ) → AreAll Q candidates → FirstReached net plan f candidates None → (e : ℕ) → Q e → ¬ Reaches net plan f e
-none_reached net plan f Q candidates all none e q = let place : (i : ℕ) × (slice_get candidates i ≡ Some e) = all.all e q in none place.0 e place.1
+pub none_reached : (net : Network) (plan : Plan) (domain : DomainId) (Q : ℕ → Type 0) (candidates : List ℕ) → AreAll Q candidates → FirstReached net plan domain candidates None → (e : ℕ) → Q e → ¬ Reaches net plan domain e
+none_reached net plan domain Q candidates all none e q = let place : (i : ℕ) × (slice_get candidates i ≡ Some e) = all.all e q in none place.0 e place.1
 
-module _ (net : Network) (plan : Plan) (f : DomainId) where
-  losing_of : (d : ℕ) → LosesBackup net plan f d → IsLosing net plan f d
+module _ (net : Network) (plan : Plan) (domain : DomainId) where
+  losing_of : (d : ℕ) → LosesBackup net plan domain d → IsLosing net plan domain d
   losing_of d l = record { sound = l.sound; no_root = l.no_root; hit = l.hit; backup = l.backup; has_backup = l.has_backup; lost = l.lost }
 
   -- what is answered of the domain condition
-  pub domain_shown : (candidates : List ℕ) (answer : Option ℕ) → holds_device net f (acting_end net plan f) ≡ false → AreAll (IsLosing net plan f) candidates → FirstReached net plan f candidates answer → DomainShown net plan f answer
-  domain_shown candidates None left all none = λ d l. none_reached net plan f (IsLosing net plan f) candidates all none d (losing_of d l) l.not_cut.1
+  pub domain_shown : (candidates : List ℕ) (answer : Option ℕ) → holds_device net domain (acting_end net plan domain) ≡ false → AreAll (IsLosing net plan domain) candidates → FirstReached net plan domain candidates answer → DomainShown net plan domain answer
+  domain_shown candidates None left all none = λ d l. none_reached net plan domain (IsLosing net plan domain) candidates all none d (losing_of d l) l.not_cut.1
   domain_shown candidates (Some d) left all found =
       let l = all.each found.0 d found.1 in (
-        record { sound = l.sound; no_root = l.no_root; hit = l.hit; not_cut = (not_from_false (holds_device net f (acting_end net plan f)) left, found.2); backup = l.backup; has_backup = l.has_backup; lost = l.lost },
-        λ e less other. least_reached net plan f (IsLosing net plan f) candidates d all found e less (losing_of e other) other.not_cut.1,
+        record { sound = l.sound; no_root = l.no_root; hit = l.hit; not_cut = (not_from_false (holds_device net domain (acting_end net plan domain)) left, found.2); backup = l.backup; has_backup = l.has_backup; lost = l.lost },
+        λ e less other. least_reached net plan domain (IsLosing net plan domain) candidates d all found e less (losing_of e other) other.not_cut.1,
       )
 
   -- where the device is that an answer on reach is about
-  pub unheard_within : (d : ℕ) → Fits net plan → KeepsRules net plan → IsUnheard net plan f d → d < length net.devices
-  unheard_within d fits rules unheard = elim (cases_Bool (is_hit net plan f d)) [
-    | inl hits ↦ (hit_device net plan f d fits rules hits).within
-    | inr free ↦ absurd (unheard.unfed (spared unheard.sound (not_from_false (is_hit net plan f d) free)))
+  pub unheard_within : (d : ℕ) → Fits net plan → KeepsRules net plan → IsUnheard net plan domain d → d < length net.devices
+  unheard_within d fits rules unheard = elim (cases_Bool (is_hit net plan domain d)) [
+    | inl hits ↦ (hit_device net plan domain d fits rules hits).within
+    | inr free ↦ absurd (unheard.unfed (spared unheard.sound (not_from_false (is_hit net plan domain d) free)))
   ]
 
   -- where nobody is starved
-  pub reach_holds : (candidates : List ℕ) → AreDecided net plan f candidates → FirstReached net plan f candidates None → ReachHolds net plan f
+  pub reach_holds : (candidates : List ℕ) → AreDecided net plan domain candidates → FirstReached net plan domain candidates None → ReachHolds net plan domain
   reach_holds candidates decided none d sound = elim (decided.decided d sound) [
     | inl fed ↦ inl fed
     | inr place ↦ inr (λ can. none place.0 d place.1 can.1)
   ]
 
   -- the chain of the least starved device
-  pub chain_shown : (candidates : List ℕ) (first : ℕ) (chain : List ℕ) → holds_device net f (acting_end net plan f) ≡ false → AreAll (IsUnheard net plan f) candidates → FirstReached net plan f candidates (Some first)
-      → IsChainOf net plan f first chain → IsShownChain net plan f chain
+  pub chain_shown : (candidates : List ℕ) (first : ℕ) (chain : List ℕ) → holds_device net domain (acting_end net plan domain) ≡ false → AreAll (IsUnheard net plan domain) candidates → FirstReached net plan domain candidates (Some first)
+      → IsChainOf net plan domain first chain → IsShownChain net plan domain chain
   chain_shown candidates first chain left all found is =
       let unheard = all.each found.0 first found.1 in
       record {
         first = first;
-        starved = (unheard.sound, unheard.unfed, (not_from_false (holds_device net f (acting_end net plan f)) left, found.2));
-        least = λ e less starved. least_reached net plan f (IsUnheard net plan f) candidates first all found e less (record { sound = starved.0; unfed = starved.1 }) starved.2.1;
+        starved = (unheard.sound, unheard.unfed, (not_from_false (holds_device net domain (acting_end net plan domain)) left, found.2));
+        least = λ e less starved. least_reached net plan domain (IsUnheard net plan domain) candidates first all found e less (record { sound = starved.0; unfed = starved.1 }) starved.2.1;
         begins = is.begins;
         goes_on = is.goes_on;
       }
 
   -- a domain that can do no harm
-  pub harmless_reach : Fits net plan → KeepsRules net plan → IsHarmless net plan f → ReachHolds net plan f
+  pub harmless_reach : Fits net plan → KeepsRules net plan → IsHarmless net plan domain → ReachHolds net plan domain
   harmless_reach fits rules harmless d sound = elim harmless.harmless [
-    | inl nobody ↦ elim (cases_Bool (is_hit net plan f d)) [
-      | inl hits ↦ absurd (both_ways (is_hit net plan f d) (nobody d (hit_device net plan f d fits rules hits).within) hits)
-      | inr free ↦ inl (spared sound (not_from_false (is_hit net plan f d) free))
+    | inl nobody ↦ elim (cases_Bool (is_hit net plan domain d)) [
+      | inl hits ↦ absurd (both_ways (is_hit net plan domain d) (nobody d (hit_device net plan domain d fits rules hits).within) hits)
+      | inr free ↦ inl (spared sound (not_from_false (is_hit net plan domain d) free))
     ]
-    | inr held ↦ inr (λ can. both_ways (holds_device net f (acting_end net plan f)) (not-true (holds_device net f (acting_end net plan f)) can.0) held)
+    | inr held ↦ inr (λ can. both_ways (holds_device net domain (acting_end net plan domain)) (not-true (holds_device net domain (acting_end net plan domain)) can.0) held)
   ]
 
   -- nobody is hit
-  pub nobody_hit : (hit : List ℕ) → hit ≡ hit_by net plan f → length hit ≡ 0 → IsHarmless net plan f
+  pub nobody_hit : (hit : List ℕ) → hit ≡ hit_by net plan domain → length hit ≡ 0 → IsHarmless net plan domain
   nobody_hit hit are none = record {
-    harmless = inl (λ d within. false_from_ne_true (is_hit net plan f d) (λ hits.
-        let place : (i : ℕ) × (slice_get hit i ≡ Some d) = at_hit net plan f hit d are within hits in
+    harmless = inl (λ d within. false_from_ne_true (is_hit net plan domain d) (λ hits.
+        let place : (i : ℕ) × (slice_get hit i ≡ Some d) = at_hit net plan domain hit d are within hits in
         let inside = slice_get_within hit place.0 d place.1 in
         omega arith));
   }
 
-  pub held_harmless : holds_device net f (acting_end net plan f) ≡ true → IsHarmless net plan f
+  pub held_harmless : holds_device net domain (acting_end net plan domain) ≡ true → IsHarmless net plan domain
   held_harmless held = record { harmless = inr held }

@@ -10,14 +10,14 @@ use Rattle.sd_plan.specs.Walks.{is_hit}
 use Rattle.sd_check_reach.specs.Reach.{Fed, acts, stands_by, spared, turns, is_sound, acting_end, next_hop}
 
 -- the set is closed under the four rules
-pub record IsClosed (net : Network) (plan : Plan) (f : DomainId) (S : ℕ → Type 0) : Type 0 where
-  pub has_acting : (d : ℕ) → IsTrue (is_sound net plan f d) → d ≡ acting_end net plan f → S d
-  pub has_standby : (d : ℕ) → IsTrue (is_sound net plan f d) → d ≡ plan.backup_root → S d
-  pub has_spared : (d : ℕ) → IsTrue (is_sound net plan f d) → IsTrue (not (is_hit net plan f d)) → S d
-  pub has_turned : (d : ℕ) (hop : Hop) → IsTrue (is_sound net plan f d) → IsTrue (is_hit net plan f d) → next_hop plan d ≡ Some hop
-      → IsTrue (not (holds_link net f hop.link)) → IsTrue (not (holds_device net f hop.parent)) → S hop.parent → S d
+pub record IsClosed (net : Network) (plan : Plan) (domain : DomainId) (S : ℕ → Type 0) : Type 0 where
+  pub has_acting : (d : ℕ) → IsTrue (is_sound net plan domain d) → d ≡ acting_end net plan domain → S d
+  pub has_standby : (d : ℕ) → IsTrue (is_sound net plan domain d) → d ≡ plan.backup_root → S d
+  pub has_spared : (d : ℕ) → IsTrue (is_sound net plan domain d) → IsTrue (not (is_hit net plan domain d)) → S d
+  pub has_turned : (d : ℕ) (hop : Hop) → IsTrue (is_sound net plan domain d) → IsTrue (is_hit net plan domain d) → next_hop plan d ≡ Some hop
+      → IsTrue (not (holds_link net domain hop.link)) → IsTrue (not (holds_device net domain hop.parent)) → S hop.parent → S d
 
-pub fed_within : {net : Network} {plan : Plan} {f : DomainId} {d : ℕ} (S : ℕ → Type 0) → IsClosed net plan f S → Fed net plan f d → S d
+pub fed_within : {net : Network} {plan : Plan} {domain : DomainId} {d : ℕ} (S : ℕ → Type 0) → IsClosed net plan domain S → Fed net plan domain d → S d
 fed_within {d = d} S closed (acts sound equal) = closed.has_acting d sound equal
 fed_within {d = d} S closed (stands_by sound equal) = closed.has_standby d sound equal
 fed_within {d = d} S closed (spared sound free) = closed.has_spared d sound free

@@ -44,13 +44,13 @@ marked_more trail old marks k within so_far inside =
       off = λ i out. at_unwritten marks x i mark.Fed (not_last (take k trail) x i out) ∙ so_far.off i (not_before (take k trail) x i out);
     })
 
-module _ (net : Network) (plan : Plan) (f : DomainId) (hit : List ℕ) where
+module _ (net : Network) (plan : Plan) (domain : DomainId) (hit : List ℕ) where
   -- a device that is held by a set is held by a larger one
-  pub held_more : (S T : ℕ → Type 0) (d : ℕ) → ((e : ℕ) → S e → T e) → IsHeld net plan f S d → IsHeld net plan f T d
+  pub held_more : (S T : ℕ → Type 0) (d : ℕ) → ((e : ℕ) → S e → T e) → IsHeld net plan domain S d → IsHeld net plan domain T d
   held_more S T d more held = record { held = λ sound. let parts = held.held sound in (parts.0, λ hop is left. more hop.parent (parts.1 hop is left)) }
 
   -- marks that are right are so in a larger set
-  pub marks_more : (S T : ℕ → Type 0) (marks : List Mark) → ((e : ℕ) → S e → T e) → AreMarks net plan f hit S marks → AreMarks net plan f hit T marks
+  pub marks_more : (S T : ℕ → Type 0) (marks : List Mark) → ((e : ℕ) → S e → T e) → AreMarks net plan domain hit S marks → AreMarks net plan domain hit T marks
   marks_more S T marks more right =
       record {
         size = right.size;
@@ -59,7 +59,7 @@ module _ (net : Network) (plan : Plan) (f : DomainId) (hit : List ℕ) where
       }
 
   -- no marks are wrong where all are unseen
-  pub unseen_right : (marks : List Mark) → length marks ≡ length hit → ((i : ℕ) → i < length hit → slice_get marks i ≡ Some mark.Unseen) → AreMarks net plan f hit (λ e. ⊥) marks
+  pub unseen_right : (marks : List Mark) → length marks ≡ length hit → ((i : ℕ) → i < length hit → slice_get marks i ≡ Some mark.Unseen) → AreMarks net plan domain hit (λ e. ⊥) marks
   unseen_right marks size unseen =
       record {
         size = size;
@@ -81,7 +81,7 @@ module _ (net : Network) (plan : Plan) (f : DomainId) (hit : List ℕ) where
         }
 
     -- the place that was looked at is marked
-    pub looked_at : (T : ℕ → Type 0) → AreMarks net plan f hit (λ e. slice_get hit place ≡ Some e) marks → IsHeld net plan f T d → AreMarks net plan f hit T (set marks place mark.Unfed)
+    pub looked_at : (T : ℕ → Type 0) → AreMarks net plan domain hit (λ e. slice_get hit place ≡ Some e) marks → IsHeld net plan domain T d → AreMarks net plan domain hit T (set marks place mark.Unfed)
     looked_at T right held =
         let inside : place < length marks = slice_get_within marks place mark.Unseen unseen in
         let written : slice_get (set marks place mark.Unfed) place ≡ Some mark.Unfed = at_written marks place mark.Unfed inside in
@@ -94,7 +94,7 @@ module _ (net : Network) (plan : Plan) (f : DomainId) (hit : List ℕ) where
           unfed = λ i x there unfed. elim (cases_eq i place) [
             | inl same ↦
                 (let equal : d ≡ x = same_Some d x (sym at ∙ subst (λ j. slice_get hit j ≡ Some x) same there) in
-                subst (λ y. IsHeld net plan f (λ e. IsUnfed hit (set marks place mark.Unfed) e ⊎ T e) y) equal
+                subst (λ y. IsHeld net plan domain (λ e. IsUnfed hit (set marks place mark.Unfed) e ⊎ T e) y) equal
                 (held_more T (λ e. IsUnfed hit (set marks place mark.Unfed) e ⊎ T e) d (λ e t. inr t) held))
             | inr apart ↦
                 held_more (λ e. IsUnfed hit marks e ⊎ (slice_get hit place ≡ Some e)) (λ e. IsUnfed hit (set marks place mark.Unfed) e ⊎ T e) x
@@ -138,16 +138,16 @@ module _ (net : Network) (plan : Plan) (f : DomainId) (hit : List ℕ) where
         ]
 
     -- all of a trail is fed if the device is to which the last one turns
-    pub leads_more : (trail : List ℕ) (T : Type 0) → (T → Fed net plan f d)
-        → ((i x : ℕ) → has trail i ≡ true → slice_get hit i ≡ Some x → (e : ℕ) → slice_get hit place ≡ Some e → Fed net plan f e → Fed net plan f x)
-        → (i x : ℕ) → has (trail ++ place ∷ []) i ≡ true → slice_get hit i ≡ Some x → T → Fed net plan f x
+    pub leads_more : (trail : List ℕ) (T : Type 0) → (T → Fed net plan domain d)
+        → ((i x : ℕ) → has trail i ≡ true → slice_get hit i ≡ Some x → (e : ℕ) → slice_get hit place ≡ Some e → Fed net plan domain e → Fed net plan domain x)
+        → (i x : ℕ) → has (trail ++ place ∷ []) i ≡ true → slice_get hit i ≡ Some x → T → Fed net plan domain x
     leads_more trail T turns leads i x there is t = elim (has_cases trail place i there) [
       | inl before ↦ leads i x before is d at (turns t)
-      | inr same ↦ (let equal : d ≡ x = same_Some d x (sym at ∙ subst (λ j. slice_get hit j ≡ Some x) same is) in subst (λ y. Fed net plan f y) equal (turns t))
+      | inr same ↦ (let equal : d ≡ x = same_Some d x (sym at ∙ subst (λ j. slice_get hit j ≡ Some x) same is) in subst (λ y. Fed net plan domain y) equal (turns t))
     ]
 
   -- a trail that ends at a device that is marked as not fed
-  pub ends_unfed : (place d : ℕ) (marks : List Mark) → slice_get hit place ≡ Some d → slice_get marks place ≡ Some mark.Unfed → AreMarks net plan f hit (λ e. slice_get hit place ≡ Some e) marks → AreMarks net plan f hit (λ e. ⊥) marks
+  pub ends_unfed : (place d : ℕ) (marks : List Mark) → slice_get hit place ≡ Some d → slice_get marks place ≡ Some mark.Unfed → AreMarks net plan domain hit (λ e. slice_get hit place ≡ Some e) marks → AreMarks net plan domain hit (λ e. ⊥) marks
   ends_unfed place d marks at marked right =
       record {
         size = right.size;
@@ -158,8 +158,8 @@ module _ (net : Network) (plan : Plan) (f : DomainId) (hit : List ℕ) where
       }
 
   -- where the trail ends at what is fed, all of it is marked as fed
-  pub fed_right : (start : ℕ) (old marks new : List Mark) (trail : List ℕ) → AreMarks net plan f hit (λ e. ⊥) old → IsFollowed net plan f hit start old marks trail true → IsMarkedFed trail marks new
-      → AreMarks net plan f hit (λ e. ⊥) new
+  pub fed_right : (start : ℕ) (old marks new : List Mark) (trail : List ℕ) → AreMarks net plan domain hit (λ e. ⊥) old → IsFollowed net plan domain hit start old marks trail true → IsMarkedFed trail marks new
+      → AreMarks net plan domain hit (λ e. ⊥) new
   fed_right start old marks new trail right followed marked =
       record {
         size = marked.size ∙ followed.size ∙ right.size;
@@ -182,14 +182,14 @@ module _ (net : Network) (plan : Plan) (f : DomainId) (hit : List ℕ) where
           record { place = was.place; at = was.at; marked = marked.off was.place out ∙ followed.followed.rest was.place out ∙ was.marked }
 
   -- what was marked before a trail stands
-  pub trail_settles : (start : ℕ) (old marks : List Mark) (trail : List ℕ) (fed : Bool) → IsFollowed net plan f hit start old marks trail fed → AreSettled start old marks
+  pub trail_settles : (start : ℕ) (old marks : List Mark) (trail : List ℕ) (fed : Bool) → IsFollowed net plan domain hit start old marks trail fed → AreSettled start old marks
   trail_settles start old marks trail fed followed =
       record {
         stands = λ i m was seen. followed.followed.rest i (false_from_ne_true (has trail i) (λ there. seen (same_Some m mark.Unseen (sym was ∙ followed.followed.was_unseen i there)))) ∙ was;
         marked = followed.marked;
       }
 
-  pub fed_settles : (start : ℕ) (old marks new : List Mark) (trail : List ℕ) → IsFollowed net plan f hit start old marks trail true → IsMarkedFed trail marks new → AreSettled start old new
+  pub fed_settles : (start : ℕ) (old marks new : List Mark) (trail : List ℕ) → IsFollowed net plan domain hit start old marks trail true → IsMarkedFed trail marks new → AreSettled start old new
   fed_settles start old marks new trail followed marked =
       record {
         stands = λ i m was seen.

@@ -29,64 +29,64 @@ joined_on : {net : Network} {may_pass may_cross : ℕ → Bool} {d e x : ℕ} �
 joined_on here rest = rest
 joined_on (over l in_range crosses joined passes more) rest = over l in_range crosses joined passes (joined_on more rest)
 
-module _ (net : Network) (plan : Plan) (f : DomainId) where
+module _ (net : Network) (plan : Plan) (domain : DomainId) where
   -- a sound root acts
-  root_acts : (d : ℕ) → is_root plan d ≡ true → is_sound net plan f d ≡ true → acting_end net plan f ≡ d
+  root_acts : (d : ℕ) → is_root plan d ≡ true → is_sound net plan domain d ≡ true → acting_end net plan domain ≡ d
   root_acts d root sound =
       let same : plan.root ≡ d = eqb-true plan.root d root in
-      let out : holds_device net f plan.root ≡ false = subst (λ x. holds_device net f x ≡ false) (sym same) (not-true (holds_device net f d) (and_parts (is_member plan d) (not (holds_device net f d)) sound).1) in
+      let out : holds_device net domain plan.root ≡ false = subst (λ x. holds_device net domain x ≡ false) (sym same) (not-true (holds_device net domain d) (and_parts (is_member plan d) (not (holds_device net domain d)) sound).1) in
       ap (λ (b : Bool). if b then plan.backup_root else plan.root) out ∙ same
 
   -- a sound device that is not hit is joined to the acting end where the backup root is, if that is sound
-  pub sure_reaches : (d : ℕ) → Fits net plan → structure_breach net plan ≡ None → KeepsRules net plan → d < length net.devices → is_sound net plan f d ≡ true → is_hit net plan f d ≡ false
-      → BackupReaches net plan f → Reaches net plan f d
+  pub sure_reaches : (d : ℕ) → Fits net plan → structure_breach net plan ≡ None → KeepsRules net plan → d < length net.devices → is_sound net plan domain d ≡ true → is_hit net plan domain d ≡ false
+      → BackupReaches net plan domain → Reaches net plan domain d
   sure_reaches d fits structured rules within sound spared trust =
-      let ends : Ends net plan f d = unhit_ends net plan f d fits structured rules within (and_parts (is_member plan d) (not (holds_device net f d)) sound).0 spared in
-      let sound_end : is_sound net plan f ends.at ≡ true = ends.arrives.sound sound in
+      let ends : Ends net plan domain d = unhit_ends net plan domain d fits structured rules within (and_parts (is_member plan d) (not (holds_device net domain d)) sound).0 spared in
+      let sound_end : is_sound net plan domain ends.at ≡ true = ends.arrives.sound sound in
       elim (or_cases (is_root plan ends.at) (is_backup_root plan ends.at) ends.is_end) [
-        | inl root ↦ subst (λ x. Joined net (is_sound net plan f) (is_sound_link net plan f) d x) (sym (root_acts ends.at root sound_end)) ends.arrives.way
+        | inl root ↦ subst (λ x. Joined net (is_sound net plan domain) (is_sound_link net plan domain) d x) (sym (root_acts ends.at root sound_end)) ends.arrives.way
         | inr backup ↦
             (let same : plan.backup_root ≡ ends.at = eqb-true plan.backup_root ends.at backup in
-            let on : Reaches net plan f plan.backup_root = trust.reaches (subst (λ x. is_sound net plan f x ≡ true) (sym same) sound_end) in
-            joined_on ends.arrives.way (subst (λ x. Reaches net plan f x) same on))
+            let on : Reaches net plan domain plan.backup_root = trust.reaches (subst (λ x. is_sound net plan domain x ≡ true) (sym same) sound_end) in
+            joined_on ends.arrives.way (subst (λ x. Reaches net plan domain x) same on))
       ]
 
   -- a backup root that the domain has is not sound
-  pub held_backup : holds_device net f plan.backup_root ≡ true → BackupReaches net plan f
+  pub held_backup : holds_device net domain plan.backup_root ≡ true → BackupReaches net plan domain
   held_backup held = record {
-    reaches = λ sound. absurd (both_ways (holds_device net f plan.backup_root) (not-true (holds_device net f plan.backup_root) (and_parts (is_member plan plan.backup_root) (not (holds_device net f plan.backup_root)) sound).1) held);
+    reaches = λ sound. absurd (both_ways (holds_device net domain plan.backup_root) (not-true (holds_device net domain plan.backup_root) (and_parts (is_member plan plan.backup_root) (not (holds_device net domain plan.backup_root)) sound).1) held);
   }
 
   -- a backup root that is not hit is joined to the acting end
-  pub unhit_backup : Fits net plan → structure_breach net plan ≡ None → KeepsRules net plan → is_hit net plan f plan.backup_root ≡ false → BackupReaches net plan f
+  pub unhit_backup : Fits net plan → structure_breach net plan ≡ None → KeepsRules net plan → is_hit net plan domain plan.backup_root ≡ false → BackupReaches net plan domain
   unhit_backup fits structured rules spared = record { reaches = by_root (is_root plan plan.backup_root) refl }
     where
-      by_root : (b : Bool) → is_root plan plan.backup_root ≡ b → is_sound net plan f plan.backup_root ≡ true → Reaches net plan f plan.backup_root
-      by_root true root sound = subst (λ x. Joined net (is_sound net plan f) (is_sound_link net plan f) plan.backup_root x) (sym (root_acts plan.backup_root root sound)) here
+      by_root : (b : Bool) → is_root plan plan.backup_root ≡ b → is_sound net plan domain plan.backup_root ≡ true → Reaches net plan domain plan.backup_root
+      by_root true root sound = subst (λ x. Joined net (is_sound net plan domain) (is_sound_link net plan domain) plan.backup_root x) (sym (root_acts plan.backup_root root sound)) here
       by_root false other sound =
-          let ends : Ends net plan f plan.backup_root = unhit_ends net plan f plan.backup_root fits structured rules fits.backup_root (and_parts (is_member plan plan.backup_root) (not (holds_device net f plan.backup_root)) sound).0 spared in
+          let ends : Ends net plan domain plan.backup_root = unhit_ends net plan domain plan.backup_root fits structured rules fits.backup_root (and_parts (is_member plan plan.backup_root) (not (holds_device net domain plan.backup_root)) sound).0 spared in
           elim (or_cases (is_root plan ends.at) (is_backup_root plan ends.at) ends.is_end) [
-            | inl root ↦ subst (λ x. Joined net (is_sound net plan f) (is_sound_link net plan f) plan.backup_root x) (sym (root_acts ends.at root (ends.arrives.sound sound))) ends.arrives.way
+            | inl root ↦ subst (λ x. Joined net (is_sound net plan domain) (is_sound_link net plan domain) plan.backup_root x) (sym (root_acts ends.at root (ends.arrives.sound sound))) ends.arrives.way
             | inr backup ↦ absurd (ends.apart refl other (sym (eqb-true plan.backup_root ends.at backup)))
           ]
 
   -- nobody that a dry search has visited is joined to the acting end
-  pub dry_cut : (visited : List ℕ) (d : ℕ) → IsDry net plan f visited → has visited d ≡ true → ¬ Reaches net plan f d
+  pub dry_cut : (visited : List ℕ) (d : ℕ) → IsDry net plan domain visited → has visited d ≡ true → ¬ Reaches net plan domain d
   dry_cut visited d dry there reaches =
-      both_ways (has visited (acting_end net plan f)) dry.lacks
+      both_ways (has visited (acting_end net plan domain)) dry.lacks
       (joined_within_set (λ x. has visited x ≡ true) (λ x e l in_range crosses joined passes inside. (dry.closed x inside).into e l in_range crosses joined passes) reaches there)
 
   -- more visited
-  pub leads_into_more : (old new : List ℕ) (d : ℕ) → ((x : ℕ) → has old x ≡ true → has new x ≡ true) → LeadsInto net plan f old d → LeadsInto net plan f new d
+  pub leads_into_more : (old new : List ℕ) (d : ℕ) → ((x : ℕ) → has old x ≡ true → has new x ≡ true) → LeadsInto net plan domain old d → LeadsInto net plan domain new d
   leads_into_more old new d more leads = record { into = λ e l in_range crosses joined passes. more e (leads.into e l in_range crosses joined passes) }
 
   -- no search has visited anybody yet
-  pub nobody_dry : (visited : List ℕ) → visited ≡ [] → IsDry net plan f visited
+  pub nobody_dry : (visited : List ℕ) → visited ≡ [] → IsDry net plan domain visited
   nobody_dry visited none =
       let lost : (x : ℕ) → has visited x ≡ true → ⊥ = λ x there. absent x (subst (λ (xs : List ℕ). has xs x ≡ true) none there) in
       record {
         within = λ d there. absurd (lost d there);
-        lacks = subst (λ (xs : List ℕ). has xs (acting_end net plan f) ≡ false) (sym none) refl;
+        lacks = subst (λ (xs : List ℕ). has xs (acting_end net plan domain) ≡ false) (sym none) refl;
         closed = λ d there. absurd (lost d there);
       }
     where
@@ -227,94 +227,94 @@ module _ (net : Network) (plan : Plan) (d : ℕ) where
       mapped_at (usable_end net plan d) (link_numbers net) l (record { link = l; device = e }) (has_below (length net.links) l within) is
 
 -- the acting end is joined to itself
-pub itself : (net : Network) (plan : Plan) (f : DomainId) (d : ℕ) → d ≡ acting_end net plan f → Reaches net plan f d
-itself net plan f d same = subst (λ x. Joined net (is_sound net plan f) (is_sound_link net plan f) d x) same here
+pub itself : (net : Network) (plan : Plan) (domain : DomainId) (d : ℕ) → d ≡ acting_end net plan domain → Reaches net plan domain d
+itself net plan domain d same = subst (λ x. Joined net (is_sound net plan domain) (is_sound_link net plan domain) d x) same here
 
-module _ (net : Network) (plan : Plan) (f : DomainId) where
+module _ (net : Network) (plan : Plan) (domain : DomainId) where
   -- a hop that is left leads from a device to one that is joined
-  pub over_left : (d : ℕ) (end : End) → IsUsable net plan d end → is_left net f end.link end.device ≡ true → Reaches net plan f end.device → Reaches net plan f d
+  pub over_left : (d : ℕ) (end : End) → IsUsable net plan d end → is_left net domain end.link end.device ≡ true → Reaches net plan domain end.device → Reaches net plan domain d
   over_left d end usable left reaches =
-      let parts : (not (holds_link net f end.link) ≡ true) × (not (holds_device net f end.device) ≡ true) = and_parts (not (holds_link net f end.link)) (not (holds_device net f end.device)) left in
-      over end.link usable.link (and_from (is_present plan end.link) (not (holds_link net f end.link)) usable.present parts.0) usable.joined
-      (and_from (is_member plan end.device) (not (holds_device net f end.device)) usable.member parts.1) reaches
+      let parts : (not (holds_link net domain end.link) ≡ true) × (not (holds_device net domain end.device) ≡ true) = and_parts (not (holds_link net domain end.link)) (not (holds_device net domain end.device)) left in
+      over end.link usable.link (and_from (is_present plan end.link) (not (holds_link net domain end.link)) usable.present parts.0) usable.joined
+      (and_from (is_member plan end.device) (not (holds_device net domain end.device)) usable.member parts.1) reaches
 
   -- the end of a usable link that is left is a step
-  pub passed_step : (d : ℕ) (end : End) (x : ℕ) → IsUsable net plan d end → IsPassed net plan f end.link end.device x → IsStep net plan f d x
+  pub passed_step : (d : ℕ) (end : End) (x : ℕ) → IsUsable net plan d end → IsPassed net plan domain end.link end.device x → IsStep net plan domain d x
   passed_step d end x usable passed =
-      subst (λ y. IsStep net plan f d y) (sym passed.same) (record { within = usable.device; other = passed.other; back = over_left d end usable passed.left })
+      subst (λ y. IsStep net plan domain d y) (sym passed.same) (record { within = usable.device; other = passed.other; back = over_left d end usable passed.left })
 
   -- one end more was looked at
   pub looked_more : (d k : ℕ) (items : List End) (end : End) (old visited new : List ℕ) → slice_get items k ≡ Some end → IsUsable net plan d end
-      → Grows old visited (IsStep net plan f d) → Grows visited new (IsPassed net plan f end.link end.device) → Grows old new (IsStep net plan f d)
-  looked_more d k items end old visited new at usable before after = grows_on old visited new (IsStep net plan f d) (IsPassed net plan f end.link end.device) (IsStep net plan f d) before after (λ x step. step) (λ x passed. passed_step d end x usable passed)
+      → Grows old visited (IsStep net plan domain d) → Grows visited new (IsPassed net plan domain end.link end.device) → Grows old new (IsStep net plan domain d)
+  looked_more d k items end old visited new at usable before after = grows_on old visited new (IsStep net plan domain d) (IsPassed net plan domain end.link end.device) (IsStep net plan domain d) before after (λ x step. step) (λ x passed. passed_step d end x usable passed)
 
   pub passed_more : (k : ℕ) (items : List End) (end : End) (visited new : List ℕ) → slice_get items k ≡ Some end → ((x : ℕ) → has visited x ≡ true → has new x ≡ true)
-      → (is_left net f end.link end.device ≡ true → has new end.device ≡ true)
-      → ((j : ℕ) (e : End) → j < k → slice_get items j ≡ Some e → is_left net f e.link e.device ≡ true → has visited e.device ≡ true)
-      → (j : ℕ) (e : End) → j < k + 1 → slice_get items j ≡ Some e → is_left net f e.link e.device ≡ true → has new e.device ≡ true
+      → (is_left net domain end.link end.device ≡ true → has new end.device ≡ true)
+      → ((j : ℕ) (e : End) → j < k → slice_get items j ≡ Some e → is_left net domain e.link e.device ≡ true → has visited e.device ≡ true)
+      → (j : ℕ) (e : End) → j < k + 1 → slice_get items j ≡ Some e → is_left net domain e.link e.device ≡ true → has new e.device ≡ true
   passed_more k items end visited new at had now before j e within there left =
       elim (cases_lt j k) [
         | inl less ↦ had e.device (before j e less there left)
         | inr most ↦
             (let same : j ≡ k = omega arith in
             let equal : end ≡ e = same_Some end e (sym at ∙ subst (λ i. slice_get items i ≡ Some e) same there) in
-            subst (λ (x : End). has new x.device ≡ true) equal (now (subst (λ (x : End). is_left net f x.link x.device ≡ true) (sym equal) left)))
+            subst (λ (x : End). has new x.device ≡ true) equal (now (subst (λ (x : End). is_left net domain x.link x.device ≡ true) (sym equal) left)))
       ]
 
   -- all ends were looked at
   pub all_around : (d : ℕ) (items : List End) (visited : List ℕ) → items ≡ usable_ends net plan d
-      → ((j : ℕ) (e : End) → j < length items → slice_get items j ≡ Some e → is_left net f e.link e.device ≡ true → has visited e.device ≡ true) → LeadsInto net plan f visited d
+      → ((j : ℕ) (e : End) → j < length items → slice_get items j ≡ Some e → is_left net domain e.link e.device ≡ true → has visited e.device ≡ true) → LeadsInto net plan domain visited d
   all_around d items visited are each = record { into = λ e l within crosses joined passes. by e l within crosses joined passes }
     where
-      by : (e l : ℕ) → l < length net.links → is_sound_link net plan f l ≡ true → joins net l d e ≡ true → is_sound net plan f e ≡ true → has visited e ≡ true
+      by : (e l : ℕ) → l < length net.links → is_sound_link net plan domain l ≡ true → joins net l d e ≡ true → is_sound net plan domain e ≡ true → has visited e ≡ true
       by e l within crosses joined passes =
-          let link : (is_present plan l ≡ true) × (not (holds_link net f l) ≡ true) = and_parts (is_present plan l) (not (holds_link net f l)) crosses in
-          let device : (is_member plan e ≡ true) × (not (holds_device net f e) ≡ true) = and_parts (is_member plan e) (not (holds_device net f e)) passes in
+          let link : (is_present plan l ≡ true) × (not (holds_link net domain l) ≡ true) = and_parts (is_present plan l) (not (holds_link net domain l)) crosses in
+          let device : (is_member plan e ≡ true) × (not (holds_device net domain e) ≡ true) = and_parts (is_member plan e) (not (holds_device net domain e)) passes in
           let end : End = record { link = l; device = e } in
           let place : (j : ℕ) × (slice_get (usable_ends net plan d) j ≡ Some end) = usable_to net plan d l e within link.0 device.0 joined in
           let there : slice_get items place.0 ≡ Some end = subst (λ (xs : List End). slice_get xs place.0 ≡ Some end) (sym are) place.1 in
-          each place.0 end (slice_get_within items place.0 end there) there (and_from (not (holds_link net f l)) (not (holds_device net f e)) link.1 device.1)
+          each place.0 end (slice_get_within items place.0 end there) there (and_from (not (holds_link net domain l)) (not (holds_device net domain e)) link.1 device.1)
 
 -- a search from a device, of which the first places are done
-pub record IsSearching (net : Network) (plan : Plan) (f : DomainId) (from done : ℕ) (old visited : List ℕ) : Type 0 where
+pub record IsSearching (net : Network) (plan : Plan) (domain : DomainId) (from done : ℕ) (old visited : List ℕ) : Type 0 where
   pub within : (x : ℕ) → has visited x ≡ true → x < length net.devices
-  pub lacks : has visited (acting_end net plan f) ≡ false
-  pub back : (x : ℕ) → has visited x ≡ true → Reaches net plan f x → Reaches net plan f from
-  pub closed : (i x : ℕ) → i < done → slice_get visited i ≡ Some x → LeadsInto net plan f visited x
+  pub lacks : has visited (acting_end net plan domain) ≡ false
+  pub back : (x : ℕ) → has visited x ≡ true → Reaches net plan domain x → Reaches net plan domain from
+  pub closed : (i x : ℕ) → i < done → slice_get visited i ≡ Some x → LeadsInto net plan domain visited x
   pub begun : has visited from ≡ true
   pub had : (x : ℕ) → has old x ≡ true → has visited x ≡ true
 
-module _ (net : Network) (plan : Plan) (f : DomainId) (from : ℕ) (old : List ℕ) where
+module _ (net : Network) (plan : Plan) (domain : DomainId) (from : ℕ) (old : List ℕ) where
   -- it begins with what earlier searches visited
-  pub search_begins : IsDry net plan f old → from < length net.devices → (from ≡ acting_end net plan f → ⊥) → IsSearching net plan f from (length old) old (with_number old from)
+  pub search_begins : IsDry net plan domain old → from < length net.devices → (from ≡ acting_end net plan domain → ⊥) → IsSearching net plan domain from (length old) old (with_number old from)
   search_begins dry inside other =
       let grown : Grows old (with_number old from) (λ x. x ≡ from) = grows_insert old from (λ x. x ≡ from) refl in
       record {
         within = λ x there. elim (grown.added x there) [ inl a ↦ dry.within x a | inr same ↦ subst (λ y. y < length net.devices) (sym same) inside ];
-        lacks = false_from_ne_true (has (with_number old from) (acting_end net plan f)) (λ there. elim (grown.added (acting_end net plan f) there) [
-          | inl a ↦ both_ways (has old (acting_end net plan f)) dry.lacks a
+        lacks = false_from_ne_true (has (with_number old from) (acting_end net plan domain)) (λ there. elim (grown.added (acting_end net plan domain) there) [
+          | inl a ↦ both_ways (has old (acting_end net plan domain)) dry.lacks a
           | inr same ↦ other (sym same)
         ]);
         back = λ x there reaches. elim (grown.added x there) [
-          | inl a ↦ absurd (dry_cut net plan f old x dry a reaches)
-          | inr same ↦ subst (λ y. Reaches net plan f y) same reaches
+          | inl a ↦ absurd (dry_cut net plan domain old x dry a reaches)
+          | inr same ↦ subst (λ y. Reaches net plan domain y) same reaches
         ];
         closed = λ i x within at.
             let was : slice_get old i ≡ Some (get_or old i x) = slice_get-get_or old i x within in
             let same : get_or old i x ≡ x = same_Some (get_or old i x) x (sym (grown.kept i (get_or old i x) was) ∙ at) in
-            leads_into_more net plan f old (with_number old from) x grown.had (dry.closed x (has_at old i x (was ∙ ap Some same)));
+            leads_into_more net plan domain old (with_number old from) x grown.had (dry.closed x (has_at old i x (was ∙ ap Some same)));
         begun = has_insert old from;
         had = grown.had;
       }
 
   -- one place more is done
-  pub search_more : (done d : ℕ) (visited new : List ℕ) → IsSearching net plan f from done old visited → done < length visited → slice_get visited done ≡ Some d → Grows visited new (IsStep net plan f d) → LeadsInto net plan f new d
-      → IsSearching net plan f from (done + 1) old new
+  pub search_more : (done d : ℕ) (visited new : List ℕ) → IsSearching net plan domain from done old visited → done < length visited → slice_get visited done ≡ Some d → Grows visited new (IsStep net plan domain d) → LeadsInto net plan domain new d
+      → IsSearching net plan domain from (done + 1) old new
   search_more done d visited new known inside at grown around =
       record {
         within = λ x there. elim (grown.added x there) [ inl a ↦ known.within x a | inr step ↦ step.within ];
-        lacks = false_from_ne_true (has new (acting_end net plan f)) (λ there. elim (grown.added (acting_end net plan f) there) [
-          | inl a ↦ both_ways (has visited (acting_end net plan f)) known.lacks a
+        lacks = false_from_ne_true (has new (acting_end net plan domain)) (λ there. elim (grown.added (acting_end net plan domain) there) [
+          | inl a ↦ both_ways (has visited (acting_end net plan domain)) known.lacks a
           | inr step ↦ step.other refl
         ]);
         back = λ x there reaches. elim (grown.added x there) [
@@ -325,18 +325,18 @@ module _ (net : Network) (plan : Plan) (f : DomainId) (from : ℕ) (old : List �
           | inl less ↦
               (let was : slice_get visited i ≡ Some (get_or visited i x) = slice_get-get_or visited i x (omega arith) in
               let same : get_or visited i x ≡ x = same_Some (get_or visited i x) x (sym (grown.kept i (get_or visited i x) was) ∙ there) in
-              leads_into_more net plan f visited new x grown.had (known.closed i x less (was ∙ ap Some same)))
+              leads_into_more net plan domain visited new x grown.had (known.closed i x less (was ∙ ap Some same)))
           | inr most ↦
               (let equal : i ≡ done = omega arith in
               let same : d ≡ x = same_Some d x (sym (grown.kept done d at) ∙ subst (λ j. slice_get new j ≡ Some x) equal there) in
-              subst (λ y. LeadsInto net plan f new y) same around)
+              subst (λ y. LeadsInto net plan domain new y) same around)
         ];
         begun = grown.had from known.begun;
         had = λ x there. grown.had x (known.had x there);
       }
 
   -- all places are done
-  pub search_ends : (done : ℕ) (visited : List ℕ) → IsSearching net plan f from done old visited → length visited ≤ done → IsDry net plan f visited
+  pub search_ends : (done : ℕ) (visited : List ℕ) → IsSearching net plan domain from done old visited → length visited ≤ done → IsDry net plan domain visited
   search_ends done visited known all =
       record {
         within = known.within;

@@ -45,29 +45,29 @@ next_right net plan d hop fits rules within is =
     by None p right_b right_p known_b known_p is = of_hop p right_p known_p is
     by (Some h) p right_b right_p known_b known_p is = of_hop (Some h) right_b known_b is
 
-module _ (net : Network) (plan : Plan) (f : DomainId) (fits : Fits net plan) (rules : KeepsRules net plan) (d : ℕ) where
+module _ (net : Network) (plan : Plan) (domain : DomainId) (fits : Fits net plan) (rules : KeepsRules net plan) (d : ℕ) where
   -- a hit device that the domain does not have is sound
-  pub hit_sound : is_hit net plan f d ≡ true → holds_device net f d ≡ false → is_sound net plan f d ≡ true
-  hit_sound hit out = and_from (is_member plan d) (not (holds_device net f d)) (hit_device net plan f d fits rules hit).member (not_from_false (holds_device net f d) out)
+  pub hit_sound : is_hit net plan domain d ≡ true → holds_device net domain d ≡ false → is_sound net plan domain d ≡ true
+  hit_sound hit out = and_from (is_member plan d) (not (holds_device net domain d)) (hit_device net plan domain d fits rules hit).member (not_from_false (holds_device net domain d) out)
 
   -- what a hop that the domain leaves leads to is sound
-  pub parent_sound : (hop : Hop) → d < length net.devices → next_hop plan d ≡ Some hop → is_left net f hop.link hop.parent ≡ true → is_sound net plan f hop.parent ≡ true
+  pub parent_sound : (hop : Hop) → d < length net.devices → next_hop plan d ≡ Some hop → is_left net domain hop.link hop.parent ≡ true → is_sound net plan domain hop.parent ≡ true
   parent_sound hop within is left =
-      and_from (is_member plan hop.parent) (not (holds_device net f hop.parent)) (next_right net plan d hop fits rules within is).member
-      (and_parts (not (holds_link net f hop.link)) (not (holds_device net f hop.parent)) left).1
+      and_from (is_member plan hop.parent) (not (holds_device net domain hop.parent)) (next_right net plan d hop fits rules within is).member
+      (and_parts (not (holds_link net domain hop.link)) (not (holds_device net domain hop.parent)) left).1
 
   -- a hit device is fed if its next hop is left and leads to one that is fed
-  pub turns_fed : (hop : Hop) → is_hit net plan f d ≡ true → holds_device net f d ≡ false → next_hop plan d ≡ Some hop → is_left net f hop.link hop.parent ≡ true → Fed net plan f hop.parent → Fed net plan f d
+  pub turns_fed : (hop : Hop) → is_hit net plan domain d ≡ true → holds_device net domain d ≡ false → next_hop plan d ≡ Some hop → is_left net domain hop.link hop.parent ≡ true → Fed net plan domain hop.parent → Fed net plan domain d
   turns_fed hop hit out is left fed =
-      let parts : (not (holds_link net f hop.link) ≡ true) × (not (holds_device net f hop.parent) ≡ true) = and_parts (not (holds_link net f hop.link)) (not (holds_device net f hop.parent)) left in
+      let parts : (not (holds_link net domain hop.link) ≡ true) × (not (holds_device net domain hop.parent) ≡ true) = and_parts (not (holds_link net domain hop.link)) (not (holds_device net domain hop.parent)) left in
       turns hop (hit_sound hit out) hit is parts.0 parts.1 fed
 
   -- a device whose hop leads to e is held by e
-  pub held_by : (hop : Hop) (e : ℕ) → (d ≡ plan.backup_root → ⊥) → next_hop plan d ≡ Some hop → hop.parent ≡ e → IsHeld net plan f (λ x. x ≡ e) d
+  pub held_by : (hop : Hop) (e : ℕ) → (d ≡ plan.backup_root → ⊥) → next_hop plan d ≡ Some hop → hop.parent ≡ e → IsHeld net plan domain (λ x. x ≡ e) d
   held_by hop e other is leads =
       record { held = λ sound. (other, λ h there left. ap (λ (x : Hop). x.parent) (same_Some h hop (sym there ∙ is)) ∙ leads) }
 
   -- a device whose hop the domain takes is held
-  pub held_over : (hop : Hop) → (d ≡ plan.backup_root → ⊥) → next_hop plan d ≡ Some hop → is_left net f hop.link hop.parent ≡ false → IsHeld net plan f (λ x. ⊥) d
+  pub held_over : (hop : Hop) → (d ≡ plan.backup_root → ⊥) → next_hop plan d ≡ Some hop → is_left net domain hop.link hop.parent ≡ false → IsHeld net plan domain (λ x. ⊥) d
   held_over hop other is taken =
-      record { held = λ sound. (other, λ h there left. both_ways (is_left net f hop.link hop.parent) taken (subst (λ (x : Hop). is_left net f x.link x.parent ≡ true) (same_Some h hop (sym there ∙ is)) left)) }
+      record { held = λ sound. (other, λ h there left. both_ways (is_left net domain hop.link hop.parent) taken (subst (λ (x : Hop). is_left net domain x.link x.parent ≡ true) (same_Some h hop (sym there ∙ is)) left)) }

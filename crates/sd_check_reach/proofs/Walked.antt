@@ -136,51 +136,51 @@ comes_back plan (suc n) other ends comes = by (primary_of plan plan.backup_root)
         no_return plan (suc n) (suc n) more.1.0 plan.backup_root (omega arith) (hop, is, more.0, more.1.1) other comes
 
 -- sound devices and links lead from d to e, which is sound where d is
-pub record Arrives (net : Network) (plan : Plan) (f : DomainId) (d e : ℕ) : Type 0 where
-  pub way : Joined net (is_sound net plan f) (is_sound_link net plan f) d e
-  pub sound : is_sound net plan f d ≡ true → is_sound net plan f e ≡ true
+pub record Arrives (net : Network) (plan : Plan) (domain : DomainId) (d e : ℕ) : Type 0 where
+  pub way : Joined net (is_sound net plan domain) (is_sound_link net plan domain) d e
+  pub sound : is_sound net plan domain d ≡ true → is_sound net plan domain e ≡ true
 
 -- hops of which the domain has nothing arrive
-arrives : (net : Network) (plan : Plan) (f : DomainId) (ends : ℕ → Bool) (n d : ℕ) → Fits net plan → KeepsRules net plan → d < length net.devices
-    → hits net f (things_of (hops ends plan n d)) ≡ false → Arrives net plan f d (end_of d (hops ends plan n d))
-arrives net plan f ends zero d fits rules within free = record { way = here; sound = λ s. s }
-arrives net plan f ends (suc n) d fits rules within free =
+arrives : (net : Network) (plan : Plan) (domain : DomainId) (ends : ℕ → Bool) (n d : ℕ) → Fits net plan → KeepsRules net plan → d < length net.devices
+    → hits net domain (things_of (hops ends plan n d)) ≡ false → Arrives net plan domain d (end_of d (hops ends plan n d))
+arrives net plan domain ends zero d fits rules within free = record { way = here; sound = λ s. s }
+arrives net plan domain ends (suc n) d fits rules within free =
     by (primary_of plan d) (hops_within net plan d fits).0 (and_parts (hop_is_right net plan d (primary_of plan d)) (hop_is_right net plan d (backup_of plan d)) (rules.hops d within)).0 free
-    (λ e inside. arrives net plan f ends n e fits rules inside)
+    (λ e inside. arrives net plan domain ends n e fits rules inside)
   where
-    after : (e : ℕ) (b : Bool) → hits net f (things_of (elim b [ true ↦ [] | false ↦ hops ends plan n e ])) ≡ false
-        → (hits net f (things_of (hops ends plan n e)) ≡ false → Arrives net plan f e (end_of e (hops ends plan n e)))
-        → Arrives net plan f e (end_of e (elim b [ true ↦ [] | false ↦ hops ends plan n e ]))
+    after : (e : ℕ) (b : Bool) → hits net domain (things_of (elim b [ true ↦ [] | false ↦ hops ends plan n e ])) ≡ false
+        → (hits net domain (things_of (hops ends plan n e)) ≡ false → Arrives net plan domain e (end_of e (hops ends plan n e)))
+        → Arrives net plan domain e (end_of e (elim b [ true ↦ [] | false ↦ hops ends plan n e ]))
     after e true none rest = record { way = here; sound = λ s. s }
     after e false none rest = rest none
 
-    by : (found : Option Hop) → IfSome found (IsHop net) → hop_is_right net plan d found ≡ true → hits net f (things_of (next ends (hops ends plan n) found)) ≡ false
-        → ((e : ℕ) → e < length net.devices → hits net f (things_of (hops ends plan n e)) ≡ false → Arrives net plan f e (end_of e (hops ends plan n e)))
-        → Arrives net plan f d (end_of d (next ends (hops ends plan n) found))
+    by : (found : Option Hop) → IfSome found (IsHop net) → hop_is_right net plan d found ≡ true → hits net domain (things_of (next ends (hops ends plan n) found)) ≡ false
+        → ((e : ℕ) → e < length net.devices → hits net domain (things_of (hops ends plan n e)) ≡ false → Arrives net plan domain e (end_of e (hops ends plan n e)))
+        → Arrives net plan domain d (end_of d (next ends (hops ends plan n) found))
     by None known right none rest = record { way = here; sound = λ s. s }
     by (Some hop) known right none rest =
         let onward : List Hop = elim (ends hop.parent) [ true ↦ [] | false ↦ hops ends plan n hop.parent ] in
-        let first : (holds_link net f hop.link ≡ false) × ((holds_device net f hop.parent || hits net f (things_of onward)) ≡ false) =
-        or_parts (holds_link net f hop.link) (holds_device net f hop.parent || hits net f (things_of onward)) none in
-        let second : (holds_device net f hop.parent ≡ false) × (hits net f (things_of onward) ≡ false) = or_parts (holds_device net f hop.parent) (hits net f (things_of onward)) first.1 in
+        let first : (holds_link net domain hop.link ≡ false) × ((holds_device net domain hop.parent || hits net domain (things_of onward)) ≡ false) =
+        or_parts (holds_link net domain hop.link) (holds_device net domain hop.parent || hits net domain (things_of onward)) none in
+        let second : (holds_device net domain hop.parent ≡ false) × (hits net domain (things_of onward) ≡ false) = or_parts (holds_device net domain hop.parent) (hits net domain (things_of onward)) first.1 in
         let rule : ((is_member plan hop.parent && is_present plan hop.link) ≡ true) × (joins net hop.link d hop.parent ≡ true) =
         and_parts (is_member plan hop.parent && is_present plan hop.link) (joins net hop.link d hop.parent) right in
         let usable : (is_member plan hop.parent ≡ true) × (is_present plan hop.link ≡ true) = and_parts (is_member plan hop.parent) (is_present plan hop.link) rule.0 in
-        let link : is_sound_link net plan f hop.link ≡ true = and_from (is_present plan hop.link) (not (holds_link net f hop.link)) usable.1 (not_from_false (holds_link net f hop.link) first.0) in
-        let parent : is_sound net plan f hop.parent ≡ true = and_from (is_member plan hop.parent) (not (holds_device net f hop.parent)) usable.0 (not_from_false (holds_device net f hop.parent) second.0) in
-        let more : Arrives net plan f hop.parent (end_of hop.parent onward) = after hop.parent (ends hop.parent) second.1 (rest hop.parent known.0) in
+        let link : is_sound_link net plan domain hop.link ≡ true = and_from (is_present plan hop.link) (not (holds_link net domain hop.link)) usable.1 (not_from_false (holds_link net domain hop.link) first.0) in
+        let parent : is_sound net plan domain hop.parent ≡ true = and_from (is_member plan hop.parent) (not (holds_device net domain hop.parent)) usable.0 (not_from_false (holds_device net domain hop.parent) second.0) in
+        let more : Arrives net plan domain hop.parent (end_of hop.parent onward) = after hop.parent (ends hop.parent) second.1 (rest hop.parent known.0) in
         record { way = over hop.link known.1 link rule.1 parent more.way; sound = λ s. more.sound parent }
 
 -- a device that is not hit arrives at the root or the backup root
-pub record Ends (net : Network) (plan : Plan) (f : DomainId) (d : ℕ) : Type 0 where
+pub record Ends (net : Network) (plan : Plan) (domain : DomainId) (d : ℕ) : Type 0 where
   pub at : ℕ
-  pub arrives : Arrives net plan f d at
+  pub arrives : Arrives net plan domain d at
   pub is_end : is_end plan at ≡ true
   pub apart : (d ≡ plan.backup_root) → is_root plan d ≡ false → (at ≡ plan.backup_root) → ⊥
 
-pub unhit_ends : (net : Network) (plan : Plan) (f : DomainId) (d : ℕ) → Fits net plan → structure_breach net plan ≡ None → KeepsRules net plan → d < length net.devices
-    → is_member plan d ≡ true → is_hit net plan f d ≡ false → Ends net plan f d
-unhit_ends net plan f d fits structured rules within member spared = by (is_root plan d) refl spared (reach_rule net plan d structured within)
+pub unhit_ends : (net : Network) (plan : Plan) (domain : DomainId) (d : ℕ) → Fits net plan → structure_breach net plan ≡ None → KeepsRules net plan → d < length net.devices
+    → is_member plan d ≡ true → is_hit net plan domain d ≡ false → Ends net plan domain d
+unhit_ends net plan domain d fits structured rules within member spared = by (is_root plan d) refl spared (reach_rule net plan d structured within)
   where
     wrong : {b : Bool} → b ≡ true → b ≡ false → ⊥
     wrong right not_so = cc
@@ -194,14 +194,14 @@ unhit_ends net plan f d fits structured rules within member spared = by (is_root
     comes true r m reaches = reaches
     comes false r m reaches = cc
 
-    by : (b : Bool) → is_root plan d ≡ b → hits net f (things_of (if b then [] else hops (is_end plan) plan net.params.depth d)) ≡ false
-        → (not (is_member plan d) || is_root plan (end_of d (if b then [] else hops (is_root plan) plan net.params.depth d))) ≡ true → Ends net plan f d
+    by : (b : Bool) → is_root plan d ≡ b → hits net domain (things_of (if b then [] else hops (is_end plan) plan net.params.depth d)) ≡ false
+        → (not (is_member plan d) || is_root plan (end_of d (if b then [] else hops (is_root plan) plan net.params.depth d))) ≡ true → Ends net plan domain d
     by true root free reaches = record { at = d; arrives = record { way = here; sound = λ s. s }; is_end = or_left (is_root plan d) (is_backup_root plan d) root; apart = λ is other same. wrong root other }
     by false other free reaches =
         let root_comes : Comes plan net.params.depth d = comes (is_member plan d) _ member reaches in
         record {
           at = end_of d (hops (is_end plan) plan net.params.depth d);
-          arrives = arrives net plan f (is_end plan) net.params.depth d fits rules within free;
+          arrives = arrives net plan domain (is_end plan) net.params.depth d fits rules within free;
           is_end = end_ends plan net.params.depth d root_comes;
           apart = λ is not_root. turned d is not_root root_comes;
         }
@@ -214,15 +214,15 @@ pub record IsHitDevice (net : Network) (plan : Plan) (d : ℕ) : Type 0 where
   pub no_root : is_root plan d ≡ false
   pub member : is_member plan d ≡ true
 
-pub hit_device : (net : Network) (plan : Plan) (f : DomainId) (d : ℕ) → Fits net plan → KeepsRules net plan → is_hit net plan f d ≡ true → IsHitDevice net plan d
-hit_device net plan f d fits rules hit = by_root (is_root plan d) refl hit
+pub hit_device : (net : Network) (plan : Plan) (domain : DomainId) (d : ℕ) → Fits net plan → KeepsRules net plan → is_hit net plan domain d ≡ true → IsHitDevice net plan d
+hit_device net plan domain d fits rules hit = by_root (is_root plan d) refl hit
   where
-    by_length : (n : ℕ) (found : Option Hop) → hits net f (things_of (elim n [ zero ↦ [] | suc m ↦ next (is_end plan) (hops (is_end plan) plan m) found ])) ≡ true → (hop : Hop) × (found ≡ Some hop)
+    by_length : (n : ℕ) (found : Option Hop) → hits net domain (things_of (elim n [ zero ↦ [] | suc m ↦ next (is_end plan) (hops (is_end plan) plan m) found ])) ≡ true → (hop : Hop) × (found ≡ Some hop)
     by_length zero found hit = cc
     by_length (suc n) None hit = cc
     by_length (suc n) (Some hop) hit = (hop, refl)
 
-    first_hop : (n : ℕ) → hits net f (things_of (hops (is_end plan) plan n d)) ≡ true → (hop : Hop) × (primary_of plan d ≡ Some hop)
+    first_hop : (n : ℕ) → hits net domain (things_of (hops (is_end plan) plan n d)) ≡ true → (hop : Hop) × (primary_of plan d ≡ Some hop)
     first_hop zero hit = cc
     first_hop (suc n) hit = by_length (suc n) (primary_of plan d) hit
 
@@ -242,7 +242,7 @@ hit_device net plan f d fits rules hit = by_root (is_root plan d) refl hit
           cc)
     ]
 
-    by_root : (b : Bool) → is_root plan d ≡ b → hits net f (things_of (if b then [] else hops (is_end plan) plan net.params.depth d)) ≡ true → IsHitDevice net plan d
+    by_root : (b : Bool) → is_root plan d ≡ b → hits net domain (things_of (if b then [] else hops (is_end plan) plan net.params.depth d)) ≡ true → IsHitDevice net plan d
     by_root true root hit = cc
     by_root false other hit =
         let found : (hop : Hop) × (primary_of plan d ≡ Some hop) = first_hop net.params.depth hit in

@@ -23,5 +23,5 @@ abbrev pub hit_of : Aftermath → List ℕ
 hit_of a = a.outage.hit.now
 
 -- the domain hits no device, or it has the acting end
-pub record IsHarmless (net : Network) (plan : Plan) (f : DomainId) : Type 0 where
-  pub harmless : ((d : ℕ) → d < length net.devices → is_hit net plan f d ≡ false) ⊎ (holds_device net f (acting_end net plan f) ≡ true)
+pub record IsHarmless (net : Network) (plan : Plan) (domain : DomainId) : Type 0 where
+  pub harmless : ((d : ℕ) → d < length net.devices → is_hit net plan domain d ≡ false) ⊎ (holds_device net domain (acting_end net plan domain) ≡ true)

@@ -18,24 +18,24 @@ pub record Chooses (hit : List ℕ) (passes : ℕ → ℕ → Bool) (k : ℕ) (c
 
 -- the domain takes the backup of the device, which it leaves and which is not the backup root
 abbrev pub loses : Network → Plan → DomainId → ℕ → Bool
-loses net plan f d =
-    not (holds_device net f d) && not (is_end plan d)
-    && of_some (backup_of plan d) false (λ hop. holds_link net f hop.link || holds_device net f hop.parent)
+loses net plan domain d =
+    not (holds_device net domain d) && not (is_end plan d)
+    && of_some (backup_of plan d) false (λ hop. holds_link net domain hop.link || holds_device net domain hop.parent)
 
 -- what makes a device break the domain condition, beside that it is not cut off
-pub record IsLosing (net : Network) (plan : Plan) (f : DomainId) (d : ℕ) : Type 0 where
-  pub sound : IsTrue (is_sound net plan f d)
+pub record IsLosing (net : Network) (plan : Plan) (domain : DomainId) (d : ℕ) : Type 0 where
+  pub sound : IsTrue (is_sound net plan domain d)
   pub no_root : IsTrue (not (is_end plan d))
-  pub hit : IsTrue (is_hit net plan f d)
+  pub hit : IsTrue (is_hit net plan domain d)
   pub backup : Hop
   pub has_backup : backup_of plan d ≡ Some backup
-  pub lost : IsTrue (holds_link net f backup.link || holds_device net f backup.parent)
+  pub lost : IsTrue (holds_link net domain backup.link || holds_device net domain backup.parent)
 
 -- a sound device that does not come to hear the acting end
-pub record IsUnheard (net : Network) (plan : Plan) (f : DomainId) (d : ℕ) : Type 0 where
-  pub sound : IsTrue (is_sound net plan f d)
-  pub unfed : ¬ Fed net plan f d
+pub record IsUnheard (net : Network) (plan : Plan) (domain : DomainId) (d : ℕ) : Type 0 where
+  pub sound : IsTrue (is_sound net plan domain d)
+  pub unfed : ¬ Fed net plan domain d
 
 -- each sound device comes to hear the acting end or is in the list
-pub record AreDecided (net : Network) (plan : Plan) (f : DomainId) (candidates : List ℕ) : Type 0 where
-  pub decided : (d : ℕ) → IsTrue (is_sound net plan f d) → Fed net plan f d ⊎ ((i : ℕ) × (slice_get candidates i ≡ Some d))
+pub record AreDecided (net : Network) (plan : Plan) (domain : DomainId) (candidates : List ℕ) : Type 0 where
+  pub decided : (d : ℕ) → IsTrue (is_sound net plan domain d) → Fed net plan domain d ⊎ ((i : ℕ) × (slice_get candidates i ≡ Some d))

@@ -11,6 +11,6 @@ pub record HasRoom (net : Network) (search : Search) : Type 0 where
   pub devices : search.visited.bound ≡ length net.devices
 
 -- what the search has visited is cut off under the domain, and its trust in the backup root is right
-pub record IsSearchOf (net : Network) (plan : Plan) (f : DomainId) (search : Search) : Type 0 where
-  pub dry : IsDry net plan f search.visited.numbers
-  pub trusted : search.trusted ≡ Some true → BackupReaches net plan f
+pub record IsSearchOf (net : Network) (plan : Plan) (domain : DomainId) (search : Search) : Type 0 where
+  pub dry : IsDry net plan domain search.visited.numbers
+  pub trusted : search.trusted ≡ Some true → BackupReaches net plan domain

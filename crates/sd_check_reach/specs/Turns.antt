@@ -13,15 +13,15 @@ use Rattle.sd_check_reach.specs.declared.marks.Mark.{Mark}
 use Rattle.sd_check_reach.specs.declared.marks.Mark.TheVariants as mark
 
 -- the device is not sound, or no backup root, and its next hop is over the domain or leads into the set
-pub record IsHeld (net : Network) (plan : Plan) (f : DomainId) (S : ℕ → Type 0) (d : ℕ) : Type 0 where
-  pub held : IsTrue (is_sound net plan f d)
-      → ((d ≡ plan.backup_root) → ⊥) × ((hop : Hop) → next_hop plan d ≡ Some hop → is_left net f hop.link hop.parent ≡ true → S hop.parent)
+pub record IsHeld (net : Network) (plan : Plan) (domain : DomainId) (S : ℕ → Type 0) (d : ℕ) : Type 0 where
+  pub held : IsTrue (is_sound net plan domain d)
+      → ((d ≡ plan.backup_root) → ⊥) × ((hop : Hop) → next_hop plan d ≡ Some hop → is_left net domain hop.link hop.parent ≡ true → S hop.parent)
 
 -- where a hit device turns
 abbrev pub IsTurn : Network → Plan → DomainId → List ℕ → ℕ → Turn → Type 0
-IsTurn net plan f hit d turn.Fed = Fed net plan f d
-IsTurn net plan f hit d turn.Lost = IsHeld net plan f (λ e. ⊥) d
-IsTurn net plan f hit d (turn.To place) = (e : ℕ) × (slice_get hit place ≡ Some e) × (Fed net plan f e → Fed net plan f d) × IsHeld net plan f (λ x. x ≡ e) d
+IsTurn net plan domain hit d turn.Fed = Fed net plan domain d
+IsTurn net plan domain hit d turn.Lost = IsHeld net plan domain (λ e. ⊥) d
+IsTurn net plan domain hit d (turn.To place) = (e : ℕ) × (slice_get hit place ≡ Some e) × (Fed net plan domain e → Fed net plan domain d) × IsHeld net plan domain (λ x. x ≡ e) d
 
 -- the devices that are marked as not fed
 pub record IsUnfed (hit : List ℕ) (marks : List Mark) (d : ℕ) : Type 0 where
@@ -30,10 +30,10 @@ pub record IsUnfed (hit : List ℕ) (marks : List Mark) (d : ℕ) : Type 0 where
   pub marked : slice_get marks place ≡ Some mark.Unfed
 
 -- the marks are right, but that devices which are marked as not fed may turn to the one that is looked at
-pub record AreMarks (net : Network) (plan : Plan) (f : DomainId) (hit : List ℕ) (looked_at : ℕ → Type 0) (marks : List Mark) : Type 0 where
+pub record AreMarks (net : Network) (plan : Plan) (domain : DomainId) (hit : List ℕ) (looked_at : ℕ → Type 0) (marks : List Mark) : Type 0 where
   pub size : length marks ≡ length hit
-  pub fed : (i d : ℕ) → slice_get hit i ≡ Some d → slice_get marks i ≡ Some mark.Fed → Fed net plan f d
-  pub unfed : (i d : ℕ) → slice_get hit i ≡ Some d → slice_get marks i ≡ Some mark.Unfed → IsHeld net plan f (λ e. IsUnfed hit marks e ⊎ looked_at e) d
+  pub fed : (i d : ℕ) → slice_get hit i ≡ Some d → slice_get marks i ≡ Some mark.Fed → Fed net plan domain d
+  pub unfed : (i d : ℕ) → slice_get hit i ≡ Some d → slice_get marks i ≡ Some mark.Unfed → IsHeld net plan domain (λ e. IsUnfed hit marks e ⊎ looked_at e) d
 
 -- the mark says that the device is not fed
 abbrev pub is_unfed : Mark → Bool
@@ -59,11 +59,11 @@ pub record IsTrail (hit : List ℕ) (old new : List Mark) (trail : List ℕ) : T
   pub rest : (i : ℕ) → has trail i ≡ false → slice_get new i ≡ slice_get old i
 
 -- what following from a place gives: where it ends at what is fed, all of the trail is fed; else the marks are right as they are
-pub record IsFollowed (net : Network) (plan : Plan) (f : DomainId) (hit : List ℕ) (start : ℕ) (old new : List Mark) (trail : List ℕ) (fed : Bool) : Type 0 where
+pub record IsFollowed (net : Network) (plan : Plan) (domain : DomainId) (hit : List ℕ) (start : ℕ) (old new : List Mark) (trail : List ℕ) (fed : Bool) : Type 0 where
   pub size : length new ≡ length old
   pub followed : IsTrail hit old new trail
-  pub all_fed : fed ≡ true → (i d : ℕ) → has trail i ≡ true → slice_get hit i ≡ Some d → Fed net plan f d
-  pub right : fed ≡ false → AreMarks net plan f hit (λ _. ⊥) new
+  pub all_fed : fed ≡ true → (i d : ℕ) → has trail i ≡ true → slice_get hit i ≡ Some d → Fed net plan domain d
+  pub right : fed ≡ false → AreMarks net plan domain hit (λ _. ⊥) new
   pub marked : slice_get new start ≡ Some mark.Unseen → ⊥
 
 -- 1 where a device was not seen yet

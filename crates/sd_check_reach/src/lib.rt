@@ -31,15 +31,15 @@ pub fn domain_breach(
     alloc: Global,
     topo: &Topology,
     plan: &Plan,
-    f: DomainId,
+    domain: DomainId,
 ) -> Result<Option<u32>, NoMemory>
     requires fits { Fits (network topo.now) plan.now }
     requires structured { structure_breach (network topo.now) plan.now ≡ None }
-    requires domain { IsDomain (network topo.now) f }
-    ensures { IfOk result (DomainShown (network topo.now) plan.now f) }
+    requires domain { IsDomain (network topo.now) domain }
+    ensures { IfOk result (DomainShown (network topo.now) plan.now domain) }
 {
     let index = WalkIndex::new(alloc, topo, plan)?;
-    domain_breach_in(alloc, topo, plan, &index, f)
+    domain_breach_in(alloc, topo, plan, &index, domain)
 }
 
 /// What `domain_breach` answers, by an index of this plan, which serves all domains.
@@ -48,17 +48,17 @@ pub fn domain_breach_in(
     topo: &Topology,
     plan: &Plan,
     index: &WalkIndex,
-    f: DomainId,
+    domain: DomainId,
 ) -> Result<Option<u32>, NoMemory>
-    requires domain { IsDomain (network topo.now) f }
+    requires domain { IsDomain (network topo.now) domain }
     requires indexed { IsIndexOf (network topo.now) plan.now index.now }
-    ensures { IfOk result (DomainShown (network topo.now) plan.now f) }
+    ensures { IfOk result (DomainShown (network topo.now) plan.now domain) }
 {
     let planned = Indexed { topo, plan, index };
     let mut impact = Impact::new(alloc, topo)?;
-    impact.strike(alloc, planned, f)?;
+    impact.strike(alloc, planned, domain)?;
     let mut search = Search::new(alloc, topo)?;
-    search.domain_breach(alloc, &impact.outage(planned, f))
+    search.domain_breach(alloc, &impact.outage(planned, domain))
 }
 
 /// The chain of next hops from the lowest sound device that the domain neither cuts off nor lets
@@ -67,15 +67,15 @@ pub fn reach_breach(
     alloc: Global,
     topo: &Topology,
     plan: &Plan,
-    f: DomainId,
+    domain: DomainId,
 ) -> Result<Option<DeviceList>, NoMemory>
     requires fits { Fits (network topo.now) plan.now }
     requires structured { structure_breach (network topo.now) plan.now ≡ None }
-    requires domain { IsDomain (network topo.now) f }
-    ensures { IfOk result (ReachShown (network topo.now) plan.now f) }
+    requires domain { IsDomain (network topo.now) domain }
+    ensures { IfOk result (ReachShown (network topo.now) plan.now domain) }
 {
     let index = WalkIndex::new(alloc, topo, plan)?;
-    reach_breach_in(alloc, topo, plan, &index, f)
+    reach_breach_in(alloc, topo, plan, &index, domain)
 }
 
 /// What `reach_breach` answers, by an index of this plan, which serves all domains.
@@ -84,15 +84,15 @@ pub fn reach_breach_in(
     topo: &Topology,
     plan: &Plan,
     index: &WalkIndex,
-    f: DomainId,
+    domain: DomainId,
 ) -> Result<Option<DeviceList>, NoMemory>
-    requires domain { IsDomain (network topo.now) f }
+    requires domain { IsDomain (network topo.now) domain }
     requires indexed { IsIndexOf (network topo.now) plan.now index.now }
-    ensures { IfOk result (ReachShown (network topo.now) plan.now f) }
+    ensures { IfOk result (ReachShown (network topo.now) plan.now domain) }
 {
     let planned = Indexed { topo, plan, index };
     let mut impact = Impact::new(alloc, topo)?;
-    impact.strike(alloc, planned, f)?;
+    impact.strike(alloc, planned, domain)?;
     let mut search = Search::new(alloc, topo)?;
-    search.reach_breach(alloc, &impact.outage(planned, f))
+    search.reach_breach(alloc, &impact.outage(planned, domain))
 }

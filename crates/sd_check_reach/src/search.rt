@@ -29,7 +29,7 @@ impl Search {
     /// A search with room for the devices of a topology.
     pub fn new(alloc: Global, topo: &Topology) -> Result<Search, NoMemory>
         ensures room { IfOk result (HasRoom (network topo.now)) }
-        ensures fresh { IfOk result (λ search. (net : Network) (plan : PlanSeen) (f : DomainSeen) → IsSearchOf net plan f search) }
+        ensures fresh { IfOk result (λ search. (net : Network) (plan : PlanSeen) (domain : DomainSeen) → IsSearchOf net plan domain search) }
     {
         let visited = NumberSet::new(alloc, topo.devices())?;
         Ok(Search {
@@ -41,7 +41,7 @@ impl Search {
     /// Forgets all, so that another domain can be searched.
     pub fn clear(&mut self)
         ensures room { (net : Network) → HasRoom net self.old → HasRoom net self.new }
-        ensures fresh { (net : Network) (plan : PlanSeen) (f : DomainSeen) → IsSearchOf net plan f self.new }
+        ensures fresh { (net : Network) (plan : PlanSeen) (domain : DomainSeen) → IsSearchOf net plan domain self.new }
     {
         self.visited.clear();
         self.trusted = None;

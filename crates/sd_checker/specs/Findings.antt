@@ -1,12 +1,12 @@
 -- The conditions on what a domain hits (loop, domain, reach), asked of one domain after another.
-use Rattle.std.specs.Prelude.{◌≡◌, ℕ, ◌<◌, Bool, true, slice_get, Option, Some, None, IsTrue}
+use Rattle.std.specs.Prelude.{◌≡◌, ℕ, ◌<◌, Bool, true, nat_eq, slice_get, Option, Some, None, IsTrue}
 use Rattle.sd_topo.specs.Network.{Network}
 use Rattle.sd_domain.specs.Domains.{domains}
 use Rattle.sd_domain.specs.declared.DomainId.{DomainId}
 use Rattle.sd_plan.specs.declared.Plan.{Plan}
 use Rattle.sd_check_loop.specs.Loops.{HasNoCycle, ShowsCycle}
 use Rattle.sd_check_reach.specs.Reach.{DomainHolds, ShowsDevice, ReachHolds, IsShownChain}
-use Rattle.sd_checker.specs.Conditions.{Condition, is_before, condition_of, Shows}
+use Rattle.sd_checker.specs.Conditions.{Condition, is_before, place_of, condition_of, Shows}
 use Rattle.sd_checker.specs.Conditions as condition
 use Rattle.sd_checker.specs.Verdicts.{IsAccepted, IsBreach}
 use Rattle.sd_checker.specs.declared.Breach.{Breach}
@@ -48,16 +48,20 @@ abbrev pub ShowsFound : Network → Plan → Option Breach → Type 0
 ShowsFound net plan None = Unit {0}
 ShowsFound net plan (Some breach) = Shows net plan breach
 
--- the breach, if there is one, is of such a condition
-abbrev pub IsOfHits : Option Breach → Type 0
-IsOfHits None = Unit {0}
-IsOfHits (Some breach) = IsTrue (is_before condition.root (condition_of breach))
+-- the breach is of the first of these conditions
+abbrev pub is_loop : Breach → Bool
+is_loop breach = nat_eq (place_of (condition_of breach)) (place_of condition.loop)
+
+-- the breach, if there is one, is of a condition that comes after the one on loops
+abbrev pub ComesAfterLoops : Option Breach → Type 0
+ComesAfterLoops None = Unit {0}
+ComesAfterLoops (Some breach) = IsTrue (is_before condition.loop (condition_of breach))
 
 -- what was found of the first domains: each meets each open condition
 pub record IsFoundAmong (net : Network) (plan : Plan) (count : ℕ) (found : Option Breach) : Type 0 where
   pub hold : (c : Condition) → IsTrue (is_open found c) → (j : ℕ) (g : DomainId) → j < count → slice_get (domains net) j ≡ Some g → HoldsOf net plan g c
   pub shows : ShowsFound net plan found
-  pub later : IsOfHits found
+  pub later : ComesAfterLoops found
 
 -- the first breach, or that the plan meets all conditions
 abbrev pub Finds : Network → Plan → Option Breach → Type 0

@@ -1,8 +1,9 @@
 //! The conditions on what a fault domain hits (loop, domain, reach), all asked of one domain before
 //! the next, so that what it hits is found once.
-ghost use Rattle.std.specs.Prelude.{IfOk};
+ghost use Rattle.std.specs.Prelude.{◌≡◌, IfOk};
 ghost use Rattle.sd_check_reach.specs.Searches.{HasRoom, IsSearchOf};
-ghost use Rattle.sd_checker.specs.Findings.{Judges, Finds, IsSound, IsOfHits};
+ghost use Rattle.sd_checker.specs.Findings as findings;
+ghost use Rattle.sd_checker.specs.Findings.{Judges, Finds, IsSound, ComesAfterLoops};
 ghost use Rattle.sd_hit.specs.Outages.{net_of, plan_of};
 ghost use Rattle.sd_topo.specs.Topologies.{network};
 
@@ -16,7 +17,7 @@ use sd_plan::Indexed;
 use std::alloc::Global;
 
 /// The first of these conditions that a domain breaks, of those that come before the condition of
-/// what was found among earlier domains.
+/// what was found among earlier domains, which is no loop.
 fn earlier_breach(
     alloc: Global,
     outage: &Outage<'_>,
@@ -25,14 +26,11 @@ fn earlier_breach(
 ) -> Result<Option<Breach>, NoMemory>
     requires search { IsSearchOf (net_of outage.now) (plan_of outage.now) outage.now.domain search.old }
     requires room { HasRoom (net_of outage.now) search.old }
-    requires found { IsOfHits found.now }
+    requires found { ComesAfterLoops found.now }
     ensures judged { IfOk result (Judges (net_of outage.now) (plan_of outage.now) found.now outage.now.domain) }
     ensures room { HasRoom (net_of outage.now) search.new }
 {
     let domain = outage.domain;
-    if matches!(found, Some(Breach::Loop { .. })) {
-        return Ok(None);
-    }
     if let Some(cycle) = loop_breach_of(alloc, outage)? {
         return Ok(Some(Breach::Loop { domain, cycle }));
     }
@@ -51,6 +49,13 @@ fn earlier_breach(
     }
 }
 
+/// Whether a breach is of the first of these conditions, so that no later domain has an earlier one.
+fn is_loop(breach: &Breach) -> bool
+    ensures { result ≡ findings.is_loop breach.now }
+{
+    matches!(breach, Breach::Loop { .. })
+}
+
 /// The first breach of a plan that meets the other conditions, in the order of the conditions and
 /// then of the domains.
 pub(crate) fn hit_breach(alloc: Global, planned: Indexed<'_>) -> Result<Option<Breach>, NoMemory>
@@ -66,6 +71,9 @@ pub(crate) fn hit_breach(alloc: Global, planned: Indexed<'_>) -> Result<Option<B
         search.clear();
         let outage = impact.outage(planned, domain);
         if let Some(breach) = earlier_breach(alloc, &outage, &mut search, &found)? {
+            if is_loop(&breach) {
+                return Ok(Some(breach));
+            }
             found = Some(breach);
         }
     }

@@ -7,4 +7,4 @@ use Rattle.sd_plan.specs.declared.Plan.{Plan}
 
 -- the devices that the domain hits, ascending: it has a device or link of their cut path
 abbrev pub hit_by : Network → Plan → DomainId → List ℕ
-hit_by net plan f = filter (is_hit net plan f) (device_numbers net)
+hit_by net plan domain = filter (is_hit net plan domain) (device_numbers net)

@@ -29,13 +29,13 @@ pub fn hit_devices(
     topo: &Topology,
     plan: &Plan,
     index: &WalkIndex,
-    f: DomainId,
+    domain: DomainId,
 ) -> Result<DeviceList, NoMemory>
-    requires domain { IsDomain (network topo.now) f }
+    requires domain { IsDomain (network topo.now) domain }
     requires indexed { IsIndexOf (network topo.now) plan.now index.now }
-    ensures { IfOk result (λ hit. hit ≡ hit_by (network topo.now) plan.now f) }
+    ensures { IfOk result (λ hit. hit ≡ hit_by (network topo.now) plan.now domain) }
 {
-    let mut spans = spans_of(alloc, topo, plan, index, f)?;
+    let mut spans = spans_of(alloc, topo, plan, index, domain)?;
     spans.sort_unstable_by_key(|span| span.from);
     let devices = devices_in(alloc, index.order(), &spans)?;
     ascending(alloc, devices)

@@ -165,15 +165,15 @@ pub(crate) fn spans_of(
     topo: &Topology,
     plan: &Plan,
     index: &WalkIndex,
-    f: DomainId,
+    domain: DomainId,
 ) -> Result<Vec<Span>, NoMemory>
-    requires domain { IsDomain (network topo.now) f }
+    requires domain { IsDomain (network topo.now) domain }
     requires indexed { IsIndexOf (network topo.now) plan.now index.now }
-    ensures { IfOk result (λ spans. spans.items ≡ places.below_domain (network topo.now) index.now plan.now.backup_root f) }
+    ensures { IfOk result (λ spans. spans.items ≡ places.below_domain (network topo.now) index.now plan.now.backup_root domain) }
 {
     let cut = plan.backup_root;
     let mut spans = Vec::new(alloc);
-    match f {
+    match domain {
         DomainId::Listed(k) => {
             add_below_devices(alloc, &mut spans, index, cut, topo.domain_devices(k))?;
             add_below_links(alloc, &mut spans, index, cut, topo.domain_links(k))?;

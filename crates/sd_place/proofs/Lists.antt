@@ -1,5 +1,5 @@
 -- Lists of numbers: which they have, and that none stands twice.
-use Rattle.std.specs.Prelude.{◌≡◌, ℕ, zero, suc, ◌<◌, ◌≤◌, Bool, true, false, ◌||◌, List, [], ◌∷◌, ◌++◌, length, find, filter, flat_map, nat_eq, Option, Some, None, is_some, slice_get, ◌⊎◌}
+use Rattle.std.specs.Prelude.{◌≡◌, ℕ, zero, suc, ◌<◌, ◌≤◌, Bool, true, false, List, [], ◌∷◌, ◌++◌, length, find, filter, flat_map, nat_eq, Option, Some, None, is_some, slice_get, ◌⊎◌}
 use Rattle.std.specs.List.{list_any, AllByRecursion, IsDistinct}
 use Rattle.std.specs.Option.{option_or}
 use Rattle.std.proofs.Common.{refl, sym, ap, ◌∙◌, subst, arith, inl, inr, cond}
@@ -9,6 +9,7 @@ use Rattle.std.proofs.lemmas.Map.Keys.{IsDistinct-cons}
 use Rattle.std.proofs.lemmas.Map.Steps.{length-le_from_distinct_below}
 use Rattle.std.proofs.lemmas.Option.{same_Some}
 use Rattle.sd_num.specs.Lists.{has, below, same_number}
+use Rattle.sd_num.proofs.Places.{has_at, at_has, kept_parts, kept_from, has_below, below_has}
 use Rattle.sd_plan.proofs.Numbered.{none_found}
 use Rattle.sd_place.proofs.Elements.{any_found}
 
@@ -22,22 +23,6 @@ has_left xs ys x there = list_any-append (nat_eq x) xs ys ∙ or_left (has xs x)
 
 pub has_right : (xs ys : List ℕ) (x : ℕ) → has ys x ≡ true → has (xs ++ ys) x ≡ true
 has_right xs ys x there = list_any-append (nat_eq x) xs ys ∙ or_right (has xs x) (has ys x) there
-
-pub has_below : (n x : ℕ) → x < n → has (below n) x ≡ true
-has_below zero x within = absurd (omega arith)
-has_below (suc n) x within =
-    elim (cases_lt x n) [
-      | inl less ↦ has_left (below n) (n ∷ []) x (has_below n x less)
-      | inr most ↦ has_right (below n) (n ∷ []) x (or_left (nat_eq x n) false (eq-eqb x n (omega arith)))
-    ]
-
-pub below_has : (n x : ℕ) → has (below n) x ≡ true → x < n
-below_has zero x there = cc
-below_has (suc n) x there =
-    elim (has_both (below n) (n ∷ []) x there) [
-      | inl less ↦ (let before : x < n = below_has n x less in omega arith)
-      | inr last ↦ elim (or_cases (nat_eq x n) false last) [ inl same ↦ (let is : x ≡ n = eqb-true x n same in omega arith) | inr none ↦ cc ]
-    ]
 
 -- what some element passes
 pub any_has : (p : ℕ → Bool) (xs : List ℕ) → list_any p xs ≡ true → (x : ℕ) × (has xs x ≡ true) × (p x ≡ true)
@@ -56,44 +41,7 @@ has_any p (y ∷ ys) x there passes =
       | inr later ↦ or_right (p y) (list_any p ys) (has_any p ys x later passes)
     ]
 
--- what stands at a place
-pub has_at : (xs : List ℕ) (i x : ℕ) → slice_get xs i ≡ Some x → has xs x ≡ true
-has_at [] i x at = cc
-has_at (y ∷ ys) zero x at = or_left (nat_eq x y) (has ys x) (eq-eqb x y (sym (same_Some y x at)))
-has_at (y ∷ ys) (suc i) x at = or_right (nat_eq x y) (has ys x) (has_at ys i x at)
-
-pub at_has : (xs : List ℕ) (x : ℕ) → has xs x ≡ true → (i : ℕ) × (slice_get xs i ≡ Some x)
-at_has [] x there = cc
-at_has (y ∷ ys) x there =
-    elim (or_cases (nat_eq x y) (has ys x) there) [
-      | inl here ↦ (0, ap (λ (n : ℕ). Some n) (sym (eqb-true x y here)))
-      | inr later ↦ (let more : (i : ℕ) × (slice_get ys i ≡ Some x) = at_has ys x later in (suc more.0, more.1))
-    ]
-
 -- Filters
-
-pub kept_parts : (p : ℕ → Bool) (xs : List ℕ) (x : ℕ) → has (filter p xs) x ≡ true → (p x ≡ true) × (has xs x ≡ true)
-kept_parts p [] x there = cc
-kept_parts p (y ∷ ys) x there = by (p y) refl there (kept_parts p ys x)
-  where
-    by : (b : Bool) → p y ≡ b → has (cond b (y ∷ filter p ys) (filter p ys)) x ≡ true
-        → (has (filter p ys) x ≡ true → (p x ≡ true) × (has ys x ≡ true)) → (p x ≡ true) × (has (y ∷ ys) x ≡ true)
-    by true passes there rest =
-        elim (or_cases (nat_eq x y) (has (filter p ys) x) there) [
-          | inl here ↦ (ap p (eqb-true x y here) ∙ passes, or_left (nat_eq x y) (has ys x) here)
-          | inr later ↦ (let more : (p x ≡ true) × (has ys x ≡ true) = rest later in (more.0, or_right (nat_eq x y) (has ys x) more.1))
-        ]
-    by false fails there rest = let more : (p x ≡ true) × (has ys x ≡ true) = rest there in (more.0, or_right (nat_eq x y) (has ys x) more.1)
-
-pub kept_from : (p : ℕ → Bool) (xs : List ℕ) (x : ℕ) → p x ≡ true → has xs x ≡ true → has (filter p xs) x ≡ true
-kept_from p [] x passes there = cc
-kept_from p (y ∷ ys) x passes there = by (p y) refl (or_cases (nat_eq x y) (has ys x) there) (kept_from p ys x passes)
-  where
-    by : (b : Bool) → p y ≡ b → (nat_eq x y ≡ true) ⊎ (has ys x ≡ true) → (has ys x ≡ true → has (filter p ys) x ≡ true) → has (cond b (y ∷ filter p ys) (filter p ys)) x ≡ true
-    by true it (inl here) rest = or_left (nat_eq x y) (has (filter p ys) x) here
-    by true it (inr later) rest = or_right (nat_eq x y) (has (filter p ys) x) (rest later)
-    by false it (inl here) rest = absurd (both_ways (p y) it (ap p (sym (eqb-true x y here)) ∙ passes))
-    by false it (inr later) rest = rest later
 
 -- of the numbers below n a filter keeps those that pass
 pub has-filter_below : (p : ℕ → Bool) (n x : ℕ) → x < n → has (filter p (below n)) x ≡ p x

@@ -12,7 +12,7 @@ use Rattle.sd_place.specs.Gathered.{is_flagged, neighbour_by, over_before, neigh
 use Rattle.sd_plan.proofs.Listing.{rows_grown}
 
 -- a neighbour over a link
-abbrev neighbour_to : ℕ → ℕ → Neighbour
+abbrev pub neighbour_to : ℕ → ℕ → Neighbour
 neighbour_to l c = record { device = c; link = l }
 
 -- the neighbours over a link that may be used

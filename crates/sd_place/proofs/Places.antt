@@ -1,17 +1,18 @@
 -- The order of what is placed, and the place of each.
-use Rattle.std.specs.Prelude.{◌≡◌, ℕ, zero, suc, ◌<◌, ◌≤◌, Bool, true, false, List, [], ◌∷◌, ◌++◌, length, map, find, nat_eq, Option, Some, None, is_some, slice_get, All, get_or, option_map, ◌⊎◌}
+use Rattle.std.specs.Prelude.{◌≡◌, ℕ, zero, suc, ◌<◌, ◌≤◌, true, false, List, [], ◌∷◌, ◌++◌, length, map, nat_eq, Option, Some, None, is_some, slice_get, All, get_or, option_map, ◌⊎◌}
 use Rattle.std.specs.List.{list_any}
-use Rattle.std.proofs.Common.{refl, sym, ap, ◌∙◌, arith, inl, inr, cond, set}
+use Rattle.std.proofs.Common.{refl, sym, ap, ◌∙◌, arith, inl, inr, set}
 use Rattle.std.proofs.Math.ListN.{length-set}
-use Rattle.std.proofs.lemmas.Bool.{or_left, or_right, both_ways, cases_lt, cases_eq, eqb-true, eq-eqb}
+use Rattle.std.proofs.lemmas.Bool.{both_ways, cases_lt, cases_eq, eqb-true, eq-eqb}
 use Rattle.std.proofs.lemmas.List.{get_or-set_same, get_or-set_other, length-map}
 use Rattle.std.proofs.lemmas.Option.{same_Some, slice_get-map, slice_get_within, slice_get-get_or, slice_get_past}
 use Rattle.sd_place.specs.declared.placement.Placed.{Placed}
 use Rattle.sd_place.specs.Spreading.{is_placed, placed_at}
 use Rattle.sd_place.specs.PlacementView.{AreTied}
 use Rattle.sd_place.proofs.Elements.{any_at, any_found, found_at_place}
-use Rattle.sd_place.proofs.Lists.{apart_from_places, few, at_has}
+use Rattle.sd_place.proofs.Lists.{apart_from_places, few}
 use Rattle.sd_num.specs.Lists.{has}
+use Rattle.sd_num.proofs.Places.{at_has}
 
 -- places of a longer list
 pub at_before : {X : Type 0} (xs ys : List X) (i : ℕ) (x : X) → slice_get xs i ≡ Some x → slice_get (xs ++ ys) i ≡ Some x

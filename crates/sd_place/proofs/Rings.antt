@@ -4,11 +4,12 @@ use Rattle.std.proofs.Common.{refl, sym, ap, ◌∙◌, subst, arith, inl, inr}
 use Rattle.std.proofs.lemmas.Bool.{and_parts, and_from, or_cases, or_left, false_from_ne_true, eqb-true, eq-eqb}
 use Rattle.std.proofs.lemmas.Option.{same_Some}
 use Rattle.sd_num.specs.Lists.{has, same_number}
+use Rattle.sd_num.proofs.Places.{has_below, below_has, kept_parts, kept_from}
 use Rattle.sd_topo.specs.Network.{Network, device_numbers}
 use Rattle.sd_plan.specs.declared.Absent.{Absent}
 use Rattle.sd_place.specs.Usable.{are_neighbours}
 use Rattle.sd_place.specs.Spreading.{ring}
-use Rattle.sd_place.proofs.Lists.{has_below, below_has, kept_parts, kept_from, has_flat, flat_has, AreApart, apart_filter, apart_flat, apart_below, few, none_nil, found_has, has_found, same_is, is_same}
+use Rattle.sd_place.proofs.Lists.{has_flat, flat_has, AreApart, apart_filter, apart_flat, apart_below, few, none_nil, found_has, has_found, same_is, is_same}
 use Rattle.sd_place.proofs.Walks.{linked, steps, steps_some, no_steps, at_home, Nearer, nearer}
 
 module _ (net : Network) (absent : Absent) (source : ℕ) (through : ℕ → Bool) where

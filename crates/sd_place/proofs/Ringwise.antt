@@ -6,13 +6,14 @@ use Rattle.std.proofs.lemmas.List.{append-nil, drop_at, map-append}
 use Rattle.std.proofs.lemmas.List.Concat.{flat_map-append}
 use Rattle.std.proofs.lemmas.Option.{same_Some}
 use Rattle.sd_num.specs.Lists.{has, below, of_some, same_number}
+use Rattle.sd_num.proofs.Places.{below_has, has_below}
 use Rattle.sd_topo.specs.Network.{Network, device_numbers}
 use Rattle.sd_plan.specs.declared.Absent.{Absent}
 use Rattle.sd_place.specs.Usable.{are_neighbours, neighbours_of}
 use Rattle.sd_place.specs.declared.placement.Placed.{Placed}
 use Rattle.sd_place.specs.Spreading.{is_placed, below_device, ring, placed_ring, spread}
 use Rattle.sd_place.specs.Sweeps.{is_new, children, Sweeps, done}
-use Rattle.sd_place.proofs.Lists.{below_has, has_below, has_flat, flat_has, filter_same, flat_same, found_has, is_same, same_is}
+use Rattle.sd_place.proofs.Lists.{has_flat, flat_has, filter_same, flat_same, found_has, is_same, same_is}
 use Rattle.sd_place.proofs.Walks.{linked, linked_swap, steps, steps_reach, steps_some, no_steps, last_link, joined}
 use Rattle.sd_place.proofs.Rings.{is_of, part_of, in_ring, in_part, ring_has, ring_apart, no_ring}
 use Rattle.sd_place.proofs.Turning.{placed-devices, placed-append}

@@ -5,13 +5,14 @@ use Rattle.std.proofs.lemmas.Bool.{or_cases, or_left, or_right, both_ways, eqb-t
 use Rattle.std.proofs.lemmas.List.{append-nil}
 use Rattle.std.proofs.lemmas.Option.{same_Some, slice_get-map}
 use Rattle.sd_num.specs.Lists.{has, below, of_some}
+use Rattle.sd_num.proofs.Places.{below_has, at_has, has_at}
 use Rattle.sd_topo.specs.Network.{Network, joins, link_numbers}
 use Rattle.sd_plan.specs.declared.Hop.{Hop}
 use Rattle.sd_plan.specs.declared.Absent.{Absent}
 use Rattle.sd_place.specs.Usable.{is_usable, link_between, are_neighbours}
 use Rattle.sd_place.specs.declared.placement.Placed.{Placed}
 use Rattle.sd_place.specs.Spreading.{below_device, ring, placed_ring, spread, IsBelow, SpreadGrows}
-use Rattle.sd_place.proofs.Lists.{below_has, has_flat, at_has, has_at, found_has, AreApart, apart_flat, apart_below, apart_places}
+use Rattle.sd_place.proofs.Lists.{has_flat, found_has, AreApart, apart_flat, apart_below, apart_places}
 use Rattle.sd_place.proofs.Places.{at_before}
 use Rattle.sd_place.proofs.Walks.{steps}
 use Rattle.sd_place.proofs.Rings.{IsInRing, in_ring, ring_apart}

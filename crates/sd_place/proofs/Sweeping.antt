@@ -1,16 +1,17 @@
 -- The queue is worked off ring after ring.
-use Rattle.std.specs.Prelude.{◌≡◌, ℕ, ◌<◌, Bool, true, false, ◌&&◌, ◌||◌, not, List, [], ◌∷◌, ◌++◌, length, map, find, filter, flat_map, nat_eq, Some, slice_index_or}
+use Rattle.std.specs.Prelude.{◌≡◌, ℕ, ◌<◌, Bool, true, false, ◌&&◌, ◌||◌, not, List, [], ◌∷◌, ◌++◌, length, map, find, filter, flat_map, Some, slice_index_or}
 use Rattle.std.proofs.Common.{refl, sym, ap, ◌∙◌, subst, cond, append_assoc}
-use Rattle.std.proofs.lemmas.Bool.{or_left, or_right, both_ways, false_from_ne_true, eq-eqb, ne_eqb}
+use Rattle.std.proofs.lemmas.Bool.{both_ways, false_from_ne_true, eq-eqb, ne_eqb}
 use Rattle.std.proofs.lemmas.List.{append-nil}
 use Rattle.sd_num.specs.Lists.{has, same_number}
+use Rattle.sd_num.proofs.Places.{below_has}
 use Rattle.sd_topo.specs.Network.{Network, device_numbers}
 use Rattle.sd_plan.specs.declared.Absent.{Absent}
 use Rattle.sd_place.specs.Usable.{are_neighbours, neighbours_of}
 use Rattle.sd_place.specs.declared.placement.Placed.{Placed}
 use Rattle.sd_place.specs.Spreading.{is_placed, below_device}
 use Rattle.sd_place.specs.Sweeps.{is_new, children, Sweeps, turn}
-use Rattle.sd_place.proofs.Lists.{has-filter_below, below_has, filter_same, flat_same, AreApart, found_has, same_is}
+use Rattle.sd_place.proofs.Lists.{has-filter_below, filter_same, flat_same, AreApart, found_has, same_is}
 use Rattle.sd_place.proofs.Turning.{placed-devices, placed-append, new_among, placed_below}
 
 module _ (may_pass : List Bool) (net : Network) (absent : Absent) where

@@ -1,5 +1,5 @@
 -- What the neighbours of one device place, and those of some devices in turn.
-use Rattle.std.specs.Prelude.{◌≡◌, ℕ, ◌+◌, ◌<◌, Bool, true, false, ◌&&◌, ◌||◌, not, List, [], ◌∷◌, ◌++◌, length, map, find, filter, flat_map, nat_eq, Option, Some, None, is_some, option_map, slice_index_or, if◌then◌else◌}
+use Rattle.std.specs.Prelude.{◌≡◌, ℕ, ◌+◌, Bool, true, false, ◌&&◌, ◌||◌, not, List, [], ◌∷◌, ◌++◌, length, map, find, filter, flat_map, nat_eq, Option, Some, None, is_some, option_map, slice_index_or, if◌then◌else◌}
 use Rattle.std.proofs.Common.{refl, sym, ap, ◌∙◌, subst, cond}
 use Rattle.std.proofs.lemmas.Bool.{both_ways, false_from_ne_true, eqb-true, eq-eqb, ne_eqb, not_from_true, and_right}
 use Rattle.std.proofs.lemmas.List.Folds.{list_any-append}
@@ -13,6 +13,7 @@ use Rattle.sd_place.specs.Spreading.{is_placed, below_device}
 use Rattle.sd_place.specs.Sweeps.{child, is_new, children}
 use Rattle.sd_place.proofs.Elements.{find_same}
 use Rattle.sd_place.proofs.Lists.{filter_same, AreApart, apart_below, find_first, find_none}
+use Rattle.sd_place.proofs.Turned.{neighbour_over}
 use Rattle.sd_place.proofs.Walks.{joins_swap}
 
 -- Whether a device is placed
@@ -55,9 +56,6 @@ still_new may_pass order p d other =
 -- One device
 
 module _ (net : Network) (absent : Absent) where
-  abbrev pub neighbour_to : ℕ → ℕ → Neighbour
-  neighbour_to y l = record { device = y; link = l }
-
   -- the lowest link is the same from either end
   lowest_swap : (d e : ℕ) → link_between net absent d e ≡ find (λ l. is_usable net absent l && joins net l e d) (link_numbers net)
   lowest_swap d e =
@@ -66,10 +64,10 @@ module _ (net : Network) (absent : Absent) where
   module _ (may_pass : List Bool) (parent depth : ℕ) where
     -- neighbours to a device that is not new place nothing
     passed_by : (order : List Placed) (y : ℕ) (links : List ℕ) (rest : List Neighbour) → is_new may_pass order y ≡ false
-        → children may_pass parent depth order (map (neighbour_to y) links ++ rest) ≡ children may_pass parent depth order rest
+        → children may_pass parent depth order (map (neighbour_over y) links ++ rest) ≡ children may_pass parent depth order rest
     passed_by order y [] rest old = refl
     passed_by order y (l ∷ links) rest old =
-        ap (λ (b : Bool). if b then child parent depth (neighbour_to y l) ∷ children may_pass parent depth (order ++ child parent depth (neighbour_to y l) ∷ []) (map (neighbour_to y) links ++ rest) else children may_pass parent depth order (map (neighbour_to y) links ++ rest)) old
+        ap (λ (b : Bool). if b then child parent depth (neighbour_over y l) ∷ children may_pass parent depth (order ++ child parent depth (neighbour_over y l) ∷ []) (map (neighbour_over y) links ++ rest) else children may_pass parent depth order (map (neighbour_over y) links ++ rest)) old
         ∙ passed_by order y links rest old
 
     -- the neighbours that are new
@@ -78,12 +76,12 @@ module _ (net : Network) (absent : Absent) where
 
     -- the neighbours to some devices place the neighbours among them that are new
     pub placed_among : (order : List Placed) (ys : List ℕ) → AreApart ys
-        → children may_pass parent depth order (flat_map (λ y. map (neighbour_to y) (links_between net absent parent y)) ys) ≡ map (below_device net absent parent depth) (new_among order ys)
+        → children may_pass parent depth order (flat_map (λ y. map (neighbour_over y) (links_between net absent parent y)) ys) ≡ map (below_device net absent parent depth) (new_among order ys)
     placed_among order [] apart = refl
     placed_among order (y ∷ ys) apart = by (is_new may_pass order y) refl (links_between net absent parent y) refl (λ longer. placed_among longer ys apart.1)
       where
         row : ℕ → List Neighbour
-        row z = map (neighbour_to z) (links_between net absent parent z)
+        row z = map (neighbour_over z) (links_between net absent parent z)
 
         Rest : Type 0
         Rest = (longer : List Placed) → children may_pass parent depth longer (flat_map row ys) ≡ map (below_device net absent parent depth) (new_among longer ys)
@@ -92,22 +90,22 @@ module _ (net : Network) (absent : Absent) where
         goal b n = cond (b && n) (y ∷ new_among order ys) (new_among order ys)
 
         by : (b : Bool) → is_new may_pass order y ≡ b → (links : List ℕ) → links_between net absent parent y ≡ links → Rest
-            → children may_pass parent depth order (map (neighbour_to y) (links_between net absent parent y) ++ flat_map row ys)
+            → children may_pass parent depth order (map (neighbour_over y) (links_between net absent parent y) ++ flat_map row ys)
             ≡ map (below_device net absent parent depth) (cond (is_new may_pass order y && are_neighbours net absent y parent) (y ∷ new_among order ys) (new_among order ys))
         by false old links is rest =
             passed_by order y (links_between net absent parent y) (flat_map row ys) old ∙ rest order
             ∙ ap (λ (b : Bool). map (below_device net absent parent depth) (goal b (are_neighbours net absent y parent))) (sym old)
         by true new [] is rest =
             let none : link_between net absent y parent ≡ None = lowest_swap y parent ∙ find_none (λ l. is_usable net absent l && joins net l parent y) (link_numbers net) is in
-            ap (λ (links : List ℕ). children may_pass parent depth order (map (neighbour_to y) links ++ flat_map row ys)) is ∙ rest order
+            ap (λ (links : List ℕ). children may_pass parent depth order (map (neighbour_over y) links ++ flat_map row ys)) is ∙ rest order
             ∙ ap (λ (n : Bool). map (below_device net absent parent depth) (goal true n)) (sym (ap (λ (o : Option ℕ). is_some o) none))
             ∙ ap (λ (b : Bool). map (below_device net absent parent depth) (goal b (are_neighbours net absent y parent))) (sym new)
         by true new (l ∷ links) is rest =
             let found : link_between net absent y parent ≡ Some l = lowest_swap y parent ∙ find_first (λ l. is_usable net absent l && joins net l parent y) (link_numbers net) links l is in
-            let p : Placed = child parent depth (neighbour_to y l) in
+            let p : Placed = child parent depth (neighbour_over y l) in
             let same : p ≡ below_device net absent parent depth y = ap (λ (o : Option ℕ). let q : Placed = record { device = y; depth = depth + 1; hop = option_map (λ k. record { parent = parent; link = k }) o } in q) (sym found) in
-            ap (λ (ls : List ℕ). children may_pass parent depth order (map (neighbour_to y) ls ++ flat_map row ys)) is
-            ∙ ap (λ (b : Bool). if b then p ∷ children may_pass parent depth (order ++ p ∷ []) (map (neighbour_to y) links ++ flat_map row ys) else children may_pass parent depth order (map (neighbour_to y) links ++ flat_map row ys)) new
+            ap (λ (ls : List ℕ). children may_pass parent depth order (map (neighbour_over y) ls ++ flat_map row ys)) is
+            ∙ ap (λ (b : Bool). if b then p ∷ children may_pass parent depth (order ++ p ∷ []) (map (neighbour_over y) links ++ flat_map row ys) else children may_pass parent depth order (map (neighbour_over y) links ++ flat_map row ys)) new
             ∙ ap (λ (ps : List Placed). p ∷ ps) (passed_by (order ++ p ∷ []) y links (flat_map row ys) (not_new may_pass order p) ∙ rest (order ++ p ∷ [])
             ∙ ap (λ zs. map (below_device net absent parent depth) zs) (filter_same (λ z. is_new may_pass (order ++ p ∷ []) z && are_neighbours net absent z parent) (λ z. is_new may_pass order z && are_neighbours net absent z parent) ys
             (λ z there. ap (λ b. b && are_neighbours net absent z parent) (still_new may_pass order p z (λ is_y. both_ways (has ys y) apart.0 (subst (λ w. has ys w ≡ true) is_y there))))))

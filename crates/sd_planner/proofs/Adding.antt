@@ -18,7 +18,8 @@ use Rattle.sd_planner.specs.Climbs.{way_up}
 use Rattle.sd_planner.specs.Flags.{is_set, AreSet}
 use Rattle.sd_planner.specs.Things.{AddsAll, meets, met_device, met_link, parents_of}
 use Rattle.sd_planner.specs.declared.backups.things.Things.{Things}
-use Rattle.sd_planner.proofs.Trees.{found_at_place, stands, behind, way_step, way_none}
+use Rattle.sd_place.proofs.Growing.{found_own}
+use Rattle.sd_planner.proofs.Trees.{stands, behind, way_step, way_none}
 
 pub or_false : (t : Bool) → (t || false) ≡ t
 or_false true = refl
@@ -122,7 +123,7 @@ goes_up net root absent list p hop tree found has_hop = let s = stands list p.de
         subst (GoesUp net list p) same
         (record {
           parent = b.parent;
-          found = ap (placed_at list) (sym b.leads) ∙ found_at_place list b.place b.parent tree.distinct b.at;
+          found = ap (placed_at list) (sym b.leads) ∙ found_own net root absent list tree b.place b.parent b.at;
           deeper = b.deeper;
           way = way_step net root absent list tree (suc i) p at b;
           within = b.within;

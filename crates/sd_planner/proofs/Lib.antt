@@ -8,6 +8,7 @@ mod Walking
 mod Placing
 mod Joining
 mod Serving
+mod FirstHops
 mod Adding
 mod Near
 mod Within

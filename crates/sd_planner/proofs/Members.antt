@@ -4,8 +4,8 @@ use Rattle.std.specs.List.{list_any}
 use Rattle.std.proofs.lemmas.Bool.{or_left, or_right, or_cases, and_parts, and_from, cases_lt, eqb-true, eq-eqb, ltb-true, lt-ltb}
 use Rattle.std.proofs.lemmas.List.Elements.{All-head, All-tail}
 use Rattle.std.proofs.lemmas.List.Folds.{list_any-append}
-use Rattle.std.proofs.lemmas.Option.{same_Some}
 use Rattle.sd_num.specs.Lists.{below, has}
+use Rattle.sd_num.proofs.Places.{has_at}
 use Rattle.sd_place.proofs.Elements.{any_at}
 
 -- two tests that imply each other
@@ -30,9 +30,6 @@ passed p (y ∷ ys) any = elim (or_cases (p y) (list_any p ys) any) [
 ]
 
 -- of numbers
-pub has_at : (xs : List ℕ) (i x : ℕ) → slice_get xs i ≡ Some x → has xs x ≡ true
-has_at xs i x at = any_at (nat_eq x) xs i x at (eq-eqb x x refl)
-
 pub any_has : (p : ℕ → Bool) (xs : List ℕ) (x : ℕ) → has xs x ≡ true → p x ≡ true → list_any p xs ≡ true
 any_has p xs x there passes = let h = passed (nat_eq x) xs there in any_at p xs h.place h.element h.at (ap p (sym (eqb-true x h.element h.passes)) ∙ passes)
 

@@ -1,8 +1,8 @@
 -- Walks up a tree of placed devices.
-use Rattle.std.proofs.Common.{◌≡◌, ◌≢◌, ℕ, zero, suc, ◌+◌, ◌<◌, ◌≤◌, Bool, true, false, ◌||◌, List, [], ◌∷◌, length, take, cond, nat_eq, Some, None, slice_get, refl, sym, ap, ◌∙◌, subst, arith}
+use Rattle.std.proofs.Common.{◌≡◌, ℕ, zero, suc, ◌+◌, ◌<◌, ◌≤◌, Bool, true, false, ◌||◌, List, [], ◌∷◌, length, take, cond, nat_eq, Some, None, slice_get, refl, sym, ap, ◌∙◌, subst, arith}
 use Rattle.std.specs.Prelude.{option_and_then}
 use Rattle.std.specs.List.{list_any}
-use Rattle.std.proofs.lemmas.Bool.{eqb-true, eq-eqb, ne_eqb}
+use Rattle.std.proofs.lemmas.Bool.{eqb-true}
 use Rattle.std.proofs.lemmas.Option.{same_Some, slice_get_within}
 use Rattle.sd_num.specs.Lists.{of_some}
 use Rattle.sd_topo.specs.Network.{Network}
@@ -12,19 +12,8 @@ use Rattle.sd_plan.specs.Walks.{devices_of, links_of}
 use Rattle.sd_place.specs.declared.placement.Placed.{Placed}
 use Rattle.sd_place.specs.Spreading.{placed_at, IsBelow}
 use Rattle.sd_place.specs.Placing.{Grows}
+use Rattle.sd_place.proofs.Growing.{at_taken, found_own}
 use Rattle.sd_planner.specs.Climbs.{hop_up, climb, way_up, leads_over}
-
--- no two of the placed devices are the same
-abbrev pub AreApart : List Placed → Type 0
-AreApart list = (i j : ℕ) (p q : Placed) → i < j → slice_get list i ≡ Some p → slice_get list j ≡ Some q → p.device ≢ q.device
-
--- a placed device is found where it stands
-pub found_at_place : (list : List Placed) (i : ℕ) (p : Placed) → AreApart list → slice_get list i ≡ Some p → placed_at list p.device ≡ Some p
-found_at_place [] i p apart at = cc
-found_at_place (q ∷ list) zero p apart at = ap (λ t. cond t (Some q) (placed_at list p.device)) (eq-eqb q.device p.device (ap (λ x. x.device) (same_Some q p at))) ∙ at
-found_at_place (q ∷ list) (suc i) p apart at =
-    ap (λ t. cond t (Some q) (placed_at list p.device)) (ne_eqb q.device p.device (apart 0 (suc i) q p (omega arith) refl at))
-    ∙ found_at_place list i p (λ j k a b less first second. apart (suc j) (suc k) a b (omega arith) first second) at
 
 -- what is found stands somewhere
 pub record Stands (list : List Placed) (d : ℕ) (p : Placed) : Type 0 where
@@ -40,17 +29,10 @@ stands (q ∷ list) d p found = by_test (λ later. stands list d p later) (nat_e
     by_test more true same found = record { place = 0; at = found; is = subst (λ x. x.device ≡ d) (same_Some q p found) (eqb-true q.device d same) }
     by_test more false other found = let rest = more found in record { place = suc rest.place; at = rest.at; is = rest.is }
 
--- what stands among the first stands there
-pub at_taken : {X : Type 0} (list : List X) (n i : ℕ) (x : X) → slice_get (take n list) i ≡ Some x → (i < n) × (slice_get list i ≡ Some x)
-at_taken list zero i x at = cc
-at_taken [] (suc n) i x at = cc
-at_taken (y ∷ list) (suc n) zero x at = (omega arith, at)
-at_taken (y ∷ list) (suc n) (suc i) x at = let more = at_taken list n i x at in (omega (arith, more.0), more.1)
-
 module _ (net : Network) (root : ℕ) (absent : Absent) (list : List Placed) (tree : Grows net root absent list) where
   -- the hop of a device at a place
   hop_at : (i : ℕ) (p : Placed) → slice_get list i ≡ Some p → hop_up list p.device ≡ p.hop
-  hop_at i p at = ap (λ o. option_and_then (λ q. q.hop) o) (found_at_place list i p tree.distinct at)
+  hop_at i p at = ap (λ o. option_and_then (λ q. q.hop) o) (found_own net root absent list tree i p at)
 
   -- a device but the first has a hop, and its parent stands before it
   pub record IsBehind (i : ℕ) (p : Placed) : Type 0 where
@@ -70,7 +52,7 @@ module _ (net : Network) (root : ℕ) (absent : Absent) (list : List Placed) (tr
   behind zero p some at = absurd (omega arith)
   behind (suc i) p some at =
       let up : IsBelow net absent (take (i + 1) list) p = tree.parents i p (subst (λ n. slice_get list n ≡ Some p) (omega arith) at) in
-      let parts = at_taken list (i + 1) up.place up.parent up.before in
+      let parts = at_taken (i + 1) list up.place up.parent up.before in
       record {
         hop = up.hop;
         has_hop = up.has_hop;

@@ -12,7 +12,8 @@ use Rattle.sd_place.specs.Spreading.{placed_at}
 use Rattle.sd_place.specs.Placing.{Grows}
 use Rattle.sd_planner.specs.Climbs.{hop_up, climb, way_up}
 use Rattle.sd_planner.specs.Things.{parents_of}
-use Rattle.sd_planner.proofs.Trees.{stands, Stands, found_at_place}
+use Rattle.sd_place.proofs.Growing.{found_own}
+use Rattle.sd_planner.proofs.Trees.{stands, Stands}
 use Rattle.sd_planner.proofs.Adding.{goes_up, GoesUp}
 
 module _ (net : Network) (root : ℕ) (absent : Absent) (list : List Placed) (tree : Grows net root absent list) where
@@ -23,7 +24,7 @@ module _ (net : Network) (root : ℕ) (absent : Absent) (list : List Placed) (tr
       by_found None is none = cc
       by_found (Some p) is has_hop =
           let s : Stands list d p = stands list d p is in
-          let g : GoesUp net list p hop = goes_up net root absent list p hop tree (found_at_place list s.place p tree.distinct s.at) has_hop in
+          let g : GoesUp net list p hop = goes_up net root absent list p hop tree (found_own net root absent list tree s.place p s.at) has_hop in
           (g.within, g.link)
 
   pub record AreWithin (hops : List Hop) : Type 0 where

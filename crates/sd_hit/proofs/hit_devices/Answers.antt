@@ -19,8 +19,8 @@ pub devices_in-requires-clause-range : goal.devices_in-requires-clause-range
 devices_in-requires-clause-range c =
     let m = length c.args.index.now.order in
     let inside : All (λ (s : Span). s.to ≤ m) c.in_ok-spans.spans.items =
-    All-same (λ (s : Span). s.to ≤ m) c.in_ok-spans.spans.items (below_domain (network c.args.topo.now) c.args.index.now c.args.plan.now.backup_root c.args.f) c.in_ok-spans.ensures
-    (domain_within (network c.args.topo.now) c.args.plan.now c.args.index.now c.args.f c.args.topo.now.is_network c.requires.indexed c.requires.domain)
+    All-same (λ (s : Span). s.to ≤ m) c.in_ok-spans.spans.items (below_domain (network c.args.topo.now) c.args.index.now c.args.plan.now.backup_root c.args.domain) c.in_ok-spans.ensures
+    (domain_within (network c.args.topo.now) c.args.plan.now c.args.index.now c.args.domain c.args.topo.now.is_network c.requires.indexed c.requires.domain)
     in
     let sorted : All (λ (s : Span). s.to ≤ m) c.sort_unstable_by_key.new.self.items =
     All-permutation (λ (s : Span). s.to ≤ m) c.in_ok-spans.spans.items c.sort_unstable_by_key.new.self.items c.sort_unstable_by_key.ensures.permutation inside
@@ -36,7 +36,7 @@ pub returns : goal.returns
 returns c =
     let net = network c.args.topo.now in
     let index = c.args.index.now in
-    let all = below_domain net index c.args.plan.now.backup_root c.args.f in
+    let all = below_domain net index c.args.plan.now.backup_root c.args.domain in
     let spans = c.sort_unstable_by_key.new.self.items in
     let moved : IsPermutation all spans = subst (λ (xs : List Span). IsPermutation xs spans) c.in_ok-spans.ensures c.sort_unstable_by_key.ensures.permutation in
     let devices : c.in_ok-devices.devices.items ≡ picked index.order (is_covered spans) (length index.order) =
@@ -44,8 +44,8 @@ returns c =
     ∙ ap (λ (xs : List Span). picked c.order.result.now (is_covered xs) (length c.order.result.now)) c.deref.ensures.value
     ∙ ap (λ (order : List ℕ). picked order (is_covered spans) (length order)) c.order.ensures
     in
-    if_ok c.ascending.result (λ (list : List ℕ). IsPermutation c.in_ok-devices.devices.items list × IsNonDecreasing list) (λ (list : List ℕ). list ≡ hit_by net c.args.plan.now c.args.f)
+    if_ok c.ascending.result (λ (list : List ℕ). IsPermutation c.in_ok-devices.devices.items list × IsNonDecreasing list) (λ (list : List ℕ). list ≡ hit_by net c.args.plan.now c.args.domain)
     (λ list facts.
-    hit_law net c.args.plan.now index c.args.f spans list c.args.topo.now.is_network c.requires.indexed c.requires.domain moved
+    hit_law net c.args.plan.now index c.args.domain spans list c.args.topo.now.is_network c.requires.indexed c.requires.domain moved
     (subst (λ (xs : List ℕ). IsPermutation xs list) devices facts.0) facts.1)
     c.ascending.ensures

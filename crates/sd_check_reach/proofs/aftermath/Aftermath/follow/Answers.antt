@@ -114,13 +114,13 @@ loop-marks-preserved c =
     }
 
 -- what the mark tells at which the trail ends
-ended : (net : Network) (plan : Plan) (f : DomainId) (hit : List ℕ) (start place d : ℕ) (old marks : List Mark) (trail : List ℕ) (m : Mark) → (m ≡ mark.Unseen → ⊥)
+ended : (net : Network) (plan : Plan) (domain : DomainId) (hit : List ℕ) (start place d : ℕ) (old marks : List Mark) (trail : List ℕ) (m : Mark) → (m ≡ mark.Unseen → ⊥)
     → slice_get hit place ≡ Some d → slice_get marks place ≡ Some m
-    → length marks ≡ length old → AreMarks net plan f hit (λ e. slice_get hit place ≡ Some e) marks → IsTrail hit old marks trail
-    → ((i x : ℕ) → has trail i ≡ true → slice_get hit i ≡ Some x → (e : ℕ) → slice_get hit place ≡ Some e → Fed net plan f e → Fed net plan f x)
+    → length marks ≡ length old → AreMarks net plan domain hit (λ e. slice_get hit place ≡ Some e) marks → IsTrail hit old marks trail
+    → ((i x : ℕ) → has trail i ≡ true → slice_get hit i ≡ Some x → (e : ℕ) → slice_get hit place ≡ Some e → Fed net plan domain e → Fed net plan domain x)
     → (place ≡ start) ⊎ (slice_get marks start ≡ Some mark.Unfed)
-    → IsFollowed net plan f hit start old marks trail (not (is_unfed m))
-ended net plan f hit start place d old marks trail m seen at is size right followed leads begun =
+    → IsFollowed net plan domain hit start old marks trail (not (is_unfed m))
+ended net plan domain hit start place d old marks trail m seen at is size right followed leads begun =
     record {
       size = size;
       followed = followed;
@@ -132,15 +132,15 @@ ended net plan f hit start place d old marks trail m seen at is size right follo
       ];
     }
   where
-    by_fed : (m : Mark) → slice_get marks place ≡ Some m → (m ≡ mark.Unseen → ⊥) → not (is_unfed m) ≡ true → (i x : ℕ) → has trail i ≡ true → slice_get hit i ≡ Some x → Fed net plan f x
+    by_fed : (m : Mark) → slice_get marks place ≡ Some m → (m ≡ mark.Unseen → ⊥) → not (is_unfed m) ≡ true → (i x : ℕ) → has trail i ≡ true → slice_get hit i ≡ Some x → Fed net plan domain x
     by_fed mark.Unseen is seen fed i x there here = absurd (seen refl)
     by_fed mark.Fed is seen fed i x there here = leads i x there here d at (right.fed place d at is)
     by_fed mark.Unfed is seen fed i x there here = cc
 
-    by_unfed : (m : Mark) → slice_get marks place ≡ Some m → not (is_unfed m) ≡ false → AreMarks net plan f hit (λ e. ⊥) marks
+    by_unfed : (m : Mark) → slice_get marks place ≡ Some m → not (is_unfed m) ≡ false → AreMarks net plan domain hit (λ e. ⊥) marks
     by_unfed mark.Unseen is unfed = cc
     by_unfed mark.Fed is unfed = cc
-    by_unfed mark.Unfed is unfed = ends_unfed net plan f hit place d marks at is right
+    by_unfed mark.Unfed is unfed = ends_unfed net plan domain hit place d marks at is right
 
 pub returns : goal.returns
 returns c =

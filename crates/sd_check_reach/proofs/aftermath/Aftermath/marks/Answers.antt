@@ -10,9 +10,9 @@ use Rattle.sd_check_reach.specs.declared.marks.Mark.TheVariants as mark
 use Rattle.sd_check_reach.proofs.Following.{seen_more, written_back}
 use Rattle.sd_check_reach.proofs.aftermath.Aftermath.marks.Goals as goal
 
-all_unseen : (net : Network) (plan : Plan) (f : DomainId) (hit : List ℕ) (marks : List Mark) → length marks ≡ length hit → ((i : ℕ) → i < length hit → slice_get marks i ≡ Some mark.Unseen)
-    → AreMarks net plan f hit (λ e. ⊥) marks
-all_unseen net plan f hit marks size each = record {
+all_unseen : (net : Network) (plan : Plan) (domain : DomainId) (hit : List ℕ) (marks : List Mark) → length marks ≡ length hit → ((i : ℕ) → i < length hit → slice_get marks i ≡ Some mark.Unseen)
+    → AreMarks net plan domain hit (λ e. ⊥) marks
+all_unseen net plan domain hit marks size each = record {
   size = size;
   fed = λ i d at is. let unseen : slice_get marks i ≡ Some mark.Unseen = each i (slice_get_within hit i d at) in cc;
   unfed = λ i d at is. let unseen : slice_get marks i ≡ Some mark.Unseen = each i (slice_get_within hit i d at) in cc;

@@ -12,12 +12,12 @@ returns-then-is_empty c =
     let o = c.args.outage in
     let net = net_of o in
     let plan = plan_of o in
-    let f = o.domain in
-    let acting : c.if-holds_device.acting ≡ acting_end net plan f = elim c.if-holds_device.branch [
+    let domain = o.domain in
+    let acting : c.if-holds_device.acting ≡ acting_end net plan domain = elim c.if-holds_device.branch [
       | then-holds_device w ↦ w.acting-is ∙ sym (ap (λ (b : Bool). if b then plan.backup_root else plan.root) (sym c.holds_device.ensures ∙ w.if-holds_device.true))
       | else-holds_device w ↦ w.acting-is ∙ sym (ap (λ (b : Bool). if b then plan.backup_root else plan.root) (sym c.holds_device.ensures ∙ w.if-holds_device.false))
     ] in
     elim c.then-is_empty.branch [
-      | then-is_empty-via-then-is_empty w ↦ nobody_hit net plan f o.hit.now o.hits (eqb-true _ _ (sym c.is_empty.ensures ∙ w.if-is_empty.true))
-      | then-is_empty-via-else-is_empty+then-holds_device-2 w ↦ held_harmless net plan f (ap (holds_device net f) (sym acting) ∙ sym w.holds_device-else-is_empty.ensures ∙ w.if-holds_device-2.true)
+      | then-is_empty-via-then-is_empty w ↦ nobody_hit net plan domain o.hit.now o.hits (eqb-true _ _ (sym c.is_empty.ensures ∙ w.if-is_empty.true))
+      | then-is_empty-via-else-is_empty+then-holds_device-2 w ↦ held_harmless net plan domain (ap (holds_device net domain) (sym acting) ∙ sym w.holds_device-else-is_empty.ensures ∙ w.if-holds_device-2.true)
     ]

@@ -17,9 +17,9 @@ use Rattle.sd_check_reach.proofs.Joining.{insert_old, insert_new}
 use Rattle.sd_check_reach.proofs.Chained.{onward_hop, stops, comes_round, chain_more, chain_stopped}
 use Rattle.sd_check_reach.proofs.aftermath.Aftermath.walk.Goals as goal
 
-next_within : (net : Network) (plan : Plan) (f : DomainId) (d next : ℕ) → Fits net plan → KeepsRules net plan → d < length net.devices → onward net plan f d ≡ Some next → next < length net.devices
-next_within net plan f d next fits rules within is =
-    let found = onward_hop net plan f (next_hop plan d) next is in
+next_within : (net : Network) (plan : Plan) (domain : DomainId) (d next : ℕ) → Fits net plan → KeepsRules net plan → d < length net.devices → onward net plan domain d ≡ Some next → next < length net.devices
+next_within net plan domain d next fits rules within is =
+    let found = onward_hop net plan domain (next_hop plan d) next is in
     subst (λ x. x < length net.devices) found.3 (next_right net plan d found.0 fits rules within found.1).parent
 
 all_within : (n : ℕ) (keys : List ℕ) (next : ℕ) → next < n → ((x : ℕ) → has keys x ≡ true → x < n) → (x : ℕ) → has (keys ++ next ∷ []) x ≡ true → x < n

@@ -1,7 +1,7 @@
 use Rattle.std.proofs.Common.{◌<◌, ◌++◌, [], ◌∷◌, length, arith, get_or, ap, ◌∙◌}
 use Rattle.std.proofs.lemmas.List.{length-set, get_or_default}
 use Rattle.std.proofs.lemmas.Option.{slice_get-get_or}
-use Rattle.sd_planner.proofs.Members.{has_at}
+use Rattle.sd_num.proofs.Places.{has_at}
 use Rattle.sd_planner.proofs.Listing.{thing_more}
 use Rattle.sd_planner.proofs.backups.domain_lists.add_domain.Goals as goal
 

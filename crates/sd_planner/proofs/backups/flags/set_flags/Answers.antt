@@ -1,6 +1,6 @@
 use Rattle.std.proofs.Common.{◌<◌, length, arith, get_or}
 use Rattle.std.proofs.lemmas.Option.{slice_get-get_or}
-use Rattle.sd_planner.proofs.Members.{has_at}
+use Rattle.sd_num.proofs.Places.{has_at}
 use Rattle.sd_planner.proofs.Setting.{set_more}
 use Rattle.sd_planner.proofs.backups.flags.set_flags.Goals as goal
 

@@ -1,8 +1,8 @@
-use Rattle.std.proofs.Common.{◌≡◌, None, take, find}
-use Rattle.sd_place.specs.Usable.{hop_to}
+use Rattle.std.proofs.Common.{take}
 use Rattle.sd_planner.specs.Serving.{serves_backup_root}
 use Rattle.sd_planner.specs.Surveys.{net_in, absent_in}
+use Rattle.sd_planner.proofs.FirstHops.{NonePasses}
 use Rattle.sd_planner.proofs.backups.survey.Survey.backup_root_backup.Given as goal
 
 abbrev pub invariant-loop-neighbour : goal.invariant-loop-neighbour
-invariant-loop-neighbour l = find (λ n. serves_backup_root (net_in l.self) l.self.root (absent_in l.self) l.own.device l.primary (hop_to n)) (take l.neighbour-index l.neighbour-items) ≡ None
+invariant-loop-neighbour l = NonePasses (serves_backup_root (net_in l.self) l.self.root (absent_in l.self) l.own.device l.primary) (take l.neighbour-index l.neighbour-items)
