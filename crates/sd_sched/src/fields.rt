@@ -19,11 +19,11 @@ const MOST_WHICH: u64 = (1 << 32) - 1;
 
 /// A field that was read.
 #[derive(Clone, Copy)]
-struct Found<'a> {
+pub struct Found<'a> {
     /// Its number, unless it has none within its limit.
-    number: Option<u64>,
+    pub number: Option<u64>,
     /// What is left of the line behind it: nothing, or a space and more fields.
-    left: &'a [u8],
+    pub left: &'a [u8],
 }
 
 /// The numbers of the fields behind a word, or the fault of the line. What is behind the word is
@@ -58,7 +58,7 @@ pub fn read_fields(shape: &[Field], behind: &[u8]) -> Result<[u64; MOST_FIELDS],
 }
 
 /// What follows the space that ends a field, unless the line ends with the field.
-fn behind_space(left: &[u8]) -> Option<&[u8]>
+pub fn behind_space(left: &[u8]) -> Option<&[u8]>
     ensures more { IfSome result (λ bytes. fields_behind left.now ≡ fields bytes.now) }
     ensures none { IfNone result (fields_behind left.now ≡ []) }
 {
@@ -101,8 +101,8 @@ fn read_field(field: Field, bytes: &[u8]) -> Found<'_>
     }
 }
 
-/// Reads the number at the front of the bytes.
-fn read_number(bytes: &[u8], most: u64) -> Found<'_>
+/// Reads the number at the front of the bytes, which is to be at most the given one.
+pub fn read_number(bytes: &[u8], most: u64) -> Found<'_>
     ensures number { result.number ≡ number_within most (number_of (first_of bytes.now)) }
     ensures within { IfSome result.number (λ n. n ≤ most) }
     ensures left { result.left.now ≡ drop (length (first_of bytes.now)) bytes.now }

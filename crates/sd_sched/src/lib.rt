@@ -23,7 +23,7 @@ mod reading;
 mod tests;
 mod words;
 
-pub use fields::first_field;
+pub use fields::{Found, behind_space, first_field, read_number};
 pub use printing::line_text;
 pub use reading::read_line;
 
