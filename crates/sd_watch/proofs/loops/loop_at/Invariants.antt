@@ -1,0 +1,10 @@
+use Rattle.std.proofs.Common.{◌≡◌, ◌≢◌, ℕ, suc, ◌<◌, Some}
+use Rattle.sd_watch.specs.Watch.{parent_in, follow}
+use Rattle.sd_watch.proofs.loops.loop_at.Given as goal
+
+abbrev pub invariant-steps : goal.invariant-steps
+invariant-steps l =
+    record {
+      here : follow (parent_in l.parents) l.counter l.d ≡ Some l.here;
+      not_back : (k : ℕ) → k < l.counter → follow (parent_in l.parents) (suc k) l.d ≢ Some l.d;
+    }
