@@ -8,7 +8,9 @@ mod Rows
 mod Windows
 pub mod Bridges
 pub mod Tellings
+pub mod Accepting
 pub mod Among
+pub mod Filters
 pub mod Given
 pub mod Owned
 pub mod Contained

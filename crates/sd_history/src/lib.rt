@@ -46,7 +46,7 @@
 #![tactic(auto)]
 
 /// Why an event is refused, the first cause in this order.
-#[derive(Clone, Copy)]
+#[derive(Clone, Copy, Debug, PartialEq, Eq)]
 pub enum ApplyFault {
     UnknownDevice,
     UnknownLink,
@@ -69,7 +69,7 @@ pub enum ApplyFault {
 }
 
 /// A truth value for each premise: that it breaks with an event, or that it broke so far.
-#[derive(Clone, Copy)]
+#[derive(Clone, Copy, Debug, PartialEq, Eq)]
 pub struct BrokenSet {
     pub start: bool,
     pub drift: bool,

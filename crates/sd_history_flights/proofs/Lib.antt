@@ -1,0 +1,7 @@
+-- Laws of the flights of accepted steps.
+pub mod Finds
+pub mod Sending
+pub mod Numbers
+pub mod Looks
+pub mod Leaving
+pub mod Booking

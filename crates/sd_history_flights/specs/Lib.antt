@@ -1,0 +1,2 @@
+-- Which flights are on their way after accepted steps.
+pub mod Flights
