@@ -1,0 +1,5 @@
+pub mod Changes
+pub mod Slots
+pub mod Shutting
+pub mod Keeping
+pub mod Answers
