@@ -5,6 +5,7 @@ mod domains;
 mod plain;
 mod setups;
 mod shapes;
+mod single;
 mod structure;
 mod texts;
 mod timing;

@@ -42,16 +42,28 @@ pub(super) fn said_by(alloc: Global, verdict: &Verdict) -> Result<Said, AllocErr
 
 /// A condition on one domain.
 #[derive(Clone, Copy)]
-enum Condition {
+pub(super) enum Condition {
     Root,
     Loop,
     Domain,
     Reach,
 }
 
+/// The conditions in their order.
+pub(super) const CONDITIONS: [Condition; 4] = [
+    Condition::Root,
+    Condition::Loop,
+    Condition::Domain,
+    Condition::Reach,
+];
+
 impl Plain<'_> {
     /// How one domain breaks a condition.
-    fn broken_by(&self, condition: Condition, f: &Domain) -> Result<Option<Said>, AllocError> {
+    pub(super) fn broken_by(
+        &self,
+        condition: Condition,
+        f: &Domain,
+    ) -> Result<Option<Said>, AllocError> {
         let said = match condition {
             Condition::Root => self.root_breach(f).map(|at| Said::Root(f.id, at)),
             Condition::Loop => self.loop_breach(f)?.map(|cycle| Said::Loop(f.id, cycle)),
@@ -84,13 +96,7 @@ impl Plain<'_> {
         if let Some(timing) = self.timing_breach() {
             return Ok(Said::Timing(timing));
         }
-        let conditions = [
-            Condition::Root,
-            Condition::Loop,
-            Condition::Domain,
-            Condition::Reach,
-        ];
-        for condition in conditions {
+        for condition in CONDITIONS {
             if let Some(said) = self.first_breach(condition)? {
                 return Ok(said);
             }

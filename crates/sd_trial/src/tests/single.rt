@@ -1,0 +1,128 @@
+//! The four conditions on domains, each asked of one domain by itself: a call makes its own index.
+ghost use Rattle.std.specs.Prelude.{◌≡◌, None, IsTrue};
+ghost use Rattle.sd_domain.specs.Domains.{IsDomain};
+ghost use Rattle.sd_plan.specs.Plans.{Fits};
+ghost use Rattle.sd_plan.specs.Structure as structure;
+ghost use Rattle.sd_topo.specs.Topologies.{network};
+
+use super::Tally;
+use super::counted::counted_case;
+use super::plain::{Domain, Plain};
+use super::texts::{plan_text_of, topology_text_of};
+use super::verdicts::{CONDITIONS, Said};
+use sd_check_loop::loop_breach;
+use sd_check_reach::{domain_breach, reach_breach};
+use sd_check_root::root_breach;
+use sd_domain::DomainId;
+use sd_plan::{Plan, structure_breach};
+use sd_plantext::read_plan;
+use sd_topo::Topology;
+use sd_topotext::read_topology;
+use std::alloc::{AllocError, Global};
+use std::process::Abort;
+use std::test::Fail;
+
+/// Whether a topology has a domain.
+fn has_domain(topo: &Topology, domain: DomainId) -> bool
+    ensures { IsTrue result → IsDomain (network topo.now) domain }
+{
+    match domain {
+        DomainId::Listed(k) => k < topo.domains(),
+        DomainId::Device(d) => d < topo.devices(),
+        DomainId::Link(l) => l < topo.links(),
+    }
+}
+
+/// How a domain breaks the conditions, by the four calls.
+fn asked(alloc: Global, topo: &Topology, plan: &Plan, domain: DomainId) -> Result<Vec<Said>, Fail>
+    requires fits { Fits (network topo.now) plan.now }
+    requires structured { structure.structure_breach (network topo.now) plan.now ≡ None }
+    requires domain { IsDomain (network topo.now) domain }
+{
+    let mut said = Vec::new(alloc);
+    if let Some(at) = root_breach(alloc, topo, plan, domain)? {
+        said.push(Said::Root(domain, at))?;
+    }
+    if let Some(cycle) = loop_breach(alloc, topo, plan, domain)? {
+        let cycle = Vec::from_slice(alloc, cycle.as_slice())?;
+        said.push(Said::Loop(domain, cycle))?;
+    }
+    if let Some(device) = domain_breach(alloc, topo, plan, domain)? {
+        said.push(Said::Domain(domain, device))?;
+    }
+    if let Some(chain) = reach_breach(alloc, topo, plan, domain)? {
+        let chain = Vec::from_slice(alloc, chain.as_slice())?;
+        said.push(Said::Reach(domain, chain))?;
+    }
+    Ok(said)
+}
+
+impl Plain<'_> {
+    /// How a domain breaks the conditions, by their definitions.
+    fn all_broken_by(&self, f: &Domain) -> Result<Vec<Said>, AllocError> {
+        let mut all = Vec::new(self.alloc);
+        for condition in CONDITIONS {
+            if let Some(said) = self.broken_by(condition, f)? {
+                all.push(said)?;
+            }
+        }
+        Ok(all)
+    }
+}
+
+/// The calls and the slow program say the same of each domain.
+fn assert_domains(
+    rt: &(impl Abort + AllocGlobal),
+    topo: &Topology,
+    plan: &Plan,
+    tally: &mut Tally,
+) -> Result<(), Fail>
+    requires fits { Fits (network topo.now) plan.now }
+    requires structured { structure.structure_breach (network topo.now) plan.now ≡ None }
+{
+    let alloc = rt.alloc();
+    let plain = Plain::of(alloc, topo, plan)?;
+    for f in &plain.domains {
+        assert!(rt; has_domain(topo, f.id));
+        let broken = asked(alloc, topo, plan, f.id)?;
+        assert_eq!(rt; broken, plain.all_broken_by(f)?);
+        for said in &broken {
+            tally.add(said);
+        }
+    }
+    Ok(())
+}
+
+/// The same of a plan whose structure is right.
+fn assert_plan(
+    rt: &(impl Abort + AllocGlobal),
+    topo: &Topology,
+    plan: &Plan,
+    tally: &mut Tally,
+) -> Result<(), Fail>
+    requires { Fits (network topo.now) plan.now }
+{
+    match structure_breach(topo, plan) {
+        Some(_) => Ok(()),
+        None => assert_domains(rt, topo, plan, tally),
+    }
+}
+
+#[test]
+fn each_condition_asked_by_itself_agrees(rt: HostRuntime) -> Result<(), Fail> {
+    let alloc = rt.alloc();
+    let mut tally = Tally::default();
+    for case in 0..400 {
+        let setup = counted_case(alloc, case)?;
+        let topology = topology_text_of(alloc, &setup)?;
+        let text = plan_text_of(alloc, &setup)?;
+        let topo = read_topology(alloc, topology.as_bytes())?;
+        let plan = read_plan(alloc, &topo, text.as_bytes())?;
+        assert_plan(&rt, &topo, &plan, &mut tally)?;
+    }
+    assert!(rt; tally.root >= 104, "{tally:?}");
+    assert!(rt; tally.loops >= 78, "{tally:?}");
+    assert!(rt; tally.domain >= 44, "{tally:?}");
+    assert!(rt; tally.reach >= 117, "{tally:?}");
+    Ok(())
+}
