@@ -1,6 +1,7 @@
 -- What filters keep, by the elements of their list.
-use Rattle.std.specs.Prelude.{◌≡◌, ◌≤◌, Bool, true, false, ◌&&◌, cond, List, [], ◌∷◌, length, filter, refl}
-use Rattle.std.proofs.Common.{arith, ◌∙◌, ap}
+use Rattle.std.specs.Prelude.{◌≡◌, Bool, true, false, ◌&&◌, cond, List, [], ◌∷◌, filter, refl}
+use Rattle.std.specs.List.{list_all}
+use Rattle.std.proofs.Common.{◌∙◌, ap}
 use Rattle.sd_history.proofs.Among.{Among, first, later}
 
 -- two tests that agree at each element of a list keep the same
@@ -26,11 +27,20 @@ pub all_pass_kept : {A : Type 0} (xs : List A) → xs ≡ filter (λ x. true) xs
 all_pass_kept [] = refl
 all_pass_kept (x ∷ xs) = ap (λ ys. x ∷ ys) (all_pass_kept xs)
 
--- no more are kept than there are
-pub kept_few : {A : Type 0} (p : A → Bool) (xs : List A) → length (filter p xs) ≤ length xs
-kept_few p [] = omega arith
-kept_few p (x ∷ xs) = go (p x) (kept_few p xs)
+-- what is kept is one of the list
+pub kept_among : {A : Type 0} (p : A → Bool) (xs : List A) (x : A) → Among x (filter p xs) → Among x xs
+kept_among p [] x a = elim a [ ]
+kept_among {A = A} p (y ∷ ys) x a = go (p y) a (kept_among p ys x)
   where
-    go : (b : Bool) → length (filter p xs) ≤ length xs → length (cond b (x ∷ filter p xs) (filter p xs)) ≤ length (x ∷ xs)
-    go true few = omega arith
-    go false few = omega arith
+    at_head : (z : A) (zs ws : List A) (c : A) → Among c (z ∷ zs) → (Among c zs → Among c ws) → Among c (z ∷ ws)
+    at_head z zs ws c first rest = first
+    at_head z zs ws c (later b) rest = later (rest b)
+
+    go : (b : Bool) → Among x (cond b (y ∷ filter p ys) (filter p ys)) → (Among x (filter p ys) → Among x ys) → Among x (y ∷ ys)
+    go true b rest = at_head y (filter p ys) ys x b rest
+    go false b rest = later (rest b)
+
+-- two tests that agree at each element pass all or not alike
+pub all_alike : {A : Type 0} (p q : A → Bool) (xs : List A) → ((x : A) → Among x xs → p x ≡ q x) → list_all p xs ≡ list_all q xs
+all_alike p q [] same = refl
+all_alike p q (x ∷ xs) same = ap (λ b. b && list_all p xs) (same x first) ∙ ap (λ b. q x && b) (all_alike p q xs (λ y a. same y (later a)))

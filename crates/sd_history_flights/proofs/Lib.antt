@@ -5,3 +5,5 @@ pub mod Numbers
 pub mod Looks
 pub mod Leaving
 pub mod Booking
+pub mod Places
+pub mod Counts

@@ -15,13 +15,20 @@ pub enum Window {
 }
 
 impl Window {
-    ghost use Rattle.sd_world.specs.Registers.{is_open as is_open_window, window_after};
+    ghost use Rattle.sd_world.specs.Registers.{is_open as is_open_window, is_committed as is_committed_window, window_after};
 
     /// Whether a plan is staged.
     pub fn is_open(self) -> bool
         ensures { result ≡ is_open_window self }
     {
         self != Window::Closed
+    }
+
+    /// Whether a plan is staged and committed.
+    pub fn is_committed(self) -> bool
+        ensures { result ≡ is_committed_window self }
+    {
+        self == Window::Committed
     }
 
     /// What it is after an event with which it does not close.

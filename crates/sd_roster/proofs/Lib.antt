@@ -1,0 +1,11 @@
+pub mod Counting
+pub mod Totals
+pub mod Observing
+pub mod Numbering
+pub mod ByNumber
+pub mod Tables
+pub mod Beginning
+pub mod Queries
+pub mod Closing
+pub mod Below
+pub mod Going

@@ -1,0 +1,15 @@
+use Rattle.std.proofs.Common.{◌≡◌, true, subst, sym, ap, ◌∙◌, Bool}
+use Rattle.std.specs.Prelude.{◌&&◌, nat_le, nat_eq}
+use Rattle.sd_world.specs.Registers.{is_committed}
+use Rattle.sd_roster.specs.Rosters.{Registers, can_close_in}
+use Rattle.sd_roster.proofs.Totals.{closes}
+use Rattle.sd_roster.proofs.roster.Roster.can_close.Goals as goal
+
+pub returns-then-is_committed : goal.returns-then-is_committed
+returns-then-is_committed c =
+    let r : Registers = record { plans = c.self.inside.plans.items; world = c.self.inside.world; answers = c.self.inside.answers.items } in
+    let committed : is_committed c.self.inside.world.window ≡ true = cc (c.is_committed.ensures, c.window.ensures, c.if-is_committed.true) in
+    c.all_settled.ensures
+    ∙ ap (λ (b : Bool). b && (nat_le 1 c.self.inside.census.present && nat_eq c.self.inside.census.settled c.self.inside.census.present)) (sym committed)
+    ∙ closes r c.self.inside.census c.self.invariant.counted
+    ∙ ap can_close_in c.self.view_is

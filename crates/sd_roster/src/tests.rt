@@ -1,0 +1,1 @@
+//! Devices and plans by hand.
