@@ -1,0 +1,5 @@
+//! Worked transactions, and generated reports beside a plain slow program over all pairs.
+use super::*;
+
+mod pairs;
+mod rows;

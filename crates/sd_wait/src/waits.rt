@@ -1,0 +1,126 @@
+//! Who waits, who ended, and what the last report shows.
+ghost use Rattle.std.specs.Prelude.{◌≡◌, ◌+◌, ◌-◌, ◌<◌, ◌≤◌, ◌^◌, ◌++◌, ◌∷◌, [], ℕ, List, OnOk, IfOk, length};
+ghost use Rattle.sd_msg.specs.Observed.{ReportAt};
+ghost use Rattle.sd_wait.specs.Waits.{tally_of};
+ghost use Rattle.sd_wait.specs.Printed.{bytes_at};
+ghost use Rattle.sd_wait.specs.Standing.{StandsFor};
+
+use crate::WaitTally;
+use crate::printing::{Shown, print};
+use crate::transactions::{
+    Transaction, add_waiting, disordered_by, end_below, sort_by_place, worst_of,
+};
+use sd_clock::Report;
+use sd_msg::Observer;
+use sd_num::NoMemory;
+use std::alloc::Global;
+use std::marker::Model;
+
+/// The transactions that wait, and what the last report showed. It stands for the lists of reports
+/// of which these are what commit wait defines.
+///
+/// A report costs a search by halving, and moves of those that wait behind what ends or begins.
+#[derive(Drop)]
+pub struct Waits {
+    /// By device, then by stamp.
+    waiting: Vec<Transaction>,
+    /// Those that ended at the last report, in the order in which they began.
+    ended: Vec<Transaction>,
+    /// Of all that ended, the first with the greatest stamp.
+    worst: Option<Transaction>,
+    /// What the last report began, and of which transaction it showed a disorder.
+    last: Option<Shown>,
+    begun: u64,
+    disorders: u64,
+}
+
+impl Model for Waits {
+    ghost use Rattle.sd_wait.specs.Waiting.{Held};
+
+    ghost Value = { Held };
+
+    ghost use Rattle.sd_wait.specs.WaitsView.{waits_seen, AreWaits};
+
+    ghost view = { waits_seen };
+
+    ghost invariant = { AreWaits };
+}
+
+impl Waits {
+    /// No report was seen.
+    pub fn new(alloc: Global) -> Waits
+        ensures { StandsFor result [] }
+    {
+        Waits {
+            waiting: Vec::new(alloc),
+            ended: Vec::new(alloc),
+            worst: None,
+            last: None,
+            begun: 0,
+            disorders: 0,
+        }
+    }
+
+    /// The lines of the last report, with the name of its device: what ended, a disorder if there
+    /// is one, and what began. Nothing where no report was seen.
+    pub fn lines(&self, alloc: Global, name: &str) -> Result<Vec<u8>, NoMemory>
+        ensures { (told : List ReportAt) → StandsFor self.now told → IfOk result (λ text. text.items ≡ bytes_at told (length told - 1) name.now) }
+    {
+        let mut text = Vec::new(alloc);
+        let Some(shown) = self.last else {
+            return Ok(text);
+        };
+        print(&mut text, self.ended.as_slice(), shown, name)?;
+        Ok(text)
+    }
+
+    /// How many began and ended, and at how many reports a disorder showed.
+    pub fn tally(&self) -> WaitTally
+        ensures { (told : List ReportAt) → StandsFor self.now told → result ≡ tally_of told }
+    {
+        WaitTally {
+            begun: self.begun,
+            ended: self.begun - self.waiting.len() as u64,
+            disorders: self.disorders,
+        }
+    }
+}
+
+impl Observer for Waits {
+    ghost stands = { λ s told. StandsFor s told };
+
+    ghost room = { λ s. s.room };
+
+    /// A count that is full has no more room either; it is never reached.
+    fn ready(&mut self, alloc: Global) -> Result<(), NoMemory> {
+        if self.begun == u64::MAX {
+            return Err(NoMemory);
+        }
+        let Ok(()) = self.waiting.reserve(1) else {
+            return Err(NoMemory);
+        };
+        let Ok(()) = self.ended.reserve(self.waiting.len()) else {
+            return Err(NoMemory);
+        };
+        Ok(())
+    }
+
+    fn seen(&mut self, line: u64, device: u32, reference: u64, report: Report) {
+        let begin = Transaction {
+            device,
+            stamp: report.clock + report.eps,
+            place: self.begun,
+            line,
+        };
+        let low = report.clock.saturating_sub(report.eps);
+        self.ended.clear();
+        end_below(&mut self.waiting, &mut self.ended, device, low);
+        sort_by_place(&mut self.ended);
+        self.worst = worst_of(self.worst, &self.ended);
+        let disorder = disordered_by(self.worst, begin.stamp);
+        add_waiting(&mut self.waiting, begin);
+        self.begun += 1;
+        self.disorders += u64::from(disorder.is_some());
+        self.last = Some(Shown { begin, disorder });
+    }
+}
