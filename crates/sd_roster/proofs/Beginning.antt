@@ -29,7 +29,6 @@ pub record IsFirst (r : Registers) (net : Network) (plans : List Plan) (devices 
   pub device_count : devices ≡ length net.devices
   pub link_count : links ≡ length net.links
 
-
 pub same_nothing : (answers : List (Option Answered)) (n m k : ℕ) → answers ≡ replicate n None → n ≡ k → m ≡ k → answers ≡ replicate m None
 same_nothing answers n m k nothing one other = nothing ∙ ap (λ (x : ℕ). replicate x None) (one ∙ sym other)
 

@@ -164,7 +164,7 @@ roster_after old r new e told others census view named next sound whole after co
     let has_next : is_stage e ≡ true → r.world.epoch < length r.plans = subst (λ (x : Registers). is_stage e ≡ true → x.world.epoch < length x.plans) (sym view) next in (
       subst IsSound (sym after) (sound_after r e told sound has_next),
       subst (λ (x : Registers). census ≡ census_of x) (sym after)
-      (counted_after r e told others census within whole (subst (λ (x : Registers). census ≡ (if is_stage e then census_of x else both others (count_named x (device_of e)))) after counted)),
+          (counted_after r e told others census within whole (subst (λ (x : Registers). census ≡ (if is_stage e then census_of x else both others (count_named x (device_of e)))) after counted)),
     )
 
 -- what an event makes of it, part by part

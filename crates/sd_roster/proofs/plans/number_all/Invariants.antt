@@ -8,5 +8,5 @@ use Rattle.sd_roster.proofs.plans.number_all.Given as goal
 abbrev pub invariant-loop-plan : goal.invariant-loop-plan
 invariant-loop-plan l = record {
   numbered : l.all.items ≡ map (numbered_at (network l.topo) l.plans) (below l.plan-index);
-  epoch : l.epoch ≡ l.plan-index
+  epoch : l.epoch ≡ l.plan-index;
 }
