@@ -1,0 +1,142 @@
+-- The monitor of drift stands for what was seen and one event more.
+use Rattle.std.proofs.Common.{◌≡◌, ◌≢◌, ℕ, ◌<◌, ◌≤◌, Bool, true, false, ◌&&◌, ◌||◌, cond, List, [], ◌∷◌, length, set, Option, Some, None, nat_le, ◌⊎◌, inl, inr, refl, sym, ap, ◌∙◌, subst, arith}
+use Rattle.std.specs.Prelude.{slice_get}
+use Rattle.std.proofs.Math.ListN.{length-set}
+use Rattle.std.proofs.lemmas.Bool.{and_parts, and_from, leb-true, le-leb, cases_eq}
+use Rattle.std.proofs.lemmas.Option.{same_Some}
+use Rattle.sd_num.proofs.Places.{at_written, at_unwritten}
+use Rattle.sd_num.specs.declared.Rates.{Rates}
+use Rattle.sd_topo.specs.Network.{rates_of}
+use Rattle.sd_sched.specs.Events.{reference_of}
+use Rattle.sd_history.specs.World.{Setting, Seen, latest_reference, latest_reading}
+use Rattle.sd_history.specs.Premises.{readings, reads_honestly, drift_holds}
+use Rattle.sd_history.specs.Refusals.{makes_some, may_be_seen}
+use Rattle.sd_premise_clocks.specs.declared.extremes.Reading.{Reading}
+use Rattle.sd_premise_clocks.specs.declared.extremes.Extremes.{Extremes}
+use Rattle.sd_premise_clocks.specs.Readings.{pair_of, keeps_rates_with, is_after_each}
+use Rattle.sd_premise_clocks.specs.Drifts.{DriftKept, DriftStands, IsLife, reading_of}
+use Rattle.sd_premise_clocks.proofs.Drifting.{all_imply}
+use Rattle.sd_premise_clocks.proofs.Seeing.{time_rises, counter_rises}
+use Rattle.sd_premise_clocks.proofs.Lives.{Reads, readings_here, readings_elsewhere, readings_unread, latest_here, latest_elsewhere, latest_unread, honest_here, honest_unread}
+
+-- readings before a moment lie before a later one
+after_more : (xs : List (ℕ × ℕ)) (t c t' c' : ℕ) → t ≤ t' → c ≤ c' → is_after_each xs (t, c) ≡ true → is_after_each xs (t', c') ≡ true
+after_more xs t c t' c' time counter after =
+    all_imply (λ r. nat_le r.0 t && nat_le r.1 c) (λ r. nat_le r.0 t' && nat_le r.1 c') xs
+    (λ r before.
+    (let parts = and_parts (nat_le r.0 t) (nat_le r.1 c) before in
+    let at : r.0 ≤ t = leb-true r.0 t parts.0 in
+    let shows : r.1 ≤ c = leb-true r.1 c parts.1 in
+    and_from (nat_le r.0 t') (nat_le r.1 c') (le-leb r.0 t' (omega arith)) (le-leb r.1 c' (omega arith)))) after
+
+-- An event that is no reading
+
+pub stands_unread : (setting : Setting) (kept : DriftKept) (earlier : List Seen) (s : Seen) → reading_of s.event ≡ None → DriftStands setting kept earlier → may_be_seen setting earlier s.event ≡ true
+    → DriftStands setting kept (s ∷ earlier)
+stands_unread setting kept earlier s unread stands may = record {
+  holds = stands.holds ∙ sym (ap (λ (b : Bool). drift_holds setting earlier && b) (honest_unread setting s earlier unread) ∙ and_true (drift_holds setting earlier));
+  devices = stands.devices;
+  lives = λ d life at. subst (λ (xs : List (ℕ × ℕ)). IsLife (rates_of setting.net d).ppm xs life) (sym (readings_unread s earlier d unread)) (stands.lives d life at);
+  in_order = λ d.
+      (let rises : latest_reference earlier ≤ reference_of s.event = time_rises setting earlier s.event may in
+      let same : latest_reading (s ∷ earlier) d ≡ latest_reading earlier d = latest_unread s earlier d unread in
+      subst (λ (xs : List (ℕ × ℕ)). is_after_each xs (reference_of s.event, latest_reading (s ∷ earlier) d) ≡ true) (sym (readings_unread s earlier d unread))
+      (after_more (readings earlier d) (latest_reference earlier) (latest_reading earlier d) (reference_of s.event) (latest_reading (s ∷ earlier) d) rises (omega arith) (stands.in_order d)));
+}
+  where
+    and_true : (b : Bool) → (b && true) ≡ b
+    and_true true = refl
+    and_true false = refl
+
+-- A reading
+
+-- the readings with which the reading shares its life
+abbrev pub past_of : List Seen → Seen → ℕ → List (ℕ × ℕ)
+past_of earlier s d = cond (makes_some s.event) [] (readings earlier d)
+
+-- they lie before it
+past_before : (setting : Setting) (kept : DriftKept) (earlier : List Seen) (s : Seen) (d : ℕ) (r : Reading) → Reads s.event d r → DriftStands setting kept earlier → may_be_seen setting earlier s.event ≡ true
+    → is_after_each (past_of earlier s d) (pair_of r) ≡ true
+past_before setting kept earlier s d r read stands may = by (makes_some s.event) refl
+  where
+    by : (b : Bool) → makes_some s.event ≡ b → is_after_each (cond b [] (readings earlier d)) (pair_of r) ≡ true
+    by true makes = refl
+    by false makes =
+        let rises : latest_reference earlier ≤ reference_of s.event = time_rises setting earlier s.event may in
+        let counts : latest_reading earlier d ≤ r.counter = counter_rises setting earlier s.event d r.counter may makes read.device read.counter in
+        let at : reference_of s.event ≡ r.reference = read.reference in
+        after_more (readings earlier d) (latest_reference earlier) (latest_reading earlier d) r.reference r.counter (omega arith) counts (stands.in_order d)
+
+-- what was kept of the life
+past_life : (setting : Setting) (kept : DriftKept) (earlier : List Seen) (s : Seen) (d : ℕ) (begins : Bool) (before : Option Extremes) → begins ≡ makes_some s.event
+    → (begins ≡ true → before ≡ None) → (begins ≡ false → slice_get kept.lives d ≡ Some before) → DriftStands setting kept earlier
+    → IsLife (rates_of setting.net d).ppm (past_of earlier s d) before
+past_life setting kept earlier s d begins before is begun held stands = by (makes_some s.event) refl
+  where
+    by : (b : Bool) → makes_some s.event ≡ b → IsLife (rates_of setting.net d).ppm (cond b [] (readings earlier d)) before
+    by true makes = subst (λ (o : Option Extremes). IsLife (rates_of setting.net d).ppm [] o) (sym (begun (is ∙ makes))) refl
+    by false makes = stands.lives d before (held (is ∙ makes))
+
+-- whether it keeps the rates is judged over its life
+judged_here : (setting : Setting) (earlier : List Seen) (s : Seen) (d : ℕ) (r : Reading) → Reads s.event d r
+    → reads_honestly setting s earlier ≡ keeps_rates_with (rates_of setting.net d) (past_of earlier s d) (pair_of r)
+judged_here setting earlier s d r read = honest_here setting s earlier d r read ∙ by (makes_some s.event)
+  where
+    by : (b : Bool) → (b || keeps_rates_with (rates_of setting.net d) (readings earlier d) (pair_of r)) ≡ keeps_rates_with (rates_of setting.net d) (cond b [] (readings earlier d)) (pair_of r)
+    by true = refl
+    by false = refl
+
+-- what taking in a reading of an oscillator with these rates does to what is kept
+pub record TakesIn (rates : Rates) (s : Seen) (d : ℕ) (r : Reading) (before : Option Extremes) (after : Extremes) (begins keeps : Bool) (old new : DriftKept) : Type 0 where
+  pub begins_life : begins ≡ makes_some s.event
+  pub begun : begins ≡ true → before ≡ None
+  pub held : begins ≡ false → slice_get old.lives d ≡ Some before
+  pub judged : (xs : List (ℕ × ℕ)) → IsLife rates.ppm xs before → is_after_each xs (pair_of r) ≡ true → keeps ≡ keeps_rates_with rates xs (pair_of r)
+  pub grown : (xs : List (ℕ × ℕ)) → IsLife rates.ppm xs before → is_after_each xs (pair_of r) ≡ true → IsLife rates.ppm (pair_of r ∷ xs) (Some after)
+  pub holds : new.holds ≡ (old.holds && keeps)
+  pub lives : new.lives ≡ set old.lives d (Some after)
+  pub within : d < length old.lives
+
+pub stands_reading : (setting : Setting) (rates : Rates) (s : Seen) (d : ℕ) (r : Reading) (before : Option Extremes) (after : Extremes) (begins keeps : Bool) (old new : DriftKept) (earlier : List Seen)
+    → Reads s.event d r → rates ≡ rates_of setting.net d → TakesIn rates s d r before after begins keeps old new → DriftStands setting old earlier → may_be_seen setting earlier s.event ≡ true
+    → DriftStands setting new (s ∷ earlier)
+stands_reading setting rates s d r before after begins keeps old new earlier read own takes_in stands may =
+    let takes : TakesIn (rates_of setting.net d) s d r before after begins keeps old new = subst (λ (own : Rates). TakesIn own s d r before after begins keeps old new) own takes_in in
+    let life : IsLife (rates_of setting.net d).ppm (past_of earlier s d) before = past_life setting old earlier s d begins before takes.begins_life takes.begun takes.held stands in
+    let first : is_after_each (past_of earlier s d) (pair_of r) ≡ true = past_before setting old earlier s d r read stands may in
+    record {
+      holds = takes.holds ∙ ap (λ (b : Bool). b && keeps) stands.holds
+          ∙ ap (λ (b : Bool). drift_holds setting earlier && b) (takes.judged (past_of earlier s d) life first ∙ sym (judged_here setting earlier s d r read));
+      devices = ap length takes.lives ∙ length-set old.lives d (Some after) ∙ stands.devices;
+      lives = λ x kept at. lives_at x kept takes.within (takes.grown (past_of earlier s d) life first) (ap (λ (ls : List (Option Extremes)). slice_get ls x) (sym takes.lives) ∙ at) (cases_eq x d);
+      in_order = λ x. order_at x first (cases_eq x d);
+    }
+  where
+    lives_at : (x : ℕ) (kept : Option Extremes) → d < length old.lives → IsLife (rates_of setting.net d).ppm (pair_of r ∷ past_of earlier s d) (Some after) → slice_get (set old.lives d (Some after)) x ≡ Some kept
+        → (x ≡ d) ⊎ (x ≡ d → ⊥) → IsLife (rates_of setting.net x).ppm (readings (s ∷ earlier) x) kept
+    lives_at x kept within grown at (inl same) =
+        let at_d : slice_get (set old.lives d (Some after)) d ≡ Some kept = ap (λ (k : ℕ). slice_get (set old.lives d (Some after)) k) (sym same) ∙ at in
+        let is_after : Some after ≡ kept = same_Some (Some after) kept (sym (at_written old.lives d (Some after) within) ∙ at_d) in
+        subst (λ (k : ℕ). IsLife (rates_of setting.net k).ppm (readings (s ∷ earlier) k) kept) (sym same)
+        (subst (λ (o : Option Extremes). IsLife (rates_of setting.net d).ppm (readings (s ∷ earlier) d) o) is_after
+        (subst (λ (xs : List (ℕ × ℕ)). IsLife (rates_of setting.net d).ppm xs (Some after)) (sym (readings_here s earlier d r read)) grown))
+    lives_at x kept within grown at (inr other) =
+        subst (λ (xs : List (ℕ × ℕ)). IsLife (rates_of setting.net x).ppm xs kept) (sym (readings_elsewhere s earlier d x r read (λ e. other (sym e))))
+        (stands.lives x kept (sym (at_unwritten old.lives d x (Some after) other) ∙ at))
+
+    order_at : (x : ℕ) → is_after_each (past_of earlier s d) (pair_of r) ≡ true → (x ≡ d) ⊎ (x ≡ d → ⊥)
+        → is_after_each (readings (s ∷ earlier) x) (reference_of s.event, latest_reading (s ∷ earlier) x) ≡ true
+    order_at x first (inl same) =
+        let here : is_after_each (pair_of r ∷ past_of earlier s d) (r.reference, r.counter) ≡ true =
+        and_from (nat_le r.reference r.reference && nat_le r.counter r.counter) (is_after_each (past_of earlier s d) (pair_of r))
+        (and_from (nat_le r.reference r.reference) (nat_le r.counter r.counter) (le-leb r.reference r.reference (omega arith)) (le-leb r.counter r.counter (omega arith))) first in
+        subst (λ (k : ℕ). is_after_each (readings (s ∷ earlier) k) (reference_of s.event, latest_reading (s ∷ earlier) k) ≡ true) (sym same)
+        (subst (λ (c : ℕ). is_after_each (readings (s ∷ earlier) d) (reference_of s.event, c) ≡ true) (sym (latest_here s earlier d r read))
+        (subst (λ (t : ℕ). is_after_each (readings (s ∷ earlier) d) (t, r.counter) ≡ true) (sym read.reference)
+        (subst (λ (xs : List (ℕ × ℕ)). is_after_each xs (r.reference, r.counter) ≡ true) (sym (readings_here s earlier d r read)) here)))
+    order_at x first (inr other) =
+        let rises : latest_reference earlier ≤ reference_of s.event = time_rises setting earlier s.event may in
+        let apart : d ≢ x = λ e. other (sym e) in
+        let same : latest_reading (s ∷ earlier) x ≡ latest_reading earlier x = latest_elsewhere s earlier d x r read apart in
+        subst (λ (xs : List (ℕ × ℕ)). is_after_each xs (reference_of s.event, latest_reading (s ∷ earlier) x) ≡ true) (sym (readings_elsewhere s earlier d x r read apart))
+        (after_more (readings earlier x) (latest_reference earlier) (latest_reading earlier x) (reference_of s.event) (latest_reading (s ∷ earlier) x) rises (omega arith) (stands.in_order x))

@@ -1,0 +1,9 @@
+pub mod Drifting
+pub mod Matches
+pub mod Seeing
+pub mod Lives
+pub mod Holding
+pub mod Rows
+pub mod Ticking
+pub mod Judging
+pub mod Late

@@ -1,0 +1,14 @@
+use Rattle.std.proofs.Common.{◌≡◌, ◌*◌, ◌/◌, ◌<◌, length, drop}
+use Rattle.sd_premise_clocks.specs.Tournaments.{ArePlayedBut}
+use Rattle.sd_premise_clocks.proofs.tournament.replay.Given as goal
+
+abbrev pub invariant-loop-node : goal.invariant-loop-node
+invariant-loop-node l = record {
+  size : length l.nodes ≡ 2 * l.places;
+  node : l.node < 2 * l.places;
+  played : ArePlayedBut l.nodes l.places (l.node / 2);
+  same : drop l.places l.nodes ≡ drop l.places l.initial.nodes;
+}
+
+abbrev pub decreases-loop-node : goal.decreases-loop-node
+decreases-loop-node l = l.node

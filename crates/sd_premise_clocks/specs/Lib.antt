@@ -1,0 +1,13 @@
+pub mod Sights
+pub mod Starts
+pub mod Delays
+pub mod Readings
+pub mod Drifts
+pub mod DriftView
+pub mod Memberships
+pub mod Owing
+pub mod TicksView
+pub mod Tickings
+pub mod TickView
+pub mod Tournaments
+pub mod TournamentView

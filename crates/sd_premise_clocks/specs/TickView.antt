@@ -1,0 +1,11 @@
+-- What contracts see of the monitor of ticks.
+use Rattle.std.specs.Prelude.{◌≡◌, length}
+use Rattle.sd_premise_clocks.specs.Tickings.{TickKept}
+use Rattle.sd_premise_clocks.specs.declared.tick.TickMonitor.TheInside.{Inside}
+
+abbrev pub tick_kept : Inside → TickKept
+tick_kept m = record { ticks = m.ticks; owed = m.owed; limit = m.limit; holds = m.holds }
+
+-- both are by device
+abbrev pub IsTickMonitor : Inside → Type 0
+IsTickMonitor m = length m.ticks.states ≡ length m.owed

@@ -1,0 +1,26 @@
+//! The monitors of the premises on clocks: that starts are true, that oscillators do not drift too
+//! far, that links keep their delays, and that devices tick often enough. Each stands for the list
+//! of what was seen so far, and answers with each event whether its premise holds still.
+//!
+//! No monitor takes memory once it is made, and none looks at more than a logarithmic number of
+//! devices at an event, but for the tick monitor at a stage and a closing.
+#![tactic(auto)]
+
+mod delay;
+mod drift;
+mod extremes;
+mod members;
+mod seen;
+mod start;
+#[cfg(test)]
+mod tests;
+mod tick;
+mod ticks;
+mod tournament;
+
+pub use delay::DelayMonitor;
+pub use drift::DriftMonitor;
+pub use members::Members;
+pub use seen::Seen;
+pub use start::StartMonitor;
+pub use tick::TickMonitor;

@@ -1,0 +1,131 @@
+//! The premise on ticks: each device that is up and a member of a plan that counts ticks often
+//! enough, and each member of the first plan starts soon.
+ghost use Rattle.std.specs.Prelude.{◌≡◌, ◌≢◌, ℕ, ◌<◌, ◌||◌, ◌∷◌, [], List, length, slice_index, is_none, IfOk};
+ghost use Rattle.std.specs.Option.{ForSome};
+ghost use Rattle.sd_topo.specs.Topologies.{network};
+ghost use Rattle.sd_sched.specs.Events.{device_of, is_stage};
+ghost use Rattle.sd_history.specs.World.{Setting, Seen as Sight};
+ghost use Rattle.sd_history.specs.Premises.{tick_holds};
+ghost use Rattle.sd_world.specs.Standing.{Stands};
+ghost use Rattle.sd_premise_clocks.specs.Sights.{sight_of};
+ghost use Rattle.sd_premise_clocks.specs.Memberships.{AreMembers};
+ghost use Rattle.sd_premise_clocks.specs.Owing.{owed_at};
+ghost use Rattle.sd_premise_clocks.specs.Tickings.{AreOwed, TickStands, TellOf};
+
+use crate::ticks::Ticks;
+use crate::tournament::Tournament;
+use crate::{Members, Seen};
+use sd_num::NoMemory;
+use sd_sched::Event;
+use sd_topo::Topology;
+use sd_world::World;
+use std::alloc::Global;
+use std::marker::Model;
+
+/// Whether the premise on ticks has held so far, and since when each device owes a tick.
+#[derive(Drop)]
+pub struct TickMonitor {
+    ticks: Ticks,
+    /// By device, the reference since which it owes a tick, and the greatest number where it owes
+    /// none. The device that is late first is so found without a look at the others.
+    owed: Tournament,
+    /// How much reference time may pass from one tick to the next, in ps.
+    limit: u64,
+    holds: bool,
+}
+
+impl Model for TickMonitor {
+    ghost use Rattle.sd_premise_clocks.specs.Tickings.{TickKept};
+
+    ghost Value = { TickKept };
+
+    ghost use Rattle.sd_premise_clocks.specs.TickView.{tick_kept, IsTickMonitor};
+
+    ghost view = { tick_kept };
+
+    ghost invariant = { IsTickMonitor };
+}
+
+/// Whether the event stages a plan.
+fn stages(event: &Event) -> bool
+    ensures { result ≡ is_stage event.now }
+{
+    matches!(event, Event::Stage { .. })
+}
+
+/// Notes since when a device owes a tick.
+fn note(owed: &mut Tournament, ticks: &Ticks, members: &Members, world: &World, d: u32)
+    requires known { d < length owed.old }
+    requires ticks { d < length ticks.now.states }
+    requires world { d < length world.now.devices }
+    ensures places { length owed.new ≡ length owed.old }
+    ensures others { (k : ℕ) → k ≢ d → slice_index owed.new k ≡ slice_index owed.old k }
+    ensures here { (setting : Setting) (seen : List Sight) → TellOf setting seen members.now world.now ticks.now
+        → slice_index owed.new d ≡ owed_at setting seen d }
+{
+    owed.set(d as usize, ticks.owed(members, world, d));
+}
+
+/// Notes it of each device.
+fn note_all(owed: &mut Tournament, ticks: &Ticks, members: &Members, world: &World)
+    requires ticks { length ticks.now.states ≡ length owed.old }
+    requires world { length world.now.devices ≡ length owed.old }
+    ensures places { length owed.new ≡ length owed.old }
+    ensures each { (setting : Setting) (seen : List Sight) → TellOf setting seen members.now world.now ticks.now
+        → AreOwed setting seen owed.new }
+{
+    for d in 0..ticks.devices() {
+        note(owed, ticks, members, world, d);
+    }
+}
+
+impl TickMonitor {
+    /// A monitor that has seen nothing of the devices of a topology and of the members of plans.
+    pub fn new(alloc: Global, topo: &Topology, members: &Members) -> Result<TickMonitor, NoMemory>
+        ensures devices { IfOk result (λ monitor. length monitor.owed ≡ length (network topo.now).devices) }
+        ensures stands { IfOk result (λ monitor. (setting : Setting) → setting.net ≡ network topo.now
+            → AreMembers setting members.now → TickStands setting monitor []) }
+    {
+        let devices = topo.devices();
+        let ticks = Ticks::new(alloc, members, devices)?;
+        let owed = Tournament::new(alloc, devices, u64::MAX)?;
+        Ok(TickMonitor {
+            ticks,
+            owed,
+            limit: topo.params().tick,
+            holds: true,
+        })
+    }
+
+    /// Sees one event more, of which the world knows already, and tells whether the premise holds
+    /// still.
+    pub fn observe(&mut self, members: &Members, after: &World, seen: &Seen<'_>) -> bool
+        requires device { ForSome (device_of seen.now.event) (λ d. d < length self.old.owed) }
+        requires world { length after.now.devices ≡ length self.old.owed }
+        ensures stands { (setting : Setting) (earlier : List Sight) → AreMembers setting members.now
+            → Stands after.now setting (sight_of seen.now ∷ earlier)
+            → TickStands setting self.old earlier → TickStands setting self.new (sight_of seen.now ∷ earlier) }
+        ensures holds { (setting : Setting) (earlier : List Sight) → AreMembers setting members.now
+            → Stands after.now setting (sight_of seen.now ∷ earlier)
+            → TickStands setting self.old earlier → result ≡ tick_holds setting (sight_of seen.now ∷ earlier) }
+        ensures devices { length self.new.owed ≡ length self.old.owed }
+    {
+        self.holds &= seen.event.reference().saturating_sub(self.limit) <= self.owed.least();
+        let all = self.is_changed_for_all(seen);
+        self.ticks.observe(&seen.event);
+        if all {
+            note_all(&mut self.owed, &self.ticks, members, after);
+        } else if let Some(d) = seen.event.device() {
+            note(&mut self.owed, &self.ticks, members, after, d);
+        }
+        self.holds
+    }
+
+    /// Whether the event can change of many devices at once since when they owe a tick: it is the
+    /// first one, stages a plan or closes a window.
+    fn is_changed_for_all(&self, seen: &Seen<'_>) -> bool
+        ensures { result ≡ (is_none self.now.ticks.first || seen.now.closed || is_stage seen.now.event) }
+    {
+        self.ticks.is_new() || seen.closed || stages(&seen.event)
+    }
+}

@@ -1,0 +1,4 @@
+-- Laws of the structures, for their own calls and for whoever keeps them.
+pub mod Joining
+pub mod LongRuns
+pub mod Listing

@@ -1,0 +1,8 @@
+-- The words of each structure: what its fields stand for, and what is seen of it.
+pub mod Runs
+pub mod RunsKept
+pub mod RunsView
+pub mod WaitingKept
+pub mod WaitingView
+pub mod Interrupted
+pub mod InterruptionsView

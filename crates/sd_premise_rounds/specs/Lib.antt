@@ -1,0 +1,4 @@
+-- The definitions, in reading order.
+pub mod Order
+pub mod Loss
+pub mod Standing
