@@ -1,8 +1,8 @@
 -- What the calls of a book give at an accepted event, in their order: what ended is left out, the flight of the event is taken or lost, what is
 -- sent is added one by one, and what a failure cuts off is swept. And what is found under the event's number after the first of them.
-use Rattle.std.specs.Prelude.{◌≡◌, ℕ, Bool, true, false, ◌||◌, not, List, [], ◌∷◌, ◌++◌, cond, find, filter, nat_eq, nat_le, nat_lt, ok_or, Option, Some, None, option_and_then, Result, Ok, Err, refl, if◌then◌else◌}
+use Rattle.std.specs.Prelude.{◌≡◌, ℕ, Bool, true, false, ◌||◌, not, List, [], ◌∷◌, ◌++◌, cond, find, filter, nat_eq, nat_lt, ok_or, Option, Some, None, option_and_then, Result, Ok, Err, refl, if◌then◌else◌}
 use Rattle.std.proofs.Common.{sym, ◌∙◌, ap, append_assoc}
-use Rattle.std.proofs.lemmas.Bool.{eqb-true, le-leb, ltb-false, or_parts, not-false, cases_Bool}
+use Rattle.std.proofs.lemmas.Bool.{eqb-true, le-leb, ltb-false, or_parts, not-false}
 use Rattle.std.proofs.lemmas.List.{append-nil}
 use Rattle.std.proofs.lemmas.List.Elements.{filter-append}
 use Rattle.sd_num.specs.Lists.{of_some, same_number}
@@ -16,12 +16,12 @@ use Rattle.sd_sched.specs.declared.Event.TheVariants as event
 use Rattle.sd_sched.specs.Events.{reference_of, device_of, message_of, received}
 use Rattle.sd_history.specs.Things.{failure_of}
 use Rattle.sd_history.specs.World.{Setting}
-use Rattle.sd_history.specs.Steps.{Act, Passes, changed, Told, Answers, Step, flight_count, flight_numbered, flights_by, flights_of, act_by}
-use Rattle.sd_history.specs.Refusals.{causes, refusal, is_spent, unspent, unknown_message, spent_message, wrong_device}
+use Rattle.sd_history.specs.Steps.{Passes, Told, Step, flight_count, flight_numbered, flights_of, act_by}
+use Rattle.sd_history.specs.Refusals.{causes, refusal, is_spent, unspent, unknown_message, spent_message}
 use Rattle.sd_history.specs.Accepted.{AreSteps}
 use Rattle.sd_history.proofs.Among.{first, later}
 use Rattle.sd_history.proofs.Contained.{none_holds}
-use Rattle.sd_history_flights.specs.Flights.{without_taken, without_swept, left_by, look_in}
+use Rattle.sd_history_flights.specs.Flights.{without_taken, without_swept}
 use Rattle.sd_history_flights.proofs.Finds.{find_passing}
 use Rattle.sd_history_flights.proofs.Sending.{sent_is}
 use Rattle.sd_history_flights.proofs.Numbers.{unspent_given, numbered_there}

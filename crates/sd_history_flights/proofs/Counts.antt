@@ -1,7 +1,7 @@
 -- How many flights there can be: an event sends over each link once at most, so there are no more than events times links.
-use Rattle.std.specs.Prelude.{◌≡◌, ℕ, suc, ◌+◌, ◌*◌, ◌^◌, ◌<◌, ◌≤◌, Bool, true, false, List, [], ◌∷◌, length, filter_map, find, nat_eq, nat_le, Option, Some, None, is_some, option_map, refl, if◌then◌else◌}
+use Rattle.std.specs.Prelude.{◌≡◌, ℕ, suc, ◌+◌, ◌*◌, ◌^◌, ◌<◌, ◌≤◌, List, [], ◌∷◌, length, filter_map, find, Option, Some, None, option_map, refl}
 use Rattle.std.specs.List.{cons_option}
-use Rattle.std.proofs.Common.{arith, sym, ◌∙◌, ap, subst}
+use Rattle.std.proofs.Common.{arith, sym, ap, subst}
 use Rattle.std.proofs.Math.Nat.{mul-le-mul_left, mul-le-mul_right}
 use Rattle.std.proofs.lemmas.Bool.{leb-false}
 use Rattle.std.proofs.lemmas.List.{length-map}
@@ -16,7 +16,7 @@ use Rattle.sd_core.specs.declared.Effect.{Effect}
 use Rattle.sd_core.specs.declared.Effect.TheVariants.{Quiet, Send}
 use Rattle.sd_sched.specs.Events.{reference_of}
 use Rattle.sd_history.specs.World.{Setting, Seen}
-use Rattle.sd_history.specs.Steps.{Answers, Step, seen_of, changed, Told, act_by, flight_count, flights_to, flights_by, ends_at}
+use Rattle.sd_history.specs.Steps.{Answers, Step, seen_of, changed, act_by, flight_count, flights_to, flights_by, ends_at}
 use Rattle.sd_history.specs.World as world
 use Rattle.sd_history.specs.Refusals.{causes}
 use Rattle.sd_history.specs.Accepted.{AreSteps}

@@ -1,21 +1,21 @@
 -- What a step leaves of the flights that are not spent: those that its event leaves, and then what it sends and what reaches.
-use Rattle.std.specs.Prelude.{◌≡◌, ℕ, ◌+◌, ◌<◌, ◌≤◌, max, Bool, true, false, ◌&&◌, ◌||◌, not, cond, List, [], ◌∷◌, ◌++◌, find, filter, nat_eq, nat_le, nat_lt, Option, Some, None, ◌⊎◌, refl, if◌then◌else◌}
+use Rattle.std.specs.Prelude.{◌≡◌, ℕ, ◌+◌, ◌<◌, ◌≤◌, max, Bool, true, false, ◌&&◌, ◌||◌, not, List, [], ◌∷◌, ◌++◌, filter, nat_eq, nat_le, nat_lt, Option, Some, None, refl, if◌then◌else◌}
 use Rattle.std.specs.List.{list_any}
-use Rattle.std.proofs.Common.{arith, sym, ◌∙◌, ap, subst, inl, inr}
-use Rattle.std.proofs.lemmas.Bool.{eq-eqb, ne_eqb, lt-ltb, le-ltb, le-leb, lt-leb, cases_eq, cases_lt, or_parts, leb-false, ltb-false, ltb-true, eqb-true}
+use Rattle.std.proofs.Common.{arith, sym, ◌∙◌, ap, inl, inr}
+use Rattle.std.proofs.lemmas.Bool.{eq-eqb, ne_eqb, lt-ltb, le-ltb, le-leb, lt-leb, cases_eq, cases_lt, or_parts, ltb-false, ltb-true}
 use Rattle.std.proofs.lemmas.List.Elements.{filter-append}
 use Rattle.sd_num.specs.Lists.{of_some, same_number}
 use Rattle.sd_topo.specs.declared.Thing.{Thing}
 use Rattle.sd_topo.specs.declared.Thing.TheVariants as thing
 use Rattle.sd_msg.specs.declared.Flight.{Flight}
-use Rattle.sd_msg.specs.Books.{has_number, without, is_swept, is_current}
+use Rattle.sd_msg.specs.Books.{has_number, is_current}
 use Rattle.sd_msg.proofs.Finding.{beyond}
 use Rattle.sd_sched.specs.declared.Event.{Event}
 use Rattle.sd_sched.specs.Events.{reference_of, message_of}
 use Rattle.sd_history.specs.Things.{failure_of}
 use Rattle.sd_history.specs.World.{Setting, is_thing, fails, latest_reference}
 use Rattle.sd_history.specs.Steps.{Step, seen_of, flight_count}
-use Rattle.sd_history.specs.Refusals.{causes, refusal, unknown_message, since_sending, was_used, was_swept, is_spent, unspent}
+use Rattle.sd_history.specs.Refusals.{causes, refusal, since_sending, was_used, was_swept, is_spent, unspent}
 use Rattle.sd_history.specs.Accepted.{AreSteps}
 use Rattle.sd_history.proofs.Among.{Among, first, later}
 use Rattle.sd_history.proofs.Filters.{kept_alike, both_tests, all_pass_kept}

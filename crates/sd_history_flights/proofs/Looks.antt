@@ -1,5 +1,5 @@
 -- What is found under a number among the flights that are not spent, and which causes of a refusal it shows.
-use Rattle.std.specs.Prelude.{◌≡◌, ℕ, ◌≤◌, max, Bool, true, false, ◌||◌, not, List, find, filter, nat_eq, nat_le, nat_lt, ok_or, Option, Some, None, option_and_then, Result, Ok, Err, refl, if◌then◌else◌}
+use Rattle.std.specs.Prelude.{◌≡◌, ℕ, max, Bool, true, false, ◌||◌, not, List, find, nat_eq, nat_lt, ok_or, Option, Some, None, option_and_then, Result, Ok, Err, refl, if◌then◌else◌}
 use Rattle.std.proofs.Common.{arith, sym, ◌∙◌, ap, inl, inr}
 use Rattle.std.proofs.lemmas.Bool.{eq-eqb, ne_eqb, lt-ltb, le-ltb, le-leb, lt-leb, cases_eq, cases_lt}
 use Rattle.sd_num.specs.Lists.{of_some, same_number}

@@ -1,9 +1,9 @@
 -- The flights of accepted steps have the numbers 1, 2 and so on, in the order in which they were sent, up to how many there are. So each
 -- number that was given is that of one flight.
-use Rattle.std.specs.Prelude.{◌≡◌, ℕ, ◌+◌, ◌<◌, ◌≤◌, Bool, true, false, not, List, [], ◌∷◌, ◌++◌, length, reverse, flat_map, filter, find, nat_le, Option, Some, None, is_some, ◌⊎◌, refl}
+use Rattle.std.specs.Prelude.{◌≡◌, ℕ, ◌+◌, ◌<◌, ◌≤◌, true, false, not, List, [], ◌∷◌, ◌++◌, length, reverse, flat_map, find, nat_le, Some, None, is_some, ◌⊎◌, refl}
 use Rattle.std.specs.Option.{option_or}
 use Rattle.std.proofs.Common.{arith, sym, ◌∙◌, ap, subst, inl, inr}
-use Rattle.std.proofs.lemmas.Bool.{and_parts, and_cases, leb-true, leb-false, le-leb, cases_lt, cases_Bool}
+use Rattle.std.proofs.lemmas.Bool.{and_parts, and_cases, leb-true, leb-false, cases_lt, cases_Bool}
 use Rattle.std.proofs.lemmas.List.{reverse-append, reverse-reverse, length-append}
 use Rattle.std.proofs.lemmas.List.Folds.{find-append}
 use Rattle.sd_msg.specs.declared.Flight.{Flight}

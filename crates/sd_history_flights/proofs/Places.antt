@@ -1,28 +1,28 @@
 -- Where a flight goes: from a device of the network over one of its links to another device, in a plan that is in force or staged. Where the
 -- plans break no rule of structure, its receiver is an end of the link. And it was sent no later than the latest event.
-use Rattle.std.specs.Prelude.{◌≡◌, ℕ, zero, suc, ◌+◌, ◌-◌, ◌<◌, ◌≤◌, Bool, true, false, ◌||◌, cond, List, [], ◌∷◌, ◌++◌, length, filter_map, find, nat_eq, slice_get, Option, Some, None, is_some, option_map, ◌⊎◌, refl, if◌then◌else◌}
+use Rattle.std.specs.Prelude.{◌≡◌, ℕ, zero, suc, ◌-◌, ◌<◌, ◌≤◌, Bool, true, false, List, [], ◌∷◌, length, filter_map, find, nat_eq, slice_get, Option, Some, None, option_map, refl, if◌then◌else◌}
 use Rattle.std.specs.List.{cons_option}
-use Rattle.std.proofs.Common.{arith, sym, ◌∙◌, ap, subst, inl, inr}
-use Rattle.std.proofs.lemmas.Bool.{and_parts, or_cases}
+use Rattle.std.proofs.Common.{arith, sym, ap, subst, inl, inr}
+use Rattle.std.proofs.lemmas.Bool.{or_cases}
 use Rattle.sd_num.specs.Lists.{of_some, below}
 use Rattle.sd_topo.specs.Network.{Network, Each, device_numbers, link_numbers, link_of, is_end, joins}
 use Rattle.sd_topo.proofs.Laws.{joined_end}
 use Rattle.sd_plan.specs.declared.Plan.{Plan}
 use Rattle.sd_plan.specs.declared.End.{End}
 use Rattle.sd_plan.specs.Plans.{primary_of, backup_of}
-use Rattle.sd_plan.specs.Structure.{structure_breach, hops_are_right}
+use Rattle.sd_plan.specs.Structure.{structure_breach}
 use Rattle.sd_plan.specs.Duties.{duty_of, ends_of, leads_to, follows_over}
 use Rattle.sd_core.specs.Calls.{Receive, Give}
 use Rattle.sd_plan.proofs.Numbered.{found_passes}
-use Rattle.sd_plan.proofs.Rules.{KeepsRules, keeps_rules, both_led}
+use Rattle.sd_plan.proofs.Rules.{keeps_rules, both_led}
 use Rattle.sd_msg.specs.declared.Flight.{Flight}
 use Rattle.sd_sched.specs.declared.Event.{Event}
 use Rattle.sd_sched.specs.declared.Event.TheVariants as event
 use Rattle.sd_sched.specs.Events.{reference_of, device_of}
-use Rattle.sd_history.specs.World.{Setting, Seen, window, epoch_in_force, staged_epoch, in_force, staged, plan_numbered, no_plan, current_plan, latest_reference}
-use Rattle.sd_history.specs.Steps.{Act, Calls, Passes, Step, seen_of, changed, act_by, flights, flight_numbered, ends_at}
+use Rattle.sd_history.specs.World.{Setting, Seen, window, epoch_in_force, staged_epoch, in_force, staged, plan_numbered, no_plan, latest_reference}
+use Rattle.sd_history.specs.Steps.{Calls, Passes, Step, seen_of, changed, act_by, flights, flight_numbered, ends_at}
 use Rattle.sd_history.specs.Accepted.{AreSteps}
-use Rattle.sd_history.proofs.Among.{Among, first, later, either_side, found}
+use Rattle.sd_history.proofs.Among.{Among, first, later, either_side}
 use Rattle.sd_history.proofs.Contained.{time_goes_on}
 use Rattle.sd_history.proofs.Known.{named_is_known}
 use Rattle.sd_history_flights.proofs.Sending.{WasSent, was_sent}

@@ -11,7 +11,7 @@ use Rattle.sd_core.specs.declared.Effect.{Effect}
 use Rattle.sd_core.specs.declared.Effect.TheVariants.{Quiet, Send}
 use Rattle.sd_sched.specs.Events.{reference_of}
 use Rattle.sd_history.specs.World.{Setting}
-use Rattle.sd_history.specs.Steps.{changed, Told, Answers, Step, flight_count, flight_to, flights_to, ends_at, flights_by, flights_of, act_by}
+use Rattle.sd_history.specs.Steps.{changed, Answers, Step, flight_count, flight_to, flights_to, ends_at, flights_by, flights_of, act_by}
 use Rattle.sd_history.specs.Accepted.{AreSteps}
 use Rattle.sd_history.proofs.Among.{Among, first, later}
 use Rattle.sd_history_flights.specs.Flights.{AreNumberedOn}

@@ -8,8 +8,6 @@
 mod census;
 mod plans;
 mod roster;
-#[cfg(test)]
-mod tests;
 
 pub use roster::Roster;
 

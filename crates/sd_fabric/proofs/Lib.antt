@@ -1,0 +1,13 @@
+-- A fabric and the history for which it stands.
+pub mod Alike
+pub mod Refused
+pub mod Admitted
+pub mod Acting
+pub mod Sends
+pub mod Stepping
+pub mod Outcoming
+pub mod Adding
+pub mod Firsts
+pub mod Keeping
+pub mod Replies
+pub mod Finishing

@@ -1,0 +1,11 @@
+-- What a fabric keeps, and for which steps it stands.
+pub mod Registers
+pub mod Causes
+pub mod Doing
+pub mod Sending
+pub mod Sound
+pub mod FabricView
+pub mod Standing
+pub mod Outcomes
+pub mod Room
+pub mod Stepping

@@ -1,0 +1,49 @@
+//! What an event makes of the flights that were on their way before it.
+ghost use Rattle.std.specs.Prelude.{◌≡◌, ◌≤◌};
+ghost use Rattle.sd_history.specs.Things as things;
+ghost use Rattle.sd_msg.specs.Books.{AreGiven};
+ghost use Rattle.sd_history_flights.specs.Flights.{without_swept};
+ghost use Rattle.sd_fabric.specs.Stepping.{CanDeliver, delivered, taken_from};
+
+use sd_msg::{Flight, FlightBook, TakeFault};
+use sd_sched::Event;
+use sd_world::failure_of;
+
+/// Leaves out what ended before the event, and takes or loses the flight of its message. The
+/// answer is the flight that it receives.
+pub(crate) fn deliver(book: &mut FlightBook, event: &Event) -> Option<Flight>
+    requires given { AreGiven book.old }
+    requires message { CanDeliver book.old event.now }
+    ensures given { AreGiven book.new }
+    ensures flight { result ≡ taken_from book.old event.now }
+    ensures flights { book.new.flights ≡ delivered event.now book.old.flights }
+    ensures last { book.new.last ≡ book.old.last }
+    ensures room { book.old.room ≤ book.new.room }
+{
+    book.purge(event.reference());
+    match *event {
+        Event::Recv {
+            device,
+            message,
+            ..
+        } => book.take(message, device).ok(),
+        Event::Lose { message, .. } => {
+            let _: Result<(), TakeFault> = book.lose(message);
+            None
+        }
+        _ => None,
+    }
+}
+
+/// Spends the flights that the event cuts off.
+pub(crate) fn sweep(book: &mut FlightBook, event: &Event)
+    requires given { AreGiven book.old }
+    ensures given { AreGiven book.new }
+    ensures flights { book.new.flights ≡ without_swept (things.failure_of event.now) book.old.flights }
+    ensures last { book.new.last ≡ book.old.last }
+    ensures room { book.old.room ≤ book.new.room }
+{
+    if let Some(thing) = failure_of(event) {
+        book.sweep(thing);
+    }
+}

@@ -1,0 +1,135 @@
+//! One step: what an accepted event makes of a fabric, once its device has told its part.
+ghost use Rattle.std.specs.Prelude.{◌≡◌, ◌≢◌, ◌≤◌, ◌<◌, ◌+◌, ◌&&◌, not, ℕ, List, ◌∷◌, None, IsTrue, length, OnOk, OnErr, if◌then◌else◌};
+ghost use Rattle.sd_sched.specs.Events.{is_end};
+ghost use Rattle.sd_sched.specs.Lines.{is_within};
+ghost use Rattle.sd_history.specs.World.{Setting};
+ghost use Rattle.sd_history.specs.Steps.{Step, Told, step_of};
+ghost use Rattle.sd_roster.specs.Rosters.{ends_below};
+ghost use Rattle.sd_fabric.specs.Causes.{refusal_in};
+ghost use Rattle.sd_fabric.specs.Doing.{Says, Tells};
+ghost use Rattle.sd_fabric.specs.Outcomes.{outcome_of};
+ghost use Rattle.sd_fabric.specs.Room.{ends_in, most_sent_in};
+ghost use Rattle.sd_fabric.specs.Sound.{IsSound};
+ghost use Rattle.sd_fabric.specs.Standing.{Stands};
+ghost use Rattle.sd_fabric.specs.Stepping.{IsAfter, outcome_in, report_in, OnlyRoomGrew};
+
+use crate::deliveries::{deliver, sweep};
+use crate::messages::send;
+use crate::stances::{acts, close, is_new};
+use crate::{Fabric, Outcome, Reply};
+use sd_clock::Report;
+use sd_num::NoMemory;
+use sd_sched::Event;
+use std::alloc::Global;
+
+/// The report of an ask, with the device that was asked.
+fn report_by(event: &Event, reply: &Reply) -> Option<(u32, Report)>
+    ensures { result ≡ report_in event.now reply.now }
+{
+    match *event {
+        Event::Ask { device, .. } => match reply.report {
+            Some(report) => Some((device, report)),
+            None => None,
+        },
+        _ => None,
+    }
+}
+
+impl Fabric {
+    /// How many messages the event sends at most: for a `tick` or a `recv` the ends below the named
+    /// device in the plan in force and in the staged one together.
+    pub fn most_sent(&self, event: &Event) -> usize
+        ensures { result ≡ most_sent_in self.now event.now }
+    {
+        match *event {
+            Event::Tick { device, .. } | Event::Recv { device, .. } => self.ends_of(device),
+            _ => 0,
+        }
+    }
+
+    /// How many ends lie below the device in the plan in force and in the staged one.
+    fn ends_of(&self, d: u32) -> usize
+        ensures { result ≡ ends_in self.now d }
+    {
+        if d >= self.topology.devices() {
+            return 0;
+        }
+        let in_force = self.roster.ends_below(self.roster.world().epoch(), d).len();
+        in_force + self.staged_ends(d)
+    }
+
+    /// How many ends lie below the device in the staged plan, if there is one.
+    fn staged_ends(&self, d: u32) -> usize
+        requires { d < length self.now.net.devices }
+        ensures { result ≡ length (ends_below self.now.roster (self.now.roster.world.epoch + 1) d) }
+    {
+        if !self.roster.world().window().is_open() {
+            return 0;
+        }
+        self.roster
+            .ends_below(self.roster.world().epoch() + 1, d)
+            .len()
+    }
+
+    /// Makes room for all messages that the event sends. Only this takes memory.
+    pub fn ready(&mut self, alloc: Global, event: &Event) -> Result<(), NoMemory>
+        ensures room { OnOk result (most_sent_in self.old event.now ≤ self.new.book.room) }
+        ensures memory { OnErr result (most_sent_in self.old event.now ≢ 0) }
+        ensures others { OnlyRoomGrew self.old self.new }
+        ensures sound { IsSound self.new }
+    {
+        match self.most_sent(event) {
+            0 => Ok(()),
+            count => self.book.ready(alloc, count),
+        }
+    }
+
+    /// An event that is not refused, of which its device told this.
+    pub fn step(&mut self, event: &Event, reply: &Reply) -> Outcome
+        requires accepted { refusal_in self.old event.now ≡ None }
+        requires within { IsTrue (is_within event.now) }
+        requires tells { Tells event.now reply.now }
+        requires room { most_sent_in self.old event.now ≤ self.old.book.room }
+        ensures after { IsAfter self.old event.now reply.now self.new }
+        ensures comes { result ≡ outcome_in self.old event.now reply.now }
+        ensures sound { IsSound self.new }
+        ensures stands { (setting : Setting) (steps : List Step) (told : Told) → Says reply.now told
+            → Stands self.old setting steps → Stands self.new setting (step_of setting steps event.now told ∷ steps) }
+        ensures outcome { (setting : Setting) (steps : List Step) (told : Told) → Says reply.now told
+            → Stands self.old setting steps → result ≡ outcome_of (step_of setting steps event.now told) }
+    {
+        let device = event.device();
+        let acted = acts(&self.roster, device);
+        let was_new = is_new(&self.roster, device);
+        let taken = deliver(&mut self.book, event);
+        let sent = send(&self.topology, &self.roster, &mut self.book, event, reply);
+        sweep(&mut self.book, event);
+        self.roster.observe(event, reply.answers);
+        let is_new_now = is_new(&self.roster, device);
+        let closed = close(&mut self.roster);
+        Outcome {
+            report: report_by(event, reply),
+            taken,
+            first_sent: sent.first,
+            sent: sent.count,
+            activated: entering(device, was_new, is_new_now),
+            acted,
+            closed,
+            ended: ends(event),
+        }
+    }
+}
+
+/// The device, where it entered the staged plan.
+fn entering(device: Option<u32>, was_new: bool, is_new: bool) -> Option<u32>
+    ensures { result ≡ (if is_new && not was_new then device else None) }
+{
+    if is_new && !was_new { device } else { None }
+}
+
+/// Whether the event is the end.
+fn ends(event: &Event) -> bool
+    ensures { result ≡ is_end event.now }
+{
+    matches!(event, Event::End { .. })
+}

@@ -1,1 +1,0 @@
-//! Devices and plans by hand.
