@@ -34,7 +34,7 @@ use Rattle.sd_safety.proofs.Sides.{implied, not_both}
 
 -- Failed things are things of the network.
 
-abbrev is_known : Network → Thing → Bool
+abbrev pub is_known : Network → Thing → Bool
 is_known net (thing.Device d) = nat_lt d (length net.devices)
 is_known net (thing.Link l) = nat_lt l (length net.links)
 
@@ -63,7 +63,7 @@ failed_are_known setting (e ∷ history) is =
     known_when (is_known setting.net) s (seen_of steps) (not s.closed)
     (all_known setting e (none_holds (causes setting steps e) _ is.1 first) (none_holds (causes setting steps e) _ is.1 (later first))) (failed_are_known setting history is.0)
 
-known : (net : Network) (failed : List Thing) (x : Thing) → list_all (is_known net) failed ≡ true → is_among failed x ≡ true → is_known net x ≡ true
+pub known : (net : Network) (failed : List Thing) (x : Thing) → list_all (is_known net) failed ≡ true → is_among failed x ≡ true → is_known net x ≡ true
 known net failed x all in_ =
     let found : Passing (same_thing x) failed = some_passing (same_thing x) failed in_ in
     subst (λ y. is_known net y ≡ true) (sym (same_is x found.one found.passed)) (passes (is_known net) found.there all)
@@ -84,7 +84,7 @@ pub record IsOff (net : Network) (plan : Plan) (devices links : ℕ → Bool) : 
   pub device : (d : ℕ) → d < length net.devices → (devices d && has (fallback_devices net plan) d) ≡ false
   pub link : (l : ℕ) → l < length net.links → (links l && has (fallback_links net plan) l) ≡ false
 
-off_fallback : (setting : Setting) (plan : Plan) (steps : List Step) (h : Holding setting steps) → IsAccepted setting.net plan → hits setting.net h.domain (path setting.net plan plan.backup_root) ≡ true
+pub off_fallback : (setting : Setting) (plan : Plan) (steps : List Step) (h : Holding setting steps) → IsAccepted setting.net plan → hits setting.net h.domain (path setting.net plan plan.backup_root) ≡ true
     → IsOff setting.net plan (holds_device setting.net h.domain) (holds_link setting.net h.domain)
 off_fallback setting plan steps h accepted hit_ =
     let net = setting.net in

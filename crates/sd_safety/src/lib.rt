@@ -4,9 +4,11 @@
 //!
 //! `safe : EachKeeps setting → StaysSafe setting` (proofs/Safe). `StaysSafe` is: for accepted plans
 //! that fit their network, in each history in which no premise is broken, following parents of
-//! counted devices comes back to nobody, and at most one of them acts. `EachKeeps` is what is left
-//! to show: each kind of event keeps the core of the invariant. Nothing is assumed beside it. What
-//! is only stated anywhere in these crates is a type in `specs/`, and enters as a hypothesis.
+//! counted devices comes back to nobody, and at most one of them acts. `EachKeeps`: each kind of event
+//! keeps the core of the invariant. `sd_safety_renewals` shows it from the silences, and so has
+//! `safe_if_silent : AreSilent setting → AtNext EntersSoon setting → StaysSafe setting`. Nothing is
+//! assumed beside them. What is only stated anywhere in these crates is a type in `specs/`, and enters
+//! as a hypothesis.
 //!
 //! # The words, in reading order
 //!
@@ -37,7 +39,7 @@
 //! | 6 | emissions lie Low(period) apart at least, and P at most | `sd_safety_timers`, `sd_safety_waits` |
 //! | 7 | one way: primary, backup, acting, and back only by an entry | `sd_safety_timers`, `sd_safety_waits` |
 //! | 8 | trace: from an accepted message hop by hop to the device that emitted it | `sd_safety_messages` |
-//! | 9 | stamps: no two emissions have one, and they rise | `sd_safety_messages` |
+//! | 9 | stamps: no two emissions have one, and they rise; terms are led in all eras | `sd_safety_messages`, `sd_safety_terms` |
 //! | 10 | no overlap: a round is received before the next of its term is emitted | `sd_safety_messages` |
 //! | 11 | flow: a round that is not spoiled comes along a whole way | `sd_safety_messages` |
 //! | 12 | of K + 1 rounds one is not spoiled; feeding: a device along a whole way from an acting one hears within A + m * D | `sd_safety_messages`, `sd_safety_silences` |
@@ -47,23 +49,26 @@
 //! | 16 | where the root failed, the backup root acts soon | `sd_safety_behind` |
 //! | 17 | a device beside the backup root that is not hit otherwise is silent for less than its wait | `sd_safety_behind` |
 //! | 18 | after a commit each member of the staged plan enters within A + H * D, and goes on hearing | open |
-//! | 19 | a new device moves no more, and its parents are new | `sd_safety_windows`, `sd_safety_moves` |
+//! | 19 | a new device moves no more, and its parents are new | `sd_safety_windows`, `sd_safety_moves`, `sd_safety_renewals` |
 //! | 20 | 13, 14, 15 and 17 of devices that are old yet after a commit | open |
-//! | 21 | who is up and left out by the staged plan is hit, and neither root nor backup root | open |
+//! | 21 | who is up and left out by the staged plan is hit, and neither root nor backup root | `sd_safety_renewals` |
 //! | 22 | no loop and one root, before a commit and after it | `Safe`, here |
-//! | 23 | a window closes with a seal alone, and C10 holds then | `Closings` here, `sd_safety_windows` |
+//! | 23 | a window closes with a seal alone, and C10 holds then | `Closings` here, `sd_safety_windows`, `sd_safety_renewals` |
 //!
 //! # What is open
 //!
-//! - Silences (`AreSilent`): 13 and 15 are proved in the first era before a commit, and in any era
-//!   in a phase in which no past device acts and a takeover's term is newer than all before it
-//!   (`IsLed` of `sd_safety_silences`). Open are this in later eras, 13 and 15 across a commit or a
-//!   closing, and 18, which every event needs in the form `EntersSoon`. 14, 16 and 17 are proved
-//!   from seven statements on feeding (specs of `sd_safety_behind`).
-//! - Kept events (`EachKeeps`): starts, moves, takeovers, stages, failures, reports, losses, fixes,
-//!   the end, quiet and emitting ticks stand, given `AreSilent` and `EntersSoon`. A receipt needs
-//!   `StoodThen` and `KeepsEntering` (`sd_safety_frame`). Give, join, mend, commit and seal are to
-//!   be put together from `sd_safety_windows`.
+//! The silences: `AreSilent` and `EntersSoon`, for `safe_if_silent`.
+//!
+//! - 13 and 15 are proved in the first era before a commit, and in any era in a phase with `IsLed` of
+//!   `sd_safety_silences`. What `IsLed` asks of terms is proved in all eras (`termed` of
+//!   `sd_safety_terms`): its `life` is the first field, and the second follows from `top`. Open are 13
+//!   and 15 across a commit or a closing.
+//! - 18, in the form `EntersSoon`, which every event needs, and `NewHears`.
+//! - 14, 16 and 17 are proved from seven statements on feeding (specs of `sd_safety_behind`).
+//! - 20 is open, and is wanted by 13, 14, 15 and 17 after a commit.
+//!
+//! The kinds of events are all shown to keep the core: `sd_safety_frame`, `_moves`, `_receipts` and
+//! `_renewals`.
 //!
 //! # Facts that the crates above share
 //!

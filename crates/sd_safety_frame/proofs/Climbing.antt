@@ -36,12 +36,12 @@ use Rattle.sd_safety_frame.specs.Descents.{TakesFromAbove, ComesDown}
 use Rattle.sd_safety_frame.proofs.Receiving.{such_rises}
 
 -- the device took the round at a moment before, not long before this one
-record Took (setting : Setting) (p q : Moment) (x n : ℕ) : Type 0 where
-  at : Moment
-  before : IsBefore at p
-  flight : Flight
-  receipt : Receipt at x flight
-  time : when q ≤ when at + n * greatest_delay setting.net
+pub record Took (setting : Setting) (p q : Moment) (x n : ℕ) : Type 0 where
+  pub at : Moment
+  pub before : IsBefore at p
+  pub flight : Flight
+  pub receipt : Receipt at x flight
+  pub time : when q ≤ when at + n * greatest_delay setting.net
 
 none_among : (x : ℕ) → has [] x ≡ true → ⊥
 none_among x is = not_both (has [] x) is refl
@@ -110,7 +110,7 @@ module _ (setting : Setting) (plan : Plan) (stamp : Stamp) (epoch : ℕ) (p : Mo
                 (λ v a. in_ v (or_right (nat_eq v h.parent) (has (parents (hops (is_root plan) plan n h.parent)) v) a)) more in
                 record { at = t.at; before = t.before; flight = t.flight; receipt = t.receipt; time = further (when q) (when from) (when t.at) n (greatest_delay setting.net) t.time time }
 
-    climb : (n : ℕ) (q : Moment) (y m : ℕ) → Trace setting stamp epoch first source m q y → IsIn q (upto p) → on y ≡ true → is_root plan y ≡ false
+    pub climb : (n : ℕ) (q : Moment) (y m : ℕ) → Trace setting stamp epoch first source m q y → IsIn q (upto p) → on y ≡ true → is_root plan y ≡ false
         → ((z : ℕ) → has (parents (hops (is_root plan) plan n y)) z ≡ true → on z ≡ true) → has (parents (hops (is_root plan) plan n y)) x ≡ true → Took setting p q x n
     climb zero q y m trace here on_ not_root within among = absurd (none_among x among)
     climb (suc n) q y m trace here on_ not_root within among =
@@ -118,8 +118,8 @@ module _ (setting : Setting) (plan : Plan) (stamp : Stamp) (epoch : ℕ) (p : Mo
 
 -- When it heard
 
-heard_here : (at : Moment) (x : ℕ) (f : Flight) → Receipt at x f → heard_at (upto at) x ≡ when at
-heard_here at x f receipt =
+pub heard_by_receipt : (at : Moment) (x : ℕ) (f : Flight) → Receipt at x f → heard_at (upto at) x ≡ when at
+heard_by_receipt at x f receipt =
     let call : Call = calls.Receive f.link f.message receipt.counter in
     let does_it : does hears at.earlier at.step x ≡ true =
     ap (λ a. of_some (did_by at.earlier a x) false hears) receipt.act
@@ -127,7 +127,7 @@ heard_here at x f receipt =
     ∙ ap (λ (o : Option Past). of_some (option_map (λ past. record { call = call; deed = deed_of past call }) o) false hears) receipt.there ∙ ap (λ (o : Option Edge). is_some o) receipt.over in
     ap (λ b. if b then when at else heard_at at.earlier x) (or_right (makes x at.step.seen.event) (does hears at.earlier at.step x) does_it)
 
-rises_on : (test : Did → Bool) (setting : Setting) (history : List Event) → IsHistory setting history → (d : ℕ) (older : List Step) → Tail older (chronicle setting history) → latest_such test older d ≤ latest_such test (chronicle setting history) d
+pub rises_on : (test : Did → Bool) (setting : Setting) (history : List Event) → IsHistory setting history → (d : ℕ) (older : List Step) → Tail older (chronicle setting history) → latest_such test older d ≤ latest_such test (chronicle setting history) d
 rises_on test setting [] is d older whole = omega arith
 rises_on test setting (e ∷ history) is d older whole = omega arith
 rises_on test setting (e ∷ history) is d older (behind t) =
@@ -176,7 +176,7 @@ module _ {setting : Setting} (down : ComesDown setting) (r c n : ℕ) (history :
           (or_left (nat_eq backup backup) (has (above_backup_root setting steps) backup) (eq-eqb backup backup refl)) root
           (λ z a. or_right (nat_eq z backup) (has (above_backup_root setting steps) z) (ap (λ xs. has xs z) parents ∙ a)) (sym (ap (λ xs. has xs x) parents) ∙ among) in
           near (when took.at) (depth setting.net) (heard_at steps x) (greatest_delay setting.net) took.time
-          (subst (λ h. h ≤ heard_at steps x) (heard_here took.at x took.flight took.receipt) (rises_on hears setting history comes.clean.is.0 x (upto took.at) took.before))
+          (subst (λ h. h ≤ heard_at steps x) (heard_by_receipt took.at x took.flight took.receipt) (rises_on hears setting history comes.clean.is.0 x (upto took.at) took.before))
 
   found : (o : Option Flight) (p : Option Past) → flight_numbered (chronicle setting history) n ≡ o → past_in (chronicle setting history) (plan_now setting (chronicle setting history)).backup_root ≡ p
       → of_some o calls.Nothing (λ f. of_some p calls.Nothing (λ past. deed_of past (calls.Receive f.link f.message c))) ≡ calls.Accepted edge → r ≤ heard_at (chronicle setting history) x + depth setting.net * delay setting.net

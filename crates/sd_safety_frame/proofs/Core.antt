@@ -15,7 +15,7 @@ use Rattle.sd_safety.specs.Eras.{era, plan_now, is_old, is_new, is_blank, is_ord
 use Rattle.sd_safety.specs.Clauses.{just_closed, member_is_up, shadow_is_short, none_sent_ahead, commit_at, staged_root, leads_to_root, left_out_is_hit, begins_with}
 use Rattle.sd_safety.specs.Invariant.{Of, Core, IsCalm, IsClosed, IsCommitted}
 use Rattle.sd_safety_frame.specs.Frames.{IsAlike, IsAlikeAt}
-use Rattle.sd_safety_frame.proofs.Alike.{member_follows_same, returned_same, outsider_same, current_same, blank_is_same, link_same, root_acts_same, failed_root_same, ordinary_same, backup_same, move_same, takeover_same, path_same, none_new_same}
+use Rattle.sd_safety_frame.proofs.Alike.{member_follows_same, returned_same, outsider_same, current_same, blank_is_same, link_on, root_acts_same, failed_root_same, ordinary_same, backup_same, move_same, takeover_same, path_same, none_new_same}
 
 -- no closing, no claim on it
 pub closed_of : (setting : Setting) (steps : List Step) → just_closed steps ≡ false → IsClosed setting steps
@@ -51,7 +51,7 @@ core_alike setting one two alike each timely core =
             outsiders = λ d. outsider_same setting one two alike each d ∙ core.census.outsiders d;
             current = λ d. current_same setting one two alike each d ∙ core.census.current d;
             blanks = λ d. blank_is_same setting one two alike each d ∙ core.census.blanks d;
-            links = λ l. link_same setting one two alike each l ∙ core.census.links l;
+            links = λ l. link_on setting one two alike each l (core.census.links l);
           };
       roles =
           record {

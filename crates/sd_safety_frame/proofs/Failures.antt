@@ -19,7 +19,8 @@ use Rattle.sd_safety.proofs.Closings.{failed_device_closes_none, failed_link_clo
 use Rattle.sd_safety_frame.proofs.Plain.{era_kept, failed_more, commit_kept, joined_kept, has_failed_kept}
 use Rattle.sd_safety_frame.proofs.Steps.{alike_elsewhere}
 use Rattle.sd_safety.proofs.Empty.{core_before}
-use Rattle.sd_safety_frame.proofs.Failing.{Stays, Falls, failure_keeps}
+use Rattle.sd_safety_frame.proofs.Changing.{Stays, IsOutside, change_keeps}
+use Rattle.sd_safety_frame.proofs.Failing.{falls}
 
 -- no failure comes after a commit
 no_commit : (mend commit : Bool) → (not true || not (mend || commit)) ≡ true → commit ≡ false
@@ -46,29 +47,30 @@ module _ {setting : Setting} (r d : ℕ) (history : List Event) (comes : Comes s
   more : failed_now (chronicle setting (event.FailDevice r d ∷ history)) ≡ thing.Device d ∷ failed_now (chronicle setting history)
   more = failed_more setting one s stays
 
-  each : (x : ℕ) → Stays (chronicle setting history) (chronicle setting (event.FailDevice r d ∷ history)) x ⊎ Falls (chronicle setting (event.FailDevice r d ∷ history)) x
+  each : (x : ℕ) → Stays (chronicle setting history) (chronicle setting (event.FailDevice r d ∷ history)) x ⊎ IsOutside setting (chronicle setting history) (chronicle setting (event.FailDevice r d ∷ history)) x
   each x = by (nat_eq x d) refl
     where
-      by : (b : Bool) → nat_eq x d ≡ b → Stays (chronicle setting history) (chronicle setting (event.FailDevice r d ∷ history)) x ⊎ Falls (chronicle setting (event.FailDevice r d ∷ history)) x
+      by : (b : Bool) → nat_eq x d ≡ b → Stays (chronicle setting history) (chronicle setting (event.FailDevice r d ∷ history)) x ⊎ IsOutside setting (chronicle setting history) (chronicle setting (event.FailDevice r d ∷ history)) x
       by true is =
           inr
-          (record {
-            down = ap (λ b. of_some (if b then Some false else None) (is_up (seen_of one) x) (λ told. told)) is;
-            failed = ap (λ xs. is_among xs (thing.Device x)) more ∙ or_left (nat_eq x d) (is_among (failed_now one) (thing.Device x)) is;
-            touched = and_right (not (was_made (seen_of one) x)) (not (nat_eq x d || has_ever_failed (seen_of one) x)) (ap not (or_left (nat_eq x d) (has_ever_failed (seen_of one) x) is));
-          })
+          (falls setting (event.FailDevice r d) history comes.fair comes.clean (core_before setting history (event.FailDevice r d) comes) (era_kept setting one s stays) (thing.Device d) more x
+          (ap (λ b. of_some (if b then Some false else None) (is_up (seen_of one) x) (λ told. told)) is)
+          (ap (λ xs. is_among xs (thing.Device x)) more ∙ or_left (nat_eq x d) (is_among (failed_now one) (thing.Device x)) is)
+          (and_right (not (was_made (seen_of one) x)) (not (nat_eq x d || has_ever_failed (seen_of one) x)) (ap not (or_left (nat_eq x d) (has_ever_failed (seen_of one) x) is))))
       by false is =
           inl
           (record {
             alike = alike_elsewhere setting one s x (record { changes = refl; unmade = refl; unfailed = is });
             failed = ap (λ xs. is_among xs (thing.Device x)) more ∙ ap (λ b. b || is_among (failed_now one) (thing.Device x)) is;
+            joined_is = joined_kept setting one s stays refl x refl;
+            heard_is = refl;
           })
 
   device_keeps : Core setting (chronicle setting (event.FailDevice r d ∷ history))
   device_keeps =
-      failure_keeps setting (event.FailDevice r d) history comes.fair comes.clean (core_before setting history (event.FailDevice r d) comes) (thing.Device d) (era_kept setting one s stays) before
-      (commit_kept setting one s stays refl refl ∙ before) (λ x. joined_kept setting one s stays refl x refl) more each
-      (λ l. inr (ap (λ xs. is_among xs (thing.Link l)) more, has_failed_kept one s (thing.Link l) refl refl)) (λ x. refl) refl stays
+      change_keeps setting (event.FailDevice r d) history comes.fair comes.clean (core_before setting history (event.FailDevice r d) comes) (Some (thing.Device d)) (era_kept setting one s stays) before
+      (commit_kept setting one s stays refl refl ∙ before) more each
+      (λ l. inr (ap (λ xs. is_among xs (thing.Link l)) more, has_failed_kept one s (thing.Link l) refl refl)) refl stays
 
 module _ {setting : Setting} (r m : ℕ) (history : List Event) (comes : Comes setting history (event.FailLink r m)) where
   abbrev one_ : List Step
@@ -101,15 +103,17 @@ module _ {setting : Setting} (r m : ℕ) (history : List Event) (comes : Comes s
 
   link_keeps : Core setting (chronicle setting (event.FailLink r m ∷ history))
   link_keeps =
-      failure_keeps setting (event.FailLink r m) history comes.fair comes.clean (core_before setting history (event.FailLink r m) comes) (thing.Link m) (era_kept setting one_ s_ stays_) before_
-      (commit_kept setting one_ s_ stays_ refl refl ∙ before_) (λ x. joined_kept setting one_ s_ stays_ refl x refl) more_
+      change_keeps setting (event.FailLink r m) history comes.fair comes.clean (core_before setting history (event.FailLink r m) comes) (Some (thing.Link m)) (era_kept setting one_ s_ stays_) before_
+      (commit_kept setting one_ s_ stays_ refl refl ∙ before_) more_
       (λ x.
       inl
       (record {
         alike = alike_elsewhere setting one_ s_ x (record { changes = refl; unmade = refl; unfailed = refl });
         failed = ap (λ xs. is_among xs (thing.Device x)) more_;
+        joined_is = joined_kept setting one_ s_ stays_ refl x refl;
+        heard_is = refl;
       }))
-      links (λ x. refl) refl stays_
+      links refl stays_
 
 pub fail_device : {setting : Setting} → (r d : ℕ) → Keeps setting (event.FailDevice r d)
 fail_device r d history comes = device_keeps r d history comes

@@ -35,10 +35,12 @@ use Rattle.sd_safety.proofs.Closings.{ask_closes_none, loss_closes_none, end_clo
 use Rattle.sd_safety_messages.proofs.Sending.{sends_own}
 use Rattle.sd_safety.specs.Silences.{EntersSoon}
 use Rattle.sd_safety_frame.specs.Frames.{IsElsewhere, IsPlain, IsAlike, IsAlikeAt}
-use Rattle.sd_safety_frame.proofs.Alone.{heard_alone}
+use Rattle.sd_safety_frame.proofs.Alone.{given_alone, heard_alone}
+use Rattle.sd_safety_frame.proofs.Words.{given_same}
+use Rattle.sd_safety_frame.proofs.Alike.{enters_same}
 use Rattle.sd_safety_frame.proofs.Plain.{commit_at_kept, staged_kept}
 use Rattle.sd_safety_frame.proofs.Steps.{alike_plain, alike_elsewhere}
-use Rattle.sd_safety_frame.proofs.Called.{IsIdle, alike_called, idle_tick, idle_emission, idle_fix}
+use Rattle.sd_safety_frame.proofs.Called.{IsIdle, answers_called, alike_called, idle_turns_nothing, idle_tick, idle_emission, idle_fix}
 use Rattle.sd_safety.proofs.Empty.{core_before}
 use Rattle.sd_safety_frame.proofs.Lasting.{core_lasts, closes_none, shadow_same, messages_same}
 
@@ -58,6 +60,7 @@ module _ {setting : Setting} (enters : AtNext EntersSoon setting) (history : Lis
       let alike : IsAlike setting steps (s ∷ steps) = alike_plain setting steps s plain in
       let each : (x : ℕ) → IsAlikeAt steps (s ∷ steps) x = λ x. alike_elsewhere setting steps s x (alone x) in
       core_lasts setting e history comes.fair comes.clean core alike each (staged_kept setting steps s plain.stays plain.unstaged) (commit_at_kept setting steps s plain.stays plain.unstaged plain.uncommitted) (enters history e comes)
+      (λ x. enters_same setting steps (s ∷ steps) alike each (staged_kept setting steps s plain.stays plain.unstaged) x (given_alone steps s x (alone x)) ∙ core.committed.entering x)
       (λ x. shadow_same setting steps (s ∷ steps) alike each (λ y. heard_alone steps s y (alone y)) x ∙ core.causes.shadow x)
       (messages_same setting steps (s ∷ steps) alike (ap (λ fs. fs ++ flights steps) sent) ∙ core.uncommitted.messages) plain.stays
 
@@ -172,12 +175,12 @@ module _ {setting : Setting} (enters : AtNext EntersSoon setting) (history : Lis
     (unstaged : is_stage e ≡ false) (uncommitted : is_commit e ≡ false) (unjoined : joined e ≡ None) (fails_none : failure_of e ≡ None) (mends_none : mended e ≡ None)
     (idle : (past : Past) → past_in (chronicle setting history) d ≡ Some past → IsIdle past call) where
   pub each_called : (x : ℕ) → IsAlikeAt (chronicle setting history) (chronicle setting (e ∷ history)) x
-  each_called = alike_called setting e history d call named unmade unfailed idle
+  each_called = alike_called setting e history d call named unmade unfailed (λ past there. idle_turns_nothing (idle past there))
 
   pub plain_called : IsPlain (step_at setting history e)
   plain_called =
       record {
-        stays = closes_none setting e history unstaged uncommitted (λ x. (each_called x).up_is) (λ x. (each_called x).answers_are);
+        stays = closes_none setting e history unstaged uncommitted (λ x. (each_called x).up_is) (answers_called setting e history d call named unmade unfailed idle);
         unstaged = unstaged;
         uncommitted = uncommitted;
         unjoined = unjoined;
@@ -191,9 +194,13 @@ module _ {setting : Setting} (enters : AtNext EntersSoon setting) (history : Lis
   -- a call that changes nothing keeps the core, where C6 and C8 stay
   pub calling : ((x : ℕ) → shadow_is_short setting (chronicle setting (e ∷ history)) x ≡ true) → none_sent_ahead (chronicle setting (e ∷ history)) ≡ true → Core setting (chronicle setting (e ∷ history))
   calling shadow messages =
-      core_lasts setting e history comes.fair comes.clean (core_before setting history e comes) alike_now each_called
-      (staged_kept setting (chronicle setting history) (step_at setting history e) plain_called.stays unstaged)
-      (commit_at_kept setting (chronicle setting history) (step_at setting history e) plain_called.stays unstaged uncommitted) (enters history e comes) shadow messages plain_called.stays
+      let steps = chronicle setting history in
+      let s = step_at setting history e in
+      let same_plan = staged_kept setting steps s plain_called.stays unstaged in
+      core_lasts setting e history comes.fair comes.clean (core_before setting history e comes) alike_now each_called same_plan
+      (commit_at_kept setting steps s plain_called.stays unstaged uncommitted) (enters history e comes)
+      (λ x. enters_same setting steps (s ∷ steps) alike_now each_called same_plan x (given_same steps (s ∷ steps) x (answers_called setting e history d call named unmade unfailed idle x)) ∙ (core_before setting history e comes).committed.entering x)
+      shadow messages plain_called.stays
 
   -- they stay where it accepts nothing
   pub shadow_called : ((past : Past) → past_in (chronicle setting history) d ≡ Some past → is_some (accepted_over (deed_of past call)) ≡ false) → (x : ℕ) → shadow_is_short setting (chronicle setting (e ∷ history)) x ≡ true

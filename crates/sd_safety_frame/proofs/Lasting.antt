@@ -15,7 +15,7 @@ use Rattle.sd_history.specs.Steps.{Answers, Step, seen_of, first_step, act_by, h
 use Rattle.sd_history.specs.Chronicle.{chronicle, told_by}
 use Rattle.sd_history.proofs.Among.{Among, first, later, either_side}
 use Rattle.sd_safety.specs.Eras.{era, plan_now, heard_at}
-use Rattle.sd_safety.specs.Clauses.{just_closed, is_beginning, someone_untouched, begins_with, left_out_is_hit, member_entered, commit_at, shadow_is_short, none_sent_ahead}
+use Rattle.sd_safety.specs.Clauses.{just_closed, is_beginning, someone_untouched, begins_with, left_out_is_hit, member_enters, member_entered, commit_at, shadow_is_short, none_sent_ahead}
 use Rattle.sd_safety.specs.Invariant.{Core, leaves_out_rightly}
 use Rattle.sd_safety.specs.Coming.{IsFair, IsClean}
 use Rattle.sd_safety.proofs.Prefix.{Passing, some_passing}
@@ -23,24 +23,12 @@ use Rattle.sd_safety.proofs.Closings.{no_window_closes}
 use Rattle.sd_safety.specs.Silences.{EntersSoon}
 use Rattle.sd_safety_frame.specs.Frames.{IsAlike, IsAlikeAt}
 use Rattle.sd_safety_frame.proofs.Plain.{commit_kept, staged_kept, staged_epoch_kept}
-use Rattle.sd_safety_frame.proofs.Alike.{plan, old, new, failed_device, staged_member, above, stays_same, enters_same, committer_same, acting_same, linked_same, left_out_same, untouched_same}
+use Rattle.sd_safety_frame.proofs.Alike.{plan, old, new, failed_device, staged_member, above, stays_same, committer_same, acting_same, linked_same, left_out_same, untouched_same}
 use Rattle.sd_safety_waits.proofs.Long.{timely_of}
 use Rattle.sd_safety_waits.proofs.Beginning.{quiet, still, touched}
 use Rattle.sd_safety_frame.proofs.Timely.{begins_before, first_era, late_after, touched_now, member_up_now}
+use Rattle.sd_safety_frame.proofs.LeftOut.{left_out_kept}
 use Rattle.sd_safety_frame.proofs.Core.{core_alike}
-
-pub among_less : (n d : ℕ) → Among d (below n) → d < n
-among_less zero d a = elim a [ ]
-among_less (suc n) d a = go (among_less n d) (either_side (below n) (n ∷ []) a)
-  where
-    at : (x : ℕ) (xs : List ℕ) → Among d (x ∷ xs) → xs ≡ [] → d ≡ x
-    at x xs first none = refl
-    at x [] (later b) none = elim b [ ]
-    at x (y ∷ ys) (later b) none = cc
-
-    go : (Among d (below n) → d < n) → Among d (below n) ⊎ Among d (n ∷ []) → d < suc n
-    go rest (inl b) = let less : d < n = rest b in omega (arith, less)
-    go rest (inr b) = let same : d ≡ n = at n [] b refl in omega (arith, same)
 
 -- Closings
 
@@ -89,43 +77,18 @@ module _ (setting : Setting) (e : Event) (history : List Event) (fair : IsFair s
   two = chronicle setting (e ∷ history)
 
   -- C9 g
-  begins_same : is_beginning setting two ≡ true → is_beginning setting one ≡ true → (d : ℕ) → begins_with setting two d ≡ begins_with setting one d
-  begins_same now then_ d =
-      ap (λ b. b && is_beginning setting two) (untouched_same setting one two alike each d) ∙ ap (λ b. someone_untouched setting one d && b) (now ∙ sym then_)
-
-  nobody_left : is_beginning setting two ≡ false → Passing (begins_with setting one) (device_numbers setting.net) → ⊥
-  nobody_left over found =
-      let d = found.one in
-      let parts = and_parts (someone_untouched setting one d) (is_beginning setting one) found.passed in
-      let who = and_parts (is_member (plan_numbered setting 1) d) (is_untouched (seen_of one) d) parts.0 in
-      both_ways (is_untouched (seen_of two) d)
-      (touched setting (e ∷ history) (timely_of setting (e ∷ history) fair clean) d (among_less (length setting.net.devices) d found.there) who.0
-      (late_after setting two over (alike.era_is ∙ first_era setting one parts.1)))
-      ((each d).untouched_is ∙ who.1)
-
   pub left_out_now : leaves_out_rightly setting two ≡ true
-  left_out_now = by_case (or_cases (list_all (left_out_is_hit setting one) ds) (list_any (begins_with setting one) ds) core.committed.left_out) (is_beginning setting two) refl
-    where
-      ds : List ℕ
-      ds = device_numbers setting.net
-
-      by_case : (list_all (left_out_is_hit setting one) ds ≡ true) ⊎ (list_any (begins_with setting one) ds ≡ true) → (b : Bool) → is_beginning setting two ≡ b → leaves_out_rightly setting two ≡ true
-      by_case (inl all) b is =
-          or_left (list_all (left_out_is_hit setting two) ds) (list_any (begins_with setting two) ds)
-          (ap (λ (f : ℕ → Bool). list_all f ds) (λ i d. left_out_same setting one two alike each staged_is d i) ∙ all)
-      by_case (inr any) true is =
-          or_right (list_all (left_out_is_hit setting two) ds) (list_any (begins_with setting two) ds)
-          (ap (λ (f : ℕ → Bool). list_any f ds) (λ i d. begins_same is (begins_before setting e history clean alike.era_is is) d i) ∙ any)
-      by_case (inr any) false is = absurd (nobody_left is (some_passing (begins_with setting one) ds any))
+  left_out_now = left_out_kept setting e history fair clean core alike.era_is alike.failed_is alike.commit_is staged_is (λ d. (each d).up_is) (λ d. (each d).untouched_is)
 
   -- C9 b
   pub entered_now : commit_at two ≡ commit_at one → EntersSoon setting one (reference_of e) → (d : ℕ) → member_entered setting two d ≡ true
   entered_now committed soon d =
       rw (alike.commit_is, staged_member setting one two alike each staged_is d, committed, new setting one two alike each d) (soon d)
 
-  -- what is left is that nobody heard and nothing was sent ahead
-  pub core_lasts : commit_at two ≡ commit_at one → EntersSoon setting one (reference_of e) → ((x : ℕ) → shadow_is_short setting two x ≡ true) → none_sent_ahead two ≡ true → just_closed two ≡ false → Core setting two
-  core_lasts committed soon shadow messages unclosed =
+  -- what is left is who enters, that nobody heard and nothing was sent ahead
+  pub core_lasts : commit_at two ≡ commit_at one → EntersSoon setting one (reference_of e) → ((d : ℕ) → member_enters setting two d ≡ true) → ((x : ℕ) → shadow_is_short setting two x ≡ true) → none_sent_ahead two ≡ true
+      → just_closed two ≡ false → Core setting two
+  core_lasts committed soon enters shadow messages unclosed =
       core_alike setting one two alike each
       (record {
         calm =
@@ -139,7 +102,7 @@ module _ (setting : Setting) (e : Event) (history : List Event) (fair : IsFair s
         messages = messages;
         committed =
             record {
-              entering = λ d. enters_same setting one two alike each staged_is d ∙ core.committed.entering d;
+              entering = enters;
               entered = entered_now committed soon;
               committer = committer_same setting one two alike each staged_is ∙ core.committed.committer;
               acting = λ d. acting_same setting one two alike each staged_is d ∙ core.committed.acting d;

@@ -7,11 +7,14 @@ pub mod Alike
 pub mod Called
 pub mod Core
 pub mod Timely
+pub mod LeftOut
 pub mod Lasting
 pub mod Idles
 pub mod Receiving
 pub mod Staging
+pub mod Changing
 pub mod Failing
+pub mod Turning
 pub mod Failures
 pub mod Climbing
 pub mod Descending

@@ -30,7 +30,7 @@ use Rattle.sd_safety.proofs.Sides.{implied}
 use Rattle.sd_safety.specs.Silences.{EntersSoon}
 use Rattle.sd_safety_frame.specs.Frames.{IsElsewhere, IsAlike, IsAlikeAt}
 use Rattle.sd_safety_frame.specs.Receipts.{deed_of_receipt, KeepsEntering, AboveHears}
-use Rattle.sd_safety_frame.proofs.Alone.{heard_alone}
+use Rattle.sd_safety_frame.proofs.Alone.{live_alone, heard_alone}
 use Rattle.sd_safety_frame.proofs.Alike.{plan, old, above, stays_same}
 use Rattle.sd_safety_frame.proofs.Steps.{elsewhere, alike_elsewhere}
 use Rattle.sd_safety_frame.proofs.Called.{IsIdle, idle_receipt, idle_accepted}
@@ -90,7 +90,7 @@ module _ {setting : Setting} (enters : AtNext EntersSoon setting) (r d c n : ℕ
       let each : (x : ℕ) → IsAlikeAt steps (step_at setting history e ∷ steps) x = λ x. alike_elsewhere setting steps (step_at setting history e) x (alone x) in
       passing enters history e comes
       (record {
-        stays = closes_none setting e history refl refl (λ x. (each x).up_is) (λ x. (each x).answers_are);
+        stays = closes_none setting e history refl refl (λ x. (each x).up_is) (λ x. live_alone steps (step_at setting history e) x (alone x));
         unstaged = refl;
         uncommitted = refl;
         unjoined = refl;

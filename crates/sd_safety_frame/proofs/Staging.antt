@@ -88,7 +88,7 @@ module _ {setting : Setting} (r : ℕ) (history : List Event) (comes : Comes set
         joined_is = λ d.
             ap (λ (o : Option (List Seen)). of_some o false (list_any (λ x. same_number (joined x.event) d))) opened
             ∙ sym (ap (λ (o : Option (List Seen)). of_some o false (list_any (λ x. same_number (joined x.event) d))) shut);
-        link_is = λ l. has_failed_kept one s (thing.Link l) refl refl;
+        links_no_worse = λ l failed. failed;
       }
 
   each : (x : ℕ) → IsAlikeAt (chronicle setting history) (chronicle setting (event.Stage r ∷ history)) x

@@ -16,21 +16,20 @@
 //!
 //! - `EntersSoon` (`Silences` of `sd_safety`): 18 of members. It stands for C9 b, which time alone
 //!   could break, so every event asks for it.
-//! - `StoodThen` (`Descents`): while an old backup root is on its primary, no device of its path but
-//!   the root has moved or acted in the plan in force at any event so far. Of the newest event it is
-//!   proved (`stands_now`). It is to be shown by going back: to the start of the backup root, before
-//!   which nobody moves (C0), or to the closing, before which nobody is of this plan but back to the
-//!   commit (C9 d).
-//! - `KeepsEntering` (`Receipts`): a receipt that enters the staged plan keeps the core.
+//! - `StoodThen` (`Descents`) and `KeepsEntering` (`Receipts`): proved in `sd_safety_receipts`. They are
+//!   statements here since what stood at earlier events needs the receipts of this crate.
 //!
 //! # The way
 //!
 //! A step is elsewhere of a device (`IsElsewhere`) where it neither changes, makes nor fails it, and
 //! plain (`IsPlain`) where it closes, stages, commits, fails, mends and joins nothing. `Alone` and
 //! `Plain` say what each leaves alone, word by word; `Alike` and `Core` carry the clauses over to a
-//! state that is alike; `Timely`, `Lasting` show what asks for references and messages. `Failing` is
-//! the pattern for an event that changes one device. `Climbing` and `Descending` show C6 at a receipt
-//! of the backup root: along the trace and the walk to the root together.
+//! state that is alike; `Timely`, `Lasting` show what asks for references and messages. `Changing` is
+//! the pattern for an event that changes some devices, each of which stays as it was or stands outside
+//! (`IsOutside`: down, past, blank or new) afterwards; `Failing` and `Turning` are that for a failure
+//! and for who takes up the staged plan, and `LeftOut` has C9 g of both. `Called` is of calls that turn
+//! nothing: gives and seals. `Climbing` and `Descending` show C6 at a receipt of the backup root: along
+//! the trace and the walk to the root together.
 //!
 //! - A stage, a failure and the end may be the very first event: then the core of no steps is wanted
 //!   (`core_empty`).

@@ -93,13 +93,13 @@ module _ (setting : Setting) (r d c clock eps : ℕ) (history : List Event) (com
   abbrev plan : Plan
   plan = plan_now setting (chronicle setting history)
 
-  abbrev made : Past
+  abbrev pub made : Past
   made = new_past (calls.Started (duty_of setting.net (in_force setting (seen_of steps)) (epoch_in_force (seen_of steps)) d) c clock eps)
 
-  abbrev begun : Step
+  abbrev pub begun : Step
   begun = first_step setting (chronicle setting history) (event.Start r d c clock eps) (told_by (chronicle setting history) (act_by setting (chronicle setting history) (event.Start r d c clock eps)))
 
-  abbrev start_step : Bool → Step
+  abbrev pub start_step : Bool → Step
   start_step closed =
       record {
         seen = record { event = event.Start r d c clock eps; taken = None; sent = []; activated = activated_by (chronicle setting history) begun; acted = acted_by (chronicle setting history) (event.Start r d c clock eps); closed = closed };
@@ -108,10 +108,10 @@ module _ (setting : Setting) (r d c clock eps : ℕ) (history : List Event) (com
         sent = [];
       }
 
-  abbrev now : List Step
+  abbrev pub now : List Step
   now = start_step false ∷ chronicle setting history
 
-  now_is : chronicle setting (event.Start r d c clock eps ∷ history) ≡ now
+  pub now_is : chronicle setting (event.Start r d c clock eps ∷ history) ≡ now
   now_is = ap (λ b. start_step b ∷ chronicle setting history) (start_closes_none setting history r d c clock eps comes.clean)
 
   core_then : Core setting (chronicle setting history)
@@ -131,7 +131,7 @@ module _ (setting : Setting) (r d c clock eps : ℕ) (history : List Event) (com
   shut : window (seen_of (chronicle setting history)) ≡ None
   shut = no_window (seen_of (chronicle setting history)) unstaged
 
-  one : era (chronicle setting history) ≡ 1
+  pub one : era (chronicle setting history) ≡ 1
   one = first_era setting history unstaged
 
   no_commit : has_commit (seen_of now) ≡ false
@@ -149,7 +149,7 @@ module _ (setting : Setting) (r d c clock eps : ℕ) (history : List Event) (com
       by true h = refl
       by false h = cc
 
-  unmade : was_made (seen_of (chronicle setting history)) d ≡ false
+  pub unmade : was_made (seen_of (chronicle setting history)) d ≡ false
   unmade = (or_parts (was_made (seen_of (chronicle setting history)) d) false (none_holds (causes setting (chronicle setting history) (event.Start r d c clock eps)) _ comes.clean.is.1 (later (later (later (later (later (later (later (later (later (later first)))))))))))).0
 
   sound : has_failed (seen_of (chronicle setting history)) (thing.Device d) ≡ false
@@ -165,7 +165,7 @@ module _ (setting : Setting) (r d c clock eps : ℕ) (history : List Event) (com
   sound_now = not_among (seen_of (chronicle setting history)) (thing.Device d) unfailed
 
   -- Members may start yet
-  starts_by : is_beginning setting now ≡ true
+  pub starts_by : is_beginning setting now ≡ true
   starts_by =
       let s : Seen = (next_step setting (chronicle setting history) (event.Start r d c clock eps)).seen in
       let all = and_parts (tick_holds setting (seen_of (chronicle setting history))) (ticks_in_time setting s (seen_of (chronicle setting history))) timely_now.ticks in

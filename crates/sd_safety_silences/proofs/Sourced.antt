@@ -35,7 +35,7 @@ use Rattle.sd_safety_silences.proofs.Phases.{Following, following, Known, known}
 use Rattle.sd_safety_silences.proofs.Sounding.{top_of, kept_then}
 
 -- who enters does not act
-entered_still : (past : Past) (call : Call) → enters (deed_of past call) ≡ true → is_acting (after past call) ≡ false
+pub entered_still : (past : Past) (call : Call) → enters (deed_of past call) ≡ true → is_acting (after past call) ≡ false
 entered_still past call is = go (deed_of past call) is
   where
     go : (deed : Deed) → enters deed ≡ true → is_acting (with_deed past call deed) ≡ false
@@ -49,7 +49,7 @@ entered_still past call is = go (deed_of past call) is
     go Nothing h = cc
 
 -- an emission leaves the plan
-emission_keeps : (past : Past) (call : Call) → is_emission (deed_of past call) ≡ true → epoch_now (after past call) ≡ epoch_now past
+pub emission_keeps : (past : Past) (call : Call) → is_emission (deed_of past call) ≡ true → epoch_now (after past call) ≡ epoch_now past
 emission_keeps past call is = go (deed_of past call) is
   where
     go : (deed : Deed) → is_emission deed ≡ true → epoch_now (with_deed past call deed) ≡ epoch_now past

@@ -23,9 +23,8 @@
 //!
 //! # What is open
 //!
-//! - `IsLed` in later eras. `era_emitter` and `root_term` give it of what was emitted in the phase;
-//!   wanted are the emissions before: no past device acts, by C9 c at each closing, and the term of
-//!   a takeover is newer than all before it.
+//! - `IsLed` in later eras, from `termed` of `sd_safety_terms`: `life` is a field of that, and `newest`
+//!   follows from `top` of the root and that its term stays (`acts_on`).
 //! - 13 and 15 across a commit or a closing. The way has to follow the clean round: one emitted before
 //!   the commit goes the old way, a later one that of the staged plan. So the K + 1 rounds are to be
 //!   chosen first, and `way_flows`, which is of one round, used for the one that is clean.

@@ -3,7 +3,7 @@
 //! # What is here of `EachKeeps`
 //!
 //! The clauses are shown one by one, each of every device or link, from the clauses before the event
-//! that it needs, which enter as plain hypotheses. No field of `EachKeeps` is put together yet.
+//! that it needs, which enter as plain hypotheses.
 //!
 //! | Clause | Names | Module |
 //! |---|---|---|
@@ -20,14 +20,9 @@
 //! stays new, that it has no given duty, and that who sent a message of the staged epoch is new. So
 //! C9 d needs no trace: the sender of an entering receipt is new at that moment.
 //!
-//! # What is open
+//! # What is elsewhere
 //!
-//! 1. C9 g at a commit (21): by C1 a walk joins a left-out device that is not hit to the staged root,
-//!    against `AtCommit.cleanly`; and the case of an untouched member. After a commit it stays.
-//! 2. C9 b later than A + H * D after the commit: 18.
-//! 3. A join and a mend: C1. A joined device is blank, joined in the window, and not counted before.
-//! 4. A commit, for the clauses of the old era: the root or the backup root is new after it.
-//! 5. A closing: C1, that an outsider is past, and C6, by the traces of the entering receipts. C2 to
-//!    C5 follow from `closing_begins` by `Opening` of `sd_safety`.
-//! 6. A seal that closes nothing: by `Sealing`, since nothing else changes.
+//! `sd_safety_receipts` and `sd_safety_renewals` put these together to the fields of `EachKeeps`, with
+//! C9 g at a commit (21) and the clauses of the old era. C9 b later than A + H * D after the commit is
+//! 18, which `EntersSoon` states.
 #![tactic(auto)]
