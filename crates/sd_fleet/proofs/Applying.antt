@@ -1,0 +1,181 @@
+-- What a fleet stands for before any event, and after one that is accepted or refused.
+use Rattle.std.specs.Prelude.{◌≡◌, ◌≢◌, ℕ, zero, suc, ◌+◌, ◌<◌, Bool, true, false, List, [], ◌∷◌, ◌++◌, length, replicate, Option, Some, None, IsTrue, IfSome, refl}
+use Rattle.std.proofs.Common.{sym, ◌∙◌, ap, subst, inl, inr, add-one}
+use Rattle.sd_topo.specs.Network.{Network, Each}
+use Rattle.sd_msg.specs.declared.Flight.{Flight}
+use Rattle.sd_core.specs.declared.node.Node.{Ghosts}
+use Rattle.sd_sched.specs.declared.Event.{Event}
+use Rattle.sd_sched.specs.declared.Event.TheVariants as event
+use Rattle.sd_history.specs.declared.ApplyFault.{ApplyFault}
+use Rattle.sd_history.specs.declared.ApplyFault.TheVariants.{Memory}
+use Rattle.sd_history.specs.World.{Setting}
+use Rattle.sd_history.specs.Steps.{Told, Step, step_of, act_by}
+use Rattle.sd_history.specs.Steps as steps
+use Rattle.sd_history.specs.Nodes.{NodeStep, IsRun, steps_of, node_in}
+use Rattle.sd_world.proofs.Answers.{up_stands}
+use Rattle.sd_roster.specs.Rosters as roster
+use Rattle.sd_roster.specs.Standing as standing
+use Rattle.sd_fabric.specs.declared.Reply.{Reply}
+use Rattle.sd_fabric.specs.declared.Outcome.{Outcome}
+use Rattle.sd_fabric.specs.Registers.{Registers}
+use Rattle.sd_fabric.specs.Causes.{refusal_in}
+use Rattle.sd_fabric.specs.Doing.{act_in, Says, may_send}
+use Rattle.sd_fabric.specs.Room.{most_sent_in}
+use Rattle.sd_fabric.specs.Outcomes.{outcome_of}
+use Rattle.sd_fabric.specs.Standing.{Stands}
+use Rattle.sd_fabric.specs.Stepping.{IsAfter, OnlyRoomGrew}
+use Rattle.sd_fabric.specs.Sound.{IsSound}
+use Rattle.sd_fabric.specs.declared.Act.{Act}
+use Rattle.sd_fabric.proofs.Admitted.{device_known}
+use Rattle.sd_sched.specs.Events.{device_of}
+use Rattle.sd_sched.specs.Lines.{is_within}
+use Rattle.sd_fabric.proofs.Refused.{refusal_is}
+use Rattle.sd_fabric.proofs.Acting.{act_is}
+use Rattle.sd_fleet.specs.declared.crew.Moment.{Moment}
+use Rattle.sd_fleet.specs.Crew.{node_at, CanAct, Acts}
+use Rattle.sd_fleet.specs.Calling.{IsMessage}
+use Rattle.sd_fleet.specs.Bounds.{moment_of, IsCrew}
+use Rattle.sd_fleet.specs.Standing.{IsFault}
+use Rattle.sd_fleet.proofs.Acting.{can_act}
+use Rattle.sd_fleet.proofs.Going.{length_acts}
+use Rattle.sd_fleet.proofs.Crewing.{crew_after, crew_roomy}
+use Rattle.sd_fleet.proofs.Following.{Shows, shows, next, goes_on, nodes_stand}
+
+-- Before any event
+
+pub replicate_more : {N : Type 0} (n : ℕ) (x : N) → replicate n x ++ x ∷ [] ≡ replicate (n + 1) x
+replicate_more n x = by n ∙ sym (ap (λ (k : ℕ). replicate k x) (add-one n))
+  where
+    by : (k : ℕ) → replicate k x ++ x ∷ [] ≡ replicate (suc k) x
+    by zero = refl
+    by (suc k) = ap (λ xs. x ∷ xs) (by k)
+
+pub no_node : {N : Type 0} (n d : ℕ) → node_at {N = N} (replicate n None) d ≡ None
+no_node zero d = refl
+no_node (suc n) zero = refl
+no_node (suc n) (suc d) = no_node n d
+
+-- the crew before any event: nobody is up, nobody has a node
+pub crew_first : {N : Type 0} (g : Ghosts N) (r : Registers) (nodes : List (Option N)) (setting : Setting) → Stands r setting [] → length nodes ≡ length r.net.devices → ((d : ℕ) → node_at nodes d ≡ None) → IsCrew g r nodes
+crew_first {N = N} g r nodes setting stands places none =
+    record {
+      places = places;
+      there = λ d within up. absurd (both_ways (up_stands r.roster.world setting [] d stands.roster.world (subst (λ (net : Network). d < length net.devices) stands.net within)) up);
+      kept = λ d n at. absurd (nobody (node_at nodes d) n (none d) at);
+      messages = subst (λ fs. Each (λ f. IsMessage r.roster.world.events f.message) fs) (sym stands.flights) (λ i x at. cc);
+    }
+  where
+    both_ways : {b : Bool} → b ≡ false → b ≡ true → ⊥
+    both_ways off on = cc
+
+    nobody : (o : Option N) (n : N) → o ≡ None → o ≡ Some n → ⊥
+    nobody o n off on = cc
+
+-- Where only room grew
+
+pub same_refusal : (old new : Registers) (e : Event) → OnlyRoomGrew old new → refusal_in new e ≡ refusal_in old e
+same_refusal old new e grew =
+    ap (λ (n : Network). refusal_in (record { net = n; roster = new.roster; book = new.book }) e) grew.net
+    ∙ ap (λ (r : roster.Registers). refusal_in (record { net = old.net; roster = r; book = new.book }) e) grew.roster
+    ∙ ap (λ (fs : List Flight). refusal_in (record { net = old.net; roster = old.roster; book = record { flights = fs; last = new.book.last; room = new.book.room } }) e) grew.flights
+    ∙ ap (λ (n : ℕ). refusal_in (record { net = old.net; roster = old.roster; book = record { flights = old.book.flights; last = n; room = new.book.room } }) e) grew.last
+
+pub stands_roomy : (old new : Registers) (setting : Setting) (earlier : List Step) → OnlyRoomGrew old new → Stands old setting earlier → Stands new setting earlier
+stands_roomy old new setting earlier grew stands =
+    record {
+      accepted = stands.accepted;
+      net = grew.net ∙ stands.net;
+      roster = subst (λ (r : roster.Registers). standing.Stands r setting earlier) (sym grew.roster) stands.roster;
+      flights = grew.flights ∙ stands.flights;
+      sent = grew.last ∙ stands.sent;
+    }
+
+-- only a tick or a receipt may send
+pub may_send_some : (r : Registers) (e : Event) → most_sent_in r e ≢ 0 → IsTrue (may_send e)
+may_send_some r (event.Tick reference d counter) some = refl
+may_send_some r (event.Recv reference d counter message) some = refl
+may_send_some r (event.Start reference d counter clock eps) some = absurd (some refl)
+may_send_some r (event.Lose reference message) some = absurd (some refl)
+may_send_some r (event.FailDevice reference d) some = absurd (some refl)
+may_send_some r (event.FailLink reference l) some = absurd (some refl)
+may_send_some r (event.Fix reference d counter clock eps) some = absurd (some refl)
+may_send_some r (event.Ask reference d counter) some = absurd (some refl)
+may_send_some r (event.Stage reference) some = absurd (some refl)
+may_send_some r (event.Give reference d) some = absurd (some refl)
+may_send_some r (event.Commit reference d counter) some = absurd (some refl)
+may_send_some r (event.Seal reference d) some = absurd (some refl)
+may_send_some r (event.Join reference d counter clock eps) some = absurd (some refl)
+may_send_some r (event.MendDevice reference d) some = absurd (some refl)
+may_send_some r (event.MendLink reference l) some = absurd (some refl)
+may_send_some r (event.End reference) some = absurd (some refl)
+
+-- The faults
+
+pub refused_fault : (r : Registers) (setting : Setting) (earlier : List Step) (e : Event) (fault : ApplyFault) → Stands r setting earlier → refusal_in r e ≡ Some fault → IsFault fault setting earlier e
+refused_fault r setting earlier e fault stands refused = inl (sym (refusal_is setting r earlier e stands) ∙ refused)
+
+pub memory_fault : (r : Registers) (setting : Setting) (earlier : List Step) (e : Event) → Stands r setting earlier → refusal_in r e ≡ None → most_sent_in r e ≢ 0 → IsFault Memory setting earlier e
+memory_fault r setting earlier e stands accepted some = inr (refl, sym (refusal_is setting r earlier e stands) ∙ accepted, may_send_some r e some)
+
+-- the crew where only room grew
+pub crew_grown : {N : Type 0} (g : Ghosts N) (old new : Registers) (nodes : List (Option N)) → IsCrew g old nodes → OnlyRoomGrew old new → IsCrew g new nodes
+crew_grown g old new nodes crew grew = crew_roomy g old new nodes crew grew.net grew.roster grew.flights
+
+-- An accepted event
+
+pub device_if : (r : Registers) (e : Event) → refusal_in r e ≡ None → IfSome (device_of e) (λ d. d < length r.net.devices)
+device_if r e accepted = go (device_of e) refl
+  where
+    go : (o : Option ℕ) → device_of e ≡ o → IfSome o (λ d. d < length r.net.devices)
+    go None none = tt
+    go (Some d) named = device_known r e accepted d named
+
+pub can_do : {N : Type 0} (g : Ghosts N) (r : Registers) (e : Event) (nodes given : List (Option N)) (moment : Moment) (a : Act) → given ≡ nodes → moment ≡ moment_of r e → a ≡ act_in r e
+    → IsCrew g r nodes → IsSound r → refusal_in r e ≡ None → IsTrue (is_within e) → CanAct g given moment a
+can_do g r e nodes given moment a same at is crew sound accepted within =
+    subst (λ ns. CanAct g ns moment a) (sym same)
+    (subst (λ (m : Moment). CanAct g nodes m a) (sym at) (subst (λ (x : Act). CanAct g nodes (moment_of r e) x) (sym is) (can_act g r nodes crew sound e accepted within)))
+
+pub length_done : {N : Type 0} (g : Ghosts N) (nodes given after : List (Option N)) (moment : Moment) (a : Act) (reply : Reply) → given ≡ nodes → Acts g given a moment reply after → length after ≡ length nodes
+length_done g nodes given after moment a reply same acts = length_acts g given after a moment reply acts ∙ ap length same
+
+done : {N : Type 0} (g : Ghosts N) (r : Registers) (e : Event) (nodes given after : List (Option N)) (moment : Moment) (a : Act) (reply : Reply) → given ≡ nodes → moment ≡ moment_of r e → a ≡ act_in r e
+    → Acts g given a moment reply after → Acts g nodes (act_in r e) (moment_of r e) reply after
+done g r e nodes given after moment a reply same at is acts =
+    subst (λ ns. Acts g ns (act_in r e) (moment_of r e) reply after) same
+    (subst (λ (m : Moment). Acts g given (act_in r e) m reply after) at (subst (λ (x : Act). Acts g given x moment reply after) is acts))
+
+pub crew_next : {N : Type 0} (g : Ghosts N) (r new : Registers) (e : Event) (nodes given after left : List (Option N)) (moment : Moment) (a : Act) (reply : Reply) → given ≡ nodes → moment ≡ moment_of r e → a ≡ act_in r e
+    → Acts g given a moment reply after → left ≡ after → IsCrew g r nodes → IsSound r → refusal_in r e ≡ None → IsAfter r e reply new → IsCrew g new left
+crew_next g r new e nodes given after left moment a reply same at is acts ends crew sound accepted step =
+    subst (λ ns. IsCrew g new ns) (sym ends) (crew_after g r new e reply nodes after crew sound accepted (done g r e nodes given after moment a reply same at is acts) step)
+
+-- what makes a fleet stand for one step more
+pub record GoesOn {N : Type 0} (g : Ghosts N) (new : Registers) (left : List (Option N)) (setting : Setting) (run : List (NodeStep N)) (e : Event) (outcome : Outcome) : Type 0 where
+  pub step : NodeStep N
+  pub happens : step.step.seen.event ≡ e
+  pub comes : outcome ≡ outcome_of step.step
+  pub is_run : IsRun g setting (step ∷ run)
+  pub stands : Stands new setting (steps_of (step ∷ run))
+  pub nodes : (d : ℕ) → d < length setting.net.devices → node_at left d ≡ node_in (step ∷ run) d
+
+pub accepted_next : {N : Type 0} (g : Ghosts N) (r new : Registers) (e : Event) (nodes given after left : List (Option N)) (moment : Moment) (a : Act) (reply : Reply) (outcome : Outcome) (setting : Setting) (run : List (NodeStep N))
+    → given ≡ nodes → a ≡ act_in r e → Acts g given a moment reply after → left ≡ after → length nodes ≡ length r.net.devices → refusal_in r e ≡ None
+    → IsRun g setting run → Stands r setting (steps_of run) → ((d : ℕ) → d < length setting.net.devices → node_at nodes d ≡ node_in run d)
+    → ((told : Told) → Says reply told → Stands new setting (step_of setting (steps_of run) e told ∷ steps_of run))
+    → ((told : Told) → Says reply told → outcome ≡ outcome_of (step_of setting (steps_of run) e told))
+    → GoesOn g new left setting run e outcome
+accepted_next g r new e nodes given after left moment a reply outcome setting run same is acts ends places accepted earlier stands kept stepped comes =
+    let shown : Shows g given after (act_by setting (steps_of run) e) reply =
+    subst (λ (x : steps.Act). Shows g given after x reply) (act_is setting r (steps_of run) stands e accepted) (shows g given after (act_in r e) moment reply (subst (λ (x : Act). Acts g given x moment reply after) is acts))
+    in
+    let size : length given ≡ length setting.net.devices = ap length same ∙ places ∙ ap (λ (n : Network). length n.devices) stands.net in
+    let before : (d : ℕ) → d < length setting.net.devices → node_at given d ≡ node_in run d = λ d within. ap (λ ns. node_at ns d) same ∙ kept d within in
+    record {
+      step = next g setting run r e reply given after earlier stands size before accepted shown;
+      happens = refl;
+      comes = comes shown.told shown.says;
+      is_run = goes_on g setting run r e reply given after earlier stands size before accepted shown;
+      stands = stepped shown.told shown.says;
+      nodes = λ d within. ap (λ ns. node_at ns d) ends ∙ nodes_stand g setting run r e reply given after earlier stands size before accepted shown d within;
+    }

@@ -1,0 +1,80 @@
+-- The reply to an event has what the event wants to be told, and no more.
+use Rattle.std.specs.Prelude.{◌≡◌, ℕ, true, false, List, is_some, Option, None, Result, refl}
+use Rattle.std.proofs.Common.{ap, subst}
+use Rattle.std.proofs.lemmas.Bool.{and_parts}
+use Rattle.sd_num.specs.Lists.{of_some}
+use Rattle.sd_plan.specs.Tables.{TableRow}
+use Rattle.sd_msg.specs.declared.Flight.{Flight}
+use Rattle.sd_msg.specs.declared.TakeFault.{TakeFault}
+use Rattle.sd_core.specs.declared.node.Node.{Ghosts}
+use Rattle.sd_sched.specs.declared.Event.{Event}
+use Rattle.sd_sched.specs.declared.Event.TheVariants as event
+use Rattle.sd_world.specs.Registers.{is_open}
+use Rattle.sd_roster.specs.Plans.{is_member_numbered}
+use Rattle.sd_roster.specs.Rosters.{staged_number}
+use Rattle.sd_fabric.specs.declared.Making.{Making}
+use Rattle.sd_fabric.specs.declared.Making.TheVariants as making
+use Rattle.sd_fabric.specs.declared.Call.{Call}
+use Rattle.sd_fabric.specs.declared.Call.TheVariants as call
+use Rattle.sd_fabric.specs.declared.Act.TheVariants as act
+use Rattle.sd_fabric.specs.declared.Reply.{Reply}
+use Rattle.sd_fabric.specs.Registers.{Registers}
+use Rattle.sd_fabric.specs.Causes.{refusal_in}
+use Rattle.sd_fabric.specs.Doing.{act_in, receipt, Tells}
+use Rattle.sd_fabric.proofs.Admitted.{message_known, message_unspent, started_member, given_member}
+use Rattle.sd_fleet.specs.declared.crew.Moment.{Moment}
+use Rattle.sd_fleet.specs.Crew.{MakesAt, CallsAt, Acts}
+use Rattle.sd_fleet.proofs.Acting.{flight_found, row_there}
+
+module _ {N : Type 0} (g : Ghosts N) (nodes after : List (Option N)) (moment : Moment) (reply : Reply) where
+  made_answers : (d : ℕ) (m : Making) → MakesAt g nodes d m reply after → is_some reply.answers ≡ true
+  made_answers d m made = ap (λ (x : Reply). is_some x.answers) made.replied
+
+  called_answers : (d : ℕ) (c : Call) → CallsAt g nodes d c moment reply after → is_some reply.answers ≡ true
+  called_answers d c called = ap (λ (x : Reply). is_some x.answers) called.replied
+
+  called_reports : (d : ℕ) (c : Call) → CallsAt g nodes d c moment reply after → is_some reply.report ≡ false
+  called_reports d c called = ap (λ (x : Reply). is_some x.report) called.replied
+
+  pub tells : (r : Registers) (e : Event) → refusal_in r e ≡ None → Acts g nodes (act_in r e) moment reply after → Tells e reply
+  tells r (event.Start reference d counter clock eps) accepted acts =
+      let (row, at) = row_there r.roster.plans r.roster.world.epoch d (started_member r (event.Start reference d counter clock eps) accepted d refl) in
+      let made = subst (λ (o : Option TableRow). Acts g nodes (of_some o act.Passes (λ row. act.Makes d (making.Started row.duty counter clock eps))) moment reply after) at acts in
+      record { effect = λ none. ap (λ (x : Reply). x.effect) made.replied; answers = ap (λ (x : Reply). is_some x.answers) made.replied; report = ap (λ (x : Reply). is_some x.report) made.replied }
+  tells r (event.Join reference d counter clock eps) accepted acts =
+      record { effect = λ none. ap (λ (x : Reply). x.effect) acts.replied; answers = ap (λ (x : Reply). is_some x.answers) acts.replied; report = ap (λ (x : Reply). is_some x.report) acts.replied }
+  tells r (event.Tick reference d counter) accepted acts =
+      record { effect = λ none. cc; answers = called_answers d (call.Tick counter) acts; report = called_reports d (call.Tick counter) acts }
+  tells r (event.Recv reference d counter message) accepted acts =
+      let e = event.Recv reference d counter message in
+      let (f, at) = flight_found r.book.last r.book.flights message reference (message_known r e accepted message refl) (message_unspent r e accepted message refl) in
+      let called = subst (λ (o : Result Flight TakeFault). Acts g nodes (receipt o d counter) moment reply after) at acts in
+      record { effect = λ none. cc; answers = called_answers d (call.Receive f.link f.message counter) called; report = called_reports d (call.Receive f.link f.message counter) called }
+  tells r (event.Fix reference d counter clock eps) accepted acts =
+      record { effect = λ none. acts.quiet; answers = called_answers d (call.Fix counter clock eps) acts; report = called_reports d (call.Fix counter clock eps) acts }
+  tells r (event.Give reference d) accepted acts =
+      let e = event.Give reference d in
+      let parts = and_parts (is_open r.roster.world.window) (is_member_numbered r.roster.plans (staged_number r.roster) d) (given_member r e accepted d refl) in
+      let (row, at) = row_there r.roster.plans (staged_number r.roster) d parts.1 in
+      let called = subst (λ (o : Option TableRow). Acts g nodes (of_some o act.Passes (λ row. act.Calls d (call.Give row.duty))) moment reply after) at acts in
+      record { effect = λ none. called.quiet; answers = called_answers d (call.Give row.duty) called; report = called_reports d (call.Give row.duty) called }
+  tells r (event.Commit reference d counter) accepted acts =
+      record { effect = λ none. acts.quiet; answers = called_answers d (call.Commit counter) acts; report = called_reports d (call.Commit counter) acts }
+  tells r (event.Seal reference d) accepted acts =
+      record { effect = λ none. acts.quiet; answers = called_answers d call.Seal acts; report = called_reports d call.Seal acts }
+  tells r (event.Ask reference d counter) accepted acts =
+      record { effect = λ none. ap (λ (x : Reply). x.effect) acts.0.replied; answers = ap (λ (x : Reply). is_some x.answers) acts.0.replied; report = ap (λ (x : Reply). is_some x.report) acts.0.replied }
+  tells r (event.Lose reference message) accepted acts =
+      record { effect = λ none. ap (λ (x : Reply). x.effect) acts.0; answers = ap (λ (x : Reply). is_some x.answers) acts.0; report = ap (λ (x : Reply). is_some x.report) acts.0 }
+  tells r (event.FailDevice reference d) accepted acts =
+      record { effect = λ none. ap (λ (x : Reply). x.effect) acts.0; answers = ap (λ (x : Reply). is_some x.answers) acts.0; report = ap (λ (x : Reply). is_some x.report) acts.0 }
+  tells r (event.FailLink reference l) accepted acts =
+      record { effect = λ none. ap (λ (x : Reply). x.effect) acts.0; answers = ap (λ (x : Reply). is_some x.answers) acts.0; report = ap (λ (x : Reply). is_some x.report) acts.0 }
+  tells r (event.Stage reference) accepted acts =
+      record { effect = λ none. ap (λ (x : Reply). x.effect) acts.0; answers = ap (λ (x : Reply). is_some x.answers) acts.0; report = ap (λ (x : Reply). is_some x.report) acts.0 }
+  tells r (event.MendDevice reference d) accepted acts =
+      record { effect = λ none. ap (λ (x : Reply). x.effect) acts.0; answers = ap (λ (x : Reply). is_some x.answers) acts.0; report = ap (λ (x : Reply). is_some x.report) acts.0 }
+  tells r (event.MendLink reference l) accepted acts =
+      record { effect = λ none. ap (λ (x : Reply). x.effect) acts.0; answers = ap (λ (x : Reply). is_some x.answers) acts.0; report = ap (λ (x : Reply). is_some x.report) acts.0 }
+  tells r (event.End reference) accepted acts =
+      record { effect = λ none. ap (λ (x : Reply). x.effect) acts.0; answers = ap (λ (x : Reply). is_some x.answers) acts.0; report = ap (λ (x : Reply). is_some x.report) acts.0 }

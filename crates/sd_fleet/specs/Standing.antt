@@ -1,0 +1,33 @@
+-- For which run a fleet stands.
+use Rattle.std.specs.Prelude.{◌≡◌, ◌⊎◌, ℕ, ◌<◌, List, ◌∷◌, length, Some, None, IsTrue}
+use Rattle.sd_core.specs.declared.node.Node.{Ghosts}
+use Rattle.sd_sched.specs.declared.Event.{Event}
+use Rattle.sd_history.specs.declared.ApplyFault.{ApplyFault}
+use Rattle.sd_history.specs.declared.ApplyFault.TheVariants.{Memory}
+use Rattle.sd_history.specs.World.{Setting}
+use Rattle.sd_history.specs.Steps.{Step}
+use Rattle.sd_history.specs.Refusals.{refusal}
+use Rattle.sd_history.specs.Nodes.{NodeStep, IsRun, steps_of, node_in}
+use Rattle.sd_fabric.specs.declared.Outcome.{Outcome}
+use Rattle.sd_fabric.specs.Doing.{may_send}
+use Rattle.sd_fabric.specs.Outcomes.{outcome_of}
+use Rattle.sd_fabric.specs.Standing as fabric
+use Rattle.sd_fleet.specs.declared.fleet.Fleet.{Fleet}
+use Rattle.sd_fleet.specs.Crew.{node_at}
+
+-- The fleet keeps what the words on histories say of the run, and the nodes that the run made of its devices.
+pub record StandsFor {N : Type 0} (g : Ghosts N) (fleet : Fleet N g) (setting : Setting) (run : List (NodeStep N)) : Type 0 where
+  pub is_run : IsRun g setting run
+  pub fabric : fabric.Stands fleet.fabric setting (steps_of run)
+  pub nodes : (d : ℕ) → d < length setting.net.devices → node_at fleet.nodes.items d ≡ node_in run d
+
+-- the event was accepted after the run, and came to this: the fleet stands for the run with one step more, of just this event
+pub record IsAccepted {N : Type 0} (g : Ghosts N) (fleet : Fleet N g) (setting : Setting) (run : List (NodeStep N)) (e : Event) (outcome : Outcome) : Type 0 where
+  pub next : NodeStep N
+  pub happens : next.step.seen.event ≡ e
+  pub comes : outcome ≡ outcome_of next.step
+  pub stands : StandsFor g fleet setting (next ∷ run)
+
+-- the fault is that of the history; or memory ran out, at a tick or a receipt that the history accepts
+abbrev pub IsFault : ApplyFault → Setting → List Step → Event → Type 0
+IsFault fault setting steps e = (refusal setting steps e ≡ Some fault) ⊎ ((fault ≡ Memory) × (refusal setting steps e ≡ None) × IsTrue (may_send e))

@@ -1,0 +1,164 @@
+//! The nodes of a fleet, each at the place of its device: what an act does to one of them, and what
+//! it replies.
+ghost use Rattle.std.specs.Prelude.{◌≡◌, ◌≢◌, ◌<◌, ◌≤◌, ◌+◌, ◌^◌, ℕ, length, Option, Some, None};
+ghost use Rattle.sd_plan.specs.declared.Duty.{Duty};
+ghost use Rattle.sd_core.specs.Limits.{IfSent};
+ghost use Rattle.sd_history.specs.Nodes.{answers_of as node_answers};
+ghost use Rattle.sd_roster.specs.Standing.{summary};
+ghost use Rattle.sd_fabric.specs.Doing.{making_seen, call_seen};
+ghost use Rattle.sd_fleet.specs.Calling.{IsMessage, IsNode, CanMake, CanCall, GivenAfter, MaySend, counter_made, reading_after};
+ghost use Rattle.sd_fleet.specs.Crew.{node_at, MakesAt, IsCallable, CallsAt, AsksAt, CanAct, Acts};
+
+use sd_core::{Effect, Node};
+use sd_fabric::{Act, Answered, Call, Making, Reply};
+
+/// When a node is called.
+#[derive(Clone, Copy)]
+pub(crate) struct Moment {
+    /// The number of the plan whose duty was given to it and is not taken up yet.
+    pub given: Option<u32>,
+    /// After how many events, and what counter it read last: for the prover, since numbers rise by
+    /// so much an event and no more.
+    pub events: u64,
+    pub reading: u64,
+}
+
+/// Does what an event does to its device, and tells what the device replies.
+pub(crate) fn perform<N: Node>(nodes: &mut [Option<N>], act: &Act, moment: &Moment) -> Reply
+    requires events { moment.now.events ≤ 2 ^ 26 }
+    requires can { CanAct N.Node nodes.old moment.now act.now }
+    ensures { Acts N.Node nodes.old act.now moment.now result nodes.new }
+{
+    match act {
+        Act::Makes { device, making } => make_at(nodes, *device, making),
+        Act::Calls { device, call } => call_at(nodes, *device, call, moment),
+        Act::Asks { device, counter } => ask_at(nodes, *device, *counter, moment),
+        Act::Passes => Reply::nothing(),
+    }
+}
+
+/// Makes a node at the place of a device.
+fn make_at<N: Node>(nodes: &mut [Option<N>], d: u32, making: &Making) -> Reply
+    requires place { d < length nodes.old }
+    requires can { CanMake making.now }
+    ensures { MakesAt N.Node nodes.old d making.now result nodes.new }
+{
+    let node = made::<N>(making);
+    let answers = answers_of(&node, None);
+    nodes[d as usize] = Some(node);
+    Reply::made(answers)
+}
+
+/// Calls the node of a device.
+fn call_at<N: Node>(nodes: &mut [Option<N>], d: u32, called: &Call, moment: &Moment) -> Reply
+    requires events { moment.now.events ≤ 2 ^ 26 }
+    requires place { d < length nodes.old }
+    requires there { node_at nodes.old d ≢ None }
+    requires callable { (n : N) → node_at nodes.old d ≡ Some n → IsCallable N.Node moment.now called.now n }
+    ensures { CallsAt N.Node nodes.old d called.now moment.now result nodes.new }
+{
+    match &mut nodes[d as usize] {
+        Some(node) => {
+            let effect = call(node, called, moment);
+            let answers = answers_of(node, given_by(called, moment.given));
+            Reply::called(effect, answers)
+        }
+        None => unreachable!(),
+    }
+}
+
+/// Asks the node of a device for a report.
+fn ask_at<N: Node>(nodes: &[Option<N>], d: u32, counter: u64, moment: &Moment) -> Reply
+    requires events { moment.now.events ≤ 2 ^ 26 }
+    requires place { d < length nodes.now }
+    requires there { node_at nodes.now d ≢ None }
+    requires numbers { (n : N) → node_at nodes.now d ≡ Some n → IsNode N.Node moment.now.events moment.now.reading n }
+    requires rises { moment.now.reading ≤ counter }
+    requires counter { counter ≤ 2 ^ 60 }
+    ensures { AsksAt N.Node nodes.now d counter moment.now result }
+{
+    match &nodes[d as usize] {
+        Some(node) => Reply::reported(node.report(counter)),
+        None => unreachable!(),
+    }
+}
+
+/// Makes a node.
+fn made<N: Node>(making: &Making) -> N
+    requires { CanMake making.now }
+    ensures made { N.makes (making_seen making.now) result }
+    ensures given { N.given result ≡ None }
+    ensures numbers { (events : ℕ) → IsNode N.Node (events + 1) (counter_made making.now) result }
+{
+    match *making {
+        Making::Started {
+            duty,
+            counter,
+            clock,
+            eps,
+        } => N::start(duty, counter, clock, eps),
+        Making::Joined {
+            rates,
+            counter,
+            clock,
+            eps,
+        } => N::join(rates, counter, clock, eps),
+    }
+}
+
+/// Calls a node. A tick and a message alone may send something.
+fn call<N: Node>(node: &mut N, call: &Call, moment: &Moment) -> Effect
+    requires events { moment.now.events ≤ 2 ^ 26 }
+    requires numbers { IsNode N.Node moment.now.events moment.now.reading node.old }
+    requires can { CanCall N.Node moment.now.events moment.now.reading node.old call.now }
+    ensures step { N.steps node.old (call_seen call.now) result node.new }
+    ensures given { GivenAfter call.now (N.given node.old) (N.given node.new) }
+    ensures numbers { IsNode N.Node (moment.now.events + 1) (reading_after call.now moment.now.reading) node.new }
+    ensures sent { IfSent result (IsMessage (moment.now.events + 1)) }
+    ensures quiet { MaySend call.now result }
+{
+    match *call {
+        Call::Tick { counter } => return node.on_tick(counter),
+        Call::Receive {
+            link,
+            message,
+            counter,
+        } => return node.on_message(link, message, counter),
+        Call::Fix {
+            counter,
+            clock,
+            eps,
+        } => node.on_fix(counter, clock, eps),
+        Call::Give { duty } => node.on_give(duty),
+        Call::Commit { counter } => node.on_commit(counter),
+        Call::Seal => node.on_seal(),
+    }
+    Effect::Quiet
+}
+
+/// What a node answers. It does not say of which plan the duty is that was given to it, so that is
+/// told here.
+fn answers_of<N: Node>(node: &N, given: Option<u32>) -> Answered
+    requires { (duty : Duty) → N.given node.now ≡ Some duty → given ≡ Some duty.epoch }
+    ensures { result ≡ summary (node_answers N.Node node.now) }
+{
+    Answered {
+        parent: node.parent(),
+        acts: node.acts_as_root(),
+        epoch: node.epoch(),
+        given: if node.is_given() { given } else { None },
+        sealed: node.is_sealed(),
+    }
+}
+
+/// The number of the plan whose duty the node was given last, with this call.
+fn given_by(call: &Call, before: Option<u32>) -> Option<u32>
+    ensures { (old new : Option Duty) → GivenAfter call.now old new
+        → ((duty : Duty) → old ≡ Some duty → before ≡ Some duty.epoch)
+        → ((duty : Duty) → new ≡ Some duty → result ≡ Some duty.epoch) }
+{
+    match call {
+        Call::Give { duty } => Some(duty.epoch),
+        _ => before,
+    }
+}

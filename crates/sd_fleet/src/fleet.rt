@@ -1,0 +1,181 @@
+//! The fleet: which events are refused, and what each accepted event comes to.
+ghost use Rattle.std.specs.Prelude.{◌≡◌, ◌≤◌, ◌<◌, ◌^◌, ℕ, List, [], length, replicate, IsTrue, Some, None, Err, IfOk, IfErr, IfSome};
+ghost use Rattle.sd_topo.specs.Topologies.{network};
+ghost use Rattle.sd_sched.specs.Events.{device_of};
+ghost use Rattle.sd_sched.specs.Lines.{is_within};
+ghost use Rattle.sd_history.specs.World.{Setting, is_up as is_up_seen, is_counted as is_counted_seen};
+ghost use Rattle.sd_history.specs.Steps.{seen_of, parent_in, acts_in};
+ghost use Rattle.sd_history.specs.Nodes.{NodeStep, steps_of};
+ghost use Rattle.sd_history.specs.Refusals.{refusal as refusal_of};
+ghost use Rattle.sd_history_flights.specs.Flights.{look_in};
+ghost use Rattle.sd_roster.specs.Plans.{AreSound};
+ghost use Rattle.sd_fabric.specs.Causes.{refusal_in};
+ghost use Rattle.sd_fabric.specs.Room.{most_sent_in};
+ghost use Rattle.sd_fleet.specs.Bounds.{IsCrew, moment_of};
+
+use crate::crew::{Moment, perform};
+use sd_core::Node;
+use sd_fabric::{ApplyFault, Fabric, Outcome};
+use sd_msg::{Flight, TakeFault};
+use sd_num::NoMemory;
+use sd_plan::Plan;
+use sd_sched::Event;
+use sd_topo::Topology;
+use std::alloc::Global;
+
+/// All devices of a fabric, each a node of one kind, driven event by event.
+///
+/// An event costs what its own device and its messages cost. A stage counts the members of its plan.
+#[derive(Drop)]
+pub struct Fleet<N: Node> {
+    fabric: Fabric,
+    /// By device, since it was last made; one that failed stays until it is made again.
+    nodes: Vec<Option<N>>,
+    ghost crew: { IsCrew N.Node fabric nodes.items },
+}
+
+/// A place without a node for each device.
+#[tactic(auto, using(crate::proofs::Applying::replicate_more))]
+fn no_nodes<N: Node>(alloc: Global, devices: u32) -> Result<Vec<Option<N>>, NoMemory>
+    ensures { IfOk result (λ nodes. nodes.items ≡ replicate devices None) }
+{
+    let mut nodes = Vec::new(alloc);
+    for _ in 0..devices {
+        let Ok(()) = nodes.push(None) else {
+            return Err(NoMemory);
+        };
+    }
+    Ok(nodes)
+}
+
+/// The moment of an event.
+fn moment_at(fabric: &Fabric, event: &Event) -> Moment
+    requires { IfSome (device_of event.now) (λ d. d < length fabric.now.net.devices) }
+    ensures { result ≡ moment_of fabric.now event.now }
+{
+    let world = fabric.world();
+    Moment {
+        given: fabric.given(event),
+        events: world.events(),
+        reading: match event.device() {
+            Some(d) => world.reading(d),
+            None => 0,
+        },
+    }
+}
+
+impl<N: Node> Fleet<N> {
+    ghost use Rattle.sd_fleet.specs.Standing.{StandsFor, IsAccepted, IsFault};
+
+    /// A fleet before any event, with the first plan in force.
+    pub fn new(alloc: Global, topo: &Topology, plans: &[Plan]) -> Result<Fleet<N>, NoMemory>
+        requires some { 1 ≤ length plans.now }
+        requires count { length plans.now < 2 ^ 32 }
+        requires sound { AreSound (network topo.now) plans.now }
+        ensures stands { IfOk result (λ fleet. (setting : Setting)
+            → setting.net ≡ network topo.now → setting.plans ≡ plans.now → StandsFor N.Node fleet setting []) }
+    {
+        let fabric = Fabric::new(alloc, topo, plans)?;
+        let nodes = no_nodes(alloc, fabric.devices())?;
+        Ok(Fleet { fabric, nodes })
+    }
+
+    /// How many devices there are.
+    pub fn devices(&self) -> u32
+        ensures { result ≡ length self.now.fabric.net.devices }
+    {
+        self.fabric.devices()
+    }
+
+    /// The first cause for which an event is refused, if there is one. It is never `Memory`.
+    pub fn refusal(&self, event: &Event) -> Option<ApplyFault>
+        ensures kept { result ≡ refusal_in self.now.fabric event.now }
+        ensures exact { (setting : Setting) (run : List (NodeStep N))
+            → StandsFor N.Node self.now setting run → result ≡ refusal_of setting (steps_of run) event.now }
+    {
+        self.fabric.refusal(event)
+    }
+
+    /// How many messages the event sends at most: for a `tick` or a `recv` the ends below the named
+    /// device in the plan in force and in the staged one together.
+    pub fn most_sent(&self, event: &Event) -> usize
+        ensures { result ≡ most_sent_in self.now.fabric event.now }
+    {
+        self.fabric.most_sent(event)
+    }
+
+    /// An event happens. `Memory` is answered for a `tick` or a `recv` alone.
+    pub fn apply(&mut self, alloc: Global, event: &Event) -> Result<Outcome, ApplyFault>
+        requires within { IsTrue (is_within event.now) }
+        // where `refusal` tells a fault, it is this one
+        ensures same { IfSome (refusal_in self.old.fabric event.now) (λ fault. result ≡ Err fault) }
+        ensures accepted { IfOk result (λ outcome. (setting : Setting) (run : List (NodeStep N))
+            → StandsFor N.Node self.old setting run
+            → IsAccepted N.Node self.new setting run event.now outcome) }
+        ensures refused { IfErr result (λ fault. (setting : Setting) (run : List (NodeStep N))
+            → StandsFor N.Node self.old setting run
+            → StandsFor N.Node self.new setting run × IsFault fault setting (steps_of run) event.now) }
+    {
+        if let Some(fault) = self.fabric.refusal(event) {
+            return Err(fault);
+        }
+        let Ok(()) = self.fabric.ready(alloc, event) else {
+            return Err(ApplyFault::Memory);
+        };
+        let act = self.fabric.act(event);
+        let moment = moment_at(&self.fabric, event);
+        let reply = perform(&mut self.nodes, &act, &moment);
+        Ok(self.fabric.step(event, &reply))
+    }
+
+    /// The flight of a number, or why there is none: `Unknown` or `Spent`.
+    pub fn flight(&self, number: u64) -> Result<Flight, TakeFault>
+        ensures { (setting : Setting) (run : List (NodeStep N))
+            → StandsFor N.Node self.now setting run → result ≡ look_in (steps_of run) number }
+    {
+        self.fabric.flight(number)
+    }
+
+    /// Whether the device is up: it was made, and has not failed since.
+    pub fn is_up(&self, d: u32) -> bool
+        requires { d < length self.now.fabric.net.devices }
+        ensures { (setting : Setting) (run : List (NodeStep N))
+            → StandsFor N.Node self.now setting run → result ≡ is_up_seen (seen_of (steps_of run)) d }
+    {
+        self.fabric.is_up(d)
+    }
+
+    /// Whether the device counts as live: it is up, and a member of the plan in force or joined in
+    /// the open window.
+    pub fn is_counted(&self, d: u32) -> bool
+        requires { d < length self.now.fabric.net.devices }
+        ensures { (setting : Setting) (run : List (NodeStep N))
+            → StandsFor N.Node self.now setting run → result ≡ is_counted_seen setting (seen_of (steps_of run)) d }
+    {
+        self.fabric.is_counted(d)
+    }
+
+    /// The device that this one follows, where it is up.
+    pub fn parent(&self, d: u32) -> Option<u32>
+        requires { d < length self.now.fabric.net.devices }
+        ensures { (setting : Setting) (run : List (NodeStep N))
+            → StandsFor N.Node self.now setting run → result ≡ parent_in (steps_of run) d }
+    {
+        match self.fabric.answered(d) {
+            Some(answered) => answered.parent,
+            None => None,
+        }
+    }
+
+    /// Whether the device is up and acts as root.
+    pub fn acts(&self, d: u32) -> bool
+        requires { d < length self.now.fabric.net.devices }
+        ensures { (setting : Setting) (run : List (NodeStep N))
+            → StandsFor N.Node self.now setting run → result ≡ acts_in (steps_of run) d }
+    {
+        match self.fabric.answered(d) {
+            Some(answered) => answered.acts,
+            None => false,
+        }
+    }
+}
