@@ -13,10 +13,10 @@ use Rattle.sd_solo.proofs.Contained.{reports_contain}
 use Rattle.sd_solo.proofs.Known.{known_as_word}
 use Rattle.sd_files.specs.Texts.{texts_of}
 use Rattle.sd_top.specs.Promise.{KeepsPromise, task_of}
-use Rattle.sd_top.specs.Schedules.{Reading, ReportsTruly, accepted, judged, length_fault, read_on, reading, reading_from, unless_refused, unless_too_long}
+use Rattle.sd_work.specs.Works.{Reading, judged, length_fault, read_on, reading, reading_from, unless_too_long}
+use Rattle.sd_top.specs.Schedules.{ReportsTruly, accepted, solo_work, unless_refused}
 use Rattle.sd_top.specs.Words.{Command, command_of}
 use Rattle.sd_top.specs.Words.Command.{Solo}
-use Rattle.sd_top.specs.declared.ScheduleFault.{ScheduleFault}
 
 -- an event of a known word, which is accepted after these
 abbrev GoesOn : List Event → Event → Type 0
@@ -43,26 +43,26 @@ goes_on events (Ok e) known = by (refusal events e) refl
     by None is = (known, is)
     by (Some why) is = tt
 
-unless_long : (events : List Event) (long : Option ScheduleFault) (event : Result Event ScheduleFault) → IfOk event (GoesOn events) → IfOk (unless_too_long long event) (GoesOn events)
+unless_long : (events : List Event) (long : Option (List ℕ)) (event : Result Event (List ℕ)) → IfOk event (GoesOn events) → IfOk (unless_too_long long event) (GoesOn events)
 unless_long events None event on = on
 unless_long events (Some why) event on = tt
 
-read_history : (judgement : Result Event ScheduleFault) (events : List Event) (next : Event → Reading) → IsHistory events → IfOk judgement (GoesOn events) → ((e : Event) → IsHistory (e ∷ events) → IsHistory (next e).events)
-    → IsHistory (read_on judgement events next).events
+read_history : (judgement : Result Event (List ℕ)) (events : List Event) (next : Event → Reading Event) → IsHistory events → IfOk judgement (GoesOn events) → ((e : Event) → IsHistory (e ∷ events) → IsHistory (next e).taken)
+    → IsHistory (read_on judgement events next).taken
 unfolding IsHistory
 read_history (Err why) events next history on later = history
 read_history (Ok e) events next history on later = later e (history, on.0, on.1)
 
-history_from : (total start : ℕ) (events : List Event) (ls : List (List ℕ)) → IsHistory events → IsHistory (reading_from total start events ls).events
+history_from : (total start : ℕ) (events : List Event) (ls : List (List ℕ)) → IsHistory events → IsHistory (reading_from solo_work total start events ls).taken
 unfolding reading_from
 history_from total start events [] history = history
 history_from total start events (line ∷ others) history =
-    read_history (judged total start events line) events (λ e. reading_from total (start + length line + 1) (e ∷ events) others) history
+    read_history (judged solo_work total start events line) events (λ e. reading_from solo_work total (start + length line + 1) (e ∷ events) others) history
     (unless_long events (length_fault total start line) (accepted events (solo_event line)) (goes_on events (solo_event line) (known_event line)))
     (λ e longer. history_from total (start + length line + 1) (e ∷ events) others longer)
 
 -- the events of a reading are a history
-pub reading_is_history : (text : List ℕ) → IsHistory (reading text).events
+pub reading_is_history : (text : List ℕ) → IsHistory (reading solo_work text).taken
 unfolding reading IsHistory
 reading_is_history text = history_from (length text) 0 [] (lines text) tt
 
@@ -77,5 +77,5 @@ keeps_promise None words = tt
 keeps_promise (Some h) words = by (command_of words)
   where
     by : (command : Option Command) → (task_of command).holds (texts_of h)
-    by (Some (Solo schedule)) = reports_truly (reading (texts_of h schedule)).events (reading_is_history (texts_of h schedule))
+    by (Some (Solo schedule)) = reports_truly (reading solo_work (texts_of h schedule)).taken (reading_is_history (texts_of h schedule))
     by _ = tt

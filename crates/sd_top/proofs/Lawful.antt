@@ -18,7 +18,8 @@ use Rattle.sd_top.specs.Checks.{CheckCompletes, IsJudged, verdict_status}
 use Rattle.sd_top.specs.Laws.{Laws}
 use Rattle.sd_top.specs.Migration.{IsMigrated, MigrationCompletes}
 use Rattle.sd_top.specs.Plannings.{IsPlanning, IsPlannable, PlanCompletes, RenewalCompletes, first_root, nothing, renewed_root}
-use Rattle.sd_top.specs.Schedules.{SoloCompletes, status_for}
+use Rattle.sd_work.specs.Works.{reading, status_for}
+use Rattle.sd_top.specs.Schedules.{SoloCompletes, solo_work}
 use Rattle.sd_top.proofs.Migrating.{migration_law}
 use Rattle.sd_top.proofs.Unique.{one_answer}
 
@@ -37,7 +38,7 @@ planning_done net root absent bytes status right (plan, verdict, greedy, says, p
     verdict_done net plan verdict status (subst (IsAccepted net) (same_greedy net root absent right.plan plan right.greedy greedy) right.accepted) says answered
 
 solo_completes : SoloCompletes
-solo_completes schedule right bytes status (printed, answered) = answered ∙ ap status_for right
+solo_completes schedule right bytes status (printed, answered) = answered ∙ ap (status_for solo_work (reading solo_work schedule).taken) right
 
 migration_completes : MigrationCompletes
 migration_completes topology net read bytes status written =

@@ -1,10 +1,7 @@
-pub mod Stepping
-pub mod Writing
-pub mod Reading
-pub mod Coming
 pub mod Planned
 pub mod Performing
 pub mod Holding
 pub mod Migrating
 pub mod Unique
 pub mod Lawful
+pub mod Alone

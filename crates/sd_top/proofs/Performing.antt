@@ -13,8 +13,9 @@ use Rattle.sd_files.specs.declared.ended.Ended.{Ended}
 use Rattle.sd_files.specs.declared.ended.Ended.TheVariants as ended
 use Rattle.sd_files.specs.declared.ended.Stop.{Stop}
 use Rattle.sd_files.specs.declared.ended.Stop.TheVariants as stop
-use Rattle.sd_top.specs.Ends.{LeavesAt, MeetsResult}
-use Rattle.sd_top.specs.Promise.{Leaves, LeavesAfter, IsNearRefusal, MeetsOutcome, task_of}
+use Rattle.sd_work.specs.Leaving.{Leaves, LeavesAt}
+use Rattle.sd_top.specs.Ends.{MeetsResult}
+use Rattle.sd_top.specs.Promise.{LeavesAfter, IsNearRefusal, MeetsOutcome, task_of}
 use Rattle.sd_top.specs.Words.{Command, command_of}
 use Rattle.sd_top.specs.Words.Command.{Solo}
 

@@ -9,7 +9,7 @@ pub mod Versions
 pub mod Unique
 pub mod Laws
 pub mod Ends
-pub mod Steps
 pub mod Gives
 pub mod PlannedAnswers
 pub mod Parsed
+pub mod Alone

@@ -1,13 +1,10 @@
 //! The lines that are printed for a schedule.
-ghost use Rattle.std.specs.Prelude.{◌≡◌, [], ◌∷◌, OnOk, codes, decimal};
+ghost use Rattle.std.specs.Prelude.{◌≡◌, [], ◌∷◌, codes, decimal};
 ghost use Rattle.sd_num.specs.Texts.{text_of};
 ghost use Rattle.sd_outside.specs.Printed.{printed};
 ghost use Rattle.sd_solo.specs.Histories.{report_text};
-ghost use Rattle.sd_top.specs.Reasons.{refused_text};
 
-use crate::ScheduleFault;
 use sd_clock::Report;
-use sd_num::NoMemory;
 use sd_outside::LineBuffer;
 
 /// Prints the line of a report that is due at a line of the schedule.
@@ -34,13 +31,4 @@ pub fn print_done(out: &mut LineBuffer, events: u32, reports: u32)
     out.push(b" ");
     out.push_number(u128::from(reports));
     out.push(b"\n");
-}
-
-/// Prints the last line of a schedule that is refused at a line. It needs no more room than there
-/// is, so `NoMemory` does not come.
-pub fn print_refused(out: &mut LineBuffer, line: u32, fault: ScheduleFault) -> Result<(), NoMemory>
-    ensures { OnOk result (printed out.new ≡ refused_text line fault) }
-{
-    out.clear();
-    out.push_displayed(format_args!("input schedule {line} {fault}\n"))
 }

@@ -1,23 +1,42 @@
-//! Why a schedule is refused, as it is printed.
-ghost use Rattle.std.specs.Prelude.{Some};
-ghost use Rattle.sd_top.specs.Reasons.{reason};
+//! Why a line of a schedule is refused, as it is printed.
+ghost use Rattle.std.specs.Prelude.{◌≡◌, ◌≤◌, [], length};
+ghost use Rattle.sd_outside.specs.Printed.{printed};
+ghost use Rattle.sd_solo.specs.Faults.{fault_name};
+ghost use Rattle.sd_top.specs.Reasons.{line_reason};
 
-use crate::ScheduleFault;
+use sd_outside::LineBuffer;
 use sd_sched::LineFault;
-use std::fmt;
+use sd_solo::SoloFault;
 
-impl fmt::Display for ScheduleFault {
-    ghost output = { λ fault. Some (reason fault) };
-
-    fn fmt<W: fmt::Write>(&self, f: &mut fmt::Formatter<W>) -> fmt::Result {
-        match self {
-            ScheduleFault::LongLine => write!(f, "LongLine"),
-            ScheduleFault::Limit => write!(f, "Limit"),
-            ScheduleFault::Line(LineFault::UnknownWord) => write!(f, "UnknownWord"),
-            ScheduleFault::Line(LineFault::FieldCount) => write!(f, "FieldCount"),
-            ScheduleFault::Line(LineFault::Number(field)) => write!(f, "Number {field}"),
-            ScheduleFault::Event(fault) => write!(f, "{fault}"),
-            ScheduleFault::NoEnd => write!(f, "NoEnd"),
+/// Prints why a line is no line of a schedule.
+pub fn print_line_fault(out: &mut LineBuffer, fault: LineFault)
+    ensures text { printed out.new ≡ line_reason fault }
+    ensures short { length (printed out.new) ≤ 64 }
+{
+    out.clear();
+    match fault {
+        LineFault::UnknownWord => out.push(b"UnknownWord"),
+        LineFault::FieldCount => out.push(b"FieldCount"),
+        LineFault::Number(field) => {
+            out.push(b"Number ");
+            out.push_number(u128::from(field));
         }
     }
+}
+
+/// Prints why an event of a device alone is refused.
+pub fn print_solo_fault(out: &mut LineBuffer, fault: SoloFault)
+    ensures text { printed out.new ≡ fault_name fault }
+    ensures short { length (printed out.new) ≤ 64 }
+{
+    out.clear();
+    out.push(match fault {
+        SoloFault::UnknownDevice => b"UnknownDevice",
+        SoloFault::TimeFalls => b"TimeFalls",
+        SoloFault::CounterFalls => b"CounterFalls",
+        SoloFault::NotStarted => b"NotStarted",
+        SoloFault::StartedTwice => b"StartedTwice",
+        SoloFault::AfterEnd => b"AfterEnd",
+        SoloFault::TooManyEvents => b"TooManyEvents",
+    });
 }

@@ -4,10 +4,12 @@ ghost use Rattle.sd_outside.specs.Causes.{Rose};
 ghost use Rattle.sd_stream.specs.Reader.{IsNear};
 ghost use Rattle.sd_files.specs.Statuses.{is_among, stop_of};
 ghost use Rattle.sd_files.specs.Texts.{texts_of};
-ghost use Rattle.sd_top.specs.Ends.{LeavesAt, MeetsResult};
+ghost use Rattle.sd_work.specs.Leaving.{LeavesAt};
+ghost use Rattle.sd_work.specs.Works.{refused_part};
+ghost use Rattle.sd_top.specs.Ends.{MeetsResult};
 ghost use Rattle.sd_top.specs.Laws.{Laws};
 ghost use Rattle.sd_top.specs.Promise.{IsNearRefusal, IsUsage, KeepsPromise, MeetsOutcome, task_of};
-ghost use Rattle.sd_top.specs.Schedules.{IsSolo, refused_part};
+ghost use Rattle.sd_top.specs.Schedules.{IsSolo, solo_work};
 ghost use Rattle.sd_top.specs.Words as meaning;
 ghost use Rattle.sd_top.specs.Words.{files_of, name_of};
 
@@ -112,7 +114,7 @@ fn solo<S: Shelf, O: Sink>(
     requires { IsTrue (S.serves shelf.old schedule.now) }
     ensures outcome { IfSome (S.held shelf.old) (λ held. LeavesAt true (IsSolo (texts_of held schedule.now)) (O.written out.old) (O.written out.new) result) }
     ensures gives { IfOk result (λ status. IsTrue (is_among (Status.Done ∷ Status.InputRefused ∷ []) status)) }
-    ensures near { result ≡ Ok Status.InputRefused → IfSome (S.held shelf.old) (λ held. IsNear (Some (refused_part (texts_of held schedule.now))) (S.rest shelf.new)) }
+    ensures near { result ≡ Ok Status.InputRefused → IfSome (S.held shelf.old) (λ held. IsNear (Some (refused_part solo_work (texts_of held schedule.now))) (S.rest shelf.new)) }
     ensures shelf { result ≡ Err Stop.Shelf → Rose (S.faults shelf.old) (S.faults shelf.new) }
     ensures sink { result ≡ Err Stop.Sink → Rose (O.faults out.old) (O.faults out.new) }
 {

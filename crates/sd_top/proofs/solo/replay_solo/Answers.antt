@@ -1,49 +1,7 @@
-use Rattle.std.proofs.Common.{rules, IfSome, Result, subst, true}
-use Rattle.sd_files.specs.declared.Status.{Status}
-use Rattle.sd_top.proofs.Coming.{told_comes, told_comes_on, told_stops, told_ends, told_near, handed_on}
-use Rattle.sd_top.specs.Ends.{LeavesAt}
-use Rattle.sd_top.specs.Schedules.{IsSolo}
-use Rattle.sd_files.specs.declared.ended.Stop.{Stop}
+use Rattle.std.proofs.Common.{rules, refl}
+use Rattle.sd_top.specs.Schedules.{solo_work}
+use Rattle.sd_top.proofs.Alone.{reports_whole}
 use Rattle.sd_top.proofs.solo.replay_solo.Goals as goal
 
-pub lines-init : goal.lines-init
-lines-init g c =
-    record {
-      come = told_comes _ _ c.over-reader.result c.new-device.result _ c.new-device.ensures c.over-reader.ensures.left c.over-reader.ensures.before;
-      within = search rules;
-      later = search rules;
-      sink_later = search rules;
-      same_held = search rules;
-      same_shelf = search rules;
-    }
-
-pub returns-in_err-status-clause-outcome : goal.returns-in_err-status-clause-outcome
-returns-in_err-status-clause-outcome g c =
-    subst (λ (r : Result Status Stop). IfSome (g.S.Shelf.rest c.args.shelf.now) (λ text. LeavesAt true (IsSolo text) (g.O.Sink.written c.args.out.now) (g.O.Sink.written c.take_line.new.out) r))
-    (handed_on c.from_residual.result _ c.from_residual.ensures.1)
-    (told_stops _ _ c.lines.reader c.lines.device _ _ _ _ c.lines.invariant.come c.in_err-status.ensures.writes)
-
-pub returns-in-Some-clause-outcome : goal.returns-in-Some-clause-outcome
-returns-in-Some-clause-outcome g c =
-    told_ends _ _ c.lines.reader c.lines.device c.take_line.new.device _ _ _ c.in-Some.status c.lines.invariant.come (rw c.in-Some.is at c.in_ok-status.ensures.makes) c.in_ok-status.ensures.writes
-
-pub returns-in-Some-clause-near : goal.returns-in-Some-clause-near
-returns-in-Some-clause-near g c =
-    λ refused.
-    let near =
-    told_near _ (g.S.Shelf.rest c.args.shelf.now) (g.S.Shelf.rest c.take_line.new.reader.shelf.now) c.lines.reader c.lines.device c.take_line.new.device _ _ c.in-Some.status c.lines.invariant.come (rw c.in-Some.is at c.in_ok-status.ensures.makes)
-    c.take_line.ensures.near in
-    search (rules, near)
-
-pub lines-preserved : goal.lines-preserved
-lines-preserved g c =
-    record {
-      come =
-          told_comes_on _ _ c.lines.reader c.take_line.new.reader c.lines.device c.take_line.new.device _ _ _ c.lines.invariant.come (rw c.in_default.is at c.in_ok-status.ensures.makes) c.in_ok-status.ensures.writes
-          (rw c.in_default.is at c.in_ok-status.ensures.passes);
-      within = search rules;
-      later = search rules;
-      sink_later = search rules;
-      same_held = search rules;
-      same_shelf = search rules;
-    }
+pub returns-clause-outcome : goal.returns-clause-outcome
+returns-clause-outcome g c = c.work_through.ensures.outcome solo_work (refl, search rules) reports_whole

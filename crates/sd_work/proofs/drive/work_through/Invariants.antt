@@ -1,7 +1,9 @@
-use Rattle.std.proofs.Common.{◌≡◌, ◌≤◌, ◌-◌, ◌^◌, IfSome}
+use Rattle.std.proofs.Common.{◌≡◌, ◌≤◌, ◌-◌, ◌^◌, [], IfSome}
 use Rattle.sd_stream.specs.Reader.{bytes_before}
-use Rattle.sd_top.specs.Steps.{HasCome}
-use Rattle.sd_top.proofs.solo.replay_solo.Given as goal
+use Rattle.sd_work.specs.Works.{Work}
+use Rattle.sd_work.specs.Comes.{HasCome}
+use Rattle.sd_work.specs.Courses.{Holds}
+use Rattle.sd_work.proofs.drive.work_through.Given as goal
 
 -- the lines so far were taken and written, and nothing else of the shelf has changed
 abbrev pub invariant-lines : goal.invariant-lines
@@ -9,8 +11,11 @@ invariant-lines g l =
     let shelf = g.S.Shelf in
     let sink = g.O.Sink in
     record {
-      come : IfSome (shelf.rest l.fn.shelf) (λ text. HasCome shelf text l.reader l.device (sink.written l.fn.out) (sink.written l.out));
+      come :
+          (w : Work g.row.W-Item.Denot) → g.W.LineWork.does l.fn.work w []
+          → IfSome (shelf.rest l.fn.shelf) (λ text. HasCome shelf w (Holds g.W.LineWork l.course w) text l.reader (sink.written l.fn.out) (sink.written l.out));
       within : bytes_before l.reader ≤ 2 ^ 32;
+      counted : l.course.taken ≤ bytes_before l.reader;
       later : shelf.faults l.fn.shelf ≤ shelf.faults l.reader.shelf.now;
       sink_later : sink.faults l.fn.out ≤ sink.faults l.out;
       same_held : shelf.held l.reader.shelf.now ≡ shelf.held l.fn.shelf;

@@ -1,0 +1,5 @@
+pub mod Stepping
+pub mod Writing
+pub mod Reading
+pub mod Whole
+pub mod Coming
