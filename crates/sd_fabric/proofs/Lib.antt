@@ -9,5 +9,6 @@ pub mod Outcoming
 pub mod Adding
 pub mod Firsts
 pub mod Keeping
+pub mod Room
 pub mod Replies
 pub mod Finishing

@@ -24,7 +24,10 @@ use sd_world::World;
 use std::alloc::Global;
 use std::marker::Model;
 
-/// A fabric apart from its devices. An event costs what its own device and its messages cost.
+/// A fabric apart from its devices.
+///
+/// An event costs what its own device and its messages cost, and over many events a little for each
+/// message that was spent meanwhile. A stage goes over all devices, once for each plan.
 #[derive(Drop)]
 pub struct Fabric {
     pub(crate) topology: Topology,

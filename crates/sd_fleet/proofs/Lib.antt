@@ -7,3 +7,5 @@ pub mod Crewing
 pub mod Telling
 pub mod Following
 pub mod Applying
+pub mod Reporting
+pub mod Devices

@@ -1,8 +1,9 @@
 -- What a node owes and is owed where it is made or called: bounds of its numbers, and the duty that was given to it.
-use Rattle.std.specs.Prelude.{◌≡◌, ◌⊎◌, ℕ, ◌*◌, ◌^◌, ◌≤◌, Option, Some, None, option_map}
+use Rattle.std.specs.Prelude.{◌≡◌, ◌⊎◌, ℕ, ◌*◌, ◌^◌, ◌≤◌, ◌<◌, Option, Some, None, option_map}
 use Rattle.sd_topo.specs.Network.{IsRates}
 use Rattle.sd_plan.specs.declared.Duty.{Duty}
 use Rattle.sd_plan.specs.declared.Role.TheVariants as role
+use Rattle.sd_clock.specs.declared.Report.{Report}
 use Rattle.sd_msg.specs.declared.Message.{Message}
 use Rattle.sd_core.specs.declared.Effect.{Effect}
 use Rattle.sd_core.specs.declared.Effect.TheVariants.{Quiet}
@@ -16,6 +17,11 @@ use Rattle.sd_fabric.specs.declared.Call.TheVariants as call
 -- each event raises clocks and uncertainties by less than this
 abbrev pub rise : ℕ
 rise = 2 ^ 62
+
+-- so with 2 ^ 26 events at most, what is reported stays below 2 ^ 93
+pub record IsLimited (report : Report) : Type 0 where
+  pub clock : report.clock < 2 ^ 93
+  pub eps : report.eps < 2 ^ 93
 
 -- a message after so many events
 pub record IsMessage (events : ℕ) (message : Message) : Type 0 where

@@ -3,3 +3,4 @@ pub mod Calling
 pub mod Crew
 pub mod Bounds
 pub mod Standing
+pub mod Devices

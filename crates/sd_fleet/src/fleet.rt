@@ -10,7 +10,8 @@ ghost use Rattle.sd_history.specs.Refusals.{refusal as refusal_of};
 ghost use Rattle.sd_history_flights.specs.Flights.{look_in};
 ghost use Rattle.sd_roster.specs.Plans.{AreSound};
 ghost use Rattle.sd_fabric.specs.Causes.{refusal_in};
-ghost use Rattle.sd_fabric.specs.Room.{most_sent_in};
+ghost use Rattle.sd_fabric.specs.Room.{most_sent_of, most_sent_in};
+ghost use Rattle.sd_fleet.specs.Calling.{IsLimited};
 ghost use Rattle.sd_fleet.specs.Bounds.{IsCrew, moment_of};
 
 use crate::crew::{Moment, perform};
@@ -25,7 +26,8 @@ use std::alloc::Global;
 
 /// All devices of a fabric, each a node of one kind, driven event by event.
 ///
-/// An event costs what its own device and its messages cost. A stage counts the members of its plan.
+/// An event costs what its own device and its messages cost, and over many events a little for each
+/// message that was spent meanwhile. A stage goes over all devices, once for each plan.
 #[derive(Drop)]
 pub struct Fleet<N: Node> {
     fabric: Fabric,
@@ -99,7 +101,9 @@ impl<N: Node> Fleet<N> {
     /// How many messages the event sends at most: for a `tick` or a `recv` the ends below the named
     /// device in the plan in force and in the staged one together.
     pub fn most_sent(&self, event: &Event) -> usize
-        ensures { result ≡ most_sent_in self.now.fabric event.now }
+        ensures kept { result ≡ most_sent_in self.now.fabric event.now }
+        ensures exact { (setting : Setting) (run : List (NodeStep N))
+            → StandsFor N.Node self.now setting run → result ≡ most_sent_of setting (steps_of run) event.now }
     {
         self.fabric.most_sent(event)
     }
@@ -112,6 +116,8 @@ impl<N: Node> Fleet<N> {
         ensures accepted { IfOk result (λ outcome. (setting : Setting) (run : List (NodeStep N))
             → StandsFor N.Node self.old setting run
             → IsAccepted N.Node self.new setting run event.now outcome) }
+        ensures limited { IfOk result (λ outcome. IfSome outcome.report (λ told. IsLimited told.1)) }
+        ensures few { IfOk result (λ outcome. outcome.sent ≤ most_sent_in self.old.fabric event.now) }
         ensures refused { IfErr result (λ fault. (setting : Setting) (run : List (NodeStep N))
             → StandsFor N.Node self.old setting run
             → StandsFor N.Node self.new setting run × IsFault fault setting (steps_of run) event.now) }

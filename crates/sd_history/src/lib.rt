@@ -38,10 +38,15 @@
 //! - Worked examples that compute: `Rows`, `Windows`, and `OtherNodes` for nodes that are no
 //!   devices, over the schedules of `Base`.
 //!
-//! # Not shown here
+//! # Shown above
 //!
 //! - That `is_on_loop`, which takes as many steps as there are devices, is the loop of parents as a
-//!   relation.
+//!   relation: in `sd_history_loops`.
+//! - Which flights are on their way, by number, and what an event leaves of them: in
+//!   `sd_history_flights`.
+//!
+//! # Not shown
+//!
 //! - That what an onlooker takes for entered is the device's own epoch, over histories.
 #![tactic(auto)]
 

@@ -1,39 +1,138 @@
--- What holds of the flights of a book goes on holding.
-use Rattle.std.proofs.Common.{◌≡◌, ℕ, ◌+◌, ◌≤◌, Bool, true, List, [], ◌∷◌, ◌++◌, refl, ap, arith}
+-- What holds of the flights that a book keeps goes on holding, and what is seen of them.
+use Rattle.std.proofs.Common.{◌≡◌, ℕ, zero, suc, ◌+◌, ◌<◌, ◌≤◌, Bool, true, false, ◌&&◌, not, cond, nat_le, nat_lt, List, [], ◌∷◌, ◌++◌, length, get_or, drop, set, refl, sym, ◌∙◌, ap, subst, arith}
 use Rattle.std.specs.List.{filter, All}
-use Rattle.std.proofs.lemmas.Bool.{le-leb}
-use Rattle.std.proofs.lemmas.List.Elements.{All-filter, All-push, All-weaker, All-head, All-tail}
+use Rattle.std.proofs.lemmas.Bool.{and_from, eq-eqb, le-leb, lt-ltb}
+use Rattle.std.proofs.lemmas.List.Elements.{All-filter, All-push, All-set, All-get_or, All-head, All-tail, filter_agree}
+use Rattle.sd_topo.specs.declared.Thing.{Thing}
 use Rattle.sd_msg.specs.declared.Flight.{Flight}
-use Rattle.sd_msg.specs.BookView.{AreFlights}
-use Rattle.sd_msg.specs.Books.{with_sent, is_current}
-use Rattle.sd_msg.proofs.Numbered.{numbered_more, numbered_push, numbered_filter}
+use Rattle.sd_msg.specs.declared.spent.Spent.{Spent}
+use Rattle.sd_msg.specs.Books.{AreNumbered, has_number, without, with_sent, is_swept, is_current}
+use Rattle.sd_msg.specs.Marks.{mark_of}
+use Rattle.sd_msg.specs.Spent.{is_spared, is_left, is_known, AreKept}
+use Rattle.sd_msg.proofs.Numbered.{floor_low, lower, numbered_more, numbered_push, numbered_filter}
+use Rattle.sd_msg.proofs.Finding.{beyond, first_is_other, without_none}
+use Rattle.sd_msg.proofs.Filters.{passing_last, both}
 
-abbrev EndsFrom : ℕ → Flight → Type 0
-EndsFrom least f = least ≤ f.last
-
--- a number is given to a flight that does not reach
-pub skipped : (fs : List Flight) (last least : ℕ) → AreFlights fs last least → AreFlights fs (last + 1) least
-skipped fs last least h = record { numbered = numbered_more 0 last fs h.numbered; current = h.current }
-
--- a flight that reaches is added
-pub pushed : (fs : List Flight) (last least now : ℕ) (f : Flight) → AreFlights fs last least → f.number ≡ last + 1 → now ≤ least → now ≤ f.last → AreFlights (fs ++ f ∷ []) (last + 1) now
-pushed fs last least now f h next before ends =
-    record {
-      numbered = numbered_push 0 last fs f next h.numbered;
-      current = All-push (EndsFrom now) fs f (All-weaker (EndsFrom least) (EndsFrom now) (λ g late. omega arith) fs h.current) ends;
-    }
+abbrev IsKnown : Spent → Flight → Type 0
+IsKnown spent f = is_known spent f ≡ true
 
 -- only those stay that pass a test
-pub kept : (test : Flight → Bool) (fs : List Flight) (last least : ℕ) → AreFlights fs last least → AreFlights (filter test fs) last least
-kept test fs last least h = record { numbered = numbered_filter 0 last test fs h.numbered; current = All-filter test (EndsFrom least) fs h.current }
+pub kept : (test : Flight → Bool) (last : ℕ) (spent : Spent) (fs : List Flight) → AreKept last spent fs → AreKept last spent (filter test fs)
+kept test last spent fs h =
+    record { numbered = numbered_filter 0 last test fs h.numbered; known = All-filter test (IsKnown spent) fs h.known; links = h.links; receivers = h.receivers }
 
--- where none ends before the least time, none ends before an earlier reference
-pub all_current : (least reference : ℕ) (fs : List Flight) → reference ≤ least → All (λ f. least ≤ f.last) fs → filter (is_current reference) fs ≡ fs
-all_current least reference [] early each = refl
-all_current least reference (f ∷ fs) early each =
-    let late : least ≤ f.last = All-head (EndsFrom least) f fs each in
-    rw (le-leb reference f.last (omega arith)) (ap (λ gs. f ∷ gs) (all_current least reference fs early (All-tail (EndsFrom least) f fs each)))
+-- what is seen of them is numbered too
+pub seen_numbered : (test : Flight → Bool) (last : ℕ) (spent : Spent) (fs : List Flight) → AreKept last spent fs → AreNumbered 0 last (filter test fs)
+seen_numbered test last spent fs h = numbered_filter 0 last test fs h.numbered
 
--- a flight that reaches is kept
-pub sent_one : (fs : List Flight) (f : Flight) → f.reaches ≡ true → with_sent fs f ≡ fs ++ f ∷ []
-sent_one fs f reaches = rw reaches refl
+one_more : (m last : ℕ) → m ≤ last → m ≤ last + 1
+one_more m last low = omega (arith, low)
+
+-- a number is given to a flight that does not reach
+pub skipped : (last : ℕ) (spent : Spent) (fs : List Flight) → AreKept last spent fs → AreKept (last + 1) spent fs
+skipped last spent fs h =
+    record {
+      numbered = numbered_more 0 last fs h.numbered;
+      known = h.known;
+      links = λ k. one_more (mark_of spent.links k) last (h.links k);
+      receivers = λ k. one_more (mark_of spent.receivers k) last (h.receivers k);
+    }
+
+-- a flight that reaches is added
+pub pushed : (last : ℕ) (spent : Spent) (fs : List Flight) (f : Flight) → AreKept last spent fs → f.number ≡ last + 1 → is_known spent f ≡ true → AreKept (last + 1) spent (fs ++ f ∷ [])
+pushed last spent fs f h next known =
+    let more = skipped last spent fs h in
+    record { numbered = numbered_push 0 last fs f next h.numbered; known = All-push (IsKnown spent) fs f h.known known; links = more.links; receivers = more.receivers }
+
+-- and is left
+new_left : (last : ℕ) (spent : Spent) (fs : List Flight) (f : Flight) → f.reaches ≡ true → AreKept last spent fs → f.number ≡ last + 1 → spent.reference ≤ f.last → is_left spent f ≡ true
+new_left last spent fs f reaches h next late =
+    let link : mark_of spent.links f.link ≤ last = h.links f.link in
+    let receiver : mark_of spent.receivers f.receiver ≤ last = h.receivers f.receiver in
+    let link_passes : nat_lt (mark_of spent.links f.link) f.number ≡ true = lt-ltb (mark_of spent.links f.link) f.number (omega (arith, link, next)) in
+    let receiver_passes : nat_lt (mark_of spent.receivers f.receiver) f.number ≡ true = lt-ltb (mark_of spent.receivers f.receiver) f.number (omega (arith, receiver, next)) in
+    and_from f.reaches (is_spared spent f) reaches
+    (and_from (nat_le spent.reference f.last && nat_lt (mark_of spent.links f.link) f.number) (nat_lt (mark_of spent.receivers f.receiver) f.number)
+    (and_from (nat_le spent.reference f.last) (nat_lt (mark_of spent.links f.link) f.number) (le-leb spent.reference f.last late) link_passes) receiver_passes)
+
+-- so it is seen last
+pub seen_pushed : (last : ℕ) (old mid new : Spent) (before fs : List Flight) (f : Flight) → f.reaches ≡ true → AreKept last new fs → f.number ≡ last + 1 → new.reference ≡ mid.reference → mid.reference ≤ f.last
+    → filter (is_left mid) fs ≡ filter (is_left old) before → ((g : Flight) → is_left new g ≡ is_left mid g) → filter (is_left new) (fs ++ f ∷ []) ≡ with_sent (filter (is_left old) before) f
+seen_pushed last old mid new before fs f reaches h next reference late seen left =
+    passing_last (is_left new) fs f (new_left last new fs f reaches h next (omega (arith, reference, late)))
+    ∙ ap (λ gs. gs ++ f ∷ []) (filter_agree (is_left new) (is_left mid) left fs ∙ seen)
+    ∙ sym (ap (λ b. cond b (filter (is_left old) before ++ f ∷ []) (filter (is_left old) before)) reaches)
+
+-- Without the first
+
+pub kept_rest : (last : ℕ) (spent : Spent) (fs : List Flight) → AreKept last spent fs → AreKept last spent (drop 1 fs)
+kept_rest last spent [] h = h
+kept_rest last spent (f ∷ fs) h =
+    record { numbered = lower 0 f.number last fs (omega arith) h.numbered.1; known = All-tail (IsKnown spent) f fs h.known; links = h.links; receivers = h.receivers }
+
+pub seen_rest : (spent : Spent) (fs : List Flight) (f : Flight) → f ≡ get_or fs 0 f → is_left spent f ≡ false → filter (is_left spent) (drop 1 fs) ≡ filter (is_left spent) fs
+seen_rest spent [] f is gone = refl
+seen_rest spent (g ∷ fs) f is gone = rw (subst (λ x. is_left spent x ≡ false) is gone) refl
+
+-- What a purge and a sweep leave to be seen
+
+pub seen_purged : (old new : Spent) (reference : ℕ) (fs : List Flight) → ((f : Flight) → is_left new f ≡ (is_left old f && is_current reference f)) → filter (is_left new) fs ≡ filter (is_current reference) (filter (is_left old) fs)
+seen_purged old new reference fs left = filter_agree (is_left new) (λ f. is_left old f && is_current reference f) left fs ∙ both (is_left old) (is_current reference) fs
+
+module _ (last : ℕ) (old new : Spent) (thing : Thing) (left : (f : Flight) → is_known old f ≡ true → f.number ≤ last → is_left new f ≡ (is_left old f && not (is_swept thing f))) where
+  each_left : (floor : ℕ) (fs : List Flight) → AreNumbered floor last fs → All (IsKnown old) fs → filter (is_left new) fs ≡ filter (λ f. is_left old f && not (is_swept thing f)) fs
+  each_left floor [] h known = refl
+  each_left floor (f ∷ fs) h known =
+      ap (λ b. cond b (f ∷ filter (is_left new) fs) (filter (is_left new) fs)) (left f (All-head (IsKnown old) f fs known) (floor_low f.number last fs h.1))
+      ∙ ap (λ gs. cond (is_left old f && not (is_swept thing f)) (f ∷ gs) gs) (each_left f.number fs h.1 (All-tail (IsKnown old) f fs known))
+
+  pub seen_swept : (fs : List Flight) → AreKept last old fs → filter (is_left new) fs ≡ filter (λ f. not (is_swept thing f)) (filter (is_left old) fs)
+  seen_swept fs h = each_left 0 fs h.numbered h.known ∙ both (is_left old) (λ f. not (is_swept thing f)) fs
+
+-- A flight that is spent in its place
+
+-- it keeps its number, its link and its receiver, and does not reach
+abbrev pub as_spent : Flight → Flight
+as_spent f = record f { reaches = false }
+
+spent_numbered : (floor last : ℕ) (fs : List Flight) (i : ℕ) (f : Flight) → AreNumbered floor last fs → i < length fs → ((d : Flight) → f ≡ get_or fs i d) → AreNumbered floor last (set fs i (as_spent f))
+spent_numbered floor last [] i f h within is = h
+spent_numbered floor last (g ∷ fs) zero f h within is = rw (is f) h
+spent_numbered floor last (g ∷ fs) (suc i) f h within is = (h.0, spent_numbered g.number last fs i f h.1 (omega arith) is)
+
+pub kept_spent : (last : ℕ) (spent : Spent) (fs : List Flight) (i : ℕ) (f : Flight) → AreKept last spent fs → i < length fs → ((d : Flight) → f ≡ get_or fs i d) → AreKept last spent (set fs i (as_spent f))
+kept_spent last spent fs i f h within is =
+    record {
+      numbered = spent_numbered 0 last fs i f h.numbered within is;
+      known = All-set (IsKnown spent) fs i (as_spent f) (subst (IsKnown spent) (sym (is f)) (All-get_or (IsKnown spent) fs i f within h.known)) h.known;
+      links = h.links;
+      receivers = h.receivers;
+    }
+
+spent_seen : (floor last : ℕ) (spent : Spent) (fs : List Flight) (i : ℕ) (f : Flight) → AreNumbered floor last fs → i < length fs → ((d : Flight) → f ≡ get_or fs i d)
+    → filter (is_left spent) (set fs i (as_spent f)) ≡ without f.number (filter (is_left spent) fs)
+spent_seen floor last spent [] i f h within is = absurd (omega arith)
+spent_seen floor last spent (g ∷ fs) zero f h within is = by (is_left spent g)
+  where
+    same : g.number ≡ f.number
+    same = ap (λ (x : Flight). x.number) (sym (is f))
+
+    rest : filter (is_left spent) fs ≡ without f.number (filter (is_left spent) fs)
+    rest = sym (without_none f.number (filter (is_left spent) fs) (beyond g.number last f.number (filter (is_left spent) fs) (numbered_filter g.number last (is_left spent) fs h.1) (omega (arith, same))))
+
+    by : (b : Bool) → filter (is_left spent) fs ≡ without f.number (cond b (g ∷ filter (is_left spent) fs) (filter (is_left spent) fs))
+    by true = rw (eq-eqb g.number f.number same) rest
+    by false = rest
+spent_seen floor last spent (g ∷ fs) (suc i) f h within is = by (is_left spent g) (spent_seen g.number last spent fs i f h.1 (omega arith) is)
+  where
+    other : has_number f.number g ≡ false
+    other = first_is_other floor last f.number g fs i h (omega arith) (ap (λ (x : Flight). x.number) (sym (is g)))
+
+    by : (b : Bool) → filter (is_left spent) (set fs i (as_spent f)) ≡ without f.number (filter (is_left spent) fs)
+        → cond b (g ∷ filter (is_left spent) (set fs i (as_spent f))) (filter (is_left spent) (set fs i (as_spent f))) ≡ without f.number (cond b (g ∷ filter (is_left spent) fs) (filter (is_left spent) fs))
+    by true more = rw other (ap (λ gs. g ∷ gs) more)
+    by false more = more
+
+pub seen_spent : (last : ℕ) (spent : Spent) (fs : List Flight) (i : ℕ) (f : Flight) → AreKept last spent fs → i < length fs → ((d : Flight) → f ≡ get_or fs i d)
+    → filter (is_left spent) (set fs i (as_spent f)) ≡ without f.number (filter (is_left spent) fs)
+seen_spent last spent fs i f h within is = spent_seen 0 last spent fs i f h.numbered within is

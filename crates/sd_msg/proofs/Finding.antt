@@ -1,10 +1,13 @@
--- What is found among flights that ascend by number, and what is left when one is taken out.
-use Rattle.std.proofs.Common.{◌≡◌, ℕ, zero, suc, ◌<◌, ◌≤◌, Bool, true, false, not, cond, List, [], ◌∷◌, length, get_or, find, Some, None, refl, sym, ap, arith}
-use Rattle.std.specs.List.{remove}
-use Rattle.std.proofs.lemmas.Bool.{eq-eqb, ne_eqb}
+-- What is found among flights that ascend by number.
+use Rattle.std.proofs.Common.{◌≡◌, ℕ, zero, suc, ◌<◌, ◌≤◌, Bool, true, false, not, cond, List, [], ◌∷◌, length, get_or, find, Option, Some, None, Result, Ok, Err, refl, ap, ◌∙◌, arith}
+use Rattle.std.specs.List.{filter}
+use Rattle.std.specs.Option.{ok_or}
+use Rattle.std.proofs.lemmas.Bool.{eq-eqb, ne_eqb, eqb-true}
 use Rattle.sd_msg.specs.declared.Flight.{Flight}
-use Rattle.sd_msg.specs.Books.{has_number, without, AreNumbered}
-use Rattle.sd_msg.proofs.Numbered.{number_at, above}
+use Rattle.sd_msg.specs.declared.TakeFault.{TakeFault}
+use Rattle.sd_msg.specs.declared.TakeFault.TheVariants as fault
+use Rattle.sd_msg.specs.Books.{has_number, is_given, found, without, AreNumbered}
+use Rattle.sd_msg.proofs.Numbered.{number_at, above, numbered_filter}
 
 -- where no flight has the number
 pub absent : (n : ℕ) (fs : List Flight) → ((k : ℕ) (d : Flight) → k < length fs → number_at fs k d ≡ n → ⊥) → find (has_number n) fs ≡ None
@@ -21,7 +24,7 @@ beyond floor top n fs h low =
     omega arith)
 
 -- the number of the first flight is not that of a later one
-first_is_other : (floor top n : ℕ) (f : Flight) (fs : List Flight) (i : ℕ) → AreNumbered floor top (f ∷ fs) → i < length fs → number_at fs i f ≡ n → has_number n f ≡ false
+pub first_is_other : (floor top n : ℕ) (f : Flight) (fs : List Flight) (i : ℕ) → AreNumbered floor top (f ∷ fs) → i < length fs → number_at fs i f ≡ n → has_number n f ≡ false
 first_is_other floor top n f fs i h within here =
     let far : f.number < number_at fs i f = above f.number top fs h.1 i f within in
     ne_eqb f.number n (λ same. omega arith)
@@ -43,11 +46,41 @@ without_none n (f ∷ fs) none = by_test (has_number n f) (without_none n fs) no
     by_test true rest found = cc
     by_test false rest found = ap (λ gs. f ∷ gs) (rest found)
 
--- what is left when the flight of the number is taken out
-pub left_at : (floor top n : ℕ) (fs : List Flight) (i : ℕ) → AreNumbered floor top fs → i < length fs → ((d : Flight) → number_at fs i d ≡ n) → remove fs i ≡ without n fs
-left_at floor top n [] i h within here = absurd (omega arith)
-left_at floor top n (f ∷ fs) zero h within here =
-    let number : f.number ≡ n = here f in
-    rw (eq-eqb f.number n number) (sym (without_none n fs (beyond f.number top n fs h.1 (omega arith))))
-left_at floor top n (f ∷ fs) (suc i) h within here =
-    rw (first_is_other floor top n f fs i h (omega arith) (here f)) (ap (λ gs. f ∷ gs) (left_at f.number top n fs i h.1 (omega arith) here))
+-- Among those that pass a test
+
+-- what of a flight that was found passes
+abbrev pub if_passing : (Flight → Bool) → Option Flight → Option Flight
+if_passing test None = None
+if_passing test (Some f) = cond (test f) (Some f) None
+
+-- the numbers differ, so no other takes the place of one that does not pass
+pub find_passing : (floor top n : ℕ) (test : Flight → Bool) (fs : List Flight) → AreNumbered floor top fs → find (has_number n) (filter test fs) ≡ if_passing test (find (has_number n) fs)
+find_passing floor top n test [] h = refl
+find_passing floor top n test (f ∷ fs) h = by (has_number n f) (test f) refl refl (find_passing f.number top n test fs h.1)
+  where
+    by : (a b : Bool) → has_number n f ≡ a → test f ≡ b → find (has_number n) (filter test fs) ≡ if_passing test (find (has_number n) fs)
+        → find (has_number n) (cond b (f ∷ filter test fs) (filter test fs)) ≡ if_passing test (cond a (Some f) (find (has_number n) fs))
+    by true true here passes rest = rw (here, passes) refl
+    by true false here passes rest =
+        let same : f.number ≡ n = eqb-true f.number n here in
+        beyond f.number top n (filter test fs) (numbered_filter f.number top test fs h.1) (omega arith) ∙ rw passes refl
+    by false true here passes rest = rw here rest
+    by false false here passes rest = rest
+
+-- what is found of those that pass
+abbrev pub found_passing : (Flight → Bool) → Result Flight TakeFault → Result Flight TakeFault
+found_passing test (Ok f) = cond (test f) (Ok f) (Err fault.Spent)
+found_passing test (Err e) = Err e
+
+pub found_among : (last n : ℕ) (test : Flight → Bool) (fs : List Flight) → AreNumbered 0 last fs → found last (filter test fs) n ≡ found_passing test (found last fs n)
+found_among last n test fs h = by (is_given last n) (find (has_number n) fs) (find_passing 0 last n test fs h)
+  where
+    chosen : (f : Flight) (b : Bool) → ok_or (cond b (Some f) None) fault.Spent ≡ cond b (Ok f) (Err fault.Spent)
+    chosen f true = refl
+    chosen f false = refl
+
+    by : (b : Bool) (o : Option Flight) → find (has_number n) (filter test fs) ≡ if_passing test o
+        → cond b (ok_or (find (has_number n) (filter test fs)) fault.Spent) (Err fault.Unknown) ≡ found_passing test (cond b (ok_or o fault.Spent) (Err fault.Unknown))
+    by true None same = ap (λ x. ok_or x fault.Spent) same
+    by true (Some f) same = ap (λ x. ok_or x fault.Spent) same ∙ chosen f (test f)
+    by false o same = refl

@@ -25,6 +25,13 @@ rises floor top (f ∷ fs) h zero (suc j) d order within =
 rises floor top (f ∷ fs) h (suc i) zero d order within = absurd (omega arith)
 rises floor top (f ∷ fs) h (suc i) (suc j) d order within = rises f.number top fs h.1 i j d (omega arith) (omega arith)
 
+-- the floor is no higher than the top
+pub floor_low : (floor top : ℕ) (fs : List Flight) → AreNumbered floor top fs → floor ≤ top
+floor_low floor top [] h = h
+floor_low floor top (f ∷ fs) h =
+    let rest : f.number ≤ top = floor_low f.number top fs h.1 in
+    omega (arith, h.0, rest)
+
 -- a lower floor serves
 pub lower : (low floor top : ℕ) (fs : List Flight) → low ≤ floor → AreNumbered floor top fs → AreNumbered low top fs
 lower low floor top [] order h = omega (arith, h)

@@ -2,7 +2,8 @@
 ghost use Rattle.std.specs.Prelude.{◌≡◌, ◌≤◌, ◌<◌, ◌+◌, ◌-◌, ◌^◌, [], filter, not, is_ok, OnOk, OnErr, if◌then◌else◌};
 ghost use Rattle.sd_msg.specs.Books.{AreGiven, found, for_device, dismissed, without, with_sent, is_swept, is_current};
 
-use crate::flights::{keep_current, least_last, leave_swept, place_given, take_out};
+use crate::flights::{drop_first, keep_left, place_left, reopen, room, spend};
+use crate::spent::Spent;
 use crate::{Flight, TakeFault};
 use sd_num::NoMemory;
 use sd_topo::Thing;
@@ -14,16 +15,17 @@ use std::marker::Model;
 /// sent, from 1 on; a flight is spent when it is taken, lost, swept or purged, or at once where it
 /// does not reach. Only `ready` takes memory.
 ///
-/// Flights are mostly taken in about the order of their numbers, so the one that is taken stands
-/// near the front, and few others are moved.
+/// A flight that is taken or lost is spent in its place, and a sweep and a purge only note what they
+/// spend. What is spent goes when it comes to the front, and all of it when there is no more room:
+/// so no call goes over flights that are not its own, but for `ready`, which does so once in as many
+/// flights as there are.
 #[derive(Drop)]
 pub struct FlightBook {
-    /// Those that are not spent, ascending by number.
+    /// Those that are not spent, ascending by number, and among them some that are.
     flights: VecDeque<Flight>,
     /// The last number given.
     last: u64,
-    /// No flight's `last` is less than this, so that most purges look at none.
-    least: u64,
+    spent: Spent,
 }
 
 impl Model for FlightBook {
@@ -48,7 +50,7 @@ impl FlightBook {
         FlightBook {
             flights: VecDeque::new(alloc),
             last: 0,
-            least: u64::MAX,
+            spent: Spent::new(alloc),
         }
     }
 
@@ -60,7 +62,14 @@ impl FlightBook {
         ensures flights { self.new.flights ≡ self.old.flights }
         ensures last { self.new.last ≡ self.old.last }
     {
-        match self.flights.reserve(count) {
+        self.spent.ready(count)?;
+        if count <= room(&self.flights) {
+            return Ok(());
+        }
+        keep_left(&mut self.flights, &self.spent);
+        // as much again as there are, so that as many are sent before all are looked at again
+        let more = count.saturating_add(self.flights.len());
+        match self.flights.reserve(more) {
             Ok(()) => Ok(()),
             Err(_) => Err(NoMemory),
         }
@@ -79,7 +88,8 @@ impl FlightBook {
         let number = self.last + 1;
         self.last = number;
         if flight.reaches {
-            self.least = self.least.min(flight.last);
+            reopen(&mut self.flights, &mut self.spent, flight.last);
+            self.spent.enter(&flight);
             self.flights.push_back_reserved(Flight { number, ..flight });
         }
         number
@@ -90,7 +100,7 @@ impl FlightBook {
         ensures given { AreGiven self.now }
         ensures flight { result ≡ found self.now.last self.now.flights number }
     {
-        let place = place_given(&self.flights, self.last, number)?;
+        let place = place_left(&self.flights, self.last, &self.spent, number)?;
         Ok(self.flights[place])
     }
 
@@ -103,11 +113,11 @@ impl FlightBook {
         ensures last { self.new.last ≡ self.old.last }
         ensures room { self.old.room ≤ self.new.room }
     {
-        let place = place_given(&self.flights, self.last, number)?;
+        let place = place_left(&self.flights, self.last, &self.spent, number)?;
         if self.flights[place].receiver != device {
             return Err(TakeFault::WrongDevice);
         }
-        Ok(take_out(&mut self.flights, self.last, place))
+        Ok(spend(&mut self.flights, self.last, &self.spent, place))
     }
 
     /// Loses the flight of a number: it is spent then. A fault changes nothing.
@@ -118,8 +128,8 @@ impl FlightBook {
         ensures last { self.new.last ≡ self.old.last }
         ensures room { self.old.room ≤ self.new.room }
     {
-        let place = place_given(&self.flights, self.last, number)?;
-        let _lost = take_out(&mut self.flights, self.last, place);
+        let place = place_left(&self.flights, self.last, &self.spent, number)?;
+        let _lost = spend(&mut self.flights, self.last, &self.spent, place);
         Ok(())
     }
 
@@ -130,7 +140,7 @@ impl FlightBook {
         ensures last { self.new.last ≡ self.old.last }
         ensures room { self.old.room ≤ self.new.room }
     {
-        leave_swept(&mut self.flights, thing);
+        self.spent.sweep(thing, self.last);
     }
 
     /// Spends each flight whose `last` is less than the reference.
@@ -140,10 +150,7 @@ impl FlightBook {
         ensures last { self.new.last ≡ self.old.last }
         ensures room { self.old.room ≤ self.new.room }
     {
-        if reference <= self.least {
-            return;
-        }
-        keep_current(&mut self.flights, reference);
-        self.least = least_last(&self.flights);
+        self.spent.purge(reference);
+        drop_first(&mut self.flights, &self.spent);
     }
 }

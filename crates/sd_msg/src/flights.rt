@@ -1,21 +1,12 @@
 //! The flights of a book, which ascend by number: found by halving, and left out.
-ghost use Rattle.std.specs.Prelude.{◌≡◌, ℕ, ◌+◌, ◌<◌, ◌≤◌, not, All, filter, length, Ok, Err, IfOk, IfErr, slice_index_or};
+ghost use Rattle.std.specs.Prelude.{◌≡◌, ℕ, ◌+◌, ◌-◌, ◌<◌, ◌≤◌, filter, length, Ok, Err, IfOk, IfErr, slice_index_or};
 ghost use Rattle.std.specs.VecDeque.{deque_len, deque_capacity};
-ghost use Rattle.sd_msg.specs.Books.{found, without, is_swept, is_current, AreNumbered};
+ghost use Rattle.sd_msg.specs.Books.{found, without, AreNumbered};
+ghost use Rattle.sd_msg.specs.Spent.{is_left, AreKept, room_of};
 
+use crate::spent::Spent;
 use crate::{Flight, TakeFault};
-use sd_topo::Thing;
 use std::collections::VecDeque;
-
-/// Whether the flight goes over that link, or to that device.
-fn is_swept_by(flight: &Flight, thing: Thing) -> bool
-    ensures { result ≡ is_swept thing flight.now }
-{
-    match thing {
-        Thing::Device(d) => flight.receiver == d,
-        Thing::Link(l) => flight.link == l,
-    }
-}
 
 /// The place of the first flight with no smaller number, by halving.
 fn place_from(flights: &VecDeque<Flight>, last: u64, number: u64) -> usize
@@ -49,43 +40,92 @@ pub(crate) fn place_given(
     }
 }
 
-/// Takes out the flight at a place, and moves the fewer of those before it and behind it.
-pub(crate) fn take_out(flights: &mut VecDeque<Flight>, last: u64, place: usize) -> Flight
-    requires numbered { AreNumbered 0 last flights.old.items }
+/// The same of those that are left.
+pub(crate) fn place_left(
+    flights: &VecDeque<Flight>,
+    last: u64,
+    spent: &Spent,
+    number: u64,
+) -> Result<usize, TakeFault>
+    requires { AreNumbered 0 last flights.now.items }
+    ensures place { IfOk result (λ i. i < length flights.now.items) }
+    ensures number { IfOk result (λ i. (d : Flight) → (slice_index_or flights.now.items i d).number ≡ number) }
+    ensures flight { IfOk result (λ i. (d : Flight) → found last (filter (is_left spent.now) flights.now.items) number ≡ Ok (slice_index_or flights.now.items i d)) }
+    ensures fault { IfErr result (λ e. found last (filter (is_left spent.now) flights.now.items) number ≡ Err e) }
+{
+    let place = place_given(flights, last, number)?;
+    if !spent.leaves(&flights[place]) {
+        return Err(TakeFault::Spent);
+    }
+    Ok(place)
+}
+
+/// Spends the flight at a place: it stays there as one that does not reach.
+pub(crate) fn spend(
+    flights: &mut VecDeque<Flight>,
+    last: u64,
+    spent: &Spent,
+    place: usize,
+) -> Flight
+    requires kept { AreKept last spent.now flights.old.items }
     requires place { place < length flights.old.items }
     ensures flight { (d : Flight) → result ≡ slice_index_or flights.old.items place d }
-    ensures left { flights.new.items ≡ without result.number flights.old.items }
-    ensures len { deque_len flights.new + 1 ≡ deque_len flights.old }
+    ensures left { filter (is_left spent.now) flights.new.items ≡ without result.number (filter (is_left spent.now) flights.old.items) }
+    ensures kept { AreKept last spent.now flights.new.items }
+    ensures len { deque_len flights.new ≡ deque_len flights.old }
     ensures capacity { deque_capacity flights.new ≡ deque_capacity flights.old }
 {
-    match flights.remove(place) {
-        Some(flight) => flight,
-        None => unreachable!(),
+    let flight = flights[place];
+    flights[place] = Flight {
+        reaches: false,
+        ..flight
+    };
+    flight
+}
+
+/// Leaves out all that are spent.
+pub(crate) fn keep_left(flights: &mut VecDeque<Flight>, spent: &Spent)
+    ensures items { flights.new.items ≡ filter (is_left spent.now) flights.old.items }
+    ensures bound { deque_len flights.new ≤ deque_len flights.old }
+    ensures capacity { deque_capacity flights.new ≡ deque_capacity flights.old }
+{
+    flights.retain(|flight| spent.leaves(flight));
+}
+
+/// Leaves out those that are spent at the front, up to one that is left.
+pub(crate) fn drop_first(flights: &mut VecDeque<Flight>, spent: &Spent)
+    ensures left { filter (is_left spent.now) flights.new.items ≡ filter (is_left spent.now) flights.old.items }
+    ensures kept { (last : ℕ) → AreKept last spent.now flights.old.items → AreKept last spent.now flights.new.items }
+    ensures bound { deque_len flights.new ≤ deque_len flights.old }
+    ensures capacity { deque_capacity flights.new ≡ deque_capacity flights.old }
+{
+    while let Some(first) = flights.front() {
+        if spent.leaves(first) {
+            return;
+        }
+        let _spent = flights.pop_front();
     }
 }
 
-/// Leaves out the flights over that link or to that device.
-pub(crate) fn leave_swept(flights: &mut VecDeque<Flight>, thing: Thing)
-    ensures kept { flights.new.items ≡ filter (λ f. not (is_swept thing f)) flights.old.items }
+/// Leaves out what is spent, where a flight with this `last` would be spent with it.
+pub(crate) fn reopen(flights: &mut VecDeque<Flight>, spent: &mut Spent, last: u64)
+    ensures reference { spent.new.reference ≤ last }
+    ensures left { filter (is_left spent.new) flights.new.items ≡ filter (is_left spent.old) flights.old.items }
+    ensures kept { (number : ℕ) → AreKept number spent.old flights.old.items → AreKept number spent.new flights.new.items }
     ensures bound { deque_len flights.new ≤ deque_len flights.old }
     ensures capacity { deque_capacity flights.new ≡ deque_capacity flights.old }
+    ensures room { room_of spent.new ≡ room_of spent.old }
 {
-    flights.retain(|flight| !is_swept_by(flight, thing));
+    if spent.reference <= last {
+        return;
+    }
+    keep_left(flights, spent);
+    spent.reopen(last);
 }
 
-/// Leaves out the flights that end before the reference.
-pub(crate) fn keep_current(flights: &mut VecDeque<Flight>, reference: u64)
-    ensures kept { flights.new.items ≡ filter (is_current reference) flights.old.items }
-    ensures bound { deque_len flights.new ≤ deque_len flights.old }
-    ensures capacity { deque_capacity flights.new ≡ deque_capacity flights.old }
+/// For how many more flights there is room.
+pub(crate) fn room(flights: &VecDeque<Flight>) -> usize
+    ensures { result ≡ deque_capacity flights.now - deque_len flights.now }
 {
-    flights.retain(|flight| reference <= flight.last);
-}
-
-/// No flight ends before this; where there is none, the greatest time.
-pub(crate) fn least_last(flights: &VecDeque<Flight>) -> u64
-    ensures { All (λ f. result ≤ f.last) flights.now.items }
-{
-    let least = flights.iter().map(|flight| flight.last).min();
-    least.unwrap_or(u64::MAX)
+    flights.capacity().saturating_sub(flights.len())
 }

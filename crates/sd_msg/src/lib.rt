@@ -4,7 +4,9 @@
 mod book;
 mod flights;
 mod kept;
+mod marks;
 mod observer;
+mod spent;
 mod stamps;
 #[cfg(test)]
 mod tests;

@@ -1,6 +1,6 @@
 -- What lies below a device, by number, is what the history says: those that are no members of a plan have nobody below them in it, since
 -- each parent is a member.
-use Rattle.std.specs.Prelude.{◌≡◌, ℕ, ◌+◌, ◌<◌, ◌≤◌, Bool, true, false, ◌&&◌, ◌||◌, ◌-◌, List, [], ◌∷◌, length, filter_map, find, nat_eq, slice_get, get_or, Option, Some, None, is_some, option_map, ◌⊎◌, refl, if◌then◌else◌}
+use Rattle.std.specs.Prelude.{◌≡◌, ℕ, ◌+◌, ◌<◌, ◌≤◌, Bool, true, false, ◌&&◌, ◌||◌, ◌-◌, List, [], ◌∷◌, length, filter_map, find, nat_eq, slice_get, get_or, Option, Some, None, is_some, option_map, IfSome, ◌⊎◌, refl, if◌then◌else◌}
 use Rattle.std.specs.List.{cons_option}
 use Rattle.std.proofs.Common.{arith, sym, ◌∙◌, ap, subst, inl, inr}
 use Rattle.std.proofs.lemmas.Bool.{and_parts, or_cases, eqb-true, false_from_ne_true}
@@ -10,16 +10,16 @@ use Rattle.sd_topo.specs.Network.{Network, device_numbers, link_numbers, joins}
 use Rattle.sd_plan.specs.declared.Hop.{Hop}
 use Rattle.sd_plan.specs.declared.Plan.{Plan}
 use Rattle.sd_plan.specs.declared.End.{End}
-use Rattle.sd_plan.specs.Plans.{is_member, is_present, primary_of, backup_of}
+use Rattle.sd_plan.specs.Plans.{Fits, IsHop, is_member, is_present, primary_of, backup_of}
 use Rattle.sd_plan.specs.Structure.{hop_is_right, structure_breach}
 use Rattle.sd_plan.specs.Duties.{duty_of, ends_of, leads_to, follows_over}
 use Rattle.sd_plan.specs.Tables.{TableRow, table_row}
 use Rattle.sd_plan.proofs.Numbered.{find_none}
-use Rattle.sd_plan.proofs.Rules.{KeepsRules, keeps_rules}
+use Rattle.sd_plan.proofs.Rules.{KeepsRules, keeps_rules, hops_within}
 use Rattle.sd_history.specs.World.{Setting, Seen, window, window_is_open, epoch_in_force, staged_epoch, in_force, staged, plan_numbered, current_plan, no_plan}
 use Rattle.sd_history.specs.Steps.{Step, seen_of, ends_at}
 use Rattle.sd_world.specs.Registers.{is_open}
-use Rattle.sd_roster.specs.Plans.{IsNumber, AreSound, row_numbered}
+use Rattle.sd_roster.specs.Plans.{IsNumber, IsFollowable, AreSound, row_numbered}
 use Rattle.sd_roster.specs.Rosters.{Registers, staged_number, is_current_number, ends_below}
 use Rattle.sd_roster.specs.Standing.{Stands}
 use Rattle.sd_roster.proofs.Queries.{plan_count, staged_number_is, row_numbered_is}
@@ -55,6 +55,29 @@ none_below net plan d rules out =
     (λ c within. false_from_ne_true (follows_over plan d l c) (λ follows.
     let member : is_member plan d ≡ true = follows_member net plan d l c rules within follows in cc))))
 
+-- nor does anything lie below a number that is no device's
+leads_to_device : (net : Network) (d l : ℕ) (hop : Option Hop) → IfSome hop (IsHop net) → leads_to d l hop ≡ true → d < length net.devices
+leads_to_device net d l None fits leads = cc
+leads_to_device net d l (Some h) fits leads =
+    let same : h.parent ≡ d = eqb-true h.parent d (and_parts (nat_eq h.parent d) (nat_eq h.link l) leads).0 in
+    subst (λ (x : ℕ). x < length net.devices) same fits.0
+
+follows_device : (net : Network) (plan : Plan) (d l c : ℕ) → Fits net plan → follows_over plan d l c ≡ true → d < length net.devices
+follows_device net plan d l c fits follows =
+    let both = hops_within net plan c fits in
+    elim (or_cases (leads_to d l (primary_of plan c)) (leads_to d l (backup_of plan c)) follows) [
+      | inl first ↦ leads_to_device net d l (primary_of plan c) both.0 first
+      | inr second ↦ leads_to_device net d l (backup_of plan c) both.1 second
+    ]
+
+pub none_below_unknown : (net : Network) (plan : Plan) (d : ℕ) → Fits net plan → length net.devices ≤ d → ends_of net plan d ≡ []
+none_below_unknown net plan d fits out =
+    none_mapped (λ l. option_map (λ c. record { link = l; device = c }) (find (follows_over plan d l) (device_numbers net))) (link_numbers net)
+    (λ l. ap (option_map (λ c. record { link = l; device = c }))
+    (find_none (follows_over plan d l) (length net.devices)
+    (λ c within. false_from_ne_true (follows_over plan d l c) (λ follows.
+    let known : d < length net.devices = follows_device net plan d l c fits follows in omega (arith, known, out)))))
+
 -- what the table has below a device
 downstream_is : (net : Network) (plan : Plan) (epoch d : ℕ) → KeepsRules net plan → of_some (table_row net plan epoch d) [] (λ (row : TableRow). row.downstream) ≡ ends_of net plan d
 downstream_is net plan epoch d rules = go (is_member plan d) refl
@@ -68,13 +91,16 @@ module _ (r : Registers) (setting : Setting) (steps : List Step) (stands : Stand
   abbrev seen : List Seen
   seen = seen_of steps
 
-  -- a plan that there is keeps the rules
-  keeps : (epoch : ℕ) → IsNumber r.plans epoch → KeepsRules setting.net (plan_numbered setting epoch)
-  keeps epoch there =
+  -- a plan that there is can be followed
+  pub followable : (epoch : ℕ) → IsNumber r.plans epoch → IsFollowable setting.net (plan_numbered setting epoch)
+  followable epoch there =
       let within : epoch - 1 < length setting.plans = omega (arith, plan_count r setting steps stands, there.first, there.last) in
       let it : slice_get setting.plans (epoch - 1) ≡ Some (get_or setting.plans (epoch - 1) no_plan) = slice_get-get_or setting.plans (epoch - 1) no_plan within in
-      subst (λ o. KeepsRules setting.net (of_some o no_plan (λ plan. plan))) (sym it)
-      (keeps_rules setting.net (get_or setting.plans (epoch - 1) no_plan) (plans (epoch - 1) (get_or setting.plans (epoch - 1) no_plan) it).structured)
+      subst (λ o. IsFollowable setting.net (of_some o no_plan (λ plan. plan))) (sym it) (plans (epoch - 1) (get_or setting.plans (epoch - 1) no_plan) it)
+
+  -- and keeps the rules
+  keeps : (epoch : ℕ) → IsNumber r.plans epoch → KeepsRules setting.net (plan_numbered setting epoch)
+  keeps epoch there = keeps_rules setting.net (plan_numbered setting epoch) (followable epoch there).structured
 
   -- below a device in a plan that there is
   below_in : (epoch d : ℕ) → IsNumber r.plans epoch → d < length setting.net.devices

@@ -1,18 +1,16 @@
 -- What the plan in force is, in a history over accepted plans: it keeps the rules of structure, root and backup root are members and differ, and its waits
--- keep the rules of timing. Root and backup root do not fail in one era. And the cut path of a device that is not behind the backup root is its path.
-use Rattle.std.specs.Prelude.{◌≡◌, ℕ, zero, suc, Bool, true, false, ◌&&◌, ◌||◌, not, List, [], ◌∷◌, map, nat_eq, Option, Some, None, option_map, refl, if◌then◌else◌}
-use Rattle.std.proofs.Common.{◌∙◌, ap, sym}
-use Rattle.std.proofs.lemmas.Bool.{or_parts, or_from, eqb-true, eq-eqb, false_from_ne_true}
-use Rattle.sd_num.specs.Lists.{has}
+-- keep the rules of timing. Root and backup root do not fail in one era.
+use Rattle.std.specs.Prelude.{◌≡◌, ℕ, Bool, true, false, ◌&&◌, ◌||◌, not, List, nat_eq, Option, Some, None, option_map, refl, if◌then◌else◌}
+use Rattle.std.proofs.Common.{sym}
+use Rattle.std.proofs.lemmas.Bool.{eqb-true, eq-eqb, false_from_ne_true}
 use Rattle.sd_topo.specs.Network.{Network}
 use Rattle.sd_topo.specs.declared.Thing.{Thing}
 use Rattle.sd_topo.specs.declared.Thing.TheVariants as thing
 use Rattle.sd_domain.specs.Domains.{domains, holds_device, hits}
-use Rattle.sd_plan.specs.declared.Hop.{Hop}
 use Rattle.sd_plan.specs.declared.Plan.{Plan}
-use Rattle.sd_plan.specs.Plans.{Fits, is_member, is_root, is_backup_root, primary_of}
+use Rattle.sd_plan.specs.Plans.{Fits, is_member}
 use Rattle.sd_plan.specs.Structure.{structure_breach, roots_breach, first_failing, row_is_right, hops_are_right, links_differ, reaches_root, falls_back}
-use Rattle.sd_plan.specs.Walks.{hops, walk, path, epath, things_of, is_end, on_walk}
+use Rattle.sd_plan.specs.Walks.{path}
 use Rattle.sd_plan.proofs.Rules.{KeepsRules, keeps_rules}
 use Rattle.sd_plan.proofs.Numbered.{both_none}
 use Rattle.std.specs.Option.{option_or}
@@ -92,45 +90,3 @@ not_both_failed setting steps h accepted failed =
     (held net f (failed_now steps) (thing.Device plan.root) h.all failed) in
     false_from_ne_true (device_failed_now steps plan.backup_root)
     (λ is. not_both (holds_device net f plan.backup_root) (held net f (failed_now steps) (thing.Device plan.backup_root) h.all is) off)
-
--- Cut paths
-
-module _ (plan : Plan) where
-  abbrev Misses : ℕ → List Hop → Type 0
-  Misses x hs = has (map (λ (h : Hop). h.parent) hs) plan.backup_root ≡ false
-
-  other_end : (x : ℕ) → is_root plan x ≡ false → nat_eq plan.backup_root x ≡ false → is_end plan x ≡ false
-  other_end x root backup = or_from (is_root plan x) (is_backup_root plan x) root backup
-
-  same_cut : (n : ℕ) (hop : Hop) (b : Bool) → is_root plan hop.parent ≡ b
-      → has (map (λ (h : Hop). h.parent) (hop ∷ (elim b [ true ↦ [] | false ↦ hops (is_root plan) plan n hop.parent ]))) plan.backup_root ≡ false
-      → (Misses hop.parent (hops (is_root plan) plan n hop.parent) → hops (is_end plan) plan n hop.parent ≡ hops (is_root plan) plan n hop.parent)
-      → (hop ∷ (elim (is_end plan hop.parent) [ true ↦ [] | false ↦ hops (is_end plan) plan n hop.parent ])) ≡ (hop ∷ (elim b [ true ↦ [] | false ↦ hops (is_root plan) plan n hop.parent ]))
-  same_cut n hop true is misses more =
-      ap (λ e. hop ∷ (elim e [ true ↦ [] | false ↦ hops (is_end plan) plan n hop.parent ])) (ap (λ r. r || is_backup_root plan hop.parent) is)
-  same_cut n hop false is misses more =
-      let parts = or_parts (nat_eq plan.backup_root hop.parent) _ misses in
-      ap (λ e. hop ∷ (elim e [ true ↦ [] | false ↦ hops (is_end plan) plan n hop.parent ])) (other_end hop.parent is parts.0)
-      ∙ ap (λ hs. hop ∷ hs) (more parts.1)
-
-  same_by : (n x : ℕ) (o : Option Hop)
-      → has (map (λ (h : Hop). h.parent) (elim o [ None ↦ [] | Some hop ↦ hop ∷ (elim (is_root plan hop.parent) [ true ↦ [] | false ↦ hops (is_root plan) plan n hop.parent ]) ])) plan.backup_root ≡ false
-      → ((y : ℕ) → Misses y (hops (is_root plan) plan n y) → hops (is_end plan) plan n y ≡ hops (is_root plan) plan n y)
-      → ◌≡◌ {A = List Hop} (elim o [ None ↦ [] | Some hop ↦ hop ∷ (elim (is_end plan hop.parent) [ true ↦ [] | false ↦ hops (is_end plan) plan n hop.parent ]) ])
-      (elim o [ None ↦ [] | Some hop ↦ hop ∷ (elim (is_root plan hop.parent) [ true ↦ [] | false ↦ hops (is_root plan) plan n hop.parent ]) ])
-  same_by n x None misses more = refl
-  same_by n x (Some hop) misses more = same_cut n hop (is_root plan hop.parent) refl misses (more hop.parent)
-
-  same_hops : (n x : ℕ) → Misses x (hops (is_root plan) plan n x) → hops (is_end plan) plan n x ≡ hops (is_root plan) plan n x
-  same_hops zero x misses = refl
-  same_hops (suc n) x misses = same_by n x (primary_of plan x) misses (same_hops n)
-
-  same_path : (net : Network) (x : ℕ) (b : Bool) → has (map (λ (h : Hop). h.parent) (if b then [] else hops (is_root plan) plan net.params.depth x)) plan.backup_root ≡ false
-      → (if b then [] else hops (is_end plan) plan net.params.depth x) ≡ (if b then [] else hops (is_root plan) plan net.params.depth x)
-  same_path net x true misses = refl
-  same_path net x false misses = same_hops net.params.depth x misses
-
-  pub uncut_path : (net : Network) (x : ℕ) → on_walk net plan x plan.backup_root ≡ false → epath net plan x ≡ path net plan x
-  uncut_path net x off =
-      let parts = or_parts (nat_eq plan.backup_root x) (has (map (λ (h : Hop). h.parent) (walk net plan x)) plan.backup_root) off in
-      ap things_of (same_path net x (is_root plan x) parts.1)

@@ -26,7 +26,7 @@ use Rattle.sd_safety.proofs.Domains.{same_is}
 use Rattle.sd_safety.proofs.Sides.{not_both}
 use Rattle.sd_safety.proofs.Staying.{filter_in}
 use Rattle.sd_safety_behind.proofs.Failing.{FirstFailure, first_failing, some_failed, none_failed_yet}
-use Rattle.sd_safety.proofs.Facts.{uncut_path}
+use Rattle.sd_safety.proofs.CutPaths.{uncut_path}
 use Rattle.sd_safety_waits.proofs.Standing.{Early, sound, leads, lives, heard_late, backup_root_is_old}
 use Rattle.sd_safety_behind.proofs.Before.{heard_before}
 use Rattle.sd_safety_waits.proofs.Waits.{Stands, old_stands}

@@ -1,23 +1,16 @@
 -- In a phase of any era, while the root did not fail: who emits in the epoch of the era's plan is the root, and in one term. As in First, without the
 -- numbers of plans.
-use Rattle.std.specs.Prelude.{◌≡◌, ℕ, ◌<◌, ◌≤◌, Bool, true, false, ◌&&◌, not, List, ◌∷◌, Some, refl}
+use Rattle.std.specs.Prelude.{◌≡◌, ℕ, ◌<◌, ◌≤◌, true, false, List, ◌∷◌, Some, refl}
 use Rattle.std.proofs.Common.{arith, sym, ◌∙◌, ap, subst}
-use Rattle.std.proofs.lemmas.Bool.{and_from, eqb-true, not-true}
-use Rattle.sd_plan.specs.declared.Plan.{Plan}
-use Rattle.sd_plan.specs.Plans.{is_member, is_root, is_backup_root}
 use Rattle.sd_msg.specs.declared.Message.{Message}
 use Rattle.sd_core.specs.Calls.{Past}
 use Rattle.sd_core.specs.Words.{after, is_acting, epoch_now}
 use Rattle.sd_sched.specs.declared.Event.{Event}
-use Rattle.sd_history.specs.World.{Setting, is_up, plan_numbered}
-use Rattle.sd_history.specs.Steps.{Step, seen_of, acts_in, epoch_in}
+use Rattle.sd_history.specs.World.{Setting, is_up}
+use Rattle.sd_history.specs.Steps.{Step, seen_of, epoch_in}
 use Rattle.sd_history.specs.Chronicle.{past_in, chronicle, next_step}
 use Rattle.sd_history.proofs.Given.{some_is}
-use Rattle.sd_safety.specs.Eras.{era, plan_now, is_old, is_ordinary, root_failed}
-use Rattle.sd_safety.specs.Clauses.{backup_root_acts}
-use Rattle.sd_safety.specs.Invariant.{Invariant}
-use Rattle.sd_safety.proofs.Sides.{implied, not_both}
-use Rattle.sd_safety.proofs.Staying.{old_is_member}
+use Rattle.sd_safety.specs.Eras.{era, plan_now, is_old, root_failed}
 use Rattle.sd_safety_messages.specs.Moments.{Tail, whole, IsChronicle, Moment, upto, when, IsIn, Emits}
 use Rattle.sd_safety_messages.specs.Rounds.{IsUnbroken}
 use Rattle.sd_safety_messages.proofs.Tails.{Order, before as comes_before, same as are_same, after as comes_after, ordered, tail_chronicle, history_chronicle, before_is_earlier}
@@ -28,12 +21,12 @@ use Rattle.sd_safety_messages.proofs.Consecutive.{emission_acts, past_after_call
 use Rattle.sd_safety_timers.proofs.Histories.{before}
 use Rattle.sd_safety_waits.proofs.Then.{Live, stands_by}
 use Rattle.sd_safety_silences.specs.Phases.{IsPhase}
-use Rattle.sd_safety_waits.proofs.Standing.{now, times, sound, steps_timed}
+use Rattle.sd_safety_waits.proofs.Standing.{times, sound, steps_timed}
 use Rattle.sd_safety_silences.proofs.Phases.{Following, following, Known, known}
 use Rattle.sd_safety_silences.proofs.Rounds.{unbroken}
 use Rattle.sd_safety_silences.proofs.Spacing.{timed_to, emissions_are_apart}
-use Rattle.sd_safety_silences.proofs.First.{emitter_up, number_is}
-use Rattle.sd_safety_silences.proofs.Sounding.{top_of, kept_then}
+use Rattle.sd_safety_silences.proofs.First.{emitter_up, number_is, root_acts}
+use Rattle.sd_safety_silences.proofs.Sounding.{top_of}
 use Rattle.sd_safety_silences.proofs.Sourced.{root_source}
 
 module _ (setting : Setting) (x : Event) (h : List Event) (e : Event) (s0 : ℕ) (phase : IsPhase setting (x ∷ h) e s0) (kept : root_failed setting (chronicle setting (x ∷ h)) ≡ false) where
@@ -57,32 +50,13 @@ module _ (setting : Setting) (x : Event) (h : List Event) (e : Event) (s0 : ℕ)
       let past : past_in (upto p) y ≡ Some (after s.past s.call) = past_after_call p y s.call s.past s.act s.there in
       by_state f.moment k (after s.past s.call) (sym (sends_own s.past s.call m s.effect).1 ∙ own) (emission_acts s.past s.call emits.emission) (subst (λ l. is_up (seen_of l) y ≡ true) there up) (subst (λ l. past_in l y ≡ Some (after s.past s.call)) there past)
     where
-      by_role : (q : Moment) (k : Known setting steps' q) → acts_in (chronicle setting (k.x ∷ k.h)) y ≡ true → is_old (chronicle setting (k.x ∷ k.h)) y ≡ true → is_member (plan_now setting (chronicle setting (k.x ∷ k.h))) y ≡ true
-          → (r b : Bool) → is_root (plan_now setting (chronicle setting (k.x ∷ k.h))) y ≡ r → is_backup_root (plan_now setting (chronicle setting (k.x ∷ k.h))) y ≡ b → y ≡ root'
-      by_role q k acts old member true b is other = sym (eqb-true (plan_now setting (chronicle setting (k.x ∷ k.h))).root y is) ∙ ap (λ n. (plan_numbered setting n).root) k.same
-      by_role q k acts old member false true is backup =
-          let older : List Step = chronicle setting (k.x ∷ k.h) in
-          let inv : Invariant setting older = now setting k.x k.h k.e k.comes in
-          absurd (not_both (root_failed setting older)
-          (implied (backup_root_acts setting older) (root_failed setting older) inv.core.causes.takeover (subst (λ z. acts_in older z ≡ true) (sym (eqb-true (plan_now setting older).backup_root y backup)) acts))
-          (kept_then setting x h e s0 phase kept q k))
-      by_role q k acts old member false false is other =
-          let older : List Step = chronicle setting (k.x ∷ k.h) in
-          let plan : Plan = plan_now setting older in
-          let inv : Invariant setting older = now setting k.x k.h k.e k.comes in
-          absurd (not_both (acts_in older y) acts
-          (not-true (acts_in older y)
-          (implied (is_old older y && is_ordinary plan y) (not (acts_in older y)) (inv.core.roles.ordinary y)
-          (and_from (is_old older y) (is_ordinary plan y) old (and_from (is_member plan y && not (is_root plan y)) (not (is_backup_root plan y)) (and_from (is_member plan y) (not (is_root plan y)) member (ap not is)) (ap not other))))))
-
       by_state : (q : Moment) (k : Known setting steps' q) (past : Past) → epoch_now past ≡ era steps' → is_acting past ≡ true → is_up (seen_of (chronicle setting (k.x ∷ k.h))) y ≡ true → past_in (chronicle setting (k.x ∷ k.h)) y ≡ Some past → y ≡ root'
       by_state q k past epoch acting up there =
           let older : List Step = chronicle setting (k.x ∷ k.h) in
           let l : Live older y = stands_by setting older y (record { history = k.x ∷ k.h; is = refl }) past up there in
           let same : l.past ≡ past = some_is (sym l.there ∙ there) in
           let old : is_old older y ≡ true = number_is (epoch_in older y) (era steps') (era older) (l.epoch_is ∙ ap (λ z. Some (epoch_now z)) same ∙ ap Some epoch) (sym k.same) in
-          let inv : Invariant setting older = now setting k.x k.h k.e k.comes in
-          by_role q k (l.acts_is ∙ ap is_acting same ∙ acting) old (old_is_member setting older y (inv.core.census.outsiders y) old) (is_root (plan_now setting older) y) (is_backup_root (plan_now setting older) y) refl refl
+          root_acts setting x h e s0 phase kept q k y (l.acts_is ∙ ap is_acting same ∙ acting) old
 
   -- and all that it emits later than the reference has one term
   pub root_term : (p q : Moment) → IsIn p (chronicle setting (x ∷ h)) → IsIn q (chronicle setting (x ∷ h)) → s0 < when p → s0 < when q → (m n : Message) → Emits p (plan_now setting (chronicle setting (x ∷ h))).root m → (y : ℕ) → Emits q y n

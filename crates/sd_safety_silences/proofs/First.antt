@@ -150,6 +150,33 @@ module _ (setting : Setting) (x : Event) (h : List Event) (e : Event) (comes : C
       least : (older : List Step) → era steps ≤ era older
       least older = let one : 1 ≤ count_by (λ s. s.closed) (seen_of older) + 1 = omega arith in omega (arith, first_era, one)
 
+-- In a phase, while the root did not fail, nobody of the era's plan but the root acts: the backup root acts only once the root failed, and no other
+-- device does.
+module _ (setting : Setting) (x : Event) (h : List Event) (e : Event) (s0 : ℕ) (phase : IsPhase setting (x ∷ h) e s0) (kept : root_failed setting (chronicle setting (x ∷ h)) ≡ false) (q : Moment)
+    (k : Known setting (chronicle setting (x ∷ h)) q) (y : ℕ) where
+  abbrev then_ : List Step
+  then_ = chronicle setting (k.x ∷ k.h)
+
+  inv : Invariant setting then_
+  inv = now setting k.x k.h k.e k.comes
+
+  by_role : acts_in then_ y ≡ true → is_old then_ y ≡ true → is_member (plan_now setting then_) y ≡ true → (r b : Bool) → is_root (plan_now setting then_) y ≡ r → is_backup_root (plan_now setting then_) y ≡ b
+      → y ≡ (plan_now setting (chronicle setting (x ∷ h))).root
+  by_role acts old member true b is other = sym (eqb-true (plan_now setting then_).root y is) ∙ ap (λ n. (plan_numbered setting n).root) k.same
+  by_role acts old member false true is backup =
+      absurd (not_both (root_failed setting then_)
+      (implied (backup_root_acts setting then_) (root_failed setting then_) inv.core.causes.takeover (subst (λ z. acts_in then_ z ≡ true) (sym (eqb-true (plan_now setting then_).backup_root y backup)) acts))
+      (kept_then setting x h e s0 phase kept q k))
+  by_role acts old member false false is other =
+      let plan : Plan = plan_now setting then_ in
+      absurd (not_both (acts_in then_ y) acts
+      (not-true (acts_in then_ y)
+      (implied (is_old then_ y && is_ordinary plan y) (not (acts_in then_ y)) (inv.core.roles.ordinary y)
+      (and_from (is_old then_ y) (is_ordinary plan y) old (and_from (is_member plan y && not (is_root plan y)) (not (is_backup_root plan y)) (and_from (is_member plan y) (not (is_root plan y)) member (ap not is)) (ap not other))))))
+
+  pub root_acts : acts_in (chronicle setting (k.x ∷ k.h)) y ≡ true → is_old (chronicle setting (k.x ∷ k.h)) y ≡ true → y ≡ (plan_now setting (chronicle setting (x ∷ h))).root
+  root_acts acts old = by_role acts old (old_is_member setting then_ y (inv.core.census.outsiders y) old) (is_root (plan_now setting then_) y) (is_backup_root (plan_now setting then_) y) refl refl
+
 module _ (setting : Setting) (x : Event) (h : List Event) (e : Event) (s0 : ℕ) (phase : IsPhase setting (x ∷ h) e s0) (kept : root_failed setting (chronicle setting (x ∷ h)) ≡ false)
     (first_era : era (chronicle setting (x ∷ h)) ≡ 1) where
   abbrev steps' : List Step
@@ -172,32 +199,13 @@ module _ (setting : Setting) (x : Event) (h : List Event) (e : Event) (s0 : ℕ)
       let past : past_in (upto p) y ≡ Some (after s.past s.call) = past_after_call p y s.call s.past s.act s.there in
       by_state f.moment k (after s.past s.call) (emission_acts s.past s.call emits.emission) (subst (λ l. is_up (seen_of l) y ≡ true) there up) (subst (λ l. past_in l y ≡ Some (after s.past s.call)) there past)
     where
-      by_role : (q : Moment) (k : Known setting steps' q) → acts_in (chronicle setting (k.x ∷ k.h)) y ≡ true → is_old (chronicle setting (k.x ∷ k.h)) y ≡ true → is_member (plan_now setting (chronicle setting (k.x ∷ k.h))) y ≡ true
-          → (r b : Bool) → is_root (plan_now setting (chronicle setting (k.x ∷ k.h))) y ≡ r → is_backup_root (plan_now setting (chronicle setting (k.x ∷ k.h))) y ≡ b → y ≡ root'
-      by_role q k acts old member true b is other = sym (eqb-true (plan_now setting (chronicle setting (k.x ∷ k.h))).root y is) ∙ ap (λ n. (plan_numbered setting n).root) k.same
-      by_role q k acts old member false true is backup =
-          let older : List Step = chronicle setting (k.x ∷ k.h) in
-          let inv : Invariant setting older = now setting k.x k.h k.e k.comes in
-          absurd (not_both (root_failed setting older)
-          (implied (backup_root_acts setting older) (root_failed setting older) inv.core.causes.takeover (subst (λ z. acts_in older z ≡ true) (sym (eqb-true (plan_now setting older).backup_root y backup)) acts))
-          (kept_then setting x h e s0 phase kept q k))
-      by_role q k acts old member false false is other =
-          let older : List Step = chronicle setting (k.x ∷ k.h) in
-          let plan : Plan = plan_now setting older in
-          let inv : Invariant setting older = now setting k.x k.h k.e k.comes in
-          absurd (not_both (acts_in older y) acts
-          (not-true (acts_in older y)
-          (implied (is_old older y && is_ordinary plan y) (not (acts_in older y)) (inv.core.roles.ordinary y)
-          (and_from (is_old older y) (is_ordinary plan y) old (and_from (is_member plan y && not (is_root plan y)) (not (is_backup_root plan y)) (and_from (is_member plan y) (not (is_root plan y)) member (ap not is)) (ap not other))))))
-
       by_number : (q : Moment) (k : Known setting steps' q) (n : ℕ) → acts_in (chronicle setting (k.x ∷ k.h)) y ≡ true → epoch_in (chronicle setting (k.x ∷ k.h)) y ≡ Some n → 1 ≤ n → n ≤ era (chronicle setting (k.x ∷ k.h)) + 1
           → (n < era (chronicle setting (k.x ∷ k.h)) + 1) ⊎ (era (chronicle setting (k.x ∷ k.h)) + 1 ≤ n) → y ≡ root'
       by_number q k n acts epoch one most (inl less) =
           let older : List Step = chronicle setting (k.x ∷ k.h) in
           let same = k.same in
           let old : is_old older y ≡ true = number_is (epoch_in older y) n (era older) epoch (omega (arith, one, less, same, first_era)) in
-          let inv : Invariant setting older = now setting k.x k.h k.e k.comes in
-          by_role q k acts old (old_is_member setting older y (inv.core.census.outsiders y) old) (is_root (plan_now setting older) y) (is_backup_root (plan_now setting older) y) refl refl
+          root_acts setting x h e s0 phase kept q k y acts old
       by_number q k n acts epoch one most (inr least) =
           let older : List Step = chronicle setting (k.x ∷ k.h) in
           let new : is_new older y ≡ true = number_is (epoch_in older y) n (era older + 1) epoch (omega (arith, most, least)) in

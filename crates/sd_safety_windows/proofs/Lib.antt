@@ -20,5 +20,4 @@ pub mod Members
 pub mod Seals
 pub mod Receivers
 pub mod Roles
-pub mod Giving
 pub mod Actors

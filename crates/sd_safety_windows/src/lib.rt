@@ -14,7 +14,7 @@
 //! | C9 c at a commit, and at a receipt | `committer_is_right`, `committer_acts_alone`; `receipt_keeps_committer`, `receipt_keeps_acting` | `Committing`; `Roles`, `Actors` |
 //! | C9 d at a commit, and at a receipt | `commit_links`; `receipt_keeps_linked` | `Linked` |
 //! | C10 at a closing | `closing_begins` | `Linked`, `Closing` |
-//! | what a give and a seal leave alone | | `Giving`, `Sealing` |
+//! | what a seal leaves alone | | `Sealing` |
 //!
 //! Much of this is a matter of order and holds in each history, or each clean one: that a new device
 //! stays new, that it has no given duty, and that who sent a message of the staged epoch is new. So

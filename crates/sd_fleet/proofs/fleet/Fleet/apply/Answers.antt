@@ -1,9 +1,11 @@
-use Rattle.std.proofs.Common.{◌∙◌, sym, subst}
+use Rattle.std.proofs.Common.{◌∙◌, ◌≤◌, ◌^◌, sym, subst}
 use Rattle.std.specs.Vec.{with_items}
 use Rattle.std.proofs.lemmas.List.{with_items_is}
 use Rattle.sd_history.specs.Nodes.{steps_of}
 use Rattle.sd_fabric.specs.declared.Act.{Act}
+use Rattle.sd_fleet.specs.declared.crew.Moment.{Moment}
 use Rattle.sd_fleet.specs.Crew.{Acts}
+use Rattle.sd_fleet.proofs.Reporting.{outcome_limited, sent_most}
 use Rattle.sd_fleet.proofs.Telling.{tells}
 use Rattle.sd_fleet.proofs.Applying.{same_refusal, stands_roomy, refused_fault, memory_fault, crew_grown, device_if, can_do, length_done, crew_next, accepted_next}
 use Rattle.sd_fleet.proofs.fleet.Fleet.apply.Goals as goal
@@ -67,3 +69,16 @@ returns-clause-accepted g c =
     stands.is_run now stands.nodes (λ told says. c.step.ensures.stands setting (steps_of run) told says now) (λ told says. c.step.ensures.outcome setting (steps_of run) told says now)
     in
     record { next = on.step; happens = on.happens; comes = on.comes; stands = record { is_run = on.is_run; fabric = on.stands; nodes = on.nodes } })
+
+pub returns-clause-limited : goal.returns-clause-limited
+returns-clause-limited g c =
+    outcome_limited g.N.Node c.ready.new.self c.args.event.now c.deref_mut.result.now c.perform-reply.new.nodes c.moment_at-moment.result c.act-act.result c.perform-reply.result c.step.result
+    (subst (λ (m : Moment). m.events ≤ 2 ^ 26) (sym c.moment_at-moment.ensures) c.ready.ensures.sound.events) c.act-act.ensures c.perform-reply.ensures c.step.ensures.comes
+
+pub returns-clause-few : goal.returns-clause-few
+returns-clause-few g c =
+    let accepted = same_refusal c.args.self.now.fabric c.ready.new.self c.args.event.now c.ready.ensures.others ∙ sym c.refusal.ensures ∙ c.in_default.is in
+    sent_most c.args.self.now.fabric c.ready.new.self c.args.event.now c.perform-reply.result c.step.result c.ready.ensures.others accepted
+    (tells g.N.Node c.deref_mut.result.now c.perform-reply.new.nodes c.moment_at-moment.result c.perform-reply.result c.ready.new.self c.args.event.now accepted
+    (subst (λ (a : Act). Acts g.N.Node c.deref_mut.result.now a c.moment_at-moment.result c.perform-reply.result c.perform-reply.new.nodes) c.act-act.ensures c.perform-reply.ensures))
+    c.step.ensures.comes

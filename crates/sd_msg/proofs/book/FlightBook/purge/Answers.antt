@@ -1,21 +1,18 @@
-use Rattle.std.proofs.Common.{sym, ap, ◌∙◌}
+use Rattle.std.proofs.Common.{◌∙◌, ap}
 use Rattle.std.specs.List.{filter}
-use Rattle.sd_msg.specs.Books.{is_current}
-use Rattle.sd_msg.specs.BookView.{AreFlights}
-use Rattle.sd_msg.proofs.Books.{kept, all_current}
+use Rattle.sd_msg.specs.Books.{Book, is_current}
+use Rattle.sd_msg.specs.Spent.{is_left}
+use Rattle.sd_msg.proofs.Books.{seen_numbered, seen_purged}
 use Rattle.sd_msg.proofs.book.FlightBook.purge.Goals as goal
 
-pub returns-then-reference-self-clause-flights : goal.returns-then-reference-self-clause-flights
-returns-then-reference-self-clause-flights c =
-    let b = c.self.inside in
-    sym (ap (λ k. k.flights) c.self.view_is) ∙ sym (all_current b.least c.args.reference b.flights.items c.if-reference-self.true c.self.invariant.current)
-    ∙ ap (λ k. filter (is_current c.args.reference) k.flights) c.self.view_is
-
-pub invariant_of-self : goal.invariant_of-self
-invariant_of-self c =
-    let b = c.self.inside in
-    let left : AreFlights c.keep_current.new.flights.items b.last b.least = rw c.keep_current.ensures.kept (kept (is_current c.args.reference) b.flights.items b.last b.least c.self.invariant) in
-    record { numbered = left.numbered; current = c.least_last-self-inside.ensures }
-
 pub returns-clause-given : goal.returns-clause-given
-returns-clause-given c = (invariant_of-self c).numbered
+returns-clause-given c =
+    let b = c.self.inside in
+    seen_numbered (is_left c.purge.new.self) b.last c.purge.new.self c.drop_first.new.flights.items (c.drop_first.ensures.kept b.last (c.purge.ensures.kept b.last b.flights.items c.self.invariant))
+
+pub returns-clause-flights : goal.returns-clause-flights
+returns-clause-flights c =
+    let b = c.self.inside in
+    c.drop_first.ensures.left
+    ∙ seen_purged b.spent c.purge.new.self c.args.reference b.flights.items c.purge.ensures.left
+    ∙ ap (λ (k : Book). filter (is_current c.args.reference) k.flights) c.self.view_is

@@ -1,12 +1,17 @@
-use Rattle.std.proofs.Common.{not}
-use Rattle.sd_msg.specs.Books.{is_swept}
-use Rattle.sd_msg.proofs.Books.{kept}
+use Rattle.std.proofs.Common.{not, ◌∙◌, ap}
+use Rattle.std.specs.List.{filter}
+use Rattle.sd_msg.specs.Books.{Book, is_swept}
+use Rattle.sd_msg.specs.Spent.{is_left}
+use Rattle.sd_msg.proofs.Books.{seen_numbered, seen_swept}
 use Rattle.sd_msg.proofs.book.FlightBook.sweep.Goals as goal
 
-pub invariant_of-self : goal.invariant_of-self
-invariant_of-self c =
-    let b = c.self.inside in
-    rw c.leave_swept.ensures.kept (kept (λ f. not (is_swept c.args.thing f)) b.flights.items b.last b.least c.self.invariant)
-
 pub returns-clause-given : goal.returns-clause-given
-returns-clause-given c = (invariant_of-self c).numbered
+returns-clause-given c =
+    let b = c.self.inside in
+    seen_numbered (is_left c.sweep.new.self) b.last c.sweep.new.self b.flights.items (c.sweep.ensures.kept b.flights.items c.self.invariant)
+
+pub returns-clause-flights : goal.returns-clause-flights
+returns-clause-flights c =
+    let b = c.self.inside in
+    seen_swept b.last b.spent c.sweep.new.self c.args.thing c.sweep.ensures.left b.flights.items c.self.invariant
+    ∙ ap (λ (k : Book). filter (λ f. not (is_swept c.args.thing f)) k.flights) c.self.view_is

@@ -1,12 +1,20 @@
-use Rattle.std.proofs.Common.{not}
-use Rattle.sd_msg.specs.Books.{has_number}
-use Rattle.sd_msg.proofs.Books.{kept}
+use Rattle.std.proofs.Common.{subst}
+use Rattle.sd_msg.specs.Books.{AreGiven}
+use Rattle.sd_msg.specs.Spent.{is_left}
+use Rattle.sd_msg.proofs.Books.{seen_numbered}
 use Rattle.sd_msg.proofs.book.FlightBook.take.Goals as goal
 
-pub invariant_of-self : goal.invariant_of-self
-invariant_of-self c =
+pub returns-in_err-place-clause-given : goal.returns-in_err-place-clause-given
+returns-in_err-place-clause-given c =
     let b = c.self.inside in
-    rw c.take_out.ensures.left (kept (λ f. not (has_number c.take_out.result.number f)) b.flights.items b.last b.least c.self.invariant)
+    subst AreGiven c.self.view_is (seen_numbered (is_left b.spent) b.last b.spent b.flights.items c.self.invariant)
+
+pub returns-then-index-device-clause-given : goal.returns-then-index-device-clause-given
+returns-then-index-device-clause-given c =
+    let b = c.self.inside in
+    subst AreGiven c.self.view_is (seen_numbered (is_left b.spent) b.last b.spent b.flights.items c.self.invariant)
 
 pub returns-clause-given : goal.returns-clause-given
-returns-clause-given c = (invariant_of-self c).numbered
+returns-clause-given c =
+    let b = c.self.inside in
+    seen_numbered (is_left b.spent) b.last b.spent c.spend.new.flights.items c.spend.ensures.kept
