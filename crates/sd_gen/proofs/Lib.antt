@@ -1,0 +1,9 @@
+-- Laws of drafts.
+mod Each
+mod Sent
+mod Trying
+mod Posted
+mod Receiving
+mod Turning
+mod Drawing
+mod Making

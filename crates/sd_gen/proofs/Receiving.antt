@@ -1,0 +1,68 @@
+-- Receipts, one after the other.
+use Rattle.std.specs.Prelude.{◌≡◌, ℕ, zero, suc, ◌+◌, ◌^◌, ◌≤◌, Bool, true, false, Option, Some, None, refl}
+use Rattle.std.proofs.Common.{arith, ap, sym, ◌∙◌, subst}
+use Rattle.sd_history.specs.World.{Setting}
+use Rattle.sd_history.specs.Steps.{flight_count}
+use Rattle.sd_history_flights.proofs.Counts.{numbers_few}
+use Rattle.sd_gen_arrivals.specs.declared.Arrival.{Arrival}
+use Rattle.sd_gen_arrivals.specs.declared.arrivals.Arrivals.{Arrivals}
+use Rattle.sd_gen_arrivals.specs.Waiting.{next_by, without}
+use Rattle.sd_gen_arrivals.specs.Standing as arrivals
+use Rattle.sd_gen_arrivals.proofs.Widening.{next_within}
+use Rattle.sd_gen.specs.declared.recorder.Recorder.{Recorder}
+use Rattle.sd_gen.specs.Drafts.{Draft, receive, receive_up_to, go_on, without_message}
+use Rattle.sd_gen.specs.Standing.{StandsFor, Becomes}
+use Rattle.sd_gen.specs.Receiving.{ReceivesNext, received}
+use Rattle.sd_gen.proofs.Trying.{are_steps}
+
+-- so many receipts more make it the draft that is meant
+pub record StillTo (recorder : Recorder) (setting : Setting) (moment n : ℕ) (meant : Draft) : Type 0 where
+  pub draft : Draft
+  pub stands : StandsFor recorder setting draft
+  pub rest : receive_up_to setting moment n draft ≡ meant
+
+pub begins : (r : Recorder) (setting : Setting) (moment n : ℕ) (x : Draft) → StandsFor r setting x → StillTo r setting moment n (receive_up_to setting moment n x)
+begins r setting moment n x stands = record { draft = x; stands = stands; rest = refl }
+
+pub goes : (old new : Recorder) (setting : Setting) (moment n : ℕ) (meant : Draft) → StillTo old setting moment (suc n) meant
+    → ((x : Draft) → StandsFor old setting x → ReceivesNext new setting x (next_by moment x.waiting) true) → StillTo new setting moment n meant
+unfolding receive_up_to
+goes old new setting moment n meant still one = by (next_by moment still.draft.waiting) (one still.draft still.stands) still.rest
+  where
+    by : (o : Option Arrival) → ReceivesNext new setting still.draft o true → go_on setting o (receive_up_to setting moment n) still.draft ≡ meant → StillTo new setting moment n meant
+    by None received rest = let never : true ≡ false = received.0 in cc
+    by (Some w) received rest = record { draft = receive setting w still.draft; stands = received.1; rest = rest }
+
+pub stops : (old new : Recorder) (setting : Setting) (moment n : ℕ) (meant : Draft) → StillTo old setting moment (suc n) meant
+    → ((x : Draft) → StandsFor old setting x → ReceivesNext new setting x (next_by moment x.waiting) false) → StandsFor new setting meant
+unfolding receive_up_to
+stops old new setting moment n meant still one = by (next_by moment still.draft.waiting) (one still.draft still.stands) still.rest
+  where
+    by : (o : Option Arrival) → ReceivesNext new setting still.draft o false → go_on setting o (receive_up_to setting moment n) still.draft ≡ meant → StandsFor new setting meant
+    by None received rest = subst (λ y. StandsFor new setting y) rest received.1
+    by (Some w) received rest = let never : false ≡ true = received.0 in cc
+
+pub ends : (r : Recorder) (setting : Setting) (moment : ℕ) (meant : Draft) → StillTo r setting moment 0 meant → StandsFor r setting meant
+unfolding receive_up_to
+ends r setting moment meant still = subst (λ y. StandsFor r setting y) still.rest still.stands
+
+-- with the count in another form
+pub counted : (r : Recorder) (setting : Setting) (moment m n : ℕ) (meant : Draft) → m ≡ n → StillTo r setting moment m meant → StillTo r setting moment n meant
+counted r setting moment m n meant same still = subst (λ (k : ℕ). StillTo r setting moment k meant) same still
+
+-- and with what was told
+pub told : (new : Recorder) (setting : Setting) (x : Draft) (o : Option Arrival) (more known : Bool) → more ≡ known → ReceivesNext new setting x o more → ReceivesNext new setting x o known
+told new setting x o more known same received = subst (λ (b : Bool). ReceivesNext new setting x o b) same received
+
+-- the message that came next is received
+pub received_next : (old new : Recorder) (kept : Arrivals) (w : Arrival) (moment : ℕ) (setting : Setting) (x : Draft) → StandsFor old setting x → ◌≡◌ {A = Option Arrival} (Some w) (next_by moment x.waiting)
+    → arrivals.StandsFor kept (flight_count x.steps) (without w.number x.waiting)
+    → (w.number ≤ 2 ^ 60 → Becomes (record old { arrivals = kept }) new (λ s. received s w)) → ReceivesNext new setting x (next_by moment x.waiting) true
+received_next old new kept w moment setting x stands next left becomes =
+    let few : flight_count x.steps ≤ 2 ^ 41 = numbers_few setting x.steps (are_steps old setting x (flight_count x.steps) stands) (omega (arith, stands.net.links)) in
+    let within : w.number ≤ flight_count x.steps = next_within moment (flight_count x.steps) x.waiting w stands.arrivals.numbers (sym next) in
+    subst (λ o. ReceivesNext new setting x o true) next (
+      refl,
+      becomes (omega (arith, few, within)) setting (without_message setting w.number x)
+          (record { net = stands.net; run = stands.run; fleet = stands.fleet; steps = stands.steps; rng = stands.rng; leads = stands.leads; arrivals = left; events = stands.events }),
+    )

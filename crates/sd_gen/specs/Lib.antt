@@ -1,0 +1,6 @@
+-- The schedule of a generated case, and for which draft of it a recorder stands.
+pub mod Drafts
+pub mod Turns
+pub mod Posting
+pub mod Receiving
+pub mod Standing

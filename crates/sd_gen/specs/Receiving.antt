@@ -1,0 +1,17 @@
+-- One receipt after the other.
+use Rattle.std.specs.Prelude.{◌≡◌, Bool, true, false, Option, Some, None}
+use Rattle.sd_sched.specs.declared.Event.TheVariants.{Recv}
+use Rattle.sd_history.specs.World.{Setting}
+use Rattle.sd_gen_arrivals.specs.declared.Arrival.{Arrival}
+use Rattle.sd_gen.specs.declared.recorder.Recorder.{Recorder}
+use Rattle.sd_gen.specs.Drafts.{Draft, counter_at, try, receive}
+use Rattle.sd_gen.specs.Standing.{StandsFor}
+
+-- a message that waits no longer is received
+abbrev pub received : Setting → Arrival → Draft → Draft
+received setting w x = try setting (Recv w.moment w.receiver (counter_at x w.receiver w.moment) w.number) x
+
+-- the one that came next, if any, was received, and it is told whether there was one
+abbrev pub ReceivesNext : Recorder → Setting → Draft → Option Arrival → Bool → Type 0
+ReceivesNext recorder setting x None more = (more ≡ false) × StandsFor recorder setting x
+ReceivesNext recorder setting x (Some w) more = (more ≡ true) × StandsFor recorder setting (receive setting w x)

@@ -1,0 +1,4 @@
+-- Messages that wait for their receipt.
+pub mod Waiting
+pub mod Order
+pub mod Standing

@@ -1,0 +1,2 @@
+-- Rows of small cases, computed.
+mod Rows

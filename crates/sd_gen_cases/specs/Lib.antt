@@ -1,0 +1,2 @@
+-- Small cases for examples.
+pub mod Examples

@@ -1,0 +1,5 @@
+-- A fabric's text is read as the fabric.
+mod Numbering
+mod Naming
+mod Building
+mod Reading

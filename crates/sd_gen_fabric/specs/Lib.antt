@@ -1,0 +1,4 @@
+-- The network of leaves and spines, and the tree that its text has.
+pub mod Fabrics
+pub mod Numbered
+pub mod Trees

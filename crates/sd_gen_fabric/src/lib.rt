@@ -1,0 +1,35 @@
+//! The network of leaves and spines that a generated case has, as a text.
+#![tactic(auto)]
+
+ghost use Rattle.std.specs.Prelude.{◌≡◌, ◌≤◌, Some, IfOk};
+ghost use Rattle.sd_topotext.specs.Reading.{tree_of};
+ghost use Rattle.sd_gen_fabric.specs.Fabrics.{IsFabricText};
+ghost use Rattle.sd_gen_fabric.specs.Trees.{fabric_tree};
+
+mod arrays;
+mod names;
+mod tree;
+mod values;
+
+use sd_num::NoMemory;
+use std::alloc::Global;
+use tree::fabric_table;
+
+/// The text of a network in which each leaf has a link to each spine, printed with `toml`: a
+/// topology of version 1 with devices `s0`, `s1` and so on, then `l0`, `l1` and so on, a link
+/// `k` i `-` j from each leaf i to each spine j, and a domain `rack` i of each leaf with its links.
+/// All spines may be roots. Delays are from 400 ns to 1 us.
+pub fn fabric_text(alloc: Global, leaves: u32, spines: u32) -> Result<Vec<u8>, NoMemory>
+    requires some_leaves { 2 ≤ leaves }
+    requires few_leaves { leaves ≤ 256 }
+    requires some_spines { 3 ≤ spines }
+    requires few_spines { spines ≤ 32 }
+    ensures tree { IfOk result (λ text. tree_of text.items ≡ Some (fabric_tree leaves spines)) }
+    ensures means { IfOk result (λ text. IsFabricText leaves spines text.items) }
+{
+    let table = fabric_table(alloc, leaves, spines)?;
+    match toml::table_to_string(alloc, &table) {
+        Ok(text) => return Ok(text.into_bytes()),
+        Err(_) => return Err(NoMemory),
+    }
+}
