@@ -1,0 +1,2 @@
+-- The time after a commit.
+pub mod After

@@ -1,0 +1,18 @@
+//! Entering: after a commit each member of the staged plan enters soon, and goes on hearing (18).
+//!
+//! # The result
+//!
+//! | Name | In words | Module |
+//! |---|---|---|
+//! | `members_enter` | at an event later than A + H * D after the commit each member of the staged plan is new (`EntersSoon`) | `Entering` |
+//! | `new_hears` | a new device other than the staged root is silent for at most A + H * D (`NewHears`) | `Hears` |
+//! | `safe_if_heard` | safety from 13 to 17 alone | `Heard` |
+//!
+//! # The way
+//!
+//! After the commit the staged root is a source: it acts, and nothing makes it or has it enter. The
+//! primaries of the staged plan are sound: their links are not failed, their devices are up, and each
+//! is new and on its primary, or has its duty given; and nothing fails. So the feeding lemma of
+//! `sd_safety_silences` reaches each member from any reference on that is no earlier than the commit.
+//! Who was fed accepted a message of the staged plan, and is new from then on.
+#![tactic(auto)]

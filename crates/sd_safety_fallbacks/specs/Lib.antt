@@ -1,0 +1,2 @@
+-- What is left of what the backup root hears.
+pub mod Moved

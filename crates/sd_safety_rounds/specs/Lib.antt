@@ -1,0 +1,3 @@
+-- Rounds on their way, and how far back a silence goes.
+pub mod Rounds
+pub mod Spans

@@ -1,0 +1,7 @@
+-- What the backup root heard last, traced to the root.
+pub mod Last
+pub mod Down
+pub mod Roots
+pub mod Fails
+pub mod Primaries
+pub mod Unmoved
