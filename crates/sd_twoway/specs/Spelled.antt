@@ -1,0 +1,8 @@
+-- How the words of an exchanges text are spelled.
+use Rattle.std.specs.Prelude.{ℕ, List, codes}
+use Rattle.sd_twoway.specs.declared.reading.Word.{Word}
+use Rattle.sd_twoway.specs.declared.reading.Word.TheVariants.{Exchange, End}
+
+abbrev pub spelled : Word → List ℕ
+spelled Exchange = codes "exchange"
+spelled End = codes "end"
