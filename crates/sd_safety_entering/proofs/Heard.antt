@@ -1,6 +1,6 @@
 -- Safety from the silences 13 to 17 alone: 18 holds.
 use Rattle.sd_history.specs.World.{Setting}
-use Rattle.sd_safety.specs.Silences.{WholePathHears, BehindWaits, FallbackHears, TakesOverSoon, BesideWaits, AreSilent}
+use Rattle.sd_safety.specs.Silences.{WholePathHears, BehindWaits, FallbackHears, TakesOverSoon, BesideWaits}
 use Rattle.sd_safety.specs.Coming.{AtNext}
 use Rattle.sd_safety.specs.Kept.{StaysSafe}
 use Rattle.sd_safety_renewals.proofs.Each.{safe_if_silent}

@@ -21,7 +21,7 @@ use Rattle.sd_safety.specs.Coming.{IsClean, Comes, AtNext}
 use Rattle.sd_safety.specs.Silences.{NewHears}
 use Rattle.sd_safety.proofs.Prefix.{clean_before}
 use Rattle.sd_safety.proofs.Sides.{implied, not_both}
-use Rattle.sd_safety_messages.specs.Moments.{Tail, whole, behind, IsChronicle, Moment, upto, when, IsIn}
+use Rattle.sd_safety_messages.specs.Moments.{Tail, Moment, upto, when, IsIn}
 use Rattle.sd_safety_messages.proofs.Tails.{history_chronicle}
 use Rattle.sd_safety_messages.proofs.Sending.{passes_on}
 use Rattle.sd_safety_messages.proofs.Consecutive.{past_after_call}

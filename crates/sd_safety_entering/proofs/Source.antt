@@ -14,7 +14,7 @@ use Rattle.sd_history.specs.Steps.{Calls, Step, seen_of}
 use Rattle.sd_history.specs.Chronicle.{past_in, chronicle}
 use Rattle.sd_history.proofs.Given.{some_is, takes_given}
 use Rattle.sd_history.proofs.Parts.{AllHold, premises_of}
-use Rattle.sd_safety.specs.Eras.{era, sent_at}
+use Rattle.sd_safety.specs.Eras.{sent_at}
 use Rattle.sd_safety.specs.Clauses.{staged_root}
 use Rattle.sd_safety.specs.Coming.{IsClean}
 use Rattle.sd_safety.proofs.Prefix.{clean_before}

@@ -14,7 +14,7 @@ use Rattle.sd_plan.proofs.Rules.{KeepsRules, keeps_rules}
 use Rattle.sd_checker.specs.Verdicts.{IsAccepted}
 use Rattle.sd_check_root.specs.Timing.{round_gap}
 use Rattle.sd_core.specs.Calls.{Past}
-use Rattle.sd_core.specs.Words.{is_acting, has_moved, duty_now, given_now, epoch_now}
+use Rattle.sd_core.specs.Words.{duty_now, given_now, epoch_now}
 use Rattle.sd_sched.specs.declared.Event.{Event}
 use Rattle.sd_sched.specs.Events.{reference_of, started, joined}
 use Rattle.sd_history.specs.Things.{failure_of}

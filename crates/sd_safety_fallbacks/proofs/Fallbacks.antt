@@ -1,22 +1,19 @@
 -- While an old backup root has moved and does not act, no device of its fallback but the root had moved or acted in the plan in force, at any event so far.
-use Rattle.std.specs.Prelude.{◌≡◌, ℕ, ◌+◌, ◌<◌, ◌≤◌, Bool, true, false, ◌&&◌, ◌||◌, not, List, [], ◌∷◌, filter, length, map, nat_eq, Option, Some, IfSome, refl, ◌⊎◌, if◌then◌else◌}
-use Rattle.std.specs.List.{list_any}
+use Rattle.std.specs.Prelude.{◌≡◌, ℕ, ◌<◌, ◌≤◌, Bool, true, false, ◌&&◌, ◌||◌, not, List, [], ◌∷◌, filter, length, nat_eq, Option, Some, IfSome, refl, ◌⊎◌, if◌then◌else◌}
 use Rattle.std.proofs.Common.{arith, ◌∙◌, ap, sym, subst, inl, inr}
-use Rattle.std.proofs.lemmas.Bool.{and_parts, and_from, or_cases, or_left, or_right, or_from, or_parts, cases_lt, eqb-true, eq-eqb, not-true, not-false, false_from_ne_true}
+use Rattle.std.proofs.lemmas.Bool.{and_parts, and_from, or_cases, or_left, or_right, or_from, cases_lt, eqb-true, eq-eqb, not-true, not-false, false_from_ne_true}
 use Rattle.sd_num.specs.Lists.{of_some, has, same_number}
-use Rattle.sd_topo.specs.Network.{Network}
 use Rattle.sd_topo.specs.declared.Thing.{Thing}
 use Rattle.sd_topo.specs.declared.Thing.TheVariants as thing
 use Rattle.sd_domain.specs.Failures.{same_thing}
 use Rattle.sd_plan.specs.declared.Hop.{Hop}
 use Rattle.sd_plan.specs.declared.Plan.{Plan}
-use Rattle.sd_plan.specs.Plans.{IsHop, Fits, is_member, is_present, is_root, is_backup_root, backup_of}
-use Rattle.sd_plan.specs.Walks.{walk, path, epath, end_of, things_of, devices_of, links_of, on_walk, short_walk}
+use Rattle.sd_plan.specs.Plans.{IsHop, is_member, is_present, is_root, is_backup_root, backup_of}
+use Rattle.sd_plan.specs.Walks.{walk, epath, end_of, devices_of, links_of, on_walk, short_walk}
 use Rattle.sd_plan.specs.Structure.{is_no_ancestor}
 use Rattle.sd_plan.proofs.Numbered.{none_found}
 use Rattle.sd_plan.proofs.Rules.{hops_within}
 use Rattle.sd_check_root.specs.Roots.{fallback_devices, fallback_links}
-use Rattle.sd_checker.specs.Verdicts.{IsAccepted}
 use Rattle.sd_core.specs.Calls.{Past}
 use Rattle.sd_core.specs.Words.{epoch_now, has_moved, is_acting}
 use Rattle.sd_sched.specs.declared.Event.{Event}
@@ -42,7 +39,7 @@ use Rattle.sd_safety_receipts.proofs.Stood.{core_of, clean_of, each_of, history_
 use Rattle.sd_safety_messages.proofs.Tails.{tail_trans}
 use Rattle.sd_safety_terms.proofs.Actors.{IsActor, actor_is_current}
 use Rattle.sd_safety_rounds.proofs.Silent.{not_old_and_new}
-use Rattle.sd_safety_fallbacks.proofs.Onward.{ActsYet, Onward, onward}
+use Rattle.sd_safety_fallbacks.proofs.Onward.{Onward, onward}
 
 -- what is among the filtered is among all
 pub among_all : (p : Thing → Bool) (xs : List Thing) (x : Thing) → is_among (filter p xs) x ≡ true → is_among xs x ≡ true

@@ -17,12 +17,12 @@ use Rattle.sd_core.specs.Calls.{Call, Deed, Past}
 use Rattle.sd_core.specs.Words.{deed_of, accepted_over, duty_now, epoch_now, given_now, has_moved, is_acting, parent_edge, primary_now, backup_now}
 use Rattle.sd_sched.specs.declared.Event.{Event}
 use Rattle.sd_history.specs.World.{Setting, is_up, plan_numbered}
-use Rattle.sd_history.specs.Steps.{Step, seen_of, acts_in, epoch_in}
+use Rattle.sd_history.specs.Steps.{Step, seen_of, acts_in}
 use Rattle.sd_history.specs.Chronicle.{past_in, chronicle}
 use Rattle.sd_history.proofs.Given.{some_is, HasDuties}
 use Rattle.sd_history.proofs.Parts.{premises_of}
 use Rattle.sd_safety.specs.Bounds.{depth, delay}
-use Rattle.sd_safety.specs.Eras.{era, plan_now, heard_at, is_old, on_primary, on_backup, moved, root_failed, device_failed_now}
+use Rattle.sd_safety.specs.Eras.{era, plan_now, heard_at, is_old, on_primary, moved, root_failed, device_failed_now}
 use Rattle.sd_safety.specs.Clauses.{backup_root_stays}
 use Rattle.sd_safety.specs.Silences.{root_failed_at}
 use Rattle.sd_safety.specs.Invariant.{Invariant, HasFallback, AtEach}
@@ -48,14 +48,14 @@ use Rattle.sd_safety_frame.specs.Descents.{TakesFromAbove}
 use Rattle.sd_safety_frame.proofs.Descending.{takes_from_above}
 use Rattle.sd_safety_frame.proofs.Telling.{links_tell}
 use Rattle.sd_safety_moves.proofs.Ahead.{IsAhead, always_ahead}
-use Rattle.sd_safety_windows.proofs.Senders.{IsCalled, called_is_up}
+use Rattle.sd_safety_windows.proofs.Senders.{called_is_up}
 use Rattle.sd_safety_receipts.proofs.Hearings.{IsHeard}
 use Rattle.sd_safety_receipts.proofs.Stood.{core_of, clean_of, each_of, stood_then, next_stood, history_of, moved_is, acts_is, epoch_is, primary_is}
 use Rattle.sd_safety_receipts.proofs.Alive.{WasAlive, was_alive, IsOf, events_of_tail}
 use Rattle.sd_safety_entering.proofs.Stages.{Stage, stage}
-use Rattle.sd_safety_spans.proofs.Thirteen.{IsSpared, spared}
+use Rattle.sd_safety_spans.proofs.Thirteen.{spared}
 use Rattle.sd_safety_fallbacks.specs.Moved.{MovedHearsNoMore}
-use Rattle.sd_safety_traced.proofs.Last.{IsStarted, LastHeard, last_heard}
+use Rattle.sd_safety_traced.proofs.Last.{LastHeard, last_heard}
 use Rattle.sd_safety_traced.proofs.Down.{FromRoot, at_root, from_root}
 use Rattle.sd_safety_traced.proofs.Roots.{root_takes_none, not_acting}
 use Rattle.sd_safety_traced.proofs.Unmoved.{started_by}

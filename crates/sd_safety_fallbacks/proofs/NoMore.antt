@@ -1,6 +1,5 @@
 -- 16's piece: where the root failed, an old backup root that does not act heard at most (H + 1) * D after that. And with it safety from 14 alone.
-use Rattle.std.specs.Prelude.{◌≡◌, ℕ, ◌+◌, ◌*◌, ◌≤◌, Bool, true, false, List, [], ◌∷◌, refl}
-use Rattle.sd_sched.specs.declared.Event.{Event}
+use Rattle.std.specs.Prelude.{◌≡◌, ℕ, ◌+◌, ◌*◌, ◌≤◌, Bool, true, false, [], ◌∷◌, refl}
 use Rattle.sd_history.specs.World.{Setting}
 use Rattle.sd_history.specs.Chronicle.{chronicle}
 use Rattle.sd_safety.specs.Bounds.{depth, delay}

@@ -12,7 +12,7 @@ use Rattle.sd_history.specs.World.{Setting, makes, fails, is_up, plan_numbered}
 use Rattle.sd_history.specs.Steps.{Step, seen_of}
 use Rattle.sd_history.specs.Chronicle.{past_in, chronicle, next_step}
 use Rattle.sd_history.proofs.Given.{some_is, takes_given}
-use Rattle.sd_safety.specs.Eras.{era, plan_now, is_new, device_failed_now}
+use Rattle.sd_safety.specs.Eras.{era, is_new, device_failed_now}
 use Rattle.sd_safety.specs.Invariant.{Invariant, AtEach}
 use Rattle.sd_safety.specs.Coming.{IsFair, IsClean}
 use Rattle.sd_safety.proofs.Prefix.{clean_before}

@@ -1,5 +1,5 @@
 -- 16's piece for a backup root that has moved: where the root failed, it heard at most (H + 1) * D after that.
-use Rattle.std.specs.Prelude.{◌≡◌, ℕ, ◌+◌, ◌*◌, ◌≤◌, List, IsTrue}
+use Rattle.std.specs.Prelude.{ℕ, ◌+◌, ◌*◌, ◌≤◌, List, IsTrue}
 use Rattle.sd_history.specs.World.{Setting}
 use Rattle.sd_history.specs.Steps.{Step}
 use Rattle.sd_safety.specs.Bounds.{depth, delay}

@@ -4,7 +4,6 @@ use Rattle.std.proofs.Common.{arith, sym, ◌∙◌, inl, inr}
 use Rattle.std.proofs.lemmas.Bool.{and_parts}
 use Rattle.sd_topo.specs.Network.{greatest_delay}
 use Rattle.sd_plan.specs.declared.End.{End}
-use Rattle.sd_msg.specs.declared.Stamp.{Stamp}
 use Rattle.sd_msg.specs.declared.Message.{Message}
 use Rattle.sd_core.specs.Calls.{Past}
 use Rattle.sd_history.specs.World.{Setting, epoch_in_force, staged_epoch, window_is_open, plan_numbered}
@@ -12,7 +11,7 @@ use Rattle.sd_history.specs.Steps.{seen_of, ends_at}
 use Rattle.sd_history.specs.Chronicle.{past_in}
 use Rattle.sd_history.specs.Premises.{arrives_in_time, delay_holds, renew_holds}
 use Rattle.sd_history.proofs.Among.{Among}
-use Rattle.sd_safety_messages.specs.Moments.{whole, behind, IsChronicle, Moment, upto, when, IsIn, IsBefore}
+use Rattle.sd_safety_messages.specs.Moments.{whole, behind, Moment, upto, when, IsIn}
 use Rattle.sd_safety_messages.specs.Rounds.{Takes, HeardSince, IsOpen, AreOpen, IsOnlyEmission, IsSpaced, IsReady, follows_parent, has_given}
 use Rattle.sd_safety_messages.proofs.Tails.{tail_chronicle}
 use Rattle.sd_safety_messages.proofs.Hearing.{receiver_past}

@@ -1,7 +1,7 @@
 -- While a round of the era's plan is on its way, nobody enters the staged plan: who enters has a message that the root emitted later, and so a period later at
 -- least.
-use Rattle.std.specs.Prelude.{◌≡◌, ℕ, ◌+◌, ◌<◌, ◌≤◌, Bool, true, false, ◌&&◌, not, List, [], ◌∷◌, nat_eq, Some, is_some, refl, ◌⊎◌}
-use Rattle.std.proofs.Common.{arith, sym, ◌∙◌, ap, subst, inl, inr}
+use Rattle.std.specs.Prelude.{◌≡◌, ℕ, ◌+◌, ◌<◌, ◌≤◌, true, false, ◌&&◌, not, List, [], ◌∷◌, nat_eq, Some, is_some}
+use Rattle.std.proofs.Common.{arith, sym, ◌∙◌, ap, subst}
 use Rattle.std.proofs.lemmas.Bool.{and_parts, and_from, eqb-true, false_from_ne_true}
 use Rattle.sd_num.specs.Lists.{of_some}
 use Rattle.sd_topo.specs.Network.{least_low}
@@ -19,15 +19,14 @@ use Rattle.sd_safety.specs.Clauses.{staged_root}
 use Rattle.sd_safety.specs.Invariant.{Invariant, AtEach}
 use Rattle.sd_safety.specs.Coming.{IsFair, IsClean}
 use Rattle.sd_safety.proofs.Prefix.{clean_before}
-use Rattle.sd_safety.proofs.Sides.{implied, not_both}
-use Rattle.sd_safety_messages.specs.Moments.{Tail, whole, behind, IsChronicle, Moment, upto, when, IsIn, IsBefore, Emits}
+use Rattle.sd_safety.proofs.Sides.{implied}
+use Rattle.sd_safety_messages.specs.Moments.{Tail, IsChronicle, Moment, upto, when, IsIn, Emits}
 use Rattle.sd_safety_messages.specs.Traces.{Traced}
 use Rattle.sd_safety_messages.proofs.Tails.{Order, before as comes_before, same as are_same, after as comes_after, ordered, tail_trans, rest_of, tail_chronicle, history_chronicle, before_is_earlier}
 use Rattle.sd_safety_messages.proofs.Tracing.{accepted_traced}
 use Rattle.sd_safety_messages.proofs.Latest.{Emitted, traced_emission}
 use Rattle.sd_safety_messages.proofs.Sending.{sends_own}
 use Rattle.sd_safety_messages.proofs.Consecutive.{past_after_call, rounds_apart}
-use Rattle.sd_safety_messages.proofs.Flowing.{tail_rest}
 use Rattle.sd_safety_waits.proofs.Standing.{now}
 use Rattle.sd_safety_silences.proofs.Phases.{era_grows}
 use Rattle.sd_safety_silences.proofs.First.{commit_stays}

@@ -17,7 +17,7 @@ use Rattle.sd_history.specs.Steps.{Step, seen_of}
 use Rattle.sd_history.specs.Chronicle.{past_in, chronicle}
 use Rattle.sd_safety.specs.Eras.{era, plan_now, is_among, failed_now, is_new, root_failed}
 use Rattle.sd_safety.proofs.Sides.{not_both}
-use Rattle.sd_safety_messages.specs.Moments.{Tail, whole, behind, IsChronicle, Moment, upto, when, IsIn, IsBefore, Emits}
+use Rattle.sd_safety_messages.specs.Moments.{whole, behind, IsChronicle, Moment, upto, when, IsIn, Emits}
 use Rattle.sd_safety_messages.specs.Rounds.{IsReady}
 use Rattle.sd_safety_messages.proofs.Tails.{tail_chronicle, history_chronicle, before_is_earlier}
 use Rattle.sd_safety_messages.proofs.Ends.{primary_follows}
@@ -29,7 +29,6 @@ use Rattle.sd_safety_silences.proofs.Links.{alone}
 use Rattle.sd_safety_silences.proofs.Sounding.{top_of}
 use Rattle.sd_safety_windows.proofs.Committing.{staged_plan}
 use Rattle.sd_safety_entering.proofs.States as states
-use Rattle.sd_safety_entering.proofs.Ways.{nothing_touches}
 use Rattle.sd_safety_rounds.specs.Rounds.{IsOpenHop}
 use Rattle.sd_safety_rounds.specs.Spans.{IsSpan}
 use Rattle.sd_safety_rounds.proofs.Places.{InEra, InWindow, place}

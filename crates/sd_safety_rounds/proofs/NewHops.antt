@@ -1,6 +1,6 @@
 -- From a moment on that has a commit behind it, a primary hop of the staged plan is open to a round of that plan.
-use Rattle.std.specs.Prelude.{◌≡◌, ℕ, ◌+◌, ◌*◌, ◌<◌, ◌≤◌, true, false, List, [], ◌∷◌, length, Some, refl, ◌⊎◌}
-use Rattle.std.proofs.Common.{arith, sym, ◌∙◌, ap, subst, inr}
+use Rattle.std.specs.Prelude.{◌≡◌, ℕ, ◌+◌, ◌<◌, ◌≤◌, true, false, List, [], ◌∷◌, length, refl, ◌⊎◌}
+use Rattle.std.proofs.Common.{arith, sym, ap, subst, inr}
 use Rattle.std.proofs.lemmas.Bool.{eqb-true, eq-eqb}
 use Rattle.sd_topo.specs.declared.Thing.TheVariants as thing
 use Rattle.sd_plan.specs.declared.Hop.{Hop}
@@ -18,7 +18,7 @@ use Rattle.sd_history.proofs.Among.{Among}
 use Rattle.sd_safety.specs.Eras.{era}
 use Rattle.sd_safety.specs.Coming.{Comes}
 use Rattle.sd_safety.proofs.Sides.{implied, not_both}
-use Rattle.sd_safety_messages.specs.Moments.{Tail, whole, behind, IsChronicle, Moment, upto, when, IsIn, IsBefore}
+use Rattle.sd_safety_messages.specs.Moments.{Tail, whole, behind, IsChronicle, Moment, upto, IsIn}
 use Rattle.sd_safety_messages.proofs.Tails.{tail_chronicle, history_chronicle, rest_of}
 use Rattle.sd_safety_messages.proofs.Ends.{primary_follows}
 use Rattle.sd_safety_messages.proofs.Flowing.{tail_rest}

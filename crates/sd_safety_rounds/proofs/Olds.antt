@@ -1,7 +1,7 @@
 -- How devices stand before an event of the era, with a commit or without, while the root did not fail: the root acts and sent at most P ago; and a device with a
 -- clear hop is up, and where it is not new, old, on its primary, and ready for what comes over that hop.
 use Rattle.std.specs.Prelude.{◌≡◌, ℕ, ◌+◌, ◌≤◌, Bool, true, false, ◌&&◌, ◌||◌, not, List, ◌∷◌, Option, Some, refl, ◌⊎◌}
-use Rattle.std.proofs.Common.{arith, sym, ◌∙◌, ap, subst, inl, inr}
+use Rattle.std.proofs.Common.{sym, ◌∙◌, ap, subst, inl, inr}
 use Rattle.std.proofs.lemmas.Bool.{and_parts, and_from, or_left, not-true, eqb-true, false_from_ne_true}
 use Rattle.sd_num.specs.Lists.{same_number}
 use Rattle.sd_plan.specs.declared.Hop.{Hop}

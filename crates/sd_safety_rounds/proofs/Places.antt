@@ -1,5 +1,5 @@
 -- A moment of a span is an event that comes with the invariant: of the era, or of the window before it, after its commit.
-use Rattle.std.specs.Prelude.{◌≡◌, ℕ, ◌+◌, ◌<◌, ◌≤◌, Bool, true, false, List, [], ◌∷◌, nat_eq, refl, ◌⊎◌}
+use Rattle.std.specs.Prelude.{◌≡◌, ℕ, ◌+◌, ◌<◌, Bool, true, false, List, [], ◌∷◌, nat_eq, refl, ◌⊎◌}
 use Rattle.std.proofs.Common.{arith, sym, ◌∙◌, ap, subst, inl, inr}
 use Rattle.std.proofs.lemmas.Bool.{eqb-true}
 use Rattle.sd_sched.specs.declared.Event.{Event}
@@ -7,7 +7,7 @@ use Rattle.sd_sched.specs.Events.{reference_of}
 use Rattle.sd_history.specs.World.{Setting, has_commit}
 use Rattle.sd_history.specs.Steps.{Step, seen_of}
 use Rattle.sd_history.specs.Chronicle.{chronicle}
-use Rattle.sd_safety.specs.Eras.{era, all_started, beginning}
+use Rattle.sd_safety.specs.Eras.{era, beginning}
 use Rattle.sd_safety.specs.Coming.{Comes}
 use Rattle.sd_safety.proofs.Sides.{not_both}
 use Rattle.sd_safety_messages.specs.Moments.{Tail, Moment, when, IsIn}

@@ -1,10 +1,9 @@
 -- Over a span in which the root did not fail, an old device to which an open way leads and which heard nothing later than s0 has its next event by
 -- s0 + A + n * D: of K + 1 rounds one is clean. One of the era's plan comes along the old way; and by one of the staged plan the device would be new.
-use Rattle.std.specs.Prelude.{◌≡◌, ℕ, zero, suc, ◌+◌, ◌*◌, ◌<◌, ◌≤◌, Bool, true, false, List, [], ◌∷◌, length, nat_eq, Option, Some, None, refl, ◌⊎◌}
-use Rattle.std.proofs.Common.{arith, sym, ◌∙◌, ap, subst, inl, inr}
+use Rattle.std.specs.Prelude.{◌≡◌, ℕ, zero, suc, ◌+◌, ◌*◌, ◌<◌, ◌≤◌, true, false, List, ◌∷◌, length, ◌⊎◌}
+use Rattle.std.proofs.Common.{arith, sym, ◌∙◌, subst, inl, inr}
 use Rattle.std.proofs.lemmas.Bool.{cases_lt}
 use Rattle.std.proofs.Math.Nat.{mul-le-mul_right}
-use Rattle.sd_num.specs.Lists.{same_number}
 use Rattle.sd_topo.specs.Network.{greatest_delay}
 use Rattle.sd_plan.specs.declared.End.{End}
 use Rattle.sd_plan.specs.Plans.{is_member, is_root}
@@ -13,14 +12,13 @@ use Rattle.sd_msg.specs.declared.Message.{Message}
 use Rattle.sd_check_root.specs.Timing.{round_gap}
 use Rattle.sd_sched.specs.declared.Event.{Event}
 use Rattle.sd_sched.specs.Events.{reference_of}
-use Rattle.sd_history.specs.World.{Setting, has_commit, epoch_in_force, staged_epoch, window_is_open, plan_numbered}
+use Rattle.sd_history.specs.World.{Setting, has_commit, epoch_in_force, staged_epoch, window_is_open}
 use Rattle.sd_history.specs.Steps.{Step, seen_of, epoch_in}
 use Rattle.sd_history.specs.Chronicle.{chronicle}
 use Rattle.sd_history.proofs.Among.{Among}
 use Rattle.sd_history.proofs.Parts.{AllHold, premises_of}
 use Rattle.sd_safety.specs.Bounds.{depth, delay, rounds_gap}
 use Rattle.sd_safety.specs.Eras.{era, plan_now, is_old, is_new, root_failed, heard_at}
-use Rattle.sd_safety.specs.Clauses.{staged_root}
 use Rattle.sd_safety.specs.Coming.{IsClean}
 use Rattle.sd_safety.proofs.Prefix.{clean_before}
 use Rattle.sd_safety.proofs.Sides.{same_is_some}

@@ -1,9 +1,8 @@
 -- Over a span in which the root did not fail it is a source; whoever emits is the root; and none emits a newer term than it does.
-use Rattle.std.specs.Prelude.{◌≡◌, ℕ, ◌+◌, ◌<◌, ◌≤◌, Bool, true, false, ◌||◌, List, [], ◌∷◌, Some, refl, ◌⊎◌, if◌then◌else◌}
+use Rattle.std.specs.Prelude.{◌≡◌, ℕ, ◌+◌, ◌<◌, ◌≤◌, Bool, true, false, List, ◌∷◌, Some, refl, ◌⊎◌, if◌then◌else◌}
 use Rattle.std.proofs.Common.{arith, sym, ◌∙◌, ap, subst, inl, inr}
 use Rattle.std.proofs.lemmas.Bool.{eqb-true, false_from_ne_true}
 use Rattle.sd_topo.specs.declared.Thing.TheVariants as thing
-use Rattle.sd_plan.specs.declared.Plan.{Plan}
 use Rattle.sd_msg.specs.declared.Message.{Message}
 use Rattle.sd_check_root.specs.Timing.{round_gap}
 use Rattle.sd_core.specs.Calls.{Call, Past}
@@ -21,7 +20,7 @@ use Rattle.sd_safety.specs.Invariant.{Invariant, AtEach}
 use Rattle.sd_safety.specs.Coming.{IsClean}
 use Rattle.sd_safety.proofs.Prefix.{clean_before}
 use Rattle.sd_safety.proofs.Sides.{implied, not_both}
-use Rattle.sd_safety_messages.specs.Moments.{Tail, whole, behind, IsChronicle, Moment, upto, when, IsIn, IsBefore, Emits}
+use Rattle.sd_safety_messages.specs.Moments.{Tail, whole, behind, IsChronicle, Moment, upto, when, IsIn, Emits}
 use Rattle.sd_safety_messages.specs.Rounds.{IsUnbroken, AreApart}
 use Rattle.sd_safety_messages.specs.Stamping.{EntersNot, enters, remakes}
 use Rattle.sd_safety_messages.proofs.Tails.{Order, before as comes_before, same as are_same, after as comes_after, ordered, tail_chronicle, history_chronicle, before_is_earlier}

@@ -1,8 +1,8 @@
 -- How far back the silence of an old device goes: while it stands on its primary, no further than the commit of the window with whose closing the era began;
 -- and while the backup root is on its backup, not beyond the closing.
-use Rattle.std.specs.Prelude.{◌≡◌, ℕ, ◌+◌, ◌<◌, ◌≤◌, Bool, true, false, ◌&&◌, ◌||◌, not, List, [], ◌∷◌, nat_eq, Some, None, is_some, refl, ◌⊎◌, if◌then◌else◌}
-use Rattle.std.proofs.Common.{arith, sym, ◌∙◌, ap, subst, inl, inr}
-use Rattle.std.proofs.lemmas.Bool.{and_parts, and_from, eqb-true, eq-eqb, false_from_ne_true}
+use Rattle.std.specs.Prelude.{◌≡◌, ℕ, ◌+◌, ◌<◌, ◌≤◌, Bool, true, false, ◌&&◌, ◌||◌, not, List, [], ◌∷◌, nat_eq, is_some, refl, if◌then◌else◌}
+use Rattle.std.proofs.Common.{arith, sym, ◌∙◌, ap, subst}
+use Rattle.std.proofs.lemmas.Bool.{and_parts, and_from, eqb-true, false_from_ne_true}
 use Rattle.sd_num.specs.Lists.{of_some, same_number}
 use Rattle.sd_sched.specs.declared.Event.{Event}
 use Rattle.sd_sched.specs.Events.{reference_of}
@@ -14,8 +14,8 @@ use Rattle.sd_safety.specs.Clauses.{staged_root, commit_at}
 use Rattle.sd_safety.specs.Invariant.{Core}
 use Rattle.sd_safety.specs.Coming.{IsClean, Comes}
 use Rattle.sd_safety.proofs.Prefix.{clean_before}
-use Rattle.sd_safety.proofs.Sides.{implied, not_both, same_is_some}
-use Rattle.sd_safety_messages.specs.Moments.{Tail, whole, behind, Moment, when, IsIn}
+use Rattle.sd_safety.proofs.Sides.{implied, not_both}
+use Rattle.sd_safety_messages.specs.Moments.{whole, behind, Moment, when, IsIn}
 use Rattle.sd_safety_messages.proofs.Tails.{history_chronicle, no_later}
 use Rattle.sd_safety_timers.specs.Since.{whole as whole_tail}
 use Rattle.sd_safety_waits.proofs.Standing.{steps_timed}

@@ -1,11 +1,10 @@
 -- 15 in all eras, before and after a commit: along the fallback, which C7 says is whole.
-use Rattle.std.specs.Prelude.{◌≡◌, ℕ, ◌+◌, ◌-◌, ◌*◌, ◌<◌, ◌≤◌, Bool, true, false, ◌&&◌, ◌||◌, not, max, List, [], ◌∷◌, length, nat_eq, Option, Some, IfSome, refl, ◌⊎◌}
+use Rattle.std.specs.Prelude.{◌≡◌, ℕ, ◌+◌, ◌*◌, ◌<◌, ◌≤◌, Bool, true, false, ◌&&◌, not, List, [], ◌∷◌, length, nat_eq, Some, IfSome, refl, ◌⊎◌}
 use Rattle.std.proofs.Common.{arith, sym, ◌∙◌, ap, subst, inl, inr}
-use Rattle.std.proofs.lemmas.Bool.{and_parts, and_from, or_left, or_right, cases_lt, eqb-true, eq-eqb, not-true, false_from_ne_true}
-use Rattle.sd_num.specs.Lists.{has, same_number}
+use Rattle.std.proofs.lemmas.Bool.{and_from, or_left, or_right, eqb-true, eq-eqb, not-true}
+use Rattle.sd_num.specs.Lists.{has}
 use Rattle.sd_topo.specs.declared.Thing.{Thing}
 use Rattle.sd_topo.specs.declared.Thing.TheVariants as thing
-use Rattle.sd_topo.specs.Network.{greatest_delay, greatest_up, least_low}
 use Rattle.sd_plan.specs.declared.Hop.{Hop}
 use Rattle.sd_plan.specs.declared.Plan.{Plan}
 use Rattle.sd_plan.specs.declared.End.{End}
@@ -13,32 +12,26 @@ use Rattle.sd_plan.specs.Plans.{IsHop, is_member, is_present, is_root, is_backup
 use Rattle.sd_plan.specs.Duties.{follows_over}
 use Rattle.sd_plan.specs.Walks.{walk, end_of, things_of, devices_of, links_of}
 use Rattle.sd_plan.proofs.Rules.{hops_within}
-use Rattle.sd_check_root.specs.Timing.{round_gap}
 use Rattle.sd_check_root.specs.Roots.{fallback_devices, fallback_links}
 use Rattle.sd_core.specs.Calls.{Past}
 use Rattle.sd_sched.specs.declared.Event.{Event}
 use Rattle.sd_sched.specs.Events.{reference_of}
-use Rattle.sd_history.specs.World.{Setting, fails, is_up, has_commit, link_has_failed, plan_numbered}
-use Rattle.sd_history.specs.Steps.{Step, seen_of, acts_in, epoch_in}
-use Rattle.sd_history.specs.Chronicle.{past_in, chronicle, next_step}
+use Rattle.sd_history.specs.World.{Setting, fails, is_up, link_has_failed, plan_numbered}
+use Rattle.sd_history.specs.Steps.{Step, seen_of, acts_in}
+use Rattle.sd_history.specs.Chronicle.{past_in, chronicle}
 use Rattle.sd_history.proofs.Among.{first}
-use Rattle.sd_safety.specs.Bounds.{depth, delay, rounds_gap, tick_gap}
-use Rattle.sd_safety.specs.Eras.{era, plan_now, all_started, beginning, heard_at, moved_at, is_among, touches, failed_now, device_failed_now, link_failed_now, is_old, is_new, is_ordinary, moved, on_backup, hit, root_failed, root_lives, rests_for}
+use Rattle.sd_safety.specs.Bounds.{depth, delay, rounds_gap}
+use Rattle.sd_safety.specs.Eras.{era, plan_now, all_started, heard_at, moved_at, is_among, touches, failed_now, link_failed_now, is_old, moved, on_backup, hit, root_failed}
 use Rattle.sd_safety.specs.Invariant.{Invariant}
-use Rattle.sd_safety.specs.Coming.{Comes, AtNext}
-use Rattle.sd_safety.specs.Silences.{FallbackHears}
 use Rattle.sd_safety.proofs.Facts.{IsSound}
 use Rattle.sd_safety.proofs.Sides.{implied, not_both}
-use Rattle.sd_safety.proofs.Timed.{least_below_greatest}
-use Rattle.sd_safety_messages.specs.Moments.{Tail, whole, behind, Moment, upto, when, IsIn}
+use Rattle.sd_safety_messages.specs.Moments.{behind, Moment, when, IsIn}
 use Rattle.sd_safety_messages.specs.Rounds.{IsReady}
 use Rattle.sd_safety_messages.proofs.Ends.{backup_follows}
-use Rattle.sd_safety_messages.proofs.Flowing.{tail_rest}
-use Rattle.sd_safety_messages.proofs.Overlap.{IsApart, apart_by_rule}
 use Rattle.sd_safety_timers.proofs.Marks.{some_is}
 use Rattle.sd_safety_waits.proofs.Waits.{Stands, old_stands}
-use Rattle.sd_safety_waits.proofs.Then.{Was, two_parts}
-use Rattle.sd_safety_waits.proofs.Standing.{now, sound, heard_late}
+use Rattle.sd_safety_waits.proofs.Then.{two_parts}
+use Rattle.sd_safety_waits.proofs.Standing.{now, sound}
 use Rattle.sd_safety_silences.proofs.Phases.{fewer}
 use Rattle.sd_safety_silences.proofs.Walking.{Walks, way_of, way_length, way_keeps, end_at, walk_length}
 use Rattle.sd_safety_silences.proofs.Paths.{IsClear, clear_walk}
@@ -48,15 +41,14 @@ use Rattle.sd_safety_silences.proofs.Fallen.{falls, the_hop, things_fine, on_fal
 use Rattle.sd_safety_windows.proofs.Committing.{staged_plan}
 use Rattle.sd_safety_entering.proofs.States as states
 use Rattle.sd_safety_rounds.specs.Rounds.{IsOpenHop, AreOpenHops}
-use Rattle.sd_safety_rounds.specs.Spans.{IsWithin, in_era, IsSpan}
+use Rattle.sd_safety_rounds.specs.Spans.{IsSpan}
 use Rattle.sd_safety_rounds.proofs.Places.{InEra, InWindow, place}
 use Rattle.sd_safety_rounds.proofs.Hops.{IsOldRound, since_first, lasts}
 use Rattle.sd_safety_rounds.proofs.Sources.{staged_is}
 use Rattle.sd_safety_rounds.proofs.Silent.{IsSilent, silent_by}
-use Rattle.sd_safety_spans.proofs.Backs.{comes_before, heard_then, moved_then, old_then, new_then, was_backup, no_closing, backup_within}
+use Rattle.sd_safety_spans.proofs.Backs.{backup_within}
 use Rattle.sd_safety_spans.proofs.Staged.{is_staged}
 use Rattle.sd_safety_spans.proofs.Thirteen.{not_root, IsSpared, spared, acts, walk_open}
-use Rattle.sd_safety_spans.proofs.Lately.{same_era, more_then, spares_now, kept_before}
 
 -- where the event fails nothing of the fallback of an old backup root on its backup
 module _ (setting : Setting) (x : Event) (h : List Event) (e : Event) (s0 : ℕ) (span : IsSpan setting x h e s0) (kept : root_failed setting (chronicle setting (x ∷ h)) ≡ false) (late : all_started setting (chronicle setting (x ∷ h)) < reference_of e)

@@ -1,6 +1,6 @@
 -- 13 at each event of each era: the silence is counted up to the event before, and the next one comes at most a tick gap later.
-use Rattle.std.specs.Prelude.{◌≡◌, ℕ, ◌+◌, ◌-◌, ◌*◌, ◌<◌, ◌≤◌, Bool, true, false, ◌&&◌, not, max, List, [], ◌∷◌, refl, ◌⊎◌}
-use Rattle.std.proofs.Common.{arith, sym, ◌∙◌, ap, subst, inl, inr}
+use Rattle.std.specs.Prelude.{◌≡◌, ℕ, ◌+◌, ◌-◌, ◌*◌, ◌<◌, ◌≤◌, Bool, true, false, not, max, List, [], ◌∷◌, refl, ◌⊎◌}
+use Rattle.std.proofs.Common.{arith, subst, inl, inr}
 use Rattle.std.proofs.lemmas.Bool.{and_parts, cases_lt, not-true, false_from_ne_true}
 use Rattle.sd_topo.specs.declared.Thing.{Thing}
 use Rattle.sd_topo.specs.declared.Thing.TheVariants as thing
@@ -9,17 +9,16 @@ use Rattle.sd_plan.specs.Walks.{path}
 use Rattle.sd_check_root.specs.Timing.{round_gap}
 use Rattle.sd_sched.specs.declared.Event.{Event}
 use Rattle.sd_sched.specs.Events.{reference_of}
-use Rattle.sd_history.specs.World.{Setting, fails, is_up, latest_reference, plan_numbered}
+use Rattle.sd_history.specs.World.{Setting, fails, is_up, plan_numbered}
 use Rattle.sd_history.specs.Steps.{Step, seen_of}
 use Rattle.sd_history.specs.Chronicle.{chronicle, next_step}
 use Rattle.sd_safety.specs.Bounds.{depth, delay, rounds_gap, tick_gap}
-use Rattle.sd_safety.specs.Eras.{era, plan_now, all_started, beginning, is_among, touches, failed_now, heard_at, is_old, on_primary, path_hit, root_failed, root_lives}
+use Rattle.sd_safety.specs.Eras.{era, plan_now, all_started, beginning, is_among, touches, failed_now, heard_at, is_old, on_primary, path_hit, root_failed}
 use Rattle.sd_safety.specs.Coming.{Comes, AtNext}
 use Rattle.sd_safety.specs.Silences.{WholePathHears}
-use Rattle.sd_safety.proofs.Facts.{IsSound}
 use Rattle.sd_safety.proofs.Sides.{not_both}
 use Rattle.sd_safety.proofs.Timed.{least_below_greatest}
-use Rattle.sd_safety_messages.specs.Moments.{Tail, whole, behind}
+use Rattle.sd_safety_messages.specs.Moments.{whole, behind}
 use Rattle.sd_safety_messages.proofs.Overlap.{IsApart, apart_by_rule}
 use Rattle.sd_safety_waits.proofs.Waits.{Stands, old_stands}
 use Rattle.sd_safety_waits.proofs.Then.{Was}

@@ -1,6 +1,6 @@
 -- 15 at each event of each era: the rest is counted up to the event before, and the next one comes at most a tick gap later.
 use Rattle.std.specs.Prelude.{◌≡◌, ℕ, ◌+◌, ◌*◌, ◌<◌, ◌≤◌, Bool, true, false, ◌&&◌, not, max, List, [], ◌∷◌, refl, ◌⊎◌}
-use Rattle.std.proofs.Common.{arith, sym, ◌∙◌, ap, subst, inl, inr}
+use Rattle.std.proofs.Common.{arith, ap, subst, inl, inr}
 use Rattle.std.proofs.lemmas.Bool.{and_parts, and_from, cases_lt, not-true}
 use Rattle.sd_num.specs.Lists.{has}
 use Rattle.sd_topo.specs.declared.Thing.TheVariants as thing
@@ -17,7 +17,6 @@ use Rattle.sd_safety.specs.Eras.{era, plan_now, all_started, beginning, heard_at
 use Rattle.sd_safety.specs.Invariant.{Invariant}
 use Rattle.sd_safety.specs.Coming.{Comes, AtNext}
 use Rattle.sd_safety.specs.Silences.{FallbackHears}
-use Rattle.sd_safety.proofs.Facts.{IsSound}
 use Rattle.sd_safety.proofs.Sides.{implied}
 use Rattle.sd_safety.proofs.Timed.{least_below_greatest}
 use Rattle.sd_safety_messages.proofs.Overlap.{IsApart, apart_by_rule}

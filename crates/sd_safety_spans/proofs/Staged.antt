@@ -1,23 +1,23 @@
 -- A device that is old and not hit, or is the backup root, is after a commit a member of the staged plan: who is left out is hit, and ordinary; or all have
 -- still time to start.
-use Rattle.std.specs.Prelude.{◌≡◌, ℕ, ◌<◌, ◌≤◌, Bool, true, false, ◌&&◌, ◌||◌, not, List, ◌∷◌, length, nat_eq, nat_le, nat_lt, refl, ◌⊎◌}
+use Rattle.std.specs.Prelude.{◌≡◌, ℕ, ◌<◌, ◌≤◌, Bool, true, false, ◌&&◌, ◌||◌, not, List, ◌∷◌, length, refl, ◌⊎◌}
 use Rattle.std.specs.List.{list_any, list_all}
-use Rattle.std.proofs.Common.{arith, sym, ◌∙◌, ap, subst, inl, inr}
-use Rattle.std.proofs.lemmas.Bool.{and_parts, and_from, or_cases, eqb-true, leb-true, true_from_ne_false, false_from_ne_true}
+use Rattle.std.proofs.Common.{arith, ◌∙◌, inl, inr}
+use Rattle.std.proofs.lemmas.Bool.{and_parts, or_cases, leb-true}
 use Rattle.sd_topo.specs.Network.{device_numbers}
-use Rattle.sd_plan.specs.Plans.{is_member, is_root}
+use Rattle.sd_plan.specs.Plans.{is_member}
 use Rattle.sd_sched.specs.declared.Event.{Event}
 use Rattle.sd_sched.specs.Events.{reference_of}
-use Rattle.sd_history.specs.World.{Setting, is_up, has_commit, is_untouched, latest_reference, is_staged_member, plan_numbered}
+use Rattle.sd_history.specs.World.{Setting, is_up, has_commit, is_untouched, is_staged_member, plan_numbered}
 use Rattle.sd_history.specs.Steps.{Step, seen_of}
 use Rattle.sd_history.specs.Chronicle.{chronicle, next_step}
-use Rattle.sd_history.proofs.Among.{Among, passes}
+use Rattle.sd_history.proofs.Among.{passes}
 use Rattle.sd_history.proofs.Known.{up_is_known}
-use Rattle.sd_safety.specs.Eras.{era, plan_now, all_started, is_ordinary, hit}
+use Rattle.sd_safety.specs.Eras.{plan_now, all_started, is_ordinary, hit}
 use Rattle.sd_safety.specs.Clauses.{is_beginning, left_out_is_hit, someone_untouched, begins_with}
 use Rattle.sd_safety.specs.Invariant.{Invariant}
 use Rattle.sd_safety.specs.Coming.{Comes}
-use Rattle.sd_safety.proofs.Sides.{implied, not_both}
+use Rattle.sd_safety.proofs.Sides.{implied}
 use Rattle.sd_safety_messages.proofs.Ends.{among_below}
 use Rattle.sd_safety_messages.proofs.Spoils.{Passing, any_passing}
 use Rattle.sd_safety_waits.proofs.Long.{starts_in_time}

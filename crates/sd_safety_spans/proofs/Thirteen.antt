@@ -1,56 +1,46 @@
 -- 13 in all eras, before and after a commit.
-use Rattle.std.specs.Prelude.{◌≡◌, ℕ, ◌+◌, ◌-◌, ◌*◌, ◌<◌, ◌≤◌, Bool, true, false, ◌&&◌, ◌||◌, not, max, List, [], ◌∷◌, length, nat_eq, Option, Some, is_some, refl, ◌⊎◌}
-use Rattle.std.proofs.Common.{arith, sym, ◌∙◌, ap, subst, inl, inr}
+use Rattle.std.specs.Prelude.{◌≡◌, ℕ, ◌+◌, ◌*◌, ◌<◌, ◌≤◌, Bool, true, false, ◌&&◌, ◌||◌, not, List, [], ◌∷◌, length, Option, is_some, refl}
+use Rattle.std.proofs.Common.{arith, sym, ◌∙◌, ap, subst}
 use Rattle.std.specs.List.{list_any}
 use Rattle.std.proofs.lemmas.Bool.{or_parts, or_from, eqb-true, false_from_ne_true}
 use Rattle.sd_num.specs.Lists.{same_number}
 use Rattle.sd_topo.specs.declared.Thing.{Thing}
 use Rattle.sd_topo.specs.declared.Thing.TheVariants as thing
-use Rattle.sd_topo.specs.Network.{greatest_delay, greatest_up, least_low}
+use Rattle.sd_topo.specs.Network.{greatest_delay}
 use Rattle.sd_plan.specs.declared.Hop.{Hop}
 use Rattle.sd_plan.specs.declared.Plan.{Plan}
 use Rattle.sd_plan.specs.declared.End.{End}
 use Rattle.sd_plan.specs.Plans.{is_member, is_root}
 use Rattle.sd_plan.specs.Walks.{walk, path, end_of}
-use Rattle.sd_check_root.specs.Timing.{round_gap}
 use Rattle.sd_sched.specs.declared.Event.{Event}
 use Rattle.sd_sched.specs.Events.{reference_of}
-use Rattle.sd_history.specs.World.{Setting, Seen, fails, is_up, has_commit, latest_reference, joined_in_window, epoch_in_force, plan_numbered}
+use Rattle.sd_history.specs.World.{Setting, Seen, fails, is_up, joined_in_window, epoch_in_force}
 use Rattle.sd_history.specs.Steps.{Step, seen_of, acts_in, epoch_in}
-use Rattle.sd_history.specs.Chronicle.{past_in, chronicle, next_step}
+use Rattle.sd_history.specs.Chronicle.{chronicle}
 use Rattle.sd_history.proofs.Known.{up_is_known}
-use Rattle.sd_safety.specs.Bounds.{depth, delay, rounds_gap, tick_gap}
-use Rattle.sd_safety.specs.Eras.{era, plan_now, all_started, beginning, is_among, touches, failed_now, device_failed_now, heard_at, heard_since_made, is_old, is_new, is_blank, is_ordinary, live_past, moved, on_primary, hit, path_hit, root_failed, root_lives, silent_for}
-use Rattle.sd_safety.specs.Clauses.{staged_root}
+use Rattle.sd_safety.specs.Bounds.{depth, delay, rounds_gap}
+use Rattle.sd_safety.specs.Eras.{era, plan_now, all_started, is_among, touches, failed_now, device_failed_now, heard_at, is_old, is_new, is_blank, is_ordinary, live_past, moved, on_primary, hit, root_failed, root_lives}
 use Rattle.sd_safety.specs.Invariant.{Invariant}
-use Rattle.sd_safety.specs.Coming.{Comes, AtNext}
-use Rattle.sd_safety.specs.Silences.{WholePathHears}
+use Rattle.sd_safety.specs.Coming.{Comes}
 use Rattle.sd_safety.proofs.Facts.{IsSound}
 use Rattle.sd_safety.proofs.Sides.{implied, not_both, same_is_some}
 use Rattle.sd_safety.proofs.Staying.{old_is_member}
-use Rattle.sd_safety.proofs.Timed.{least_below_greatest}
-use Rattle.sd_safety_messages.specs.Moments.{whole, behind, Moment, when}
+use Rattle.sd_safety_messages.specs.Moments.{Moment, when}
 use Rattle.sd_safety_timers.proofs.Marks.{some_is}
-use Rattle.sd_safety_messages.proofs.Overlap.{IsApart, apart_by_rule}
 use Rattle.sd_safety_waits.proofs.Waits.{Stands, old_stands}
-use Rattle.sd_safety_waits.proofs.Then.{Was}
-use Rattle.sd_safety_waits.proofs.Standing.{now, clean, sound, heard_late, Early, lives}
-use Rattle.sd_safety_silences.proofs.Phases.{fewer}
+use Rattle.sd_safety_waits.proofs.Standing.{now, sound, Early, lives}
 use Rattle.sd_safety_silences.proofs.Walking.{Walks, end_at, way_of, way_length, begins, walk_length}
 use Rattle.sd_safety_silences.proofs.Paths.{IsClear, clear_walk, path_misses_cut}
 use Rattle.sd_safety_silences.proofs.Sounding.{top_of, map_walks}
-use Rattle.sd_safety_silences.proofs.Late.{heard_after}
-use Rattle.sd_safety_windows.proofs.Eras as eras
 use Rattle.sd_safety_windows.proofs.Committing.{staged_plan}
 use Rattle.sd_safety_entering.proofs.States as states
-use Rattle.sd_safety_entering.proofs.Hears.{idle_by, hears_soon}
+use Rattle.sd_safety_entering.proofs.Hears.{idle_by}
 use Rattle.sd_safety_rounds.specs.Rounds.{AreOpenHops}
 use Rattle.sd_safety_rounds.specs.Spans.{IsSpan}
 use Rattle.sd_safety_rounds.proofs.Hops.{IsOldRound, old_hop}
 use Rattle.sd_safety_rounds.proofs.NewHops.{open_ways}
 use Rattle.sd_safety_rounds.proofs.Sources.{staged_is}
-use Rattle.sd_safety_rounds.proofs.Silent.{IsSilent, OldWay, silent_by, not_old_and_new}
-use Rattle.sd_safety_spans.proofs.Backs.{comes_before, heard_then, old_then, new_then, not_staged_root, was_primary, primary_within}
+use Rattle.sd_safety_rounds.proofs.Silent.{IsSilent, silent_by, not_old_and_new}
 use Rattle.sd_safety_spans.proofs.Staged.{is_staged}
 
 -- a device is no root where the root acts and it does not

@@ -1,7 +1,7 @@
 -- Up a walk along a trace: where each device of the walk but the root took the round from its parent above, and none of them began it, the root emitted it, at
 -- most so many greatest delays before as the walk has hops.
 use Rattle.std.specs.Prelude.{◌≡◌, ℕ, zero, suc, ◌+◌, ◌*◌, ◌≤◌, Bool, true, false, ◌||◌, List, [], ◌∷◌, map, nat_eq, Option, Some, None, refl}
-use Rattle.std.proofs.Common.{arith, ◌∙◌, ap, sym, subst}
+use Rattle.std.proofs.Common.{arith, sym, subst}
 use Rattle.std.proofs.lemmas.Bool.{or_left, or_right, eqb-true, eq-eqb}
 use Rattle.sd_num.specs.Lists.{has}
 use Rattle.sd_topo.specs.Network.{greatest_delay}

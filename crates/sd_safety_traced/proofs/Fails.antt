@@ -1,15 +1,11 @@
 -- What the root emits of its era's plan it emits no later than it fails first in the era.
-use Rattle.std.specs.Prelude.{◌≡◌, ℕ, ◌+◌, ◌≤◌, Bool, true, false, ◌||◌, List, [], ◌∷◌, max, nat_eq, Option, Some, refl, ◌⊎◌, if◌then◌else◌}
-use Rattle.std.specs.List.{list_any}
-use Rattle.std.proofs.Common.{arith, ◌∙◌, ap, sym, subst, inl, inr}
+use Rattle.std.specs.Prelude.{◌≡◌, ℕ, ◌≤◌, Bool, true, false, ◌||◌, List, [], ◌∷◌, max, nat_eq, Option, Some, refl, if◌then◌else◌}
+use Rattle.std.proofs.Common.{arith, ◌∙◌, ap, sym, subst}
 use Rattle.sd_num.specs.Lists.{of_some}
-use Rattle.sd_topo.specs.declared.Thing.{Thing}
 use Rattle.sd_topo.specs.declared.Thing.TheVariants as thing
 use Rattle.sd_msg.specs.declared.Message.{Message}
-use Rattle.sd_core.specs.Calls.{Past}
 use Rattle.sd_core.specs.Words.{epoch_now}
 use Rattle.sd_sched.specs.declared.Event.{Event}
-use Rattle.sd_sched.specs.Events.{reference_of}
 use Rattle.sd_history.specs.World.{Setting, fails, is_up, plan_numbered}
 use Rattle.sd_history.specs.Steps.{Step, seen_of}
 use Rattle.sd_history.specs.Chronicle.{past_in, chronicle, next_step}
@@ -17,7 +13,7 @@ use Rattle.sd_history.proofs.Among.{first}
 use Rattle.sd_safety.specs.Eras.{era, plan_now, is_among, failed_now, root_failed, first_failure, late, all_started}
 use Rattle.sd_safety.specs.Invariant.{Invariant, AtEach}
 use Rattle.sd_safety.specs.Silences.{root_failed_at}
-use Rattle.sd_safety.specs.Coming.{IsFair, IsClean, Comes}
+use Rattle.sd_safety.specs.Coming.{IsFair, IsClean}
 use Rattle.sd_safety.proofs.Sides.{not_both}
 use Rattle.sd_safety_messages.specs.Moments.{Tail, whole, behind, IsChronicle, Moment, upto, when, IsIn, IsBefore, Emits}
 use Rattle.sd_safety_messages.proofs.Tails.{Order, before, same, after, ordered, rest_of, tail_chronicle, history_chronicle, before_is_earlier}
@@ -27,7 +23,7 @@ use Rattle.sd_safety_timers.specs.Since.{IsTail, whole as whole_tail, beyond}
 use Rattle.sd_safety_silences.proofs.Phases.{era_grows, fails_among, failed_on}
 use Rattle.sd_safety_silences.proofs.Sourced.{emission_keeps}
 use Rattle.sd_safety_silences.proofs.Sounding.{top_of}
-use Rattle.sd_safety_windows.proofs.Senders.{IsCalled, called_is_up}
+use Rattle.sd_safety_windows.proofs.Senders.{called_is_up}
 use Rattle.sd_safety_behind.proofs.Failing.{FirstFailure, first_failing, some_failed}
 use Rattle.sd_safety_entering.proofs.Stages.{Stage, stage}
 use Rattle.sd_safety_traced.proofs.Roots.{root_acts_old}

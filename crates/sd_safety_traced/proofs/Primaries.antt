@@ -3,7 +3,6 @@ use Rattle.std.specs.Prelude.{◌≡◌, ℕ, ◌+◌, ◌*◌, ◌<◌, ◌≤�
 use Rattle.std.proofs.Common.{arith, ◌∙◌, ap, sym, subst}
 use Rattle.std.proofs.lemmas.Bool.{or_left, or_right, eq-eqb}
 use Rattle.sd_num.specs.Lists.{has}
-use Rattle.sd_topo.specs.Network.{greatest_delay}
 use Rattle.sd_plan.specs.declared.Hop as declared
 use Rattle.sd_plan.specs.declared.Plan.{Plan}
 use Rattle.sd_plan.specs.Plans.{is_member, is_root}
@@ -22,7 +21,7 @@ use Rattle.sd_safety.specs.Invariant.{Invariant, AtEach}
 use Rattle.sd_safety.specs.Coming.{IsFair, IsClean}
 use Rattle.sd_safety.proofs.Facts.{IsSound, sound_now}
 use Rattle.sd_safety.proofs.Sides.{implied}
-use Rattle.sd_safety_messages.specs.Moments.{Tail, whole, Moment, upto, when, IsIn, Emits}
+use Rattle.sd_safety_messages.specs.Moments.{whole, Moment, upto, when, IsIn, Emits}
 use Rattle.sd_safety_messages.specs.Traces.{Hop, Traced}
 use Rattle.sd_safety_messages.proofs.Tails.{tail_trans, tail_chronicle, history_chronicle}
 use Rattle.sd_safety_messages.proofs.Tracing.{accepted_traced}

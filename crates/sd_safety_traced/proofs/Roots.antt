@@ -1,30 +1,25 @@
 -- The root of a plan takes no message of it; and what it emits in its era it emits before it fails.
-use Rattle.std.specs.Prelude.{◌≡◌, ℕ, ◌+◌, ◌<◌, ◌≤◌, Bool, true, false, ◌&&◌, not, List, [], ◌∷◌, Option, Some, None, refl, ◌⊎◌, if◌then◌else◌}
+use Rattle.std.specs.Prelude.{◌≡◌, ℕ, ◌+◌, ◌<◌, ◌≤◌, Bool, true, false, not, List, [], ◌∷◌, Option, Some, None, refl, ◌⊎◌, if◌then◌else◌}
 use Rattle.std.proofs.Common.{arith, ◌∙◌, ap, sym, subst, inl, inr}
 use Rattle.std.proofs.lemmas.Bool.{and_from, cases_lt, eq-eqb, not-true, false_from_ne_true}
 use Rattle.sd_num.specs.Lists.{same_number}
-use Rattle.sd_topo.specs.declared.Thing.TheVariants as thing
-use Rattle.sd_plan.specs.declared.Duty.{Duty}
 use Rattle.sd_plan.specs.declared.Edge.{Edge}
-use Rattle.sd_plan.specs.declared.Plan.{Plan}
-use Rattle.sd_msg.specs.declared.Flight.{Flight}
-use Rattle.sd_msg.specs.declared.Message.{Message}
 use Rattle.sd_msg.specs.declared.Stamp.{Stamp}
-use Rattle.sd_core.specs.Calls.{Call, Receive, Past}
+use Rattle.sd_core.specs.Calls.{Receive, Past}
 use Rattle.sd_core.specs.Words.{is_acting, has_moved, epoch_now, given_now, parent_edge, primary_now, backup_now}
 use Rattle.sd_sched.specs.declared.Event.{Event}
-use Rattle.sd_history.specs.World.{Setting, fails, is_up, has_commit, staged_epoch, plan_numbered}
+use Rattle.sd_history.specs.World.{Setting, is_up, has_commit, plan_numbered}
 use Rattle.sd_history.specs.Steps.{Step, seen_of, acts_in, flights}
 use Rattle.sd_history.specs.Chronicle.{past_in, chronicle}
 use Rattle.sd_history.proofs.Among.{Among}
 use Rattle.sd_history.proofs.Given.{some_is}
-use Rattle.sd_safety.specs.Eras.{era, plan_now, is_old, is_new, root_failed, root_lives}
+use Rattle.sd_safety.specs.Eras.{era, plan_now, is_old, root_failed, root_lives}
 use Rattle.sd_safety.specs.Clauses.{staged_root}
 use Rattle.sd_safety.specs.Invariant.{Core, Invariant, AtEach}
 use Rattle.sd_safety.specs.Coming.{IsFair, IsClean, Comes}
 use Rattle.sd_safety.proofs.Prefix.{clean_before}
 use Rattle.sd_safety.proofs.Sides.{implied, not_both}
-use Rattle.sd_safety_messages.specs.Moments.{Tail, whole, behind, Moment, upto, IsIn, IsBefore, Accepts, entering, following}
+use Rattle.sd_safety_messages.specs.Moments.{Tail, Moment, upto, IsIn, Accepts, entering, following}
 use Rattle.sd_safety_messages.specs.Traces.{Hop}
 use Rattle.sd_safety_messages.proofs.Numbers.{sent_at_moment}
 use Rattle.sd_safety_messages.proofs.Tails.{rest_of}
@@ -34,10 +29,10 @@ use Rattle.sd_safety_windows.specs.Reaching.{reach, reach_of}
 use Rattle.sd_safety_windows.proofs.Committing.{staged_plan}
 use Rattle.sd_safety_windows.proofs.News.{reached, new_has_none}
 use Rattle.sd_safety_windows.proofs.Reaching.{within}
-use Rattle.sd_safety_windows.proofs.Senders.{IsCalled, called_is_up}
+use Rattle.sd_safety_windows.proofs.Senders.{called_is_up}
 use Rattle.sd_safety_moves.proofs.Ahead.{IsAhead, always_ahead}
 use Rattle.sd_safety_receipts.proofs.Stood.{core_of, acts_is, epoch_is}
-use Rattle.sd_safety_terms.proofs.Actors.{IsActor, committed_actor}
+use Rattle.sd_safety_terms.proofs.Actors.{IsActor}
 use Rattle.sd_safety_entering.proofs.Stages.{Stage, stage}
 use Rattle.sd_safety_entering.proofs.States as states
 

@@ -1,5 +1,5 @@
 -- Where the root failed, a backup root on its primary heard at most H * D after that: over its path, or at its start.
-use Rattle.std.specs.Prelude.{◌≡◌, ℕ, ◌+◌, ◌*◌, ◌<◌, ◌≤◌, Bool, true, false, ◌&&◌, ◌||◌, not, max, List, [], ◌∷◌, length, map, nat_eq, nat_le, Option, Some, None, is_some, refl, ◌⊎◌, if◌then◌else◌}
+use Rattle.std.specs.Prelude.{◌≡◌, ℕ, ◌+◌, ◌*◌, ◌≤◌, Bool, true, false, max, List, [], ◌∷◌, nat_eq, nat_le, Option, Some, refl, if◌then◌else◌}
 use Rattle.std.proofs.Common.{arith, ◌∙◌, ap, sym, subst, inl, inr}
 use Rattle.std.proofs.lemmas.Bool.{and_parts, and_from, eqb-true, eq-eqb, leb-true, false_from_ne_true}
 use Rattle.sd_num.specs.Lists.{of_some}
@@ -9,20 +9,20 @@ use Rattle.sd_plan.specs.declared.Duty.{Duty}
 use Rattle.sd_plan.specs.Plans.{is_root}
 use Rattle.sd_core.specs.Calls as calls
 use Rattle.sd_core.specs.Calls.{Past}
-use Rattle.sd_core.specs.Words.{epoch_now, has_moved, is_acting}
+use Rattle.sd_core.specs.Words.{epoch_now, is_acting}
 use Rattle.sd_sched.specs.declared.Event.{Event}
 use Rattle.sd_sched.specs.declared.Event.TheVariants as event
 use Rattle.sd_sched.specs.Events.{reference_of}
-use Rattle.sd_history.specs.World.{Setting, makes, is_up, latest_reference, epoch_in_force}
-use Rattle.sd_history.specs.Steps.{Step, seen_of, acts_in}
+use Rattle.sd_history.specs.World.{Setting, makes, latest_reference}
+use Rattle.sd_history.specs.Steps.{Step, seen_of}
 use Rattle.sd_history.specs.Chronicle.{new_past, past_in, chronicle, next_step}
 use Rattle.sd_history.proofs.Given.{some_is}
 use Rattle.sd_safety.specs.Bounds.{depth, delay, tick_gap}
-use Rattle.sd_safety.specs.Eras.{era, plan_now, all_started, beginning, late, first_failure, heard_at, is_old, on_primary, on_backup, moved, root_failed}
+use Rattle.sd_safety.specs.Eras.{era, plan_now, all_started, beginning, heard_at, is_old, on_primary, root_failed}
 use Rattle.sd_safety.specs.Clauses.{is_beginning}
 use Rattle.sd_safety.specs.Invariant.{Invariant, AtEach}
 use Rattle.sd_safety.specs.Silences.{root_failed_at}
-use Rattle.sd_safety.specs.Coming.{IsFair, IsClean, Comes, AtNext}
+use Rattle.sd_safety.specs.Coming.{IsFair, IsClean, Comes}
 use Rattle.sd_safety.proofs.Closings.{start_closes_none}
 use Rattle.sd_safety.proofs.Facts.{IsSound, sound_now}
 use Rattle.sd_safety.proofs.Prefix.{clean_before}
