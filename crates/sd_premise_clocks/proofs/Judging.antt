@@ -16,7 +16,7 @@ use Rattle.sd_premise_clocks.specs.Owing.{is_awaited, first_of, owed_at}
 
 -- Lists
 
-each_below : (test : ℕ → Bool) (n : ℕ) → list_all test (below n) ≡ true → (d : ℕ) → d < n → test d ≡ true
+pub each_below : (test : ℕ → Bool) (n : ℕ) → list_all test (below n) ≡ true → (d : ℕ) → d < n → test d ≡ true
 each_below test zero all d within = absurd (omega arith)
 each_below test (suc n) all d within =
     let parts = and_parts (list_all test (below n)) (test n && true) (sym (list_all-append test (below n) (n ∷ [])) ∙ all) in
@@ -25,13 +25,13 @@ each_below test (suc n) all d within =
       | inr most ↦ (let same : n ≡ d = omega arith in subst (λ (k : ℕ). test k ≡ true) same (and_parts (test n) true parts.1).0)
     ]
 
-from_each_below : (test : ℕ → Bool) (n : ℕ) → ((d : ℕ) → d < n → test d ≡ true) → list_all test (below n) ≡ true
+pub from_each_below : (test : ℕ → Bool) (n : ℕ) → ((d : ℕ) → d < n → test d ≡ true) → list_all test (below n) ≡ true
 from_each_below test zero each = refl
 from_each_below test (suc n) each =
     list_all-append test (below n) (n ∷ [])
     ∙ and_from (list_all test (below n)) (test n && true) (from_each_below test n (λ d within. each d (omega arith))) (and_from (test n) true (each n (omega arith)) refl)
 
-all_filter : (test keep : ℕ → Bool) (xs : List ℕ) → list_all test (filter keep xs) ≡ list_all (λ x. not (keep x) || test x) xs
+pub all_filter : (test keep : ℕ → Bool) (xs : List ℕ) → list_all test (filter keep xs) ≡ list_all (λ x. not (keep x) || test x) xs
 all_filter test keep [] = refl
 all_filter test keep (x ∷ xs) = by (keep x) (all_filter test keep xs)
   where

@@ -1,4 +1,4 @@
--- What a row of members answers of a device.
+-- What rows of flags answer, one row for each plan: of devices whether they are members, of links whether they are present.
 use Rattle.std.proofs.Common.{◌≡◌, ℕ, ◌+◌, ◌-◌, ◌<◌, Bool, true, List, [], ◌∷◌, ◌++◌, map, length, take, get_or, Option, Some, None, refl, sym, ap, ◌∙◌, subst}
 use Rattle.std.specs.Prelude.{slice_get, option_map}
 use Rattle.std.proofs.lemmas.List.{map-append, take_more}
@@ -11,31 +11,35 @@ use Rattle.sd_history.specs.World.{Setting, plan_numbered, no_plan}
 use Rattle.sd_premise_clocks.specs.Memberships.{AreMembers, flag_at}
 
 -- the row of a plan
-abbrev pub row_for : ℕ → Plan → List Bool
-row_for count plan = map (is_member plan) (below count)
+abbrev pub row_for : (Plan → ℕ → Bool) → ℕ → Plan → List Bool
+row_for test count plan = map (test plan) (below count)
 
--- its flag of a device
-flag_of : (count : ℕ) (plan : Plan) (d : ℕ) → d < count → slice_get (row_for count plan) d ≡ Some (is_member plan d)
-flag_of count plan d within =
-    slice_get-map (is_member plan) (below count) d
-    ∙ ap (option_map (is_member plan)) (slice_get-get_or (below count) d 0 (subst (λ (n : ℕ). d < n) (sym (length-below count)) within) ∙ ap Some (get_or-below count d 0 within))
+-- its flag of a number
+flag_of : (test : Plan → ℕ → Bool) (count : ℕ) (plan : Plan) (d : ℕ) → d < count → slice_get (row_for test count plan) d ≡ Some (test plan d)
+flag_of test count plan d within =
+    slice_get-map (test plan) (below count) d
+    ∙ ap (option_map (test plan)) (slice_get-get_or (below count) d 0 (subst (λ (n : ℕ). d < n) (sym (length-below count)) within) ∙ ap Some (get_or-below count d 0 within))
 
 -- the flag of a plan, whether it is there or not
-pub flag_is : (setting : Setting) (rows : List (List Bool)) (epoch d : ℕ) → AreMembers setting rows → d < length setting.net.devices → flag_at rows (epoch - 1) d ≡ is_member (plan_numbered setting epoch) d
-flag_is setting rows epoch d are within = ap (λ (o : Option (List Bool)). of_some o true (λ row. at_place row d true (λ b. b))) mapped ∙ by (slice_get setting.plans (epoch - 1))
+pub flags_are : (test : Plan → ℕ → Bool) → ((d : ℕ) → test no_plan d ≡ true) → (count : ℕ) (setting : Setting) (rows : List (List Bool)) (epoch d : ℕ)
+    → rows ≡ map (row_for test count) setting.plans → d < count → flag_at rows (epoch - 1) d ≡ test (plan_numbered setting epoch) d
+flags_are test always count setting rows epoch d are within = ap (λ (o : Option (List Bool)). of_some o true (λ row. at_place row d true (λ b. b))) mapped ∙ by (slice_get setting.plans (epoch - 1))
   where
-    mapped : slice_get rows (epoch - 1) ≡ option_map (row_for (length setting.net.devices)) (slice_get setting.plans (epoch - 1))
-    mapped = ap (λ (rs : List (List Bool)). slice_get rs (epoch - 1)) are ∙ slice_get-map (row_for (length setting.net.devices)) setting.plans (epoch - 1)
+    mapped : slice_get rows (epoch - 1) ≡ option_map (row_for test count) (slice_get setting.plans (epoch - 1))
+    mapped = ap (λ (rs : List (List Bool)). slice_get rs (epoch - 1)) are ∙ slice_get-map (row_for test count) setting.plans (epoch - 1)
 
-    by : (o : Option Plan) → of_some (option_map (row_for (length setting.net.devices)) o) true (λ row. at_place row d true (λ b. b)) ≡ is_member (of_some o no_plan (λ plan. plan)) d
-    by None = refl
-    by (Some plan) = ap (λ (o : Option Bool). of_some o true (λ b. b)) (flag_of (length setting.net.devices) plan d within)
+    by : (o : Option Plan) → of_some (option_map (row_for test count) o) true (λ row. at_place row d true (λ b. b)) ≡ test (of_some o no_plan (λ plan. plan)) d
+    by None = sym (always d)
+    by (Some plan) = ap (λ (o : Option Bool). of_some o true (λ b. b)) (flag_of test count plan d within)
+
+pub flag_is : (setting : Setting) (rows : List (List Bool)) (epoch d : ℕ) → AreMembers setting rows → d < length setting.net.devices → flag_at rows (epoch - 1) d ≡ is_member (plan_numbered setting epoch) d
+flag_is setting rows epoch d are within = flags_are is_member (λ d. refl) (length setting.net.devices) setting rows epoch d are within
 
 -- one plan more
-pub rows_more : {V : Type 0} (items : V → List Bool) (count : ℕ) (plans : List Plan) (i : ℕ) (plan : Plan) (old : List V) (row : V) → i < length plans → plan ≡ get_or plans i plan
-    → map items old ≡ map (row_for count) (take i plans) → items row ≡ row_for count plan → map items (old ++ row ∷ []) ≡ map (row_for count) (take (i + 1) plans)
-rows_more items count plans i plan old row within at so_far new =
+pub rows_more : {V : Type 0} (test : Plan → ℕ → Bool) (items : V → List Bool) (count : ℕ) (plans : List Plan) (i : ℕ) (plan : Plan) (old : List V) (row : V) → i < length plans → plan ≡ get_or plans i plan
+    → map items old ≡ map (row_for test count) (take i plans) → items row ≡ row_for test count plan → map items (old ++ row ∷ []) ≡ map (row_for test count) (take (i + 1) plans)
+rows_more test items count plans i plan old row within at so_far new =
     map-append items old (row ∷ [])
     ∙ ap (λ (rs : List (List Bool)). rs ++ items row ∷ []) so_far
-    ∙ ap (λ (r : List Bool). map (row_for count) (take i plans) ++ r ∷ []) (new ∙ ap (row_for count) at)
-    ∙ sym (ap (map (row_for count)) (take_more plans i plan within) ∙ map-append (row_for count) (take i plans) (get_or plans i plan ∷ []))
+    ∙ ap (λ (r : List Bool). map (row_for test count) (take i plans) ++ r ∷ []) (new ∙ ap (row_for test count) at)
+    ∙ sym (ap (map (row_for test count)) (take_more plans i plan within) ∙ map-append (row_for test count) (take i plans) (get_or plans i plan ∷ []))

@@ -65,7 +65,7 @@ up_kept s earlier d apart =
 
 -- An event with which no plan comes in or goes out
 
-epoch_kept : (s : Seen) (earlier : List Seen) → s.closed ≡ false → epoch_in_force (s ∷ earlier) ≡ epoch_in_force earlier
+pub epoch_kept : (s : Seen) (earlier : List Seen) → s.closed ≡ false → epoch_in_force (s ∷ earlier) ≡ epoch_in_force earlier
 epoch_kept s earlier stays =
     ap (λ (n : ℕ). n + 1) (sum_by-cons (λ (x : Seen). cond x.closed 1 0) s earlier)
     ∙ ap (λ (b : Bool). cond b 1 0 + count_by (λ (x : Seen). x.closed) earlier + 1) stays ∙ ap (λ (n : ℕ). n + 1) (zero_first (count_by (λ (x : Seen). x.closed) earlier))
@@ -73,7 +73,7 @@ epoch_kept s earlier stays =
     zero_first : (n : ℕ) → 0 + n ≡ n
     zero_first n = omega arith
 
-window_kept : (s : Seen) (earlier : List Seen) → s.closed ≡ false → is_stage s.event ≡ false → window (s ∷ earlier) ≡ option_map (λ w. s ∷ w) (window earlier)
+pub window_kept : (s : Seen) (earlier : List Seen) → s.closed ≡ false → is_stage s.event ≡ false → window (s ∷ earlier) ≡ option_map (λ w. s ∷ w) (window earlier)
 window_kept s earlier stays stages =
     ap (λ (b : Bool). cond b None (cond (is_stage s.event) (Some []) (option_map (λ w. s ∷ w) (window earlier)))) stays
     ∙ ap (λ (b : Bool). cond b (Some []) (option_map (λ w. s ∷ w) (window earlier))) stages

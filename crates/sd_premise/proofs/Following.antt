@@ -1,0 +1,36 @@
+-- What an event that can follow is for each monitor.
+use Rattle.std.proofs.Common.{◌≡◌, ◌+◌, ◌<◌, true, List, [], ◌∷◌, length, get_or, nat_le, Option, Some, None, ◌⊎◌, inl, inr, refl, arith}
+use Rattle.std.specs.Prelude.{Contains}
+use Rattle.std.proofs.lemmas.Bool.{le-leb}
+use Rattle.std.proofs.lemmas.List.Elements.{Contains-append_cases, All-contains}
+use Rattle.sd_num.specs.Lists.{of_some}
+use Rattle.sd_topo.specs.Network.{delay_of}
+use Rattle.sd_msg.specs.declared.Flight.{Flight}
+use Rattle.sd_sched.specs.Events.{reference_of}
+use Rattle.sd_history.specs.World.{Setting, Seen}
+use Rattle.sd_history.specs.Premises.{flights}
+use Rattle.sd_premise_rounds.specs.Order as rounds
+use Rattle.sd_premise_rounds.proofs.InOrder.{le_greatest}
+use Rattle.sd_premise.specs.Order.{IsSentAt, CanFollow, ComesInOrder}
+
+-- for the monitor of loss
+pub follows : (setting : Setting) (earlier : List Seen) (s : Seen) → CanFollow setting earlier s → rounds.Follows setting earlier s
+follows setting earlier s can = record {
+  allowed = can.allowed;
+  due = λ k f within. (let due : (get_or s.sent k f).due ≡ reference_of s.event + (delay_of setting.net (get_or s.sent k f).link (get_or s.sent k f).receiver).max = (can.sent k f within).due in omega (arith, due));
+  numbers = can.numbers;
+  taken = by s.taken refl;
+}
+  where
+    by : (o : Option Flight) → s.taken ≡ o → of_some o true (λ f. nat_le f.number (rounds.last_sent earlier)) ≡ true
+    by None is = refl
+    by (Some f) is = le-leb f.number (rounds.last_sent earlier) (le_greatest (flights earlier) f (can.taken f is).sent)
+
+-- each flight that was sent goes over a link of the network
+pub sent_known : (setting : Setting) (seen : List Seen) (f : Flight) → ComesInOrder setting seen → Contains (flights seen) f → f.link < length setting.net.links
+sent_known setting [] f order (k, within, at) = absurd (omega (arith, within))
+sent_known setting (s ∷ earlier) f order sent = by (Contains-append_cases s.sent (flights earlier) f sent) (λ before. sent_known setting earlier f order.0 before)
+  where
+    by : Contains s.sent f ⊎ Contains (flights earlier) f → (Contains (flights earlier) f → f.link < length setting.net.links) → f.link < length setting.net.links
+    by (inl now) rest = (All-contains (λ (g : Flight). IsSentAt setting (reference_of s.event) g) s.sent f order.1.sent now).link
+    by (inr before) rest = rest before

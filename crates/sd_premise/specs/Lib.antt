@@ -1,0 +1,4 @@
+-- What may be seen, and for which lists the monitors stand.
+pub mod Order
+pub mod Worlds
+pub mod Standing

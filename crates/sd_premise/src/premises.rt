@@ -1,0 +1,171 @@
+//! All seven premises over one world.
+ghost use Rattle.std.specs.Prelude.{◌≡◌, true, ◌+◌, ◌-◌, ◌<◌, ◌≤◌, ◌^◌, ◌∷◌, [], List, length, OnOk, IfOk};
+ghost use Rattle.sd_topo.specs.Topologies.{network};
+ghost use Rattle.sd_domain.specs.Failing.{HasRoomFor};
+ghost use Rattle.sd_history.specs.Premises.{breaks, broken_in};
+ghost use Rattle.sd_history.specs.World.{Setting, Seen as Sight};
+ghost use Rattle.sd_roster.specs.Plans.{AreSound};
+ghost use Rattle.sd_world.specs.Registers.{HasNamed};
+ghost use Rattle.sd_world.specs.Standing.{Stands};
+ghost use Rattle.sd_premise_clocks.specs.Sights.{sight_of};
+ghost use Rattle.sd_premise_rounds.specs.Loss.{number_taken};
+ghost use Rattle.sd_premise_renewal.specs.Progressing.{HasDevices};
+ghost use Rattle.sd_premise.specs.Order.{CanFollow};
+ghost use Rattle.sd_premise.specs.Worlds.{world_after};
+
+#[cfg(test)]
+mod tests;
+
+use crate::sets::{NONE_BROKEN, newly_broken};
+use sd_history::BrokenSet;
+use sd_num::NoMemory;
+use sd_plan::Plan;
+use sd_premise_clocks::{DelayMonitor, DriftMonitor, Members, Seen, StartMonitor, TickMonitor};
+use sd_premise_renewal::{DomainMonitor, Moment, PresentLinks, RenewalMonitor};
+use sd_premise_rounds::Rounds;
+use sd_topo::Topology;
+use sd_world::World;
+use std::alloc::Global;
+
+/// Judges the seven premises event by event. It keeps what later events can ask for: the world in
+/// registers, and a monitor of each premise.
+#[derive(Drop)]
+pub struct Premises {
+    topology: Topology,
+    members: Members,
+    links: PresentLinks,
+    world: World,
+    start: StartMonitor,
+    drift: DriftMonitor,
+    delay: DelayMonitor,
+    tick: TickMonitor,
+    loss: Rounds,
+    domain: DomainMonitor,
+    renew: RenewalMonitor,
+    /// Which premises are broken so far.
+    broken: BrokenSet,
+    ghost world_devices: { length world.devices ≡ length (network topology).devices },
+    ghost world_links: { length world.failed_links ≡ length (network topology).links },
+    ghost drift_devices: { length drift.lives ≡ length (network topology).devices },
+    ghost tick_devices: { length tick.owed ≡ length (network topology).devices },
+    ghost domain_room: { HasRoomFor (network topology) domain.failed },
+    ghost renew_devices: { HasDevices (length (network topology).devices) renew.progress },
+    ghost renew_windows: { renew.progress.windows ≤ world.events },
+}
+
+/// The number of the flight that the event received.
+fn number_taken(seen: &Seen<'_>) -> Option<u64>
+    ensures { result ≡ number_taken (sight_of seen.now) }
+{
+    match &seen.taken {
+        Some(flight) => Some(flight.number),
+        None => None,
+    }
+}
+
+/// The world after one event more, with which the window may close.
+fn observe_world(world: &mut World, seen: &Seen<'_>)
+    requires named { HasNamed world.old seen.now.event }
+    requires events { world.old.events < 2 ^ 26 }
+    requires epoch { seen.now.closed ≡ true → world.old.epoch < 2 ^ 32 - 1 }
+    ensures registers { world.new ≡ world_after world.old (sight_of seen.now) }
+    ensures stands { (setting : Setting) (earlier : List Sight) → Stands world.old setting earlier
+        → Stands world.new setting (sight_of seen.now ∷ earlier) }
+{
+    world.observe(&seen.event);
+    if seen.closed {
+        world.close();
+    }
+}
+
+impl Premises {
+    ghost use Rattle.sd_premise.specs.Standing.{StandsFor, CanObserve, room_of, net_of};
+
+    /// The monitors before any event, over plans of which the first is in force.
+    pub fn new(alloc: Global, topo: &Topology, plans: &[Plan]) -> Result<Premises, NoMemory>
+        requires some { 1 ≤ length plans.now }
+        requires count { length plans.now < 2 ^ 32 }
+        requires sound { AreSound (network topo.now) plans.now }
+        ensures network { IfOk result (λ premises. net_of premises ≡ network topo.now) }
+        ensures stands { IfOk result (λ premises. (setting : Setting)
+            → setting.net ≡ network topo.now → setting.plans ≡ plans.now → StandsFor premises setting []) }
+    {
+        let members = Members::new(alloc, topo, plans)?;
+        let links = PresentLinks::new(alloc, topo, plans)?;
+        let world = World::new(alloc, topo.devices(), topo.links())?;
+        let drift = DriftMonitor::new(alloc, topo)?;
+        let tick = TickMonitor::new(alloc, topo, &members)?;
+        let loss = Rounds::new(alloc, topo)?;
+        let domain = DomainMonitor::new(alloc, topo)?;
+        let renew = RenewalMonitor::new(alloc, topo)?;
+        let topology = topo.copy(alloc)?;
+        Ok(Premises {
+            topology,
+            members,
+            links,
+            world,
+            start: StartMonitor::new(),
+            drift,
+            delay: DelayMonitor::new(),
+            tick,
+            loss,
+            domain,
+            renew,
+            broken: NONE_BROKEN,
+        })
+    }
+
+    /// Makes room for an event that sends so many flights that reach.
+    pub fn ready(&mut self, alloc: Global, sent: usize) -> Result<(), NoMemory>
+        ensures room { OnOk result (sent ≤ room_of self.new) }
+        ensures grows { room_of self.old ≤ room_of self.new }
+        ensures world { self.new.world ≡ self.old.world }
+        ensures network { net_of self.new ≡ net_of self.old }
+        ensures stands { (setting : Setting) (seen : List Sight) → StandsFor self.old setting seen → StandsFor self.new setting seen }
+    {
+        self.loss.ready(alloc, sent)
+    }
+
+    /// Sees one event more, and answers which premises break with it: each that held of the events
+    /// before and does not hold with this one. It takes no memory.
+    pub fn observe(&mut self, seen: &Seen<'_>) -> BrokenSet
+        requires { CanObserve self.old (sight_of seen.now) }
+        ensures stands { (setting : Setting) (earlier : List Sight) → CanFollow setting earlier (sight_of seen.now)
+            → StandsFor self.old setting earlier → StandsFor self.new setting (sight_of seen.now ∷ earlier) }
+        ensures breaks { (setting : Setting) (earlier : List Sight) → CanFollow setting earlier (sight_of seen.now)
+            → StandsFor self.old setting earlier → result ≡ breaks setting (sight_of seen.now ∷ earlier) }
+        ensures room { room_of self.old ≤ room_of self.new + length seen.now.sent.now }
+        ensures world { self.new.world ≡ world_after self.old.world (sight_of seen.now) }
+        ensures network { net_of self.new ≡ net_of self.old }
+    {
+        let before = Moment {
+            topo: &self.topology,
+            members: &self.members,
+            links: &self.links,
+            world: &self.world,
+        };
+        let renew = self.renew.observe(before, seen);
+        observe_world(&mut self.world, seen);
+        let now = BrokenSet {
+            start: !self.start.observe(seen),
+            drift: !self.drift.observe(&self.topology, seen),
+            delay: !self.delay.observe(&self.topology, seen),
+            tick: !self.tick.observe(&self.members, &self.world, seen),
+            loss: !self
+                .loss
+                .observe(&seen.event, number_taken(seen), seen.sent),
+            domain: !self.domain.observe(&self.topology, seen),
+            renew: !renew,
+        };
+        let breaks = newly_broken(self.broken, now);
+        self.broken = now;
+        breaks
+    }
+
+    /// Which premises are broken so far.
+    pub fn broken(&self) -> BrokenSet
+        ensures { (setting : Setting) (seen : List Sight) → StandsFor self.now setting seen → result ≡ broken_in setting seen }
+    {
+        self.broken
+    }
+}

@@ -1,0 +1,10 @@
+pub mod Failing
+pub mod Rows
+pub mod Marking
+pub mod Slots
+pub mod Belows
+pub mod Progressing
+pub mod Apart
+pub mod Ready
+pub mod Allowed
+pub mod Orderly
