@@ -1,9 +1,8 @@
 -- That a device alone goes on as the work of `solo` says.
-use Rattle.std.proofs.Common.{◌≡◌, ℕ, ◌+◌, List, [], ◌∷◌, Option, Some, None, Ok, Result, sym, ap, ◌∙◌, subst, length, add-one, refl}
+use Rattle.std.proofs.Common.{◌≡◌, ℕ, ◌+◌, List, [], ◌∷◌, Option, Some, None, Ok, sym, ap, ◌∙◌, subst, length, add-one, refl}
 use Rattle.sd_clock.specs.declared.Report.{Report}
 use Rattle.sd_num.specs.Lists.{of_some}
 use Rattle.sd_sched.specs.declared.Event.{Event}
-use Rattle.sd_sched.specs.declared.LineFault.{LineFault}
 use Rattle.sd_solo.specs.Histories.{bytes_of, refusal, report_by, report_text}
 use Rattle.sd_solo.specs.Lines.{solo_event}
 use Rattle.sd_solo.specs.Registers.{StandsFor}

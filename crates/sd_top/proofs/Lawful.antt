@@ -18,8 +18,11 @@ use Rattle.sd_top.specs.Checks.{CheckCompletes, IsJudged, verdict_status}
 use Rattle.sd_top.specs.Laws.{Laws}
 use Rattle.sd_top.specs.Migration.{IsMigrated, MigrationCompletes}
 use Rattle.sd_top.specs.Plannings.{IsPlanning, IsPlannable, PlanCompletes, RenewalCompletes, first_root, nothing, renewed_root}
-use Rattle.sd_work.specs.Works.{reading, status_for}
+use Rattle.sd_work.specs.Works.{IsOutcome, reading, status_for}
 use Rattle.sd_top.specs.Schedules.{SoloCompletes, solo_work}
+use Rattle.sd_top.specs.Twoways.{TwowayCompletes}
+use Rattle.sd_exchanges.specs.Twoways.{twoway_work}
+use Rattle.sd_twoway.proofs.Covering.{none_is_honest}
 use Rattle.sd_top.proofs.Migrating.{migration_law}
 use Rattle.sd_top.proofs.Unique.{one_answer}
 
@@ -64,6 +67,11 @@ renewal_completes topology plan absent right bytes status written =
     planning_done right.network (renewed_root right.old right.left) right.left bytes status right.plannable
     (after_file (absent_in_file right.network absent) right.left (λ left. IsPlanning right.network (renewed_root right.old left) left) bytes status right.has_absent without)
 
+twoway_completes : TwowayCompletes
+twoway_completes topology exchanges right bytes status written =
+    let (printed, answered) = after_file (topology_of topology) right.network (λ net. IsOutcome (twoway_work net) exchanges) bytes status right.has_network written in
+    answered ∙ ap (status_for (twoway_work right.network) (reading (twoway_work right.network) exchanges).taken) right.unrefused
+
 pub laws : Laws
 laws =
     record {
@@ -73,6 +81,8 @@ laws =
       check_completes = check_completes;
       renewal_completes = renewal_completes;
       migration_completes = migration_completes;
+      twoway_completes = twoway_completes;
       migration_law = migration_law;
       reports_contain = reports_contain;
+      none_is_honest = none_is_honest;
     }

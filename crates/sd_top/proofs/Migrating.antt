@@ -20,13 +20,16 @@ use Rattle.sd_files.specs.declared.Status.{Status}
 use Rattle.sd_files.specs.declared.ended.FileFault.TheVariants as fault
 use Rattle.sd_files.specs.declared.ended.Input.TheVariants as input
 use Rattle.sd_files.specs.declared.ended.Refusal.{Refusal}
+use Rattle.sd_work.specs.Works.{IsOutcome}
+use Rattle.sd_exchanges.specs.Twoways.{twoway_work}
 use Rattle.sd_top.specs.Checks.{IsCheck, IsJudged, verdict_text}
 use Rattle.sd_top.specs.Migration.{IsMigrated, IsMigration}
 use Rattle.sd_top.specs.Plannings.{IsPlanning, IsPlanOf, IsRenewal, planned_text, first_root, renewed_root, nothing}
 use Rattle.sd_top.specs.Promise.{Answers}
+use Rattle.sd_top.specs.Twoways.{IsTwoway}
 use Rattle.sd_top.specs.Versions.{MigrationLaw}
-use Rattle.sd_top.specs.Words.{Command, File, OfTopology, OfPlan, OfAbsent, files_of, name_of}
-use Rattle.sd_top.specs.Words.Command.{Solo, Plan as PlanOf, Check, Renew, Migrate}
+use Rattle.sd_top.specs.Words.{Command, File, OfTopology, OfPlan, OfAbsent, OfExchanges, files_of, name_of}
+use Rattle.sd_top.specs.Words.Command.{Solo, Plan as PlanOf, Check, Renew, Migrate, Twoway}
 
 -- what comes after a file that says the same
 after_carried : {X : Type 0} (before after : Result X Refusal) (Then Later : X → May) (bytes : List ℕ) (status : Status) → before ≡ after → ((x : X) → Then x bytes status → Later x bytes status) → After before Then bytes status
@@ -86,6 +89,12 @@ module _ (v w : ℕ) (net : Network) where
         written
         )
 
+    -- a network's version is in nothing that is said of exchanges
+    twoway_stays : (exchanges exchanges' : List ℕ) → exchanges' ≡ exchanges → IsTwoway text exchanges bytes status → IsTwoway other exchanges' bytes status
+    twoway_stays exchanges exchanges' same written =
+        subst (λ (x : List ℕ). IsTwoway other x bytes status) (sym same)
+        (topology_carried text other (with_version v net) (with_version w net) (λ n. IsOutcome (twoway_work n) exchanges) (λ n. IsOutcome (twoway_work n) exchanges) bytes status reads rereads (λ h. h) written)
+
     renewal_over : (plan absent : List ℕ) → IsRenewal text plan absent bytes status → IsRenewal other plan absent bytes status
     renewal_over plan absent written =
         topology_carried text other (with_version v net) (with_version w net) (λ n. After (plan_in_file n 1 plan) (λ old. After (absent_in_file n absent) (λ left. IsPlanning n (renewed_root old left) left)))
@@ -134,6 +143,11 @@ module _ (topology : List ℕ) (before after : Texts) (net : Network) (v w : ℕ
   answers_stay (Some (Migrate name)) others files apart written =
       let same : name ≡ topology = cc in
       migration_stays v w net (before name) (after name) (reads_at name same) (rereads_at name same) bytes status written
+  answers_stay (Some (Twoway name exchanges)) others files apart written =
+      let same : name ≡ topology = cc in
+      let rest : others ≡ OfExchanges exchanges ∷ [] = cc in
+      let elsewhere_all = subst (λ (fs : List File). All (λ file. name_of file ≢ topology) fs) rest apart in
+      twoway_stays v w net (before name) (after name) (reads_at name same) (rereads_at name same) bytes status (before exchanges) (after exchanges) (elsewhere exchanges (elsewhere_all 0 (OfTopology []) (omega arith))) written
 
 pub migration_law : MigrationLaw
 migration_law command topology others files apart before after rewritten bytes status = (

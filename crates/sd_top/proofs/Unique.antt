@@ -12,11 +12,13 @@ use Rattle.sd_files.specs.Answering.{May, After}
 use Rattle.sd_files.specs.Inputs.{topology_of, plan_in_file, absent_in_file}
 use Rattle.sd_files.specs.declared.Status.{Status}
 use Rattle.sd_files.specs.declared.ended.Refusal.{Refusal}
+use Rattle.sd_work.specs.Works.{IsOutcome}
+use Rattle.sd_exchanges.specs.Twoways.{twoway_work}
 use Rattle.sd_top.specs.Checks.{IsJudged, verdict_status, verdict_text}
 use Rattle.sd_top.specs.Migration.{IsMigrated}
 use Rattle.sd_top.specs.Plannings.{IsPlanning, first_root, nothing, planned_text, renewed_root}
 use Rattle.sd_top.specs.Unique.{HasOneAnswer}
-use Rattle.sd_top.specs.Words.Command.{Solo, Plan as PlanOf, Check, Renew, Migrate}
+use Rattle.sd_top.specs.Words.Command.{Solo, Plan as PlanOf, Check, Renew, Migrate, Twoway}
 
 -- at most one status, and bytes that are alike
 abbrev IsOne : (List ℕ → List ℕ → Type 0) → May → Type 0
@@ -45,6 +47,9 @@ planning_one net root absent bytes other status also (plan, verdict, greedy, say
 migrated_one : (net : Network) → IsOne (λ bytes other. network_of (tree_of bytes) ≡ network_of (tree_of other)) (IsMigrated net)
 migrated_one net bytes other status also (means, answered) (means', answered') = (answered ∙ sym answered', means ∙ sym means')
 
+bounds_one : (exchanges : List ℕ) (net : Network) → IsOne (λ bytes other. bytes ≡ other) (IsOutcome (twoway_work net) exchanges)
+bounds_one exchanges net bytes other status also (printed, answered) (printed', answered') = (answered ∙ sym answered', printed ∙ sym printed')
+
 pub one_answer : HasOneAnswer
 one_answer None texts bytes other status also (printed, answered) (printed', answered') = (answered ∙ sym answered', printed ∙ sym printed')
 one_answer (Some (Solo schedule)) texts bytes other status also (printed, answered) (printed', answered') = (answered ∙ sym answered', printed ∙ sym printed')
@@ -63,3 +68,5 @@ one_answer (Some (Renew topology plan absent)) texts bytes other status also is 
     bytes other status also is too
 one_answer (Some (Migrate topology)) texts bytes other status also is too =
     after_one (λ b o. network_of (tree_of b) ≡ network_of (tree_of o)) (λ b o same. ap (λ (l : List ℕ). network_of (tree_of l)) same) (topology_of (texts topology)) IsMigrated migrated_one bytes other status also is too
+one_answer (Some (Twoway topology exchanges)) texts bytes other status also is too =
+    after_one (λ b o. b ≡ o) equal (topology_of (texts topology)) (λ net. IsOutcome (twoway_work net) (texts exchanges)) (bounds_one (texts exchanges)) bytes other status also is too

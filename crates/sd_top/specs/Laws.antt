@@ -1,9 +1,11 @@
 -- What holds of the answers themselves, whatever a run does.
 use Rattle.sd_solo.specs.Promises.{ReportsContain}
+use Rattle.sd_twoway.specs.Spans.{NoneIsHonest}
 use Rattle.sd_top.specs.Checks.{CheckCompletes}
 use Rattle.sd_top.specs.Migration.{MigrationCompletes}
 use Rattle.sd_top.specs.Plannings.{PlanCompletes, RenewalCompletes}
 use Rattle.sd_top.specs.Schedules.{SoloCompletes}
+use Rattle.sd_top.specs.Twoways.{TwowayCompletes}
 use Rattle.sd_top.specs.Unique.{HasOneAnswer}
 use Rattle.sd_top.specs.Versions.{MigrationLaw}
 
@@ -16,7 +18,10 @@ pub record Laws : Type 0 where
   pub check_completes : CheckCompletes
   pub renewal_completes : RenewalCompletes
   pub migration_completes : MigrationCompletes
+  pub twoway_completes : TwowayCompletes
   -- a topology that is written again with version 2 changes no answer
   pub migration_law : MigrationLaw
   -- whatever the events that one device alone accepts, an honest report has its reference time inside
   pub reports_contain : ReportsContain
+  -- an exchange that goes backwards, or is impossible, has no honest run
+  pub none_is_honest : NoneIsHonest

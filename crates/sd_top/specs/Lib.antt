@@ -4,6 +4,7 @@ pub mod Schedules
 pub mod Migration
 pub mod Checks
 pub mod Plannings
+pub mod Twoways
 pub mod Promise
 pub mod Versions
 pub mod Unique

@@ -1,6 +1,7 @@
 -- What `run` promises: what each command writes and answers over the texts of its files, and what it leaves where it is stopped.
 use Rattle.std.specs.Prelude.{◌≡◌, ◌+◌, ◌≤◌, ℕ, Bool, true, false, List, [], ◌∷◌, length, Option, None, Some, IfSome, codes}
 use Rattle.sd_files.specs.Answering.{May}
+use Rattle.sd_files.specs.Inputs.{topology_of}
 use Rattle.sd_files.specs.Statuses.{stop_of}
 use Rattle.sd_files.specs.Texts.{Texts, texts_of}
 use Rattle.sd_files.specs.declared.Status.{Status}
@@ -11,8 +12,9 @@ use Rattle.sd_top.specs.Plannings.{IsPlanOf, IsRenewal}
 use Rattle.sd_work.specs.Leaving.{Leaves}
 use Rattle.sd_work.specs.Works.{reading, refused_part}
 use Rattle.sd_top.specs.Schedules.{IsSolo, ReportsTruly, solo_work}
+use Rattle.sd_top.specs.Twoways.{BoundsTruly, IsTwoway, refused_over}
 use Rattle.sd_top.specs.Words.{Command, command_of}
-use Rattle.sd_top.specs.Words.Command.{Solo, Plan as PlanOf, Check, Renew, Migrate}
+use Rattle.sd_top.specs.Words.Command.{Solo, Plan as PlanOf, Check, Renew, Migrate, Twoway}
 
 -- what is promised of a command
 pub record Task : Type 1 where
@@ -22,7 +24,7 @@ pub record Task : Type 1 where
   pub gives : List Status
   -- whether it writes step by step; else it writes once, when all of its work is done
   pub in_steps : Bool
-  -- of a text that it reads line by line, what stands in it from the line on at which it is refused
+  -- of a text that it reads line by line, where it comes to that, what stands in it from the line on at which it is refused
   pub refused_part : Texts → Option (List ℕ)
   -- what else holds of what it writes, in terms of the clocks and networks that its files speak of
   pub holds : Texts → Type 0
@@ -32,21 +34,24 @@ abbrev pub once : List Status → (Texts → May) → Task
 once statuses Writes = record { Answers = Writes; gives = statuses; in_steps = false; refused_part = λ texts. None; holds = λ texts. Unit {0} }
 
 -- a command that reads its last file line by line, and writes as it goes
-abbrev pub line_by_line : List Status → (Texts → May) → (Texts → List ℕ) → (Texts → Type 0) → Task
-line_by_line statuses Writes refused Holds = record { Answers = Writes; gives = statuses; in_steps = true; refused_part = λ texts. Some (refused texts); holds = Holds }
+abbrev pub line_by_line : List Status → (Texts → May) → (Texts → Option (List ℕ)) → (Texts → Type 0) → Task
+line_by_line statuses Writes refused Holds = record { Answers = Writes; gives = statuses; in_steps = true; refused_part = refused; holds = Holds }
 
 abbrev pub IsUsage : May
 IsUsage bytes status =
-    (bytes ≡ codes "usage: sundial solo SCHEDULE | plan TOPOLOGY | check TOPOLOGY PLAN | renew TOPOLOGY PLAN ABSENT | migrate TOPOLOGY\n") × (status ≡ Usage)
+    (bytes ≡ codes "usage: sundial solo SCHEDULE | plan TOPOLOGY | check TOPOLOGY PLAN | renew TOPOLOGY PLAN ABSENT | migrate TOPOLOGY | twoway TOPOLOGY EXCHANGES\n") × (status ≡ Usage)
 
 -- each command, and words that are none
 abbrev pub task_of : Option Command → Task
 task_of None = once (Usage ∷ []) (λ texts. IsUsage)
-task_of (Some (Solo schedule)) = line_by_line (Done ∷ InputRefused ∷ []) (λ texts. IsSolo (texts schedule)) (λ texts. refused_part solo_work (texts schedule)) (λ texts. ReportsTruly (reading solo_work (texts schedule)).taken)
+task_of (Some (Solo schedule)) = line_by_line (Done ∷ InputRefused ∷ []) (λ texts. IsSolo (texts schedule)) (λ texts. Some (refused_part solo_work (texts schedule))) (λ texts. ReportsTruly (reading solo_work (texts schedule)).taken)
 task_of (Some (PlanOf topology)) = once (Done ∷ PlanRefused ∷ InputRefused ∷ []) (λ texts. IsPlanOf (texts topology))
 task_of (Some (Check topology plan)) = once (Done ∷ PlanRefused ∷ InputRefused ∷ []) (λ texts. IsCheck (texts topology) (texts plan))
 task_of (Some (Renew topology plan absent)) = once (Done ∷ PlanRefused ∷ InputRefused ∷ []) (λ texts. IsRenewal (texts topology) (texts plan) (texts absent))
 task_of (Some (Migrate topology)) = once (Done ∷ InputRefused ∷ []) (λ texts. IsMigration (texts topology))
+task_of (Some (Twoway topology exchanges)) =
+    line_by_line (Done ∷ InputRefused ∷ []) (λ texts. IsTwoway (texts topology) (texts exchanges)) (λ texts. refused_over (topology_of (texts topology)) (texts exchanges))
+    (λ texts. BoundsTruly (texts topology) (texts exchanges))
 
 -- the command writes these bytes and answers this status over the texts
 abbrev pub Answers : Option Command → Texts → May

@@ -9,6 +9,7 @@ pub data Command : Type 0 where
   Check : (topology plan : List ℕ) → Command
   Renew : (topology plan absent : List ℕ) → Command
   Migrate : (topology : List ℕ) → Command
+  Twoway : (topology exchanges : List ℕ) → Command
 
 -- the command of a word with the name of one file
 abbrev pub with_one_file : List ℕ → List ℕ → Option Command
@@ -20,7 +21,10 @@ with_one_file word file =
 
 -- the command of a word with the names of two files
 abbrev pub with_two_files : List ℕ → List ℕ → List ℕ → Option Command
-with_two_files word first second = if bytes_eq word (codes "check") then Some (Check first second) else None
+with_two_files word first second =
+    if bytes_eq word (codes "check") then Some (Check first second)
+    else if bytes_eq word (codes "twoway") then Some (Twoway first second)
+    else None
 
 -- the command of a word with the names of three files
 abbrev pub with_three_files : List ℕ → List ℕ → List ℕ → List ℕ → Option Command
@@ -41,12 +45,14 @@ pub data File : Type 0 where
   OfPlan : (name : List ℕ) → File
   OfAbsent : (name : List ℕ) → File
   OfSchedule : (name : List ℕ) → File
+  OfExchanges : (name : List ℕ) → File
 
 abbrev pub name_of : File → List ℕ
 name_of (OfTopology name) = name
 name_of (OfPlan name) = name
 name_of (OfAbsent name) = name
 name_of (OfSchedule name) = name
+name_of (OfExchanges name) = name
 
 -- the files that a command reads, in the order of its work
 abbrev pub files_of : Option Command → List File
@@ -56,3 +62,4 @@ files_of (Some (Plan topology)) = OfTopology topology ∷ []
 files_of (Some (Check topology plan)) = OfTopology topology ∷ OfPlan plan ∷ []
 files_of (Some (Renew topology plan absent)) = OfTopology topology ∷ OfPlan plan ∷ OfAbsent absent ∷ []
 files_of (Some (Migrate topology)) = OfTopology topology ∷ []
+files_of (Some (Twoway topology exchanges)) = OfTopology topology ∷ OfExchanges exchanges ∷ []

@@ -10,6 +10,7 @@ mod reasons;
 mod renew;
 mod solo;
 mod top;
+mod twoway;
 mod words;
 
 pub use sd_files::Status;

@@ -18,6 +18,7 @@ use crate::migrate::migrate;
 use crate::plan::plan;
 use crate::renew::renew;
 use crate::solo::replay_solo;
+use crate::twoway::twoway;
 use crate::words::{Command, command_of};
 use sd_files::{Status, Stop, write_answer};
 use sd_outside::{Shelf, Sink};
@@ -100,6 +101,12 @@ fn perform<S: Shelf, O: Sink>(
             let made = migrate(alloc, shelf, topology);
             write_answer(alloc, &made, out)
         }
+        Some(
+            Command::Twoway {
+                topology,
+                exchanges,
+            },
+        ) => twoway(alloc, shelf, topology, exchanges, out),
         None => usage(out),
     }
 }
@@ -131,7 +138,7 @@ fn usage<O: Sink>(out: &mut O) -> Result<Status, Stop>
     ensures sink { result ≡ Err Stop.Sink → Rose (O.faults out.old) (O.faults out.new) }
 {
     match out.write(
-        b"usage: sundial solo SCHEDULE | plan TOPOLOGY | check TOPOLOGY PLAN | renew TOPOLOGY PLAN ABSENT | migrate TOPOLOGY\n",
+        b"usage: sundial solo SCHEDULE | plan TOPOLOGY | check TOPOLOGY PLAN | renew TOPOLOGY PLAN ABSENT | migrate TOPOLOGY | twoway TOPOLOGY EXCHANGES\n",
     ) {
         Ok(()) => Ok(Status::Usage),
         Err(_) => Err(Stop::Sink),

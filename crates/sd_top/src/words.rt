@@ -24,6 +24,10 @@ pub(crate) enum Command<'w> {
     Migrate {
         topology: &'w str,
     },
+    Twoway {
+        topology: &'w str,
+        exchanges: &'w str,
+    },
 }
 
 /// The command of a word with the name of one file.
@@ -49,6 +53,11 @@ fn with_two_files<'w>(word: &str, first: &'w str, second: &'w str) -> Option<Com
         Some(Command::Check {
             topology: first,
             plan: second,
+        })
+    } else if word == "twoway" {
+        Some(Command::Twoway {
+            topology: first,
+            exchanges: second,
         })
     } else {
         None

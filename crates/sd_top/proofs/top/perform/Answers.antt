@@ -1,7 +1,7 @@
 use Rattle.std.proofs.Common.{None, Some, ap, refl, sym, ◌∙◌}
 use Rattle.sd_files.proofs.Loading.{told_always}
 use Rattle.sd_top.specs.Parsed.{named}
-use Rattle.sd_top.specs.Words.Command.{Solo, Plan, Check, Renew, Migrate}
+use Rattle.sd_top.specs.Words.Command.{Solo, Plan, Check, Renew, Migrate, Twoway}
 use Rattle.sd_top.specs.declared.words.Command.{Command as Parsed}
 use Rattle.sd_top.proofs.Performing.{meets_told, meets_once, near_told, near_nothing}
 use Rattle.sd_top.proofs.top.perform.Goals as goal
@@ -35,6 +35,12 @@ returns-in-Some-Migrate-clause-outcome g c = meets_once _ _ (Some (Migrate c.in-
 
 pub returns-in-Some-Migrate-clause-near : goal.returns-in-Some-Migrate-clause-near
 returns-in-Some-Migrate-clause-near g c = λ refused. near_nothing _ _ (Some (Migrate c.in-Some-Migrate.topology.now)) _ (ap (λ (x : Parsed). Some (named x)) (sym c.in-Some-Migrate.field-0-is) ∙ c.in-Some-Migrate.ensures) (λ texts. refl)
+
+pub returns-in-Some-Twoway-clause-outcome : goal.returns-in-Some-Twoway-clause-outcome
+returns-in-Some-Twoway-clause-outcome g c = meets_told _ _ (Some (Twoway c.in-Some-Twoway.topology.now c.in-Some-Twoway.exchanges.now)) _ _ _ (ap (λ (x : Parsed). Some (named x)) (sym c.in-Some-Twoway.field-0-is) ∙ c.in-Some-Twoway.ensures) c.twoway.ensures.outcome
+
+pub returns-in-Some-Twoway-clause-near : goal.returns-in-Some-Twoway-clause-near
+returns-in-Some-Twoway-clause-near g c = λ refused. near_told _ _ (Some (Twoway c.in-Some-Twoway.topology.now c.in-Some-Twoway.exchanges.now)) _ (ap (λ (x : Parsed). Some (named x)) (sym c.in-Some-Twoway.field-0-is) ∙ c.in-Some-Twoway.ensures) (c.twoway.ensures.near refused)
 
 pub returns-in-None-clause-outcome : goal.returns-in-None-clause-outcome
 returns-in-None-clause-outcome g c = meets_told _ _ None _ _ _ c.in-None.ensures (told_always _ c.usage.ensures.outcome)
