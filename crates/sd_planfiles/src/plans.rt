@@ -6,7 +6,6 @@ ghost use Rattle.sd_topo.specs.Network.{Each};
 ghost use Rattle.sd_topo.specs.Topologies.{network};
 ghost use Rattle.sd_checker.specs.Verdicts.{IsAccepted};
 ghost use Rattle.sd_files.specs.Inputs.{plan_in_file};
-
 ghost use Rattle.sd_files.specs.Texts.{texts_of};
 ghost use Rattle.sd_files.specs.Writes.{Makes};
 ghost use Rattle.sd_planfiles.specs.Early.{made_of};
@@ -42,9 +41,11 @@ pub fn load_plans<S: Shelf>(
     ensures same_names { S.serves shelf.new ≡ S.serves shelf.old }
 {
     let mut plans = Vec::new(alloc);
-    'plans: while plans.len() < names.len() {
-        let place = plans.len();
-        let plan = load_accepted(alloc, shelf, topo, names[place].as_str(), place as u32 + 1)?;
+    let mut place = 0;
+    'plans: while (place as usize) < names.len() {
+        let name = names[place as usize].as_str();
+        place += 1;
+        let plan = load_accepted(alloc, shelf, topo, name, place)?;
         if plans.push(plan).is_err() {
             return Err(Early::Stopped(Ended::Memory));
         }
