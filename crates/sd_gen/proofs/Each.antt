@@ -1,8 +1,7 @@
 -- What is done for each of a list, one by one.
-use Rattle.std.specs.Prelude.{◌≡◌, ℕ, zero, suc, ◌+◌, ◌<◌, ◌≤◌, Bool, true, false, List, [], ◌∷◌, ◌++◌, length, take, filter, refl}
-use Rattle.std.proofs.Common.{arith, ap, sym, ◌∙◌, subst, get_or, add-one}
+use Rattle.std.specs.Prelude.{◌≡◌, ℕ, zero, suc, ◌+◌, ◌<◌, Bool, true, false, List, [], ◌∷◌, ◌++◌, length, take, filter, refl}
+use Rattle.std.proofs.Common.{arith, ap, ◌∙◌, get_or, add-one}
 use Rattle.sd_num.specs.Lists.{below}
-use Rattle.sd_history.specs.Steps.{Step}
 use Rattle.sd_msg.specs.declared.Flight.{Flight}
 use Rattle.sd_gen.specs.Drafts.{Draft, each, when, with_message}
 

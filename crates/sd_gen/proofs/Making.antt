@@ -1,5 +1,5 @@
 -- A recorder at first, round after round, and at last.
-use Rattle.std.specs.Prelude.{◌≡◌, ℕ, zero, suc, ◌+◌, ◌%◌, List, [], length, map, reverse, refl}
+use Rattle.std.specs.Prelude.{◌≡◌, ℕ, ◌+◌, ◌%◌, List, [], length, map, reverse, refl}
 use Rattle.std.proofs.Common.{ap, sym, ◌∙◌, subst, add-one}
 use Rattle.rand_core.specs.Steps.{first_words}
 use Rattle.rand_pcg.specs.Lcg.{Lcg, advance}

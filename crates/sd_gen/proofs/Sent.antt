@@ -1,16 +1,13 @@
 -- The messages that a step has just sent are found by their numbers where they reach.
-use Rattle.std.specs.Prelude.{◌≡◌, ℕ, zero, suc, ◌+◌, ◌<◌, ◌≤◌, Bool, true, false, not, List, [], ◌∷◌, ◌++◌, length, filter, find, nat_le, ok_or, Option, Some, None, option_and_then, Result, Ok, Err, refl, if◌then◌else◌}
+use Rattle.std.specs.Prelude.{◌≡◌, ℕ, zero, suc, ◌+◌, ◌<◌, ◌≤◌, Bool, true, false, not, List, [], ◌∷◌, length, filter, find, nat_le, ok_or, Option, Some, None, option_and_then, Ok, Err, refl, if◌then◌else◌}
 use Rattle.std.specs.Option.{option_or}
-use Rattle.std.proofs.Common.{arith, ap, sym, ◌∙◌, subst, get_or}
+use Rattle.std.proofs.Common.{arith, ap, sym, ◌∙◌, get_or}
 use Rattle.std.proofs.lemmas.Bool.{le-leb, and_from}
 use Rattle.std.proofs.lemmas.List.Folds.{find-append}
-use Rattle.sd_num.specs.Lists.{of_some}
 use Rattle.sd_topo.specs.declared.Thing.{Thing}
-use Rattle.sd_topo.specs.declared.Thing.TheVariants as thing
 use Rattle.sd_msg.specs.declared.Flight.{Flight}
-use Rattle.sd_msg.specs.declared.TakeFault.{TakeFault}
 use Rattle.sd_msg.specs.declared.TakeFault.TheVariants as fault
-use Rattle.sd_msg.specs.Books.{has_number, is_given, found, is_current, is_swept, without, AreNumbered}
+use Rattle.sd_msg.specs.Books.{has_number, is_given, is_current, is_swept, AreNumbered}
 use Rattle.sd_msg.proofs.Numbered.{numbered_filter}
 use Rattle.sd_sched.specs.declared.Event.{Event}
 use Rattle.sd_sched.specs.Events.{reference_of, message_of}

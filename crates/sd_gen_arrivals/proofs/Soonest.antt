@@ -1,5 +1,5 @@
 -- The first of the heap is the one that is received first, and without it the heap has the rest.
-use Rattle.std.specs.Prelude.{◌≡◌, ℕ, ◌+◌, ◌<◌, ◌≤◌, Bool, true, false, ◌&&◌, ◌||◌, not, cond, List, [], ◌∷◌, ◌++◌, length, filter, sum_by, nat_eq, nat_lt, Option, Some, None, ◌⊎◌, refl}
+use Rattle.std.specs.Prelude.{◌≡◌, ℕ, ◌+◌, ◌<◌, ◌≤◌, Bool, true, false, ◌&&◌, ◌||◌, not, cond, List, [], ◌∷◌, ◌++◌, length, sum_by, nat_eq, nat_lt, Some, None, refl}
 use Rattle.std.specs.Ordering.{is_lt, nat_cmp, ordering_then}
 use Rattle.std.specs.declared.cmp.Ordering.{Ordering}
 use Rattle.std.specs.declared.cmp.Reverse.{Reverse}
@@ -10,7 +10,7 @@ use Rattle.std.proofs.lemmas.Bool.{eq-eqb, ne_eqb, eqb-true, ltb-false, and_part
 use Rattle.std.proofs.lemmas.List.Sums.{sum_by-cons, sum_by_push, get_or-le-sum_by}
 use Rattle.std.proofs.lemmas.List.Sorted.{sum_by_pushed, sum_by_popped}
 use Rattle.sd_gen_arrivals.specs.declared.Arrival.{Arrival}
-use Rattle.sd_gen_arrivals.specs.Waiting.{comes_before, sooner, soonest_of, soonest, without, left_by, AreNumbered}
+use Rattle.sd_gen_arrivals.specs.Waiting.{comes_before, soonest_of, soonest, without, left_by, AreNumbered}
 use Rattle.sd_gen_arrivals.specs.declared.arrivals.Arrivals.{Arrivals}
 use Rattle.sd_gen_arrivals.specs.Order.{by_receipt}
 use Rattle.sd_gen_arrivals.specs.Standing.{StandsFor}

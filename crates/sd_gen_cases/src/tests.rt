@@ -1,5 +1,7 @@
 //! Whole cases: how many events they have, single stretches of them beside what an independent
 //! program printed, and that a fleet accepts each event.
+ghost use Rattle.std.specs.Prelude.{◌≤◌};
+
 mod plans;
 
 use plans::plans_of;
@@ -109,12 +111,18 @@ fn stretch(events: &[Event], reference: u64) -> (usize, u64) {
     (count, sum)
 }
 
+/// A fleet of a case's network, with its plans.
+fn fleet_of(rt: &(impl Abort + AllocGlobal), topo: &Topology) -> Result<Fleet<Device>, Fail> {
+    let Some(plans) = plans_of(rt.alloc(), topo)? else {
+        panic!(rt; "a plan is refused");
+    };
+    let fleet = Fleet::new(rt.alloc(), topo, plans.as_slice())?;
+    Ok(fleet)
+}
+
 /// How many events of a case a fleet of its own accepts, one after the other, until it refuses one.
 fn accepted_count(rt: &(impl Abort + AllocGlobal), case: &Case) -> Result<usize, Fail> {
-    let mut fleet: Fleet<Device> = match plans_of(rt.alloc(), &case.topo)? {
-        Some(plans) => Fleet::new(rt.alloc(), &case.topo, plans.as_slice())?,
-        None => panic!(rt; "a plan is refused"),
-    };
+    let mut fleet = fleet_of(rt, &case.topo)?;
     let mut count = 0usize;
     for event in case.events.as_slice() {
         if fleet.apply(rt.alloc(), event).is_err() {

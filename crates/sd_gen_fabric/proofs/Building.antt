@@ -1,8 +1,8 @@
 -- The tree that is built is the fabric's.
-use Rattle.std.specs.Prelude.{◌≡◌, ℕ, zero, suc, ◌+◌, ◌-◌, ◌*◌, ◌/◌, ◌%◌, ◌<◌, ◌≤◌, List, [], ◌∷◌, ◌++◌, map, flat_map, refl}
+use Rattle.std.specs.Prelude.{◌≡◌, ℕ, ◌+◌, ◌-◌, ◌*◌, ◌/◌, ◌%◌, ◌<◌, ◌≤◌, List, [], ◌∷◌, ◌++◌, map, flat_map, refl}
 use Rattle.std.proofs.Common.{arith, ap, sym, ◌∙◌, add-one, subst}
 use Rattle.std.proofs.lemmas.Bool.{lt-ltb, le-ltb}
-use Rattle.toml.specs.Data.{Data, Items, Members, item, no_items, push_item, string, array, table, depth, items_depth, members_depth}
+use Rattle.toml.specs.Data.{Data, Members, item, push_item, string, array, table, depth, items_depth, members_depth}
 use Rattle.toml.specs.View.{view, items_of, items_view}
 use Rattle.toml.specs.declared.value.Value.{Value}
 use Rattle.toml.proofs.Views.{items_view-push}

@@ -1,10 +1,10 @@
 -- The tree of a fabric is read as the fabric.
-use Rattle.std.specs.Prelude.{◌≡◌, ◌≢◌, ℕ, zero, suc, ◌+◌, ◌-◌, ◌*◌, ◌/◌, ◌%◌, ◌^◌, ◌<◌, ◌≤◌, Bool, true, false, List, [], ◌∷◌, ◌++◌, length, map, flat_map, sum_by, nat_eq, nat_le, nat_lt, slice_get, codes, decimal, All, Option, Some, None, Result, Ok, Err, refl, if◌then◌else◌}
+use Rattle.std.specs.Prelude.{◌≡◌, ◌≢◌, ℕ, zero, suc, ◌+◌, ◌-◌, ◌*◌, ◌/◌, ◌%◌, ◌<◌, ◌≤◌, Bool, true, false, List, [], ◌∷◌, ◌++◌, length, map, nat_eq, nat_lt, slice_get, codes, decimal, All, Some, Result, Ok, Err, refl, if◌then◌else◌}
 use Rattle.std.specs.List.{list_any}
 use Rattle.std.specs.Str.{bytes_eq, IsUtf8}
-use Rattle.std.proofs.Common.{arith, ap, sym, ◌∙◌, subst, get_or, String, Global, string_bytes}
+use Rattle.std.proofs.Common.{arith, ap, sym, ◌∙◌, subst, String, Global, string_bytes}
 use Rattle.std.proofs.Math.Nat.{mul_comm, mul-le-mul_right}
-use Rattle.std.proofs.lemmas.Bool.{le-leb, lt-ltb, le-ltb, ne_eqb}
+use Rattle.std.proofs.lemmas.Bool.{le-leb, ne_eqb}
 use Rattle.std.proofs.lemmas.Nat.{div-mul-add, mod-mul-add, mod_below, div_below, div-add-mod', mul-le, mul-add-lt}
 use Rattle.std.proofs.lemmas.Str.{IsUtf8-string_bytes}
 use Rattle.std.proofs.lemmas.Option.{slice_get-get_or}
@@ -20,14 +20,13 @@ use Rattle.sd_plan.proofs.Numbered.{length-numbered, at-numbered, get_or-numbere
 use Rattle.sd_topotext.specs.declared.fault.TopoFault.{TopoFault}
 use Rattle.sd_topotext.specs.declared.fault.Place.{Place}
 use Rattle.sd_topotext.specs.declared.fault.Key.TheVariants as keys
-use Rattle.sd_topotext.specs.Printed.{whole}
-use Rattle.sd_topotext.specs.Meaning.{place, value, count_of, each_from, number, number_or, text, array as array_at, array_or_none, own_name, referred, one_more as one_more_listed, params_in, top_rates, side_in, rates_in, device_in, one_more_device, devices_in, ends_in, delay_in, back_in, link_in, one_more_link, links_in, members_in, domain_in, things_listed, one_more_domain, domains_in, roots_in, network_in, network_of}
+use Rattle.sd_topotext.specs.Meaning.{place, value, count_of, each_from, number, text, array as array_at, array_or_none, own_name, referred, one_more as one_more_listed, params_in, side_in, rates_in, device_in, one_more_device, devices_in, ends_in, delay_in, back_in, link_in, one_more_link, links_in, members_in, domain_in, things_listed, one_more_domain, domains_in, roots_in, network_in, network_of}
 use Rattle.sd_topotext.specs.Gives.{◌>>=◌}
 use Rattle.sd_topotext.specs.Reading.{tree_of}
 use Rattle.sd_topotext.proofs.Trees.{tree_known}
 use Rattle.sd_gen_fabric.specs.Fabrics.{params, spine_name, leaf_name, link_name, device_named, link_between, rack, fabric, IsFabricText}
 use Rattle.sd_gen_fabric.specs.Numbered.{device_name}
-use Rattle.sd_gen_fabric.specs.Trees.{tables, strings, device_tree, link_tree, rack_tree, fabric_tree}
+use Rattle.sd_gen_fabric.specs.Trees.{device_tree, link_tree, rack_tree, fabric_tree}
 use Rattle.sd_gen_fabric.proofs.Numbering.{numbered, one_more, alike, both, grid, none_below, sum_alike}
 use Rattle.sd_gen_fabric.proofs.Naming.{device_is_name, link_is_name, rack_is_name, told_apart, devices_apart, racks_apart, links_same}
 use Rattle.sd_gen_fabric.proofs.Building.{map_twice, devices_numbered, links_numbered, racks_numbered, strings_numbered, roots_numbered, spine_named, leaf_named, fabric_depth}

@@ -1,9 +1,8 @@
 use Rattle.std.proofs.Common.{ap, sym, ◌∙◌}
-use Rattle.std.specs.Prelude.{◌+◌, ◌*◌, ◌/◌, ◌%◌}
-use Rattle.toml.specs.Data.{string, table}
-use Rattle.sd_gen_fabric.specs.Fabrics.{link_name}
+use Rattle.std.specs.Prelude.{◌+◌}
+use Rattle.toml.specs.Data.{table}
 use Rattle.sd_gen_fabric.specs.Numbered.{device_name}
-use Rattle.sd_gen_fabric.specs.Trees.{device_tree, link_tree, rack_tree}
+use Rattle.sd_gen_fabric.specs.Trees.{device_tree}
 use Rattle.sd_gen_fabric.proofs.Building.{items_more, array_whole, devices_numbered}
 use Rattle.sd_gen_fabric.proofs.arrays.devices_value.Goals as goal
 

@@ -1,9 +1,6 @@
 use Rattle.std.proofs.Common.{ap, sym, ◌∙◌}
-use Rattle.std.specs.Prelude.{◌+◌, ◌*◌, ◌/◌, ◌%◌}
-use Rattle.toml.specs.Data.{string, table}
+use Rattle.toml.specs.Data.{string}
 use Rattle.sd_gen_fabric.specs.Fabrics.{link_name}
-use Rattle.sd_gen_fabric.specs.Numbered.{device_name}
-use Rattle.sd_gen_fabric.specs.Trees.{device_tree, link_tree, rack_tree}
 use Rattle.sd_gen_fabric.proofs.Building.{items_more, array_whole, strings_numbered}
 use Rattle.sd_gen_fabric.proofs.arrays.leaf_links.Goals as goal
 

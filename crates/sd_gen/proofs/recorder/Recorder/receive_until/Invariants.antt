@@ -1,4 +1,4 @@
-use Rattle.std.proofs.Common.{◌≡◌, ◌-◌, ◌^◌}
+use Rattle.std.proofs.Common.{◌-◌, ◌^◌}
 use Rattle.sd_history.specs.World.{Setting}
 use Rattle.sd_gen.specs.Drafts.{Draft, receive_until}
 use Rattle.sd_gen.specs.Standing.{StandsFor}
