@@ -1,0 +1,2 @@
+-- Plans that can be followed, one after another.
+pub mod Followed
