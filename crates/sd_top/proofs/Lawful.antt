@@ -8,6 +8,8 @@ use Rattle.sd_checker.specs.Verdicts.{IsAccepted, IsVerdict}
 use Rattle.sd_checker.specs.declared.Verdict.{Verdict}
 use Rattle.sd_checker.specs.declared.Verdict.TheVariants.{Accepted, Refused}
 use Rattle.sd_checker.proofs.Exclusive.{accepted_unbroken}
+use Rattle.sd_drill.specs.declared.Budget.{Budget}
+use Rattle.sd_planfiles.specs.PlanFiles.{AfterJudged, AfterPlan, AfterVerdict}
 use Rattle.sd_planner.proofs.Single.{same_greedy}
 use Rattle.sd_files.specs.Answering.{May, After}
 use Rattle.sd_files.specs.Inputs.{topology_of, plan_in_file, absent_in_file}
@@ -15,6 +17,7 @@ use Rattle.sd_files.specs.declared.Status.{Status}
 use Rattle.sd_files.specs.declared.Status.TheVariants.{Done}
 use Rattle.sd_files.specs.declared.ended.Refusal.{Refusal}
 use Rattle.sd_top.specs.Checks.{CheckCompletes, IsJudged, verdict_status}
+use Rattle.sd_top.specs.Drills.{DrillCompletes, IsDrilled}
 use Rattle.sd_top.specs.Laws.{Laws}
 use Rattle.sd_top.specs.Migration.{IsMigrated, MigrationCompletes}
 use Rattle.sd_top.specs.Plannings.{IsPlanning, IsPlannable, PlanCompletes, RenewalCompletes, first_root, nothing, renewed_root}
@@ -72,6 +75,16 @@ twoway_completes topology exchanges right bytes status written =
     let (printed, answered) = after_file (topology_of topology) right.network (λ net. IsOutcome (twoway_work net) exchanges) bytes status right.has_network written in
     answered ∙ ap (status_for (twoway_work right.network) (reading (twoway_work right.network) exchanges).taken) right.unrefused
 
+drill_done : (net : Network) (plan : Plan) (budget : Budget) (verdict : Verdict) (bytes : List ℕ) (status : Status) → IsAccepted net plan → IsVerdict net plan verdict → AfterVerdict net 1 verdict (IsDrilled net budget plan) bytes status → status ≡ Done
+drill_done net plan budget Accepted bytes status accepted says (is, done) = done
+drill_done net plan budget (Refused breach) bytes status accepted says told = absurd (accepted_unbroken net plan breach accepted says)
+
+drill_completes : DrillCompletes
+drill_completes topology plan budget right bytes status written =
+    let over = after_file (topology_of topology) right.network (λ net. AfterPlan net 1 plan (IsDrilled net budget)) bytes status right.has_network written in
+    let (verdict, says, drilled) = after_file (plan_in_file right.network 1 plan) right.plan (λ p. AfterJudged right.network 1 p (IsDrilled right.network budget p)) bytes status right.has_plan over in
+    drill_done right.network right.plan budget verdict bytes status right.accepted says drilled
+
 pub laws : Laws
 laws =
     record {
@@ -82,6 +95,7 @@ laws =
       renewal_completes = renewal_completes;
       migration_completes = migration_completes;
       twoway_completes = twoway_completes;
+      drill_completes = drill_completes;
       migration_law = migration_law;
       reports_contain = reports_contain;
       none_is_honest = none_is_honest;

@@ -12,6 +12,9 @@ use Rattle.sd_plantext.proofs.Versions.{plan_of-with_version, absent_of-with_ver
 use Rattle.sd_checker.specs.declared.Verdict.{Verdict}
 use Rattle.sd_checker.specs.declared.Verdict.TheVariants.{Accepted, Refused}
 use Rattle.sd_checker.proofs.Versions.{accepted_line-with_version, refused_line-with_version, IsVerdict-with_version}
+use Rattle.sd_drill.specs.declared.Budget.{Budget}
+use Rattle.sd_drill.proofs.Versions.{IsDrill-with_version}
+use Rattle.sd_planfiles.specs.PlanFiles.{AfterJudged, AfterPlan, AfterVerdict}
 use Rattle.sd_planner.proofs.Versions.{IsGreedy-with_version}
 use Rattle.sd_files.specs.Answering.{May, After}
 use Rattle.sd_files.specs.Inputs.{topology_of, in_file, plan_in_file, absent_in_file}
@@ -23,13 +26,14 @@ use Rattle.sd_files.specs.declared.ended.Refusal.{Refusal}
 use Rattle.sd_work.specs.Works.{IsOutcome}
 use Rattle.sd_exchanges.specs.Twoways.{twoway_work}
 use Rattle.sd_top.specs.Checks.{IsCheck, IsJudged, verdict_text}
+use Rattle.sd_top.specs.Drills.{IsDrill, IsDrilled}
 use Rattle.sd_top.specs.Migration.{IsMigrated, IsMigration}
 use Rattle.sd_top.specs.Plannings.{IsPlanning, IsPlanOf, IsRenewal, planned_text, first_root, renewed_root, nothing}
 use Rattle.sd_top.specs.Promise.{Answers}
 use Rattle.sd_top.specs.Twoways.{IsTwoway}
 use Rattle.sd_top.specs.Versions.{MigrationLaw}
 use Rattle.sd_top.specs.Words.{Command, File, OfTopology, OfPlan, OfAbsent, OfExchanges, files_of, name_of}
-use Rattle.sd_top.specs.Words.Command.{Solo, Plan as PlanOf, Check, Renew, Migrate, Twoway}
+use Rattle.sd_top.specs.Words.Command.{Solo, Plan as PlanOf, Check, Renew, Migrate, Twoway, Drill}
 
 -- what comes after a file that says the same
 after_carried : {X : Type 0} (before after : Result X Refusal) (Then Later : X → May) (bytes : List ℕ) (status : Status) → before ≡ after → ((x : X) → Then x bytes status → Later x bytes status) → After before Then bytes status
@@ -59,6 +63,15 @@ module _ (v w : ℕ) (net : Network) where
 
   judged_carried : (plan : Plan) (bytes : List ℕ) (status : Status) → IsJudged (with_version v net) plan bytes status → IsJudged (with_version w net) plan bytes status
   judged_carried plan bytes status (verdict, says, printed, answered) = (verdict, IsVerdict-with_version v w net plan verdict says, printed ∙ verdict_line verdict, answered)
+
+  verdict_carried : (plan : Plan) (budget : Budget) (verdict : Verdict) (bytes : List ℕ) (status : Status) → AfterVerdict (with_version v net) 1 verdict (IsDrilled (with_version v net) budget plan) bytes status
+      → AfterVerdict (with_version w net) 1 verdict (IsDrilled (with_version w net) budget plan) bytes status
+  verdict_carried plan budget Accepted bytes status (is, done) = (IsDrill-with_version v w net plan budget bytes is, done)
+  verdict_carried plan budget (Refused breach) bytes status (printed, answered) = (printed ∙ refused_line-with_version v w net 1 breach, answered)
+
+  drilled_carried : (budget : Budget) (plan : Plan) (bytes : List ℕ) (status : Status) → AfterJudged (with_version v net) 1 plan (IsDrilled (with_version v net) budget plan) bytes status
+      → AfterJudged (with_version w net) 1 plan (IsDrilled (with_version w net) budget plan) bytes status
+  drilled_carried budget plan bytes status (verdict, says, told) = (verdict, IsVerdict-with_version v w net plan verdict says, verdict_carried plan budget verdict bytes status told)
 
   planned_line : (plan : Plan) (verdict : Verdict) → planned_text (with_version v net) plan verdict ≡ planned_text (with_version w net) plan verdict
   planned_line plan Accepted = plan_text-with_version v w net plan
@@ -94,6 +107,19 @@ module _ (v w : ℕ) (net : Network) where
     twoway_stays exchanges exchanges' same written =
         subst (λ (x : List ℕ). IsTwoway other x bytes status) (sym same)
         (topology_carried text other (with_version v net) (with_version w net) (λ n. IsOutcome (twoway_work n) exchanges) (λ n. IsOutcome (twoway_work n) exchanges) bytes status reads rereads (λ h. h) written)
+
+    drill_stays : (budget : Budget) (plan plan' : List ℕ) → plan' ≡ plan → IsDrill text plan budget bytes status → IsDrill other plan' budget bytes status
+    drill_stays budget plan plan' same written =
+        subst (λ (p : List ℕ). IsDrill other p budget bytes status) (sym same)
+        (
+        topology_carried text other (with_version v net) (with_version w net) (λ n. AfterPlan n 1 plan (IsDrilled n budget)) (λ n. AfterPlan n 1 plan (IsDrilled n budget)) bytes status reads rereads
+        (
+        after_carried (plan_in_file (with_version v net) 1 plan) (plan_in_file (with_version w net) 1 plan) (λ p. AfterJudged (with_version v net) 1 p (IsDrilled (with_version v net) budget p))
+        (λ p. AfterJudged (with_version w net) 1 p (IsDrilled (with_version w net) budget p)) bytes status (plan_file 1 plan)
+        (λ p. drilled_carried budget p bytes status)
+        )
+        written
+        )
 
     renewal_over : (plan absent : List ℕ) → IsRenewal text plan absent bytes status → IsRenewal other plan absent bytes status
     renewal_over plan absent written =
@@ -148,6 +174,11 @@ module _ (topology : List ℕ) (before after : Texts) (net : Network) (v w : ℕ
       let rest : others ≡ OfExchanges exchanges ∷ [] = cc in
       let elsewhere_all = subst (λ (fs : List File). All (λ file. name_of file ≢ topology) fs) rest apart in
       twoway_stays v w net (before name) (after name) (reads_at name same) (rereads_at name same) bytes status (before exchanges) (after exchanges) (elsewhere exchanges (elsewhere_all 0 (OfTopology []) (omega arith))) written
+  answers_stay (Some (Drill name plan budget)) others files apart written =
+      let same : name ≡ topology = cc in
+      let rest : others ≡ OfPlan plan ∷ [] = cc in
+      let elsewhere_all = subst (λ (fs : List File). All (λ file. name_of file ≢ topology) fs) rest apart in
+      drill_stays v w net (before name) (after name) (reads_at name same) (rereads_at name same) bytes status budget (before plan) (after plan) (elsewhere plan (elsewhere_all 0 (OfTopology []) (omega arith))) written
 
 pub migration_law : MigrationLaw
 migration_law command topology others files apart before after rewritten bytes status = (

@@ -6,6 +6,11 @@ use Rattle.sd_topotext.specs.Reading.{tree_of}
 use Rattle.sd_plan.specs.declared.Absent.{Absent}
 use Rattle.sd_plan.specs.declared.Plan.{Plan}
 use Rattle.sd_checker.specs.Verdicts.{IsVerdict}
+use Rattle.sd_checker.specs.declared.Verdict.{Verdict}
+use Rattle.sd_checker.specs.declared.Verdict.TheVariants.{Accepted, Refused}
+use Rattle.sd_drill.specs.declared.Budget.{Budget}
+use Rattle.sd_drill.proofs.Unique.{one_drill}
+use Rattle.sd_planfiles.specs.PlanFiles.{AfterJudged, AfterVerdict}
 use Rattle.sd_checker.proofs.Unique.{one_verdict}
 use Rattle.sd_planner.proofs.Single.{same_greedy}
 use Rattle.sd_files.specs.Answering.{May, After}
@@ -15,10 +20,11 @@ use Rattle.sd_files.specs.declared.ended.Refusal.{Refusal}
 use Rattle.sd_work.specs.Works.{IsOutcome}
 use Rattle.sd_exchanges.specs.Twoways.{twoway_work}
 use Rattle.sd_top.specs.Checks.{IsJudged, verdict_status, verdict_text}
+use Rattle.sd_top.specs.Drills.{IsDrilled}
 use Rattle.sd_top.specs.Migration.{IsMigrated}
 use Rattle.sd_top.specs.Plannings.{IsPlanning, first_root, nothing, planned_text, renewed_root}
 use Rattle.sd_top.specs.Unique.{HasOneAnswer}
-use Rattle.sd_top.specs.Words.Command.{Solo, Plan as PlanOf, Check, Renew, Migrate, Twoway}
+use Rattle.sd_top.specs.Words.Command.{Solo, Plan as PlanOf, Check, Renew, Migrate, Twoway, Drill}
 
 -- at most one status, and bytes that are alike
 abbrev IsOne : (List ℕ → List ℕ → Type 0) → May → Type 0
@@ -50,6 +56,14 @@ migrated_one net bytes other status also (means, answered) (means', answered') =
 bounds_one : (exchanges : List ℕ) (net : Network) → IsOne (λ bytes other. bytes ≡ other) (IsOutcome (twoway_work net) exchanges)
 bounds_one exchanges net bytes other status also (printed, answered) (printed', answered') = (answered ∙ sym answered', printed ∙ sym printed')
 
+drilled_one : (net : Network) (budget : Budget) (plan : Plan) → IsOne (λ bytes other. bytes ≡ other) (AfterJudged net 1 plan (IsDrilled net budget plan))
+drilled_one net budget plan bytes other status also (verdict, says, first) (verdict', says', second) =
+    by verdict first (subst (λ (v : Verdict). AfterVerdict net 1 v (IsDrilled net budget plan) other also) (sym (one_verdict net plan verdict verdict' says says')) second)
+  where
+    by : (v : Verdict) → AfterVerdict net 1 v (IsDrilled net budget plan) bytes status → AfterVerdict net 1 v (IsDrilled net budget plan) other also → (status ≡ also) × (bytes ≡ other)
+    by Accepted (is, done) (is', done') = (done ∙ sym done', one_drill net plan budget bytes other is is')
+    by (Refused breach) (printed, answered) (printed', answered') = (answered ∙ sym answered', printed ∙ sym printed')
+
 pub one_answer : HasOneAnswer
 one_answer None texts bytes other status also (printed, answered) (printed', answered') = (answered ∙ sym answered', printed ∙ sym printed')
 one_answer (Some (Solo schedule)) texts bytes other status also (printed, answered) (printed', answered') = (answered ∙ sym answered', printed ∙ sym printed')
@@ -70,3 +84,6 @@ one_answer (Some (Migrate topology)) texts bytes other status also is too =
     after_one (λ b o. network_of (tree_of b) ≡ network_of (tree_of o)) (λ b o same. ap (λ (l : List ℕ). network_of (tree_of l)) same) (topology_of (texts topology)) IsMigrated migrated_one bytes other status also is too
 one_answer (Some (Twoway topology exchanges)) texts bytes other status also is too =
     after_one (λ b o. b ≡ o) equal (topology_of (texts topology)) (λ net. IsOutcome (twoway_work net) (texts exchanges)) (bounds_one (texts exchanges)) bytes other status also is too
+one_answer (Some (Drill topology plan budget)) texts bytes other status also is too =
+    after_one (λ b o. b ≡ o) equal (topology_of (texts topology)) (λ net. After (plan_in_file net 1 (texts plan)) (λ p. AfterJudged net 1 p (IsDrilled net budget p)))
+    (λ net. after_one (λ b o. b ≡ o) equal (plan_in_file net 1 (texts plan)) (λ p. AfterJudged net 1 p (IsDrilled net budget p)) (drilled_one net budget)) bytes other status also is too

@@ -2,6 +2,7 @@
 use Rattle.sd_solo.specs.Promises.{ReportsContain}
 use Rattle.sd_twoway.specs.Spans.{NoneIsHonest}
 use Rattle.sd_top.specs.Checks.{CheckCompletes}
+use Rattle.sd_top.specs.Drills.{DrillCompletes}
 use Rattle.sd_top.specs.Migration.{MigrationCompletes}
 use Rattle.sd_top.specs.Plannings.{PlanCompletes, RenewalCompletes}
 use Rattle.sd_top.specs.Schedules.{SoloCompletes}
@@ -19,6 +20,7 @@ pub record Laws : Type 0 where
   pub renewal_completes : RenewalCompletes
   pub migration_completes : MigrationCompletes
   pub twoway_completes : TwowayCompletes
+  pub drill_completes : DrillCompletes
   -- a topology that is written again with version 2 changes no answer
   pub migration_law : MigrationLaw
   -- whatever the events that one device alone accepts, an honest report has its reference time inside

@@ -3,6 +3,7 @@ pub mod Reasons
 pub mod Schedules
 pub mod Migration
 pub mod Checks
+pub mod Drills
 pub mod Plannings
 pub mod Twoways
 pub mod Promise

@@ -7,6 +7,7 @@ use Rattle.sd_files.specs.Texts.{Texts, texts_of}
 use Rattle.sd_files.specs.declared.Status.{Status}
 use Rattle.sd_files.specs.declared.Status.TheVariants.{Done, PlanRefused, Usage, InputRefused}
 use Rattle.sd_top.specs.Checks.{IsCheck}
+use Rattle.sd_top.specs.Drills.{IsDrill}
 use Rattle.sd_top.specs.Migration.{IsMigration}
 use Rattle.sd_top.specs.Plannings.{IsPlanOf, IsRenewal}
 use Rattle.sd_work.specs.Leaving.{Leaves}
@@ -14,7 +15,7 @@ use Rattle.sd_work.specs.Works.{reading, refused_part}
 use Rattle.sd_top.specs.Schedules.{IsSolo, ReportsTruly, solo_work}
 use Rattle.sd_top.specs.Twoways.{BoundsTruly, IsTwoway, refused_over}
 use Rattle.sd_top.specs.Words.{Command, command_of}
-use Rattle.sd_top.specs.Words.Command.{Solo, Plan as PlanOf, Check, Renew, Migrate, Twoway}
+use Rattle.sd_top.specs.Words.Command.{Solo, Plan as PlanOf, Check, Renew, Migrate, Twoway, Drill}
 
 -- what is promised of a command
 pub record Task : Type 1 where
@@ -37,9 +38,13 @@ once statuses Writes = record { Answers = Writes; gives = statuses; in_steps = f
 abbrev pub line_by_line : List Status → (Texts → May) → (Texts → Option (List ℕ)) → (Texts → Type 0) → Task
 line_by_line statuses Writes refused Holds = record { Answers = Writes; gives = statuses; in_steps = true; refused_part = refused; holds = Holds }
 
+-- a command that reads whole files, and writes as it goes
+abbrev pub step_by_step : List Status → (Texts → May) → Task
+step_by_step statuses Writes = record { Answers = Writes; gives = statuses; in_steps = true; refused_part = λ texts. None; holds = λ texts. Unit {0} }
+
 abbrev pub IsUsage : May
 IsUsage bytes status =
-    (bytes ≡ codes "usage: sundial solo SCHEDULE | plan TOPOLOGY | check TOPOLOGY PLAN | renew TOPOLOGY PLAN ABSENT | migrate TOPOLOGY | twoway TOPOLOGY EXCHANGES\n") × (status ≡ Usage)
+    (bytes ≡ codes "usage: sundial solo SCHEDULE | plan TOPOLOGY | check TOPOLOGY PLAN | renew TOPOLOGY PLAN ABSENT | migrate TOPOLOGY | twoway TOPOLOGY EXCHANGES | drill TOPOLOGY PLAN BASE HOLD\n") × (status ≡ Usage)
 
 -- each command, and words that are none
 abbrev pub task_of : Option Command → Task
@@ -52,6 +57,7 @@ task_of (Some (Migrate topology)) = once (Done ∷ InputRefused ∷ []) (λ text
 task_of (Some (Twoway topology exchanges)) =
     line_by_line (Done ∷ InputRefused ∷ []) (λ texts. IsTwoway (texts topology) (texts exchanges)) (λ texts. refused_over (topology_of (texts topology)) (texts exchanges))
     (λ texts. BoundsTruly (texts topology) (texts exchanges))
+task_of (Some (Drill topology plan budget)) = step_by_step (Done ∷ PlanRefused ∷ InputRefused ∷ []) (λ texts. IsDrill (texts topology) (texts plan) budget)
 
 -- the command writes these bytes and answers this status over the texts
 abbrev pub Answers : Option Command → Texts → May

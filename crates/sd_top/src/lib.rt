@@ -2,6 +2,7 @@
 #![tactic(auto)]
 
 mod check;
+mod drill;
 mod lines;
 mod migrate;
 mod plan;

@@ -14,6 +14,7 @@ ghost use Rattle.sd_top.specs.Words as meaning;
 ghost use Rattle.sd_top.specs.Words.{files_of, name_of};
 
 use crate::check::check;
+use crate::drill::drill;
 use crate::migrate::migrate;
 use crate::plan::plan;
 use crate::renew::renew;
@@ -107,6 +108,13 @@ fn perform<S: Shelf, O: Sink>(
                 exchanges,
             },
         ) => twoway(alloc, shelf, topology, exchanges, out),
+        Some(
+            Command::Drill {
+                topology,
+                plan,
+                budget,
+            },
+        ) => drill(alloc, shelf, topology, plan, budget, out),
         None => usage(out),
     }
 }
@@ -138,7 +146,7 @@ fn usage<O: Sink>(out: &mut O) -> Result<Status, Stop>
     ensures sink { result ≡ Err Stop.Sink → Rose (O.faults out.old) (O.faults out.new) }
 {
     match out.write(
-        b"usage: sundial solo SCHEDULE | plan TOPOLOGY | check TOPOLOGY PLAN | renew TOPOLOGY PLAN ABSENT | migrate TOPOLOGY | twoway TOPOLOGY EXCHANGES\n",
+        b"usage: sundial solo SCHEDULE | plan TOPOLOGY | check TOPOLOGY PLAN | renew TOPOLOGY PLAN ABSENT | migrate TOPOLOGY | twoway TOPOLOGY EXCHANGES | drill TOPOLOGY PLAN BASE HOLD\n",
     ) {
         Ok(()) => Ok(Status::Usage),
         Err(_) => Err(Stop::Sink),

@@ -1,46 +1,52 @@
 use Rattle.std.proofs.Common.{None, Some, ap, refl, sym, ◌∙◌}
 use Rattle.sd_files.proofs.Loading.{told_always}
 use Rattle.sd_top.specs.Parsed.{named}
-use Rattle.sd_top.specs.Words.Command.{Solo, Plan, Check, Renew, Migrate, Twoway}
+use Rattle.sd_top.specs.Words.Command.{Solo, Plan, Check, Renew, Migrate, Twoway, Drill}
 use Rattle.sd_top.specs.declared.words.Command.{Command as Parsed}
 use Rattle.sd_top.proofs.Performing.{meets_told, meets_once, near_told, near_nothing}
 use Rattle.sd_top.proofs.top.perform.Goals as goal
 
 pub returns-in-Some-Solo-clause-outcome : goal.returns-in-Some-Solo-clause-outcome
-returns-in-Some-Solo-clause-outcome g c = meets_told _ _ (Some (Solo c.in-Some-Solo.schedule.now)) _ _ _ (ap (λ (x : Parsed). Some (named x)) (sym c.in-Some-Solo.field-0-is) ∙ c.in-Some-Solo.ensures) c.solo.ensures.outcome
+returns-in-Some-Solo-clause-outcome g c = meets_told _ _ (Some (Solo c.in-Some-Solo.schedule.now)) _ _ _ (ap (λ (x : Parsed). Some (named x)) (sym c.in-Some-Solo.field-0-is) ∙ c.in-Some-Solo.ensures.is) c.solo.ensures.outcome
 
 pub returns-in-Some-Solo-clause-near : goal.returns-in-Some-Solo-clause-near
-returns-in-Some-Solo-clause-near g c = λ refused. near_told _ _ (Some (Solo c.in-Some-Solo.schedule.now)) _ (ap (λ (x : Parsed). Some (named x)) (sym c.in-Some-Solo.field-0-is) ∙ c.in-Some-Solo.ensures) (c.solo.ensures.near refused)
+returns-in-Some-Solo-clause-near g c = λ refused. near_told _ _ (Some (Solo c.in-Some-Solo.schedule.now)) _ (ap (λ (x : Parsed). Some (named x)) (sym c.in-Some-Solo.field-0-is) ∙ c.in-Some-Solo.ensures.is) (c.solo.ensures.near refused)
 
 pub returns-in-Some-Plan-clause-outcome : goal.returns-in-Some-Plan-clause-outcome
-returns-in-Some-Plan-clause-outcome g c = meets_once _ _ (Some (Plan c.in-Some-Plan.topology.now)) c.plan-made.result _ _ _ (ap (λ (x : Parsed). Some (named x)) (sym c.in-Some-Plan.field-0-is) ∙ c.in-Some-Plan.ensures) refl c.plan-made.ensures.makes c.write_answer.ensures.writes
+returns-in-Some-Plan-clause-outcome g c = meets_once _ _ (Some (Plan c.in-Some-Plan.topology.now)) c.plan-made.result _ _ _ (ap (λ (x : Parsed). Some (named x)) (sym c.in-Some-Plan.field-0-is) ∙ c.in-Some-Plan.ensures.is) refl c.plan-made.ensures.makes c.write_answer.ensures.writes
 
 pub returns-in-Some-Plan-clause-near : goal.returns-in-Some-Plan-clause-near
-returns-in-Some-Plan-clause-near g c = λ refused. near_nothing _ _ (Some (Plan c.in-Some-Plan.topology.now)) _ (ap (λ (x : Parsed). Some (named x)) (sym c.in-Some-Plan.field-0-is) ∙ c.in-Some-Plan.ensures) (λ texts. refl)
+returns-in-Some-Plan-clause-near g c = λ refused. near_nothing _ _ (Some (Plan c.in-Some-Plan.topology.now)) _ (ap (λ (x : Parsed). Some (named x)) (sym c.in-Some-Plan.field-0-is) ∙ c.in-Some-Plan.ensures.is) (λ texts. refl)
 
 pub returns-in-Some-Check-clause-outcome : goal.returns-in-Some-Check-clause-outcome
-returns-in-Some-Check-clause-outcome g c = meets_once _ _ (Some (Check c.in-Some-Check.topology.now c.in-Some-Check.plan.now)) c.check-made.result _ _ _ (ap (λ (x : Parsed). Some (named x)) (sym c.in-Some-Check.field-0-is) ∙ c.in-Some-Check.ensures) refl c.check-made.ensures.makes c.write_answer-in-Some-Check.ensures.writes
+returns-in-Some-Check-clause-outcome g c = meets_once _ _ (Some (Check c.in-Some-Check.topology.now c.in-Some-Check.plan.now)) c.check-made.result _ _ _ (ap (λ (x : Parsed). Some (named x)) (sym c.in-Some-Check.field-0-is) ∙ c.in-Some-Check.ensures.is) refl c.check-made.ensures.makes c.write_answer-in-Some-Check.ensures.writes
 
 pub returns-in-Some-Check-clause-near : goal.returns-in-Some-Check-clause-near
-returns-in-Some-Check-clause-near g c = λ refused. near_nothing _ _ (Some (Check c.in-Some-Check.topology.now c.in-Some-Check.plan.now)) _ (ap (λ (x : Parsed). Some (named x)) (sym c.in-Some-Check.field-0-is) ∙ c.in-Some-Check.ensures) (λ texts. refl)
+returns-in-Some-Check-clause-near g c = λ refused. near_nothing _ _ (Some (Check c.in-Some-Check.topology.now c.in-Some-Check.plan.now)) _ (ap (λ (x : Parsed). Some (named x)) (sym c.in-Some-Check.field-0-is) ∙ c.in-Some-Check.ensures.is) (λ texts. refl)
 
 pub returns-in-Some-Renew-clause-outcome : goal.returns-in-Some-Renew-clause-outcome
-returns-in-Some-Renew-clause-outcome g c = meets_once _ _ (Some (Renew c.in-Some-Renew.topology.now c.in-Some-Renew.plan.now c.in-Some-Renew.absent.now)) c.renew-made.result _ _ _ (ap (λ (x : Parsed). Some (named x)) (sym c.in-Some-Renew.field-0-is) ∙ c.in-Some-Renew.ensures) refl c.renew-made.ensures.makes c.write_answer-in-Some-Renew.ensures.writes
+returns-in-Some-Renew-clause-outcome g c = meets_once _ _ (Some (Renew c.in-Some-Renew.topology.now c.in-Some-Renew.plan.now c.in-Some-Renew.absent.now)) c.renew-made.result _ _ _ (ap (λ (x : Parsed). Some (named x)) (sym c.in-Some-Renew.field-0-is) ∙ c.in-Some-Renew.ensures.is) refl c.renew-made.ensures.makes c.write_answer-in-Some-Renew.ensures.writes
 
 pub returns-in-Some-Renew-clause-near : goal.returns-in-Some-Renew-clause-near
-returns-in-Some-Renew-clause-near g c = λ refused. near_nothing _ _ (Some (Renew c.in-Some-Renew.topology.now c.in-Some-Renew.plan.now c.in-Some-Renew.absent.now)) _ (ap (λ (x : Parsed). Some (named x)) (sym c.in-Some-Renew.field-0-is) ∙ c.in-Some-Renew.ensures) (λ texts. refl)
+returns-in-Some-Renew-clause-near g c = λ refused. near_nothing _ _ (Some (Renew c.in-Some-Renew.topology.now c.in-Some-Renew.plan.now c.in-Some-Renew.absent.now)) _ (ap (λ (x : Parsed). Some (named x)) (sym c.in-Some-Renew.field-0-is) ∙ c.in-Some-Renew.ensures.is) (λ texts. refl)
 
 pub returns-in-Some-Migrate-clause-outcome : goal.returns-in-Some-Migrate-clause-outcome
-returns-in-Some-Migrate-clause-outcome g c = meets_once _ _ (Some (Migrate c.in-Some-Migrate.topology.now)) c.migrate-made.result _ _ _ (ap (λ (x : Parsed). Some (named x)) (sym c.in-Some-Migrate.field-0-is) ∙ c.in-Some-Migrate.ensures) refl c.migrate-made.ensures.makes c.write_answer-in-Some-Migrate.ensures.writes
+returns-in-Some-Migrate-clause-outcome g c = meets_once _ _ (Some (Migrate c.in-Some-Migrate.topology.now)) c.migrate-made.result _ _ _ (ap (λ (x : Parsed). Some (named x)) (sym c.in-Some-Migrate.field-0-is) ∙ c.in-Some-Migrate.ensures.is) refl c.migrate-made.ensures.makes c.write_answer-in-Some-Migrate.ensures.writes
 
 pub returns-in-Some-Migrate-clause-near : goal.returns-in-Some-Migrate-clause-near
-returns-in-Some-Migrate-clause-near g c = λ refused. near_nothing _ _ (Some (Migrate c.in-Some-Migrate.topology.now)) _ (ap (λ (x : Parsed). Some (named x)) (sym c.in-Some-Migrate.field-0-is) ∙ c.in-Some-Migrate.ensures) (λ texts. refl)
+returns-in-Some-Migrate-clause-near g c = λ refused. near_nothing _ _ (Some (Migrate c.in-Some-Migrate.topology.now)) _ (ap (λ (x : Parsed). Some (named x)) (sym c.in-Some-Migrate.field-0-is) ∙ c.in-Some-Migrate.ensures.is) (λ texts. refl)
 
 pub returns-in-Some-Twoway-clause-outcome : goal.returns-in-Some-Twoway-clause-outcome
-returns-in-Some-Twoway-clause-outcome g c = meets_told _ _ (Some (Twoway c.in-Some-Twoway.topology.now c.in-Some-Twoway.exchanges.now)) _ _ _ (ap (λ (x : Parsed). Some (named x)) (sym c.in-Some-Twoway.field-0-is) ∙ c.in-Some-Twoway.ensures) c.twoway.ensures.outcome
+returns-in-Some-Twoway-clause-outcome g c = meets_told _ _ (Some (Twoway c.in-Some-Twoway.topology.now c.in-Some-Twoway.exchanges.now)) _ _ _ (ap (λ (x : Parsed). Some (named x)) (sym c.in-Some-Twoway.field-0-is) ∙ c.in-Some-Twoway.ensures.is) c.twoway.ensures.outcome
 
 pub returns-in-Some-Twoway-clause-near : goal.returns-in-Some-Twoway-clause-near
-returns-in-Some-Twoway-clause-near g c = λ refused. near_told _ _ (Some (Twoway c.in-Some-Twoway.topology.now c.in-Some-Twoway.exchanges.now)) _ (ap (λ (x : Parsed). Some (named x)) (sym c.in-Some-Twoway.field-0-is) ∙ c.in-Some-Twoway.ensures) (c.twoway.ensures.near refused)
+returns-in-Some-Twoway-clause-near g c = λ refused. near_told _ _ (Some (Twoway c.in-Some-Twoway.topology.now c.in-Some-Twoway.exchanges.now)) _ (ap (λ (x : Parsed). Some (named x)) (sym c.in-Some-Twoway.field-0-is) ∙ c.in-Some-Twoway.ensures.is) (c.twoway.ensures.near refused)
+
+pub returns-in-Some-Drill-clause-outcome : goal.returns-in-Some-Drill-clause-outcome
+returns-in-Some-Drill-clause-outcome g c = meets_told _ _ (Some (Drill c.in-Some-Drill.topology.now c.in-Some-Drill.plan.now c.in-Some-Drill.budget)) _ _ _ (ap (λ (x : Parsed). Some (named x)) (sym c.in-Some-Drill.field-0-is) ∙ c.in-Some-Drill.ensures.is) c.drill.ensures.outcome
+
+pub returns-in-Some-Drill-clause-near : goal.returns-in-Some-Drill-clause-near
+returns-in-Some-Drill-clause-near g c = λ refused. near_nothing _ _ (Some (Drill c.in-Some-Drill.topology.now c.in-Some-Drill.plan.now c.in-Some-Drill.budget)) _ (ap (λ (x : Parsed). Some (named x)) (sym c.in-Some-Drill.field-0-is) ∙ c.in-Some-Drill.ensures.is) (λ texts. refl)
 
 pub returns-in-None-clause-outcome : goal.returns-in-None-clause-outcome
-returns-in-None-clause-outcome g c = meets_told _ _ None _ _ _ c.in-None.ensures (told_always _ c.usage.ensures.outcome)
+returns-in-None-clause-outcome g c = meets_told _ _ None _ _ _ c.in-None.ensures.is (told_always _ c.usage.ensures.outcome)

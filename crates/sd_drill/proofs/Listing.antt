@@ -1,0 +1,73 @@
+-- What is listed for a device, by how it recovers.
+use Rattle.std.specs.Prelude.{◌≡◌, ℕ, ◌+◌, ◌<◌, ◌≤◌, true, false, List, [], ◌∷◌, ◌++◌, length, Option, Some, None}
+use Rattle.std.proofs.Common.{arith, get_or, sym, ◌∙◌, subst, inl, inr}
+use Rattle.std.proofs.lemmas.Bool.{both_ways, cases_lt}
+use Rattle.std.proofs.lemmas.List.{get_or_append_left, get_or_push, length_push}
+use Rattle.sd_topo.specs.Network.{Network}
+use Rattle.sd_topo.proofs.Laws.{found_at}
+use Rattle.sd_domain.specs.declared.DomainId.{DomainId}
+use Rattle.sd_plan.specs.declared.Plan.{Plan}
+use Rattle.sd_recovery.specs.Reaches.{ReachesFrom, IsReachOf}
+use Rattle.sd_recovery.specs.Recoveries.{IsRecovery}
+use Rattle.sd_recovery.specs.Walks.{IsWalk}
+use Rattle.sd_recovery.specs.declared.reach.Reach.{Reach}
+use Rattle.sd_recovery.specs.declared.recovery.Recovery.{Recovery}
+use Rattle.sd_drill.specs.Bounds.{bound_at}
+use Rattle.sd_drill.specs.Drill.{IsWorst}
+use Rattle.sd_drill.specs.Times.{IsBoundOf}
+use Rattle.sd_drill.specs.declared.Budget.{Budget}
+use Rattle.sd_drill.specs.declared.times.Times.{Times}
+
+module _ (net : Network) (plan : Plan) (f : DomainId) (d : ℕ) where
+  -- what is not fed has no bound
+  pub none_unfed : (budget : Budget) (r : Recovery) → IsRecovery net plan f d r → r.fed ≡ false → (w : ℕ) → IsWorst net plan budget f d w → ⊥
+  none_unfed budget r is unfed w worst = absurd (both_ways r.fed unfed (is.fed.1 worst.fed))
+
+  -- nor what has a walk that is too long
+  pub none_overlong : (budget : Budget) (o : Option Reach) → o ≡ None → ReachesFrom net plan f d o → (w : ℕ) → IsWorst net plan budget f d w → ⊥
+  none_overlong budget (Some reach) none is w worst = cc
+  none_overlong budget None none is w worst =
+      let most : length is.hops ≤ worst.long = worst.is_long.greatest is.hops is.has in
+      let few : worst.long ≤ net.params.depth + 1 = worst.short_enough in
+      let more : net.params.depth + 1 < length is.hops = is.more in
+      absurd (omega (arith, most, few, more))
+
+  reach_is : (o : Option Reach) (reach : Reach) → o ≡ Some reach → ReachesFrom net plan f d o → IsReachOf net (IsWalk net plan f d) d reach
+  reach_is o reach some is = subst (λ (found : Option Reach). ReachesFrom net plan f d found) some is
+
+  pub short_enough : (r : Recovery) (reach : Reach) → IsRecovery net plan f d r → r.reach ≡ Some reach → reach.long ≤ net.params.depth + 1
+  short_enough r reach is some = (reach_is r.reach reach some is.reach).within
+
+  pub far_enough : (r : Recovery) (reach : Reach) → IsRecovery net plan f d r → r.reach ≡ Some reach → IsReachOf net (IsWalk net plan f d) d reach
+  far_enough r reach is some = reach_is r.reach reach some is.reach
+
+  -- and what is fed over walks that are not too long has this one
+  pub some_bound : (times : Times) (r : Recovery) (reach : Reach) (w : ℕ) → IsRecovery net plan f d r → r.fed ≡ true → r.reach ≡ Some reach → IsBoundOf net plan times d reach w → IsWorst net plan times.budget f d w
+  some_bound times r reach w is fed some bound =
+      let walks = reach_is r.reach reach some is.reach in
+      record {
+        fed = is.fed.0 fed;
+        far = reach.far;
+        is_far = walks.far;
+        long = reach.long;
+        is_long = walks.long;
+        short_enough = walks.within;
+        oldest = bound.oldest;
+        is_oldest = bound.is_oldest;
+        sum = bound.sum;
+      }
+
+pub bound_is : (xs : List (Option ℕ)) (k : ℕ) → k < length xs → bound_at xs k ≡ get_or xs k None
+bound_is xs k within = found_at xs k None None (λ bound. bound) within
+
+-- one more bound
+pub listed_more : (P : ℕ → Option ℕ → Type 0) (xs : List (Option ℕ)) (x : Option ℕ) (n : ℕ) → length xs ≡ n → ((k : ℕ) → k < n → P k (bound_at xs k)) → P n x → (k : ℕ) → k < n + 1 → P k (bound_at (xs ++ x ∷ []) k)
+listed_more P xs x n size each new k below =
+    elim (cases_lt k n) [
+      | inl before ↦ (let there : k < length xs = omega (arith, size, before) in
+          let whole : k < length (xs ++ x ∷ []) = omega (arith, there, length_push xs x) in
+          subst (λ (bound : Option ℕ). P k bound) (sym (bound_is (xs ++ x ∷ []) k whole ∙ get_or_append_left xs (x ∷ []) None k there ∙ sym (bound_is xs k there))) (each k before))
+      | inr after ↦ (let last : n ≡ k = omega (arith, below, after) in
+          let whole : k < length (xs ++ x ∷ []) = omega (arith, last, size, length_push xs x) in
+          subst (λ (bound : Option ℕ). P k bound) (sym (bound_is (xs ++ x ∷ []) k whole ∙ get_or_push xs x None k (size ∙ last))) (subst (λ (m : ℕ). P m x) last new))
+    ]

@@ -1,0 +1,4 @@
+pub mod Drill
+pub mod Bounds
+pub mod Times
+pub mod Printed

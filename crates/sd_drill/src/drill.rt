@@ -1,0 +1,125 @@
+//! A plan under drill: one domain after another.
+ghost use Rattle.std.specs.Prelude.{◌≡◌, ◌<◌, length, IfOk};
+ghost use Rattle.sd_drill.specs.Bounds.{AreBounds, IsBudget};
+ghost use Rattle.sd_drill.specs.Drill.{IsListed};
+ghost use Rattle.sd_drill.specs.Times.{AreTimes};
+ghost use Rattle.sd_hit.specs.Outages.{net_of, plan_of};
+ghost use Rattle.sd_check_loop.specs.Loops.{HasNoCycle};
+ghost use Rattle.sd_recovery.specs.Searches.{AreRecoveries, HasRoom};
+
+use crate::Budget;
+use crate::bounds::WorstList;
+use crate::times::Times;
+use sd_domain::DomainId;
+use sd_hit::{Impact, Outage};
+use sd_num::NoMemory;
+use sd_plan::Indexed;
+use sd_recovery::Recoveries;
+use std::alloc::Global;
+
+/// A plan and a budget under drill: what the bounds of all domains share, and room for what one
+/// domain does, which serves one after another.
+#[derive(Drop)]
+pub struct Drill {
+    times: Times,
+    impact: Impact,
+    recoveries: Recoveries,
+}
+
+/// The bound of a device, if it has one.
+fn bound_of(times: Times, outage: &Outage<'_>, recoveries: &Recoveries, d: u32) -> Option<u128>
+    requires times { AreTimes (net_of outage.now) (plan_of outage.now) times }
+    requires found { AreRecoveries (net_of outage.now) (plan_of outage.now) outage.now.domain recoveries.now }
+    requires device { d < length (net_of outage.now).devices }
+    ensures { IsListed (net_of outage.now) (plan_of outage.now) times.budget outage.now.domain d result }
+{
+    let recovery = recoveries.of(outage, d);
+    if !recovery.fed {
+        return None;
+    }
+    match recovery.reach {
+        Some(reach) => Some(times.bound(outage.planned, d, reach)),
+        None => None,
+    }
+}
+
+/// The bounds of all devices.
+fn all_bounds(
+    alloc: Global,
+    times: Times,
+    outage: &Outage<'_>,
+    recoveries: &Recoveries,
+) -> Result<WorstList, NoMemory>
+    requires times { AreTimes (net_of outage.now) (plan_of outage.now) times }
+    requires found { AreRecoveries (net_of outage.now) (plan_of outage.now) outage.now.domain recoveries.now }
+    ensures { IfOk result (AreBounds (net_of outage.now) (plan_of outage.now) times.budget outage.now.domain) }
+{
+    let devices = outage.planned.topo.devices();
+    let Ok(mut bounds) = Vec::with_capacity(alloc, devices as usize) else {
+        return Err(NoMemory);
+    };
+    for d in 0..devices {
+        bounds.push_reserved(bound_of(times, outage, recoveries, d));
+    }
+    Ok(WorstList::from_vec(bounds))
+}
+
+/// The bounds under an outage, with room for how devices recover from it.
+fn bounds_under(
+    alloc: Global,
+    times: Times,
+    outage: &Outage<'_>,
+    recoveries: &mut Recoveries,
+) -> Result<WorstList, NoMemory>
+    requires times { AreTimes (net_of outage.now) (plan_of outage.now) times }
+    requires acyclic { HasNoCycle (net_of outage.now) (plan_of outage.now) outage.now.domain }
+    requires room { HasRoom (net_of outage.now) recoveries.old }
+    ensures bounds { IfOk result (AreBounds (net_of outage.now) (plan_of outage.now) times.budget outage.now.domain) }
+    ensures room { HasRoom (net_of outage.now) recoveries.new }
+{
+    recoveries.find(outage)?;
+    all_bounds(alloc, times, outage, recoveries)
+}
+
+impl Drill {
+    ghost use Rattle.std.specs.Prelude.{OnOk};
+    ghost use Rattle.sd_check_loop.specs.Loops.{HasNoCycle};
+    ghost use Rattle.sd_domain.specs.Domains.{IsDomain};
+    ghost use Rattle.sd_drill.specs.Times.{IsDrillOf};
+    ghost use Rattle.sd_topo.specs.Topologies.{network};
+
+    /// A drill of a plan.
+    pub fn new(alloc: Global, planned: Indexed<'_>, budget: Budget) -> Result<Drill, NoMemory>
+        requires { IsBudget budget }
+        ensures { IfOk result (λ drill. IsDrillOf (network planned.entry.topo.now) planned.entry.plan.now drill × (drill.times.budget ≡ budget)) }
+    {
+        let times = Times::new(planned, budget);
+        let impact = Impact::new(alloc, planned.topo)?;
+        let recoveries = Recoveries::new(alloc, planned.topo)?;
+        Ok(Drill {
+            times,
+            impact,
+            recoveries,
+        })
+    }
+
+    /// The bound of each device when the things of a domain fail, under which hops lead in no
+    /// circle. It costs as much as there are devices and as the domain is long.
+    pub fn worst(
+        &mut self,
+        alloc: Global,
+        planned: Indexed<'_>,
+        domain: DomainId,
+    ) -> Result<WorstList, NoMemory>
+        requires drill { IsDrillOf (network planned.topo.now) planned.plan.now self.old }
+        requires domain { IsDomain (network planned.topo.now) domain }
+        requires acyclic { HasNoCycle (network planned.topo.now) planned.plan.now domain }
+        ensures bounds { IfOk result (AreBounds (network planned.entry.topo.now) planned.entry.plan.now self.old.times.budget domain) }
+        ensures drill { IsDrillOf (network planned.entry.topo.now) planned.entry.plan.now self.new }
+        ensures budget { self.new.times.budget ≡ self.old.times.budget }
+    {
+        self.impact.strike(alloc, planned, domain)?;
+        let outage = self.impact.outage(planned, domain);
+        bounds_under(alloc, self.times, &outage, &mut self.recoveries)
+    }
+}

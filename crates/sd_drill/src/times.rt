@@ -1,0 +1,86 @@
+//! What the bounds of all domains share.
+ghost use Rattle.std.specs.Prelude.{◌≡◌, ◌≤◌, ◌<◌, ◌+◌, ◌*◌, ◌^◌, length};
+ghost use Rattle.sd_ages.specs.Ages as ages;
+ghost use Rattle.sd_drill.specs.Bounds.{IsBudget};
+ghost use Rattle.sd_drill.specs.Drill as words;
+ghost use Rattle.sd_drill.specs.Times.{AreTimes, IsBoundOf};
+ghost use Rattle.sd_plan.specs.Plans.{Fits};
+ghost use Rattle.sd_topo.specs.Network.{rates_of};
+ghost use Rattle.sd_topo.specs.Topologies.{network};
+
+use crate::Budget;
+use crate::roots::root_halves;
+use sd_ages::{ageing, oldest};
+use sd_check_root::{greatest_up, silence_and_tick};
+use sd_plan::{Indexed, Plan};
+use sd_recovery::Reach;
+use sd_topo::Topology;
+
+/// The times of a plan and a budget, in ps.
+#[derive(Clone, Copy)]
+pub(crate) struct Times {
+    pub(crate) budget: Budget,
+    /// The uncertainty of what an acting root sends, and the way between the two roots.
+    pub(crate) sent: u128,
+    /// For how long an acting end may be silent to all.
+    pub(crate) settling: u128,
+    /// The greatest silence over a sound path.
+    pub(crate) silence: u128,
+}
+
+/// For how long an acting end may be silent to all: while the backup root takes over, or while
+/// devices move to their backups.
+fn settling(topo: &Topology, plan: &Plan) -> u128
+    requires { Fits (network topo.now) plan.now }
+    ensures is { result ≡ words.settling (network topo.now) plan.now }
+    ensures bound { result ≤ 2 ^ 84 }
+{
+    let silent = silence_and_tick(topo);
+    let first = greatest_up(topo, plan.wait_first);
+    let second = greatest_up(topo, plan.wait_second);
+    let takeover = first + second + 6 * silent;
+    let moved = greatest_up(topo, plan.wait) + silent;
+    takeover.max(moved)
+}
+
+/// What an acting root's own estimate has grown by, at one of the two roots.
+fn held(topo: &Topology, root: u32, budget: Budget) -> u128
+    requires root { root < length (network topo.now).devices }
+    requires budget { IsBudget budget }
+    ensures is { result ≡ ages.ageing (rates_of (network topo.now) root) budget.hold }
+    ensures bound { result ≤ 2 ^ 61 }
+{
+    ageing(topo.rates(root), u128::from(budget.hold))
+}
+
+impl Times {
+    /// The times of a plan and a budget.
+    pub(crate) fn new(planned: Indexed<'_>, budget: Budget) -> Times
+        requires { IsBudget budget }
+        ensures times { AreTimes (network planned.entry.topo.now) planned.entry.plan.now result }
+        ensures budget { result.budget ≡ budget }
+    {
+        let topo = planned.topo;
+        let plan = planned.plan;
+        let way = u128::from(root_halves(planned));
+        let held = held(topo, plan.root, budget) + held(topo, plan.backup_root, budget);
+        Times {
+            budget,
+            sent: u128::from(budget.base) + held + 2 * way,
+            settling: settling(topo, plan),
+            silence: silence_and_tick(topo) - u128::from(topo.params().tick),
+        }
+    }
+
+    /// The bound of a device that comes to hear again over walks that reach so far.
+    pub(crate) fn bound(self, planned: Indexed<'_>, d: u32, reach: Reach) -> u128
+        requires times { AreTimes (network planned.topo.now) planned.plan.now self }
+        requires device { d < length (network planned.topo.now).devices }
+        requires reach { reach.long ≤ (network planned.topo.now).params.depth + 1 }
+        ensures { IsBoundOf (network planned.entry.topo.now) planned.entry.plan.now self d reach result }
+    {
+        let quiet = self.settling + 2 * self.silence * (u128::from(reach.long) + 1);
+        let rates = planned.topo.rates(d);
+        self.sent + u128::from(reach.far) + ageing(rates, oldest(rates, quiet))
+    }
+}

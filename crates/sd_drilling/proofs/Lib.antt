@@ -1,0 +1,4 @@
+mod Fronts
+mod Ranges
+mod Names
+mod Membership

@@ -1,0 +1,4 @@
+pub mod Adding
+pub mod Kinds
+pub mod Printing
+pub mod Rooms

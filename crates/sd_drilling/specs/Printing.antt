@@ -1,0 +1,17 @@
+-- The line of a bound, by what is printed in it.
+use Rattle.std.specs.Prelude.{ℕ, List, [], ◌∷◌, ◌++◌, ◌≤◌, length, Option, Some, None, codes, decimal}
+use Rattle.sd_num.specs.Texts.{text_of}
+use Rattle.sd_drilling.specs.declared.lines.Named.{Named}
+
+-- the line of a domain's kind and name, a device's name and its bound
+abbrev pub line_of : List ℕ → List ℕ → List ℕ → Option ℕ → List ℕ
+line_of kind name device (Some w) = text_of (codes "bound" ∷ kind ∷ name ∷ device ∷ decimal w ∷ [])
+line_of kind name device None = text_of (codes "nobound" ∷ kind ∷ name ∷ device ∷ [])
+
+-- its front, before the bound
+abbrev pub head_of : List ℕ → List ℕ → List ℕ → List ℕ → List ℕ
+head_of word kind name device = word ++ 32 ∷ kind ++ 32 ∷ name ++ 32 ∷ device
+
+-- the names fit into a line
+abbrev pub IsShort : Named → Type 0
+IsShort named = (length named.kind.now ≤ 6) × (length named.name.now ≤ 64)

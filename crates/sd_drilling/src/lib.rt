@@ -1,0 +1,9 @@
+//! What is written of a drill: one write for each domain, and the last line.
+#![tactic(auto)]
+
+mod kinds;
+mod lines;
+mod members;
+mod writing;
+
+pub use writing::write_drill;

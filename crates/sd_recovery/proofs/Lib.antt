@@ -1,0 +1,6 @@
+mod Reached
+mod Rows
+mod Hearing
+mod Leading
+mod Searching
+pub mod Existing

@@ -1,0 +1,187 @@
+//! `drill`: bounds and refusals worked out by hand, in pieces, and where the outside fails.
+ghost use Rattle.std.specs.Prelude.{◌≡◌, ◌≤◌, false, IfOk};
+
+use sd_examples::{
+    DRIFTLESS, DRIFTLESS_PLAN, FABRIC, FABRIC_PLAN, TRIANGLE, TRIANGLE_2, TRIANGLE_PLAN,
+};
+use sd_outside::{MemShelf, MemSink};
+use sd_top::{Status, run};
+use std::alloc::Global;
+use std::process::Abort;
+use std::test::Fail;
+
+/// The words of a drill with an everyday budget.
+const WORDS: [&str; 5] = ["drill", "topology", "plan", "800000", "3000000000"];
+
+/// What is written of the triangle.
+const BOUNDS: &str = "\
+nobound device r r
+bound device r b 4916851
+bound device r x 5449722
+bound device b r 4916851
+nobound device b b
+bound device b x 5449722
+bound device x r 4916851
+bound device x b 4916851
+nobound device x x
+bound link rb r 4916851
+bound link rb b 4916851
+bound link rb x 5449722
+bound link rx r 4916851
+bound link rx b 4916851
+bound link rx x 5449722
+bound link bx r 4916851
+bound link bx b 4916851
+bound link bx x 5449722
+done 6 3
+";
+
+/// What is written for words that are no command's.
+const USAGE: &str =
+    "usage: sundial solo SCHEDULE | plan TOPOLOGY | check TOPOLOGY PLAN | renew TOPOLOGY PLAN ABSENT | migrate TOPOLOGY | twoway TOPOLOGY EXCHANGES | drill TOPOLOGY PLAN BASE HOLD\n";
+
+/// A shelf that holds a topology and a plan.
+fn shelf_of(
+    alloc: Global,
+    topology: &str,
+    plan: &str,
+    piece: usize,
+    failing: &[u64],
+) -> Result<MemShelf, Fail>
+    requires { 1 ≤ piece }
+    ensures { IfOk result (λ shelf. shelf.begun ≡ false) }
+{
+    let mut files = Vec::new(alloc);
+    for (name, text) in [("topology", topology), ("plan", plan)] {
+        files.push((
+            String::from_str(alloc, name)?,
+            Vec::from_slice(alloc, text.as_bytes())?,
+        ))?;
+    }
+    Ok(MemShelf::new(files, piece, Vec::from_slice(alloc, failing)?))
+}
+
+/// The status of a run, with its sink.
+fn run_words(
+    alloc: Global,
+    words: &[&str],
+    shelf: &mut MemShelf,
+    failing: Vec<(u64, usize)>,
+) -> Result<(Status, MemSink), Fail>
+    requires { shelf.old.begun ≡ false }
+{
+    let mut list = Vec::new(alloc);
+    for word in words {
+        list.push(String::from_str(alloc, word)?)?;
+    }
+    let mut out = MemSink::new(alloc, 10_000, failing)?;
+    let status = run(alloc, list.as_slice(), shelf, &mut out);
+    Ok((status, out))
+}
+
+/// One run that nothing stops: what is written and answered.
+fn assert_run(
+    rt: &(impl Abort + AllocGlobal),
+    words: &[&str],
+    files: (&str, &str),
+    piece: usize,
+    due: (&str, Status),
+) -> Result<(), Fail>
+    requires { 1 ≤ piece }
+{
+    let alloc = rt.alloc();
+    let (topology, plan) = files;
+    let (output, status) = due;
+    let mut shelf = shelf_of(alloc, topology, plan, piece, &[])?;
+    let (answer, out) = run_words(alloc, words, &mut shelf, Vec::new(alloc))?;
+    assert_eq!(rt; std::str::from_utf8(out.bytes()), Ok(output));
+    assert_eq!(rt; answer, status, "{output:?} in pieces of {piece}");
+    Ok(())
+}
+
+#[test]
+fn the_triangle_has_its_bounds(rt: HostRuntime) -> Result<(), Fail> {
+    let due = (BOUNDS, Status::Done);
+    assert_run(&rt, &WORDS, (TRIANGLE, TRIANGLE_PLAN), 7, due)?;
+    assert_run(&rt, &WORDS, (TRIANGLE_2, TRIANGLE_PLAN), 8192, due)
+}
+
+#[test]
+fn a_refused_plan_is_not_drilled(rt: HostRuntime) -> Result<(), Fail> {
+    let plan = FABRIC_PLAN.replace(rt.alloc(), "3600000000", "3500000000")?;
+    let line = "refused plan 1 timing 4 3499299000 3576668000\n";
+    let words = ["drill", "topology", "plan", "800000", "0"];
+    assert_run(
+        &rt,
+        &words,
+        (FABRIC, plan.as_str()),
+        8192,
+        (line, Status::PlanRefused),
+    )?;
+    let line = "refused plan 1 timing 5 32824 46412\n";
+    assert_run(
+        &rt,
+        &words,
+        (DRIFTLESS, DRIFTLESS_PLAN),
+        8192,
+        (line, Status::PlanRefused),
+    )?;
+    let line = "input plan 1 NotJson\n";
+    assert_run(
+        &rt,
+        &words,
+        (TRIANGLE, "no plan"),
+        8192,
+        (line, Status::InputRefused),
+    )
+}
+
+#[test]
+fn a_budget_is_two_numbers_within_their_limit(rt: HostRuntime) -> Result<(), Fail> {
+    for (base, hold) in [
+        ("01", "0"),
+        ("0", ""),
+        ("-1", "0"),
+        ("1152921504606846977", "0"),
+        ("0", "1152921504606846977"),
+        ("0", "99999999999999999999"),
+    ] {
+        let words = ["drill", "topology", "plan", base, hold];
+        assert_run(
+            &rt,
+            &words,
+            (TRIANGLE, TRIANGLE_PLAN),
+            8192,
+            (USAGE, Status::Usage),
+        )?;
+    }
+    let alloc = rt.alloc();
+    let limit = "1152921504606846976";
+    let mut shelf = shelf_of(alloc, TRIANGLE, TRIANGLE_PLAN, 8192, &[])?;
+    let words = ["drill", "topology", "plan", limit, limit];
+    let (status, _) = run_words(alloc, &words, &mut shelf, Vec::new(alloc))?;
+    assert_eq!(rt; status, Status::Done);
+    Ok(())
+}
+
+#[test]
+fn a_write_that_fails_ends_the_drill(rt: HostRuntime) -> Result<(), Fail> {
+    let alloc = rt.alloc();
+    for (write, kept, output) in [
+        (0, 0, ""),
+        (0, 8, "nobound "),
+        (
+            1,
+            0,
+            "nobound device r r\nbound device r b 4916851\nbound device r x 5449722\n",
+        ),
+        (6, 7, "done 6 "),
+    ] {
+        let failing = Vec::from_slice(alloc, &[(write, kept)])?;
+        let mut shelf = shelf_of(alloc, TRIANGLE, TRIANGLE_PLAN, 8192, &[])?;
+        let (status, out) = run_words(alloc, &WORDS, &mut shelf, failing)?;
+        assert_eq!(rt; status, Status::SinkFault);
+        assert!(rt; out.bytes().ends_with(output.as_bytes()), "write {write}");
+    }
+    Ok(())
+}

@@ -1,0 +1,110 @@
+//! `drill`: the greatest epsilon that each device can report when a domain fails.
+ghost use Rattle.std.specs.Prelude.{◌≡◌, ◌≢◌, ◌≤◌, [], ◌∷◌, true, Err, IsTrue, IfOk, IfSome};
+ghost use Rattle.sd_checker.specs.Text as text;
+ghost use Rattle.sd_checker.specs.Verdicts.{IsVerdict};
+ghost use Rattle.sd_drill.specs.Bounds.{IsBudget};
+ghost use Rattle.sd_outside.specs.Causes.{Rose};
+ghost use Rattle.sd_plan.specs.Plans.{Fits};
+ghost use Rattle.sd_topo.specs.Topologies.{network};
+ghost use Rattle.sd_planfiles.specs.PlanFiles.{AfterJudged, AfterPlan};
+ghost use Rattle.sd_files.specs.Statuses.{is_among};
+ghost use Rattle.sd_files.specs.Texts.{texts_of};
+ghost use Rattle.sd_files.specs.Writes.{Adds};
+ghost use Rattle.sd_top.specs.Drills.{IsDrill, IsDrilled};
+ghost use Rattle.sd_work.specs.Leaving.{LeavesAt};
+
+use sd_checker::{Breach, Verdict, check, refused_line};
+use sd_drill::Budget;
+use sd_drilling::write_drill;
+use sd_files::{Status, Stop, load_plan, load_topology, send, write_answer};
+use sd_num::NoMemory;
+use sd_outside::{Shelf, Sink};
+use sd_plan::Plan;
+use sd_topo::Topology;
+use std::alloc::Global;
+
+/// Reads a topology and a plan, and where the checker accepts the plan drills it with a budget
+/// within the limits; else the line of its breach is written.
+pub fn drill<S: Shelf, O: Sink>(
+    alloc: Global,
+    shelf: &mut S,
+    topology: &str,
+    plan: &str,
+    budget: Budget,
+    out: &mut O,
+) -> Result<Status, Stop>
+    requires topology { IsTrue (S.serves shelf.old topology.now) }
+    requires plan { IsTrue (S.serves shelf.old plan.now) }
+    requires budget { IsBudget budget }
+    ensures outcome { IfSome (S.held shelf.old) (λ held. LeavesAt true (IsDrill (texts_of held topology.now) (texts_of held plan.now) budget) (O.written out.old) (O.written out.new) result) }
+    ensures gives { IfOk result (λ status. IsTrue (is_among (Status.Done ∷ Status.PlanRefused ∷ Status.InputRefused ∷ []) status)) }
+    ensures shelf { result ≡ Err Stop.Shelf → Rose (S.faults shelf.old) (S.faults shelf.new) }
+    ensures sink { result ≡ Err Stop.Sink → Rose (O.faults out.old) (O.faults out.new) }
+{
+    match load_topology(alloc, shelf, topology) {
+        Ok(topo) => drill_over(alloc, shelf, &topo, plan, budget, out),
+        Err(ended) => write_answer(alloc, &Err(ended), out),
+    }
+}
+
+/// The same over a topology that is lent, and so dropped in one place, as in `check`.
+fn drill_over<S: Shelf, O: Sink>(
+    alloc: Global,
+    shelf: &mut S,
+    topo: &Topology,
+    plan: &str,
+    budget: Budget,
+    out: &mut O,
+) -> Result<Status, Stop>
+    requires plan { IsTrue (S.serves shelf.old plan.now) }
+    requires budget { IsBudget budget }
+    ensures outcome { IfSome (S.held shelf.old) (λ held. LeavesAt true (AfterPlan (network topo.now) 1 (texts_of held plan.now) (IsDrilled (network topo.now) budget)) (O.written out.old) (O.written out.new) result) }
+    ensures gives { IfOk result (λ status. IsTrue (is_among (Status.Done ∷ Status.PlanRefused ∷ Status.InputRefused ∷ []) status)) }
+    ensures shelf { result ≡ Err Stop.Shelf → Rose (S.faults shelf.old) (S.faults shelf.new) }
+    ensures sink { result ≡ Err Stop.Sink → Rose (O.faults out.old) (O.faults out.new) }
+    ensures later { S.faults shelf.old ≤ S.faults shelf.new }
+{
+    match load_plan(alloc, shelf, plan, topo, 1) {
+        Ok(plan) => drill_plan(alloc, topo, &plan, budget, out),
+        Err(ended) => write_answer(alloc, &Err(ended), out),
+    }
+}
+
+/// Judges a plan, and drills it where it is accepted.
+fn drill_plan<O: Sink>(
+    alloc: Global,
+    topo: &Topology,
+    plan: &Plan,
+    budget: Budget,
+    out: &mut O,
+) -> Result<Status, Stop>
+    requires fits { Fits (network topo.now) plan.now }
+    requires budget { IsBudget budget }
+    ensures outcome { LeavesAt true (AfterJudged (network topo.now) 1 plan.now (IsDrilled (network topo.now) budget plan.now)) (O.written out.old) (O.written out.new) result }
+    ensures gives { IfOk result (λ status. IsTrue (is_among (Status.Done ∷ Status.PlanRefused ∷ Status.InputRefused ∷ []) status)) }
+    ensures never_shelf { result ≢ Err Stop.Shelf }
+    ensures sink { result ≡ Err Stop.Sink → Rose (O.faults out.old) (O.faults out.new) }
+{
+    match check(alloc, topo, plan) {
+        Ok(Verdict::Accepted) => write_drill(alloc, topo, plan, budget, out),
+        Ok(Verdict::Refused(breach)) => refuse(alloc, topo, &breach, out),
+        Err(NoMemory) => Err(Stop::Memory),
+    }
+}
+
+/// Writes the line of the breach of a plan.
+fn refuse<O: Sink>(
+    alloc: Global,
+    topo: &Topology,
+    breach: &Breach,
+    out: &mut O,
+) -> Result<Status, Stop>
+    ensures writes { Adds (text.refused_line (network topo.now) 1 breach.now) (O.written out.old) (O.written out.new) result }
+    ensures status { IfOk result (λ status. status ≡ Status.PlanRefused) }
+    ensures never_shelf { result ≢ Err Stop.Shelf }
+    ensures sink { result ≡ Err Stop.Sink → Rose (O.faults out.old) (O.faults out.new) }
+{
+    let line = refused_line(alloc, topo, 1, breach)?;
+    send(out, line.as_bytes())?;
+    Ok(Status::PlanRefused)
+}
