@@ -1,7 +1,6 @@
 -- There are bounds of each domain under which hops lead in no circle, and only one list of them.
 use Rattle.std.specs.Prelude.{◌≡◌, ℕ, zero, suc, ◌+◌, ◌-◌, ◌*◌, ◌/◌, ◌<◌, ◌≤◌, Bool, true, false, List, [], ◌∷◌, ◌++◌, length, Option, Some, None}
-use Rattle.std.proofs.Common.{arith, get_or, refl, sym, ap, ◌∙◌, subst, inl, inr}
-use Rattle.std.proofs.lemmas.Bool.{cases_eq}
+use Rattle.std.proofs.Common.{arith, refl, ap, ◌∙◌, subst}
 use Rattle.std.proofs.lemmas.List.{length_push}
 use Rattle.sd_num.specs.declared.Rates.{Rates}
 use Rattle.sd_topo.specs.Network.{Network, IsNetwork, rates_of}
@@ -16,7 +15,6 @@ use Rattle.sd_check_loop.specs.Loops.{HasNoCycle}
 use Rattle.sd_ages.specs.Ages.{IsOldest, ageing}
 use Rattle.sd_ages.proofs.Division.{oldest_is}
 use Rattle.sd_recovery.specs.Recoveries.{IsRecovery}
-use Rattle.sd_recovery.specs.Reaches.{ReachesFrom}
 use Rattle.sd_recovery.specs.Walks.{IsGreatestOf, halves, IsWalk}
 use Rattle.sd_recovery.specs.declared.reach.Reach.{Reach}
 use Rattle.sd_recovery.specs.declared.recovery.Recovery.{Recovery}
@@ -24,7 +22,7 @@ use Rattle.sd_recovery.proofs.Existing.{has_recovery}
 use Rattle.sd_drill.specs.Bounds.{AreBounds, bound_at}
 use Rattle.sd_drill.specs.Drill.{IsWorst, IsListed, source, root_halves, quiet}
 use Rattle.sd_drill.specs.declared.Budget.{Budget}
-use Rattle.sd_drill.proofs.Listing.{none_unfed, none_overlong, far_enough, listed_more, bound_is}
+use Rattle.sd_drill.proofs.Listing.{none_unfed, none_overlong, far_enough, listed_more}
 
 -- the greatest is one
 one_greatest : (Has : List Hop → Type 0) (m : List Hop → ℕ) (g h : ℕ) → IsGreatestOf Has m g → IsGreatestOf Has m h → g ≡ h

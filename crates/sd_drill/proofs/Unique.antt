@@ -1,12 +1,12 @@
 -- Only one text is printed of a drill.
 use Rattle.std.specs.Prelude.{◌≡◌, ℕ, ◌<◌, List, [], ◌∷◌, ◌++◌, length, Option, None}
-use Rattle.std.proofs.Common.{arith, get_or, refl, sym, ap, ap₂, ◌∙◌, subst}
+use Rattle.std.proofs.Common.{arith, sym, ap, ◌∙◌}
 use Rattle.std.proofs.lemmas.List.{ext_get_or}
 use Rattle.sd_topo.specs.Network.{Network}
 use Rattle.sd_domain.specs.Domains.{domains}
 use Rattle.sd_domain.specs.declared.DomainId.{DomainId}
 use Rattle.sd_plan.specs.declared.Plan.{Plan}
-use Rattle.sd_drill.specs.Bounds.{AreBounds, bound_at}
+use Rattle.sd_drill.specs.Bounds.{AreBounds}
 use Rattle.sd_drill.specs.Printed.{IsLinesOf, AreLines, IsDrill, domain_lines, done_line}
 use Rattle.sd_drill.specs.declared.Budget.{Budget}
 use Rattle.sd_drill.proofs.Listing.{bound_is}

@@ -1,6 +1,5 @@
 -- Bounds, and the lines that are printed of them, are the same over a network with each version.
-use Rattle.std.specs.Prelude.{◌≡◌, ℕ, List, [], ◌∷◌, Option, Some, None}
-use Rattle.std.proofs.Common.{refl}
+use Rattle.std.specs.Prelude.{ℕ, List, [], ◌∷◌, Option, Some, None}
 use Rattle.sd_topo.specs.Network.{Network}
 use Rattle.sd_topo.proofs.Versions.{with_version}
 use Rattle.sd_domain.specs.declared.DomainId.{DomainId}

@@ -1,12 +1,10 @@
 -- Lines of domains one after another, and what is added of them.
-use Rattle.std.proofs.Common.{◌≡◌, ◌≢◌, ◌∙◌, ℕ, List, [], ◌∷◌, ◌++◌, length, take, drop, Option, Some, None, Result, Ok, Err, ◌⊎◌, inl, inr, refl, sym, ap, subst, append_assoc, append-nil, take-append-drop}
+use Rattle.std.proofs.Common.{◌≡◌, ◌∙◌, ℕ, List, [], ◌∷◌, ◌++◌, length, take, drop, Option, Result, Ok, Err, refl, sym, ap, subst, append_assoc, append-nil, take-append-drop}
 use Rattle.std.specs.Prelude.{flat_map, IfErr, IfOk}
 use Rattle.std.specs.Result.{IsErrAnd}
-use Rattle.std.specs.List.{join_with_byte}
 use Rattle.std.specs.Io.KnownBytes.{Appends, Keeps}
 use Rattle.std.proofs.KnownBytes.{Appends-kept, Appends-nil, Appends-trans}
 use Rattle.std.proofs.Math.Seq.{take-append_seam}
-use Rattle.sd_num.specs.Texts.{text_of}
 use Rattle.sd_outside.specs.Fronts.{WritesFront}
 use Rattle.sd_topo.specs.Network.{Network}
 use Rattle.sd_domain.specs.Domains.{domains}
@@ -14,7 +12,7 @@ use Rattle.sd_domain.specs.declared.DomainId.{DomainId}
 use Rattle.sd_plan.specs.Plans.{members}
 use Rattle.sd_plan.specs.declared.Plan.{Plan}
 use Rattle.sd_drill.specs.Bounds.{bound_at}
-use Rattle.sd_drill.specs.Printed.{IsLinesOf, AreLines, IsDrill, bound_line, bound_words, done_line}
+use Rattle.sd_drill.specs.Printed.{IsLinesOf, AreLines, bound_line, bound_words, done_line}
 use Rattle.sd_drill.specs.declared.Budget.{Budget}
 use Rattle.sd_files.specs.Writes.{Adds}
 use Rattle.sd_files.specs.declared.Status.{Status}

@@ -1,7 +1,6 @@
 -- The members, a device at a time.
-use Rattle.std.specs.Prelude.{◌≡◌, ℕ, zero, suc, ◌+◌, ◌<◌, Bool, true, false, List, [], ◌∷◌, ◌++◌, length, filter, cond, All}
-use Rattle.std.proofs.Common.{arith, refl, sym, ap, ◌∙◌, subst, get_or, add-one, append-nil}
-use Rattle.std.proofs.lemmas.Bool.{cond-true, cond-false}
+use Rattle.std.specs.Prelude.{◌≡◌, ℕ, ◌+◌, ◌<◌, Bool, [], ◌∷◌, ◌++◌, length, filter, cond, All}
+use Rattle.std.proofs.Common.{arith, ap, ◌∙◌, add-one}
 use Rattle.std.proofs.lemmas.List.Elements.{filter-append, All-filter}
 use Rattle.sd_num.specs.Lists.{below}
 use Rattle.sd_topo.specs.Network.{Network, device_numbers}

@@ -10,7 +10,7 @@ use Rattle.sd_domain.specs.declared.DomainId.{DomainId}
 use Rattle.sd_plan.specs.Plans.{Fits}
 use Rattle.sd_plan.specs.declared.Plan.{Plan}
 use Rattle.sd_checker.specs.Verdicts.{IsAccepted}
-use Rattle.sd_drill.specs.Printed.{AreLines, IsLinesOf, domain_lines}
+use Rattle.sd_drill.specs.Printed.{domain_lines}
 use Rattle.sd_drill.specs.declared.Budget.{Budget}
 use Rattle.sd_drill.proofs.Circles.{no_circle}
 use Rattle.sd_drill.proofs.Made.{has_bounds}

@@ -167,21 +167,25 @@ fn a_budget_is_two_numbers_within_their_limit(rt: HostRuntime) -> Result<(), Fai
 #[test]
 fn a_write_that_fails_ends_the_drill(rt: HostRuntime) -> Result<(), Fail> {
     let alloc = rt.alloc();
-    for (write, kept, output) in [
-        (0, 0, ""),
-        (0, 8, "nobound "),
-        (
-            1,
-            0,
-            "nobound device r r\nbound device r b 4916851\nbound device r x 5449722\n",
-        ),
-        (6, 7, "done 6 "),
-    ] {
+    for (write, kept, length) in [(1, 0, 0), (1, 8, 8), (2, 0, 69), (7, 7, 430)] {
         let failing = Vec::from_slice(alloc, &[(write, kept)])?;
         let mut shelf = shelf_of(alloc, TRIANGLE, TRIANGLE_PLAN, 8192, &[])?;
         let (status, out) = run_words(alloc, &WORDS, &mut shelf, failing)?;
-        assert_eq!(rt; status, Status::SinkFault);
-        assert!(rt; out.bytes().ends_with(output.as_bytes()), "write {write}");
+        assert_eq!(rt; status, Status::SinkFault, "write {write}");
+        assert_eq!(rt; out.bytes().len(), length, "write {write}");
+        assert!(rt; BOUNDS.as_bytes().starts_with(out.bytes()), "write {write}");
+    }
+    Ok(())
+}
+
+#[test]
+fn a_read_that_fails_leaves_nothing(rt: HostRuntime) -> Result<(), Fail> {
+    let alloc = rt.alloc();
+    for call in [1, 2, 4] {
+        let mut shelf = shelf_of(alloc, TRIANGLE, TRIANGLE_PLAN, 8192, &[call])?;
+        let (status, out) = run_words(alloc, &WORDS, &mut shelf, Vec::new(alloc))?;
+        assert_eq!(rt; status, Status::ShelfFault, "call {call}");
+        assert_eq!(rt; out.bytes().len(), 0, "call {call}");
     }
     Ok(())
 }

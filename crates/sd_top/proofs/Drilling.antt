@@ -1,7 +1,7 @@
 -- What a drill leaves at the sink, and a file before it.
-use Rattle.std.proofs.Common.{◌≡◌, ◌≢◌, ◌⊎◌, ◌∙◌, ℕ, true, false, List, [], ◌∷◌, ◌++◌, length, take, Option, None, Some, IfSome, Result, Ok, Err, inl, inr, refl, sym, ap, subst}
-use Rattle.std.specs.Prelude.{IfOk, IsTrue}
-use Rattle.std.specs.Io.KnownBytes.{Appends, Keeps}
+use Rattle.std.proofs.Common.{◌≡◌, ◌∙◌, ℕ, true, List, ◌++◌, length, take, Option, None, Some, IfSome, Result, Ok, Err, inl, inr, refl, sym, ap, subst}
+use Rattle.std.specs.Prelude.{IfOk}
+use Rattle.std.specs.Io.KnownBytes.{Appends}
 use Rattle.std.proofs.Math.Seq.{take-append_seam}
 use Rattle.sd_topo.specs.Network.{Network}
 use Rattle.sd_plan.specs.declared.Plan.{Plan}
@@ -18,7 +18,6 @@ use Rattle.sd_files.specs.Texts.{Texts, texts_of}
 use Rattle.sd_files.specs.Writes.{Adds, Tells, WritesOnce}
 use Rattle.sd_files.specs.declared.Status.{Status}
 use Rattle.sd_files.specs.declared.Status.TheVariants.{Done, PlanRefused, InputRefused}
-use Rattle.sd_files.specs.declared.ended.Answer.{Answer}
 use Rattle.sd_files.specs.declared.ended.Ended.{Ended}
 use Rattle.sd_files.specs.declared.ended.Ended.TheVariants as ended
 use Rattle.sd_files.specs.declared.ended.Refusal.{Refusal}
@@ -41,16 +40,6 @@ module _ (net : Network) (plan : Plan) (budget : Budget) (old new : Option (List
   drilled (Err stop.Shelf) accepted none = absurd none
   drilled (Err stop.Sink) accepted (bytes, is, written) = (bytes, Done, (Accepted, accepted, (is, refl)), written)
   drilled (Err stop.Memory) accepted (front, rest, is, ends, added) = inr (front ++ rest, Done, (Accepted, accepted, (is, refl)), front_lines front rest old new ends added)
-
-  pub drilled_done : (result : Result Status Stop) → Drills net plan budget old new result → IfOk result (λ status. status ≡ Done)
-  drilled_done (Ok status) (done, rest) = done
-  drilled_done (Err why) drills = tt
-
-  pub drilled_unshelved : (result : Result Status Stop) → Drills net plan budget old new result → result ≢ Err stop.Shelf
-  drilled_unshelved (Ok status) drills same = cc
-  drilled_unshelved (Err stop.Shelf) none same = none
-  drilled_unshelved (Err stop.Sink) drills same = cc
-  drilled_unshelved (Err stop.Memory) drills same = cc
 
   -- the line of the breach of another
   pub refused : (breach : Breach) (result : Result Status Stop) → IsBreach net plan breach → IfOk result (λ status. status ≡ PlanRefused) → Adds (refused_line net 1 breach) old new result → LeavesAt true (AfterJudged net 1 plan (IsDrilled net budget plan)) old new result
@@ -109,10 +98,3 @@ module _ {T X : Type 0} (view : T → X) (says : Texts → Result X Refusal) (Th
       by (Some t) (ended.Refused why) loads writes = refused_file (texts_of t) why loads writes
       by (Some t) ended.Shelf loads writes = stopped_file (texts_of t) ended.Shelf (λ bytes status told. told) writes
       by (Some t) ended.Memory loads writes = stopped_file (texts_of t) ended.Memory (λ bytes status told. told) writes
-
--- a run that ends behind such a file refuses it
-pub unloaded_gives : (e : Ended) (old new : Option (List ℕ)) (result : Result Status Stop) → WritesOnce (Tells (Err e)) old new result → IfOk result (λ status. status ≡ InputRefused)
-unloaded_gives (ended.Refused why) old new (Ok status) (bytes, told, added) = told.1
-unloaded_gives ended.Shelf old new (Ok status) (bytes, told, added) = absurd told
-unloaded_gives ended.Memory old new (Ok status) (bytes, told, added) = absurd told
-unloaded_gives e old new (Err why) writes = tt

@@ -5,4 +5,5 @@ pub mod Migrating
 pub mod Unique
 pub mod Lawful
 pub mod Alone
+pub mod Bounding
 pub mod Drilling

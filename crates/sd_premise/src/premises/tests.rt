@@ -356,6 +356,17 @@ fn a_second_failure_elsewhere_breaks_domain(rt: HostRuntime) -> Result<(), Fail>
         &[fail_device(0, 4), fail_link(0, 2), fail_link(0, 1)],
         1,
         domain,
+    )?;
+    // what is mended counts too, and this failure comes after a mend
+    let both = BrokenSet {
+        renew: true,
+        ..domain
+    };
+    check(
+        &rt,
+        &[fail_link(0, 2), stage(0), mend_link(0, 2), fail_link(0, 1)],
+        3,
+        both,
     )
 }
 

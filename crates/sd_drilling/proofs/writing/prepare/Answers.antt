@@ -1,4 +1,4 @@
-use Rattle.std.proofs.Common.{◌<◌, ℕ, List, length, All, ap, sym, ◌∙◌, subst}
+use Rattle.std.proofs.Common.{◌<◌, ℕ, List, length, All, sym, ◌∙◌, subst}
 use Rattle.sd_topo.specs.Topologies.{network}
 use Rattle.sd_drill.proofs.Circles.{no_circle}
 use Rattle.sd_drilling.proofs.Membership.{members_within}

@@ -1,4 +1,4 @@
-use Rattle.std.proofs.Common.{◌≡◌, ◌∙◌, ◌++◌, ◌<◌, List, ℕ, [], length, take, get_or, ap, sym, None, arith}
+use Rattle.std.proofs.Common.{◌∙◌, ◌++◌, ◌<◌, List, ℕ, [], length, take, get_or, ap, sym, arith}
 use Rattle.std.specs.Prelude.{flat_map}
 use Rattle.std.proofs.lemmas.List.{flat_map_more, take_more}
 use Rattle.sd_topo.specs.Topologies.{network}

@@ -1,4 +1,4 @@
-use Rattle.std.proofs.Common.{◌∙◌, Result, Err, sym, subst}
+use Rattle.std.proofs.Common.{◌∙◌, Result, Err, subst}
 use Rattle.sd_topo.specs.Topologies.{network}
 use Rattle.sd_domain.specs.Domains.{domains}
 use Rattle.sd_drill.specs.declared.Budget.{Budget}

@@ -1,4 +1,4 @@
-use Rattle.std.proofs.Common.{◌∙◌, ◌<◌, List, ℕ, [], ◌∷◌, Result, Err, sym, subst, arith}
+use Rattle.std.proofs.Common.{◌∙◌, ◌<◌, [], ◌∷◌, Result, Err, subst, arith}
 use Rattle.sd_topo.specs.Topologies.{network}
 use Rattle.sd_drill.specs.declared.Budget.{Budget}
 use Rattle.sd_files.specs.declared.ended.Stop.{Stop}

@@ -1,4 +1,3 @@
-use Rattle.std.proofs.Common.{◌∙◌, ap, sym, subst, IfSome}
 use Rattle.sd_topo.specs.Topologies.{network}
 use Rattle.sd_files.specs.Inputs.{topology_of}
 use Rattle.sd_planfiles.specs.PlanFiles.{AfterPlan}
