@@ -1,0 +1,3 @@
+-- What is found of one event, and its lines.
+pub mod Printed
+pub mod Findings

@@ -1,0 +1,13 @@
+//! The lines that are printed of one event of a replay: the premises that break with it, its
+//! alarms, and its report.
+#![tactic(auto)]
+
+mod buffer;
+mod findings;
+mod printing;
+#[cfg(test)]
+mod tests;
+
+pub use buffer::EventLines;
+pub use findings::Findings;
+pub use printing::print_findings;

@@ -1,0 +1,113 @@
+-- For which runs a replay stands at first, and how it goes on.
+use Rattle.std.specs.Prelude.{◌≡◌, ℕ, ◌≤◌, false, List, [], ◌∷◌, length, slice_get, Some, IfSome, refl}
+use Rattle.std.proofs.Common.{sym, ap, ◌∙◌, subst}
+use Rattle.sd_topo.specs.Network.{Network, IsNetwork, Each}
+use Rattle.sd_topo.specs.Topologies.{network}
+use Rattle.sd_topo.specs.declared.topology.Topology.{Topology}
+use Rattle.sd_plan.specs.declared.Plan.{Plan}
+use Rattle.sd_plan.specs.Plans.{Fits}
+use Rattle.sd_checker.specs.Verdicts.{IsAccepted}
+use Rattle.sd_core.specs.declared.node.Node.{Ghosts}
+use Rattle.sd_msg.specs.Observed.{ReportAt}
+use Rattle.sd_msg.specs.declared.observer.Observer as observers
+use Rattle.sd_history.specs.World.{Setting}
+use Rattle.sd_history.specs.Steps.{Step}
+use Rattle.sd_history.specs.Nodes.{NodeStep, steps_of}
+use Rattle.sd_history.specs.Lines.{reports}
+use Rattle.sd_roster.specs.Plans.{AreSound}
+use Rattle.sd_fleet.specs.declared.fleet.Fleet.{Fleet}
+use Rattle.sd_fleet.specs.Standing as fleets
+use Rattle.sd_lines.specs.Printed.{printed}
+use Rattle.sd_replay.specs.declared.onlooker.Onlooker.{Onlooker}
+use Rattle.sd_replay.specs.declared.journal.Journal.{Journal}
+use Rattle.sd_replay.specs.Counting.{no_tally}
+use Rattle.sd_replay.specs.Standing.{Onlooks, Tells, Stands, HasRun}
+
+-- plans that are accepted can be followed
+pub are_sound : (net : Network) (plans given : List Plan) → given ≡ plans → Each (Fits net) plans → Each (IsAccepted net) plans → AreSound net given
+are_sound net plans given same fit accepted =
+    λ i plan at. let there = subst (λ ps. slice_get ps i ≡ Some plan) same at in record { fits = fit i plan there; structured = (accepted i plan there).structure }
+
+-- Before any event
+
+pub first_stands : {N V : Type 0} (g : Ghosts N) (o : observers.Ghosts V) (topo : Topology) (plans : List Plan) (fleet : Fleet N g) (onlooker : Onlooker) (journal : Journal) (observer : V) (setting : Setting)
+    → setting.net ≡ network topo → setting.plans ≡ plans → 1 ≤ length plans → Each (Fits (network topo)) plans → Each (IsAccepted (network topo)) plans
+    → fleets.StandsFor g fleet setting [] → Onlooks onlooker setting [] → network journal.topology ≡ network topo → printed journal.lines ≡ [] → journal.tally ≡ no_tally → journal.ended ≡ false
+    → o.stands observer [] → Stands g o fleet onlooker journal observer setting []
+first_stands g o topo plans fleet onlooker journal observer setting net same some fit accepted made onlooks topology lines tally ended told =
+    record {
+      sound =
+          record {
+            network = subst IsNetwork (sym net) topo.is_network;
+            some_plan = subst (λ ps. 1 ≤ length ps) (sym same) some;
+            fit = λ i plan at. subst (λ n. Fits n plan) (sym net) (fit i plan (subst (λ ps. slice_get ps i ≡ Some plan) same at));
+            accepted = λ i plan at. subst (λ n. IsAccepted n plan) (sym net) (accepted i plan (subst (λ ps. slice_get ps i ≡ Some plan) same at));
+          };
+      made = made;
+      onlooks = onlooks;
+      tells = record { net = topology ∙ sym net; lines = lines; tally = tally; ended = ended };
+      told = told;
+    }
+
+-- Room
+
+module _ {N V : Type 0} (g : Ghosts N) (o : observers.Ghosts V) (fleet : Fleet N g) (journal : Journal) where
+  pub with_onlooker : (observer : V) (old new : Onlooker) → ((setting : Setting) (steps : List Step) → Onlooks old setting steps → Onlooks new setting steps)
+      → HasRun g o fleet old journal observer → HasRun g o fleet new journal observer
+  with_onlooker observer old new keeps has =
+      record {
+        setting = has.setting;
+        steps = has.steps;
+        stands =
+            record {
+              sound = has.stands.sound;
+              made = has.stands.made;
+              onlooks = keeps has.setting (steps_of has.steps) has.stands.onlooks;
+              tells = has.stands.tells;
+              told = has.stands.told;
+            };
+      }
+
+  pub with_observer : (onlooker : Onlooker) (old new : V) → ((told : List ReportAt) → o.stands old told → o.stands new told) → HasRun g o fleet onlooker journal old → HasRun g o fleet onlooker journal new
+  with_observer onlooker old new keeps has =
+      record {
+        setting = has.setting;
+        steps = has.steps;
+        stands =
+            record {
+              sound = has.stands.sound;
+              made = has.stands.made;
+              onlooks = has.stands.onlooks;
+              tells = has.stands.tells;
+              told = keeps (reports (steps_of has.steps)) has.stands.told;
+            };
+      }
+
+-- another fleet that stands for the same runs
+pub with_fleet : {N V : Type 0} (g : Ghosts N) (o : observers.Ghosts V) (before after : Fleet N g) (onlooker : Onlooker) (journal : Journal) (observer : V)
+    → ((setting : Setting) (run : List (NodeStep N)) → fleets.StandsFor g before setting run → fleets.StandsFor g after setting run) → HasRun g o before onlooker journal observer → HasRun g o after onlooker journal observer
+with_fleet g o before after onlooker journal observer keeps has =
+    record {
+      setting = has.setting;
+      steps = has.steps;
+      stands =
+          record {
+            sound = has.stands.sound;
+            made = keeps has.setting has.steps has.stands.made;
+            onlooks = has.stands.onlooks;
+            tells = has.stands.tells;
+            told = has.stands.told;
+          };
+    }
+
+-- the parts once there is room
+pub stands_ready : {N V : Type 0} (g : Ghosts N) (o : observers.Ghosts V) (fleet same : Fleet N g) (old new : Onlooker) (journal noted : Journal) (observer told : V) (setting : Setting) (run : List (NodeStep N)) → same ≡ fleet → noted ≡ journal
+    → ((s : Setting) (steps : List Step) → Onlooks old s steps → Onlooks new s steps) → ((xs : List ReportAt) → o.stands observer xs → o.stands told xs) → Stands g o fleet old journal observer setting run → Stands g o same new noted told setting run
+stands_ready g o fleet same old new journal noted observer told setting run fleets_same journals_same keeps tells stands =
+    record {
+      sound = stands.sound;
+      made = subst (λ f. fleets.StandsFor g f setting run) (sym fleets_same) stands.made;
+      onlooks = keeps setting (steps_of run) stands.onlooks;
+      tells = subst (λ (j : Journal). Tells j setting (steps_of run)) (sym journals_same) stands.tells;
+      told = tells (reports (steps_of run)) stands.told;
+    }

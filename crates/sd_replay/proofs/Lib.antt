@@ -1,0 +1,10 @@
+pub mod Kept
+pub mod Counted
+pub mod Telling
+pub mod Others
+pub mod Stances
+pub mod Flights
+pub mod Looking
+pub mod Observing
+pub mod Going
+pub mod Happening

@@ -1,0 +1,62 @@
+-- The premises are shown just what is seen of an accepted step.
+use Rattle.std.specs.Prelude.{◌≡◌, ℕ, ◌<◌, ◌≤◌, Bool, List, ◌∷◌, filter, length, Option}
+use Rattle.std.proofs.Common.{sym, ap, subst}
+use Rattle.std.proofs.Props.{props}
+use Rattle.std.proofs.Math.Logic.{∥∥₁_elim, ∥∥₁_map}
+use Rattle.sd_sched.specs.Events.{device_of, link_of}
+use Rattle.sd_replay.proofs.Happening.{if_merely}
+use Rattle.sd_msg.specs.declared.Flight.{Flight}
+use Rattle.sd_core.specs.declared.node.Node.{Ghosts}
+use Rattle.sd_sched.specs.declared.Event.{Event}
+use Rattle.sd_history.specs.declared.BrokenSet.{BrokenSet}
+use Rattle.sd_history.specs.World.{Setting, Seen}
+use Rattle.sd_history.specs.Steps.{seen_of}
+use Rattle.sd_history.specs.Premises.{breaks}
+use Rattle.sd_history.specs.Nodes.{NodeStep, steps_of}
+use Rattle.sd_fabric.specs.declared.Outcome.{Outcome}
+use Rattle.sd_fleet.specs.declared.fleet.Fleet.{Fleet}
+use Rattle.sd_fleet.specs.Standing.{IsAccepted}
+use Rattle.sd_premise.specs.Order.{CanFollow}
+use Rattle.sd_premise.specs.Standing as premises
+use Rattle.sd_premise.specs.declared.premises.Premises.{Premises}
+use Rattle.sd_premise.proofs.Stepping.{can_follow}
+use Rattle.sd_premise.proofs.Asking.{can_observe}
+use Rattle.sd_replay.proofs.Looking.{seen_by, sight_is}
+
+module _ {N : Type 0} (g : Ghosts N) (fleet : Fleet N g) (setting : Setting) (run : List (NodeStep N)) (e : Event) (outcome : Outcome) (accepted : IsAccepted g fleet setting run e outcome) (sent : List Flight)
+    (collected : sent ≡ filter (λ f. f.reaches) accepted.next.step.sent) where
+  abbrev sight : Seen
+  sight = seen_by e outcome.taken sent outcome.activated outcome.acted outcome.closed
+
+  seen_is : sight ≡ accepted.next.step.seen
+  seen_is = sight_is setting accepted.next.step (steps_of run) e outcome sent accepted.stands.fabric.accepted accepted.happens accepted.comes collected
+
+  -- it can follow what was seen before
+  pub can_show : CanFollow setting (seen_of (steps_of run)) sight
+  can_show = subst (CanFollow setting (seen_of (steps_of run))) (sym seen_is) (can_follow setting accepted.next.step (steps_of run) accepted.stands.fabric.accepted)
+
+  pub can_see : (monitors : Premises) → premises.StandsFor monitors setting (seen_of (steps_of run)) → length sent ≤ premises.room_of monitors → premises.CanObserve monitors sight
+  can_see monitors stands room = can_observe monitors setting (seen_of (steps_of run)) sight stands can_show room
+
+  -- the premises stand for what was seen with the step
+  pub seen_on : (monitors : Premises) → premises.StandsFor monitors setting (sight ∷ seen_of (steps_of run)) → premises.StandsFor monitors setting (seen_of (accepted.next.step ∷ steps_of run))
+  seen_on monitors stands = subst (λ (s : Seen). premises.StandsFor monitors setting (s ∷ seen_of (steps_of run))) seen_is stands
+
+  pub broken_on : (broken : BrokenSet) → broken ≡ breaks setting (sight ∷ seen_of (steps_of run)) → broken ≡ breaks setting (seen_of (accepted.next.step ∷ steps_of run))
+  broken_on broken is = subst (λ (s : Seen). broken ≡ breaks setting (s ∷ seen_of (steps_of run))) seen_is is
+
+-- what the premises ask, where it merely holds
+pub ask_merely : (monitors : Premises) (s : Seen) → ∥ premises.CanObserve monitors s ∥₁ → premises.CanObserve monitors s
+ask_merely monitors s there =
+    record {
+      room = ∥∥₁_elim there (search props) (λ can. can.room);
+      named =
+          record {
+            device = if_merely (λ d. d < length monitors.world.devices) (λ d. search props) (device_of s.event) (∥∥₁_map there (λ can. can.named.device));
+            link = if_merely (λ l. l < length monitors.world.failed_links) (λ l. search props) (link_of s.event) (∥∥₁_map there (λ can. can.named.link));
+          };
+      activated = if_merely (λ d. d < length (premises.net_of monitors).devices) (λ d. search props) s.activated (∥∥₁_map there (λ can. can.activated));
+      taken = λ f at. ∥∥₁_elim there (search props) (λ can. can.taken f at);
+      events = ∥∥₁_elim there (search props) (λ can. can.events);
+      epoch = λ closed. ∥∥₁_elim there (search props) (λ can. can.epoch closed);
+    }

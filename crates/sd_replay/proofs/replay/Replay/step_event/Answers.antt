@@ -1,0 +1,140 @@
+-- The event happens in the fleet, is looked at, is noted and is told.
+use Rattle.std.proofs.Common.{◌≡◌, ◌+◌, ◌++◌, ◌∷◌, [], ℕ, List, Option, Some, None, MatchOption, refl, sym, ap, ◌∙◌, subst}
+use Rattle.std.proofs.Math.Logic.{∥∥₁_map}
+use Rattle.sd_clock.specs.declared.Report.{Report}
+use Rattle.sd_msg.specs.Observed.{ReportAt}
+use Rattle.sd_msg.specs.Observing.{report_at}
+use Rattle.sd_sched.specs.Events.{reference_of}
+use Rattle.sd_replay.proofs.Going.{with_fleet, stands_ready}
+use Rattle.sd_replay.proofs.Happening.{IsDone, has_step, numbers_merely, tally_merely, devices_merely, ready_merely, stands_on, run_on}
+use Rattle.sd_replay.proofs.replay.Replay.step_event.Given.{Over}
+use Rattle.sd_replay.proofs.replay.Replay.step_event.Goals as goal
+
+pub invariant_of-self : goal.invariant_of-self
+invariant_of-self g c =
+    record {
+      run =
+          ∥∥₁_map c.ready.new.self.run
+          (with_fleet g.N.Node g.V.Observer c.ready.new.self.fleet c.apply.new.self c.ready.new.self.onlooker c.ready.new.self.journal c.ready.new.self.observer (λ setting run stands. (c.in_default-apply.ensures.refused setting run stands).0));
+    }
+
+pub look-findings-requires-clause-step : goal.look-findings-requires-clause-step
+look-findings-requires-clause-step g c =
+    ∥∥₁_map c.ready.new.self.run
+    (has_step g.N.Node g.V.Observer c.ready.new.self.fleet c.ready.new.self.onlooker c.ready.new.self.journal c.ready.new.self.observer c.apply.new.self c.args.event.now c.in-Ok-apply.outcome c.in-Ok-apply.ensures.accepted)
+
+pub look-findings-requires-clause-numbers : goal.look-findings-requires-clause-numbers
+look-findings-requires-clause-numbers g c =
+    numbers_merely g.N.Node g.V.Observer c.ready.new.self.fleet c.ready.new.self.onlooker c.ready.new.self.journal c.ready.new.self.observer c.apply.new.self c.args.event.now c.in-Ok-apply.outcome c.in-Ok-apply.ensures.accepted
+    c.ready.new.self.run
+
+pub note-requires-clause-room : goal.note-requires-clause-room
+note-requires-clause-room g c =
+    tally_merely g.N.Node g.V.Observer c.ready.new.self.fleet c.ready.new.self.onlooker c.ready.new.self.journal c.ready.new.self.observer c.apply.new.self c.args.event.now c.in-Ok-apply.outcome c.in-Ok-apply.ensures.accepted
+    c.ready.new.self.run
+
+pub note-requires-clause-devices : goal.note-requires-clause-devices
+note-requires-clause-devices g c =
+    devices_merely g.N.Node g.V.Observer c.ready.new.self.fleet c.ready.new.self.onlooker c.ready.new.self.journal c.ready.new.self.observer c.apply.new.self c.args.event.now c.in-Ok-apply.outcome c.in-Ok-apply.ensures.accepted
+    c.look-findings.result c.look-findings.ensures.devices c.ready.new.self.run
+
+pub seen-requires-clause-ready : goal.seen-requires-clause-ready
+seen-requires-clause-ready g c =
+    let some : c.in-Ok-apply.outcome.report ≡ Some (c.in-Some-report.d, c.in-Some-report.report) = cc (c.in-Some-report.is, c.in-Some-report.d-is, c.in-Some-report.report-is) in
+    ready_merely g.N.Node g.V.Observer c.ready.new.self.fleet c.ready.new.self.onlooker c.ready.new.self.journal c.ready.new.self.observer c.apply.new.self c.args.event.now c.in-Ok-apply.outcome c.in-Ok-apply.ensures.accepted
+    (c.in-Some-report.d, c.in-Some-report.report) some c.in-Ok.ensures.observer c.ready.new.self.run
+
+-- a report is told
+told : (g : Over) (c : goal.After-seen g)
+    → IsDone g.N.Node g.V.Observer c.ready.new.self.fleet c.apply.new.self c.ready.new.self.onlooker c.look-findings.new.self c.ready.new.self.journal c.note.new.self c.ready.new.self.observer c.seen.new.self c.args.event.now c.in-Ok-apply.outcome
+    c.look-findings.result
+told g c =
+    let some : c.in-Ok-apply.outcome.report ≡ Some (c.in-Some-report.d, c.in-Some-report.report) = cc (c.in-Some-report.is, c.in-Some-report.d-is, c.in-Some-report.report-is) in
+    record {
+      accepts = c.in-Ok-apply.ensures.accepted;
+      onlooks = c.look-findings.ensures.stands;
+      finds = c.look-findings.ensures.found;
+      report = c.look-findings.ensures.report;
+      topology = c.note.ensures.topology;
+      tally = c.note.ensures.tally;
+      lines = c.note.ensures.lines;
+      ended = c.note.ensures.ended;
+      tells =
+          subst
+          (λ (o : Option (ℕ × Report)). MatchOption o (c.seen.new.self ≡ c.ready.new.self.observer) (λ report. (reports_ : List ReportAt) → g.V.Observer.stands c.ready.new.self.observer reports_
+          → g.V.Observer.stands c.seen.new.self (reports_ ++ report_at c.note.new.self.tally.events report.0 (reference_of c.args.event.now) report.1 ∷ [])))
+          (sym some)
+          (λ reports_ stands.
+          subst (λ (r : ℕ). g.V.Observer.stands c.seen.new.self (reports_ ++ report_at c.note.new.self.tally.events c.in-Some-report.d r c.in-Some-report.report ∷ [])) c.reference.ensures (c.seen.ensures.told reports_ stands));
+    }
+
+-- nothing is told
+untold : (g : Over) (c : goal.In_default-report g)
+    → IsDone g.N.Node g.V.Observer c.ready.new.self.fleet c.apply.new.self c.ready.new.self.onlooker c.look-findings.new.self c.ready.new.self.journal c.note.new.self c.ready.new.self.observer c.ready.new.self.observer c.args.event.now
+    c.in-Ok-apply.outcome c.look-findings.result
+untold g c =
+    record {
+      accepts = c.in-Ok-apply.ensures.accepted;
+      onlooks = c.look-findings.ensures.stands;
+      finds = c.look-findings.ensures.found;
+      report = c.look-findings.ensures.report;
+      topology = c.note.ensures.topology;
+      tally = c.note.ensures.tally;
+      lines = c.note.ensures.lines;
+      ended = c.note.ensures.ended;
+      tells =
+          subst
+          (λ (o : Option (ℕ × Report)). MatchOption o (c.ready.new.self.observer ≡ c.ready.new.self.observer) (λ report. (reports_ : List ReportAt) → g.V.Observer.stands c.ready.new.self.observer reports_
+          → g.V.Observer.stands c.ready.new.self.observer (reports_ ++ report_at c.note.new.self.tally.events report.0 (reference_of c.args.event.now) report.1 ∷ [])))
+          (sym c.in_default-report.is) refl;
+    }
+
+pub invariant_of-self-in-Some-report : goal.invariant_of-self-in-Some-report
+invariant_of-self-in-Some-report g c =
+    record {
+      run =
+          ∥∥₁_map c.ready.new.self.run
+          (run_on g.N.Node g.V.Observer c.ready.new.self.fleet c.apply.new.self c.ready.new.self.onlooker c.look-findings.new.self c.ready.new.self.journal c.note.new.self c.ready.new.self.observer c.seen.new.self c.args.event.now c.in-Ok-apply.outcome
+          c.look-findings.result (told g c));
+    }
+
+pub invariant_of-self-in_default-report : goal.invariant_of-self-in_default-report
+invariant_of-self-in_default-report g c =
+    record {
+      run =
+          ∥∥₁_map c.ready.new.self.run
+          (run_on g.N.Node g.V.Observer c.ready.new.self.fleet c.apply.new.self c.ready.new.self.onlooker c.look-findings.new.self c.ready.new.self.journal c.note.new.self c.ready.new.self.observer c.ready.new.self.observer c.args.event.now
+          c.in-Ok-apply.outcome c.look-findings.result (untold g c));
+    }
+
+pub returns-in-Some-report-clause-accepted : goal.returns-in-Some-report-clause-accepted
+unfolding told
+returns-in-Some-report-clause-accepted g c = λ setting run stands.
+    let ready =
+    stands_ready g.N.Node g.V.Observer c.args.self.now.fleet c.ready.new.self.fleet c.args.self.now.onlooker c.ready.new.self.onlooker c.args.self.now.journal c.ready.new.self.journal c.args.self.now.observer c.ready.new.self.observer setting run
+    c.ready.ensures.fleet c.ready.ensures.journal c.ready.ensures.onlooks c.ready.ensures.told stands
+    in
+    let accepted = c.in-Ok-apply.ensures.accepted setting run ready.made in
+    record {
+      next = accepted.next;
+      happens = accepted.happens;
+      stands =
+          stands_on g.N.Node g.V.Observer c.ready.new.self.fleet c.apply.new.self c.ready.new.self.onlooker c.look-findings.new.self c.ready.new.self.journal c.note.new.self c.ready.new.self.observer c.seen.new.self c.args.event.now c.in-Ok-apply.outcome
+          c.look-findings.result (told g c.before) setting run ready;
+    }
+
+pub returns-in_default-report-clause-accepted : goal.returns-in_default-report-clause-accepted
+unfolding untold
+returns-in_default-report-clause-accepted g c = λ setting run stands.
+    let ready =
+    stands_ready g.N.Node g.V.Observer c.args.self.now.fleet c.ready.new.self.fleet c.args.self.now.onlooker c.ready.new.self.onlooker c.args.self.now.journal c.ready.new.self.journal c.args.self.now.observer c.ready.new.self.observer setting run
+    c.ready.ensures.fleet c.ready.ensures.journal c.ready.ensures.onlooks c.ready.ensures.told stands
+    in
+    let accepted = c.in-Ok-apply.ensures.accepted setting run ready.made in
+    record {
+      next = accepted.next;
+      happens = accepted.happens;
+      stands =
+          stands_on g.N.Node g.V.Observer c.ready.new.self.fleet c.apply.new.self c.ready.new.self.onlooker c.look-findings.new.self c.ready.new.self.journal c.note.new.self c.ready.new.self.observer c.ready.new.self.observer c.args.event.now
+          c.in-Ok-apply.outcome c.look-findings.result (untold g c.before) setting run ready;
+    }

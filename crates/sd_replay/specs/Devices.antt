@@ -1,0 +1,51 @@
+-- What is promised of each replay of devices: it stands for the chronicle of its events; and while clocks, oscillators and links are honest,
+-- each report has its reference time in it.
+use Rattle.std.specs.Prelude.{◌≡◌, Bool, true, false, List, IsTrue}
+use Rattle.std.specs.List.{list_all}
+use Rattle.sd_clock.specs.Estimates.{contains}
+use Rattle.sd_core.specs.declared.registers.Registers.{Registers}
+use Rattle.sd_core.specs.contracts.device.DeviceNode.TheImpl.{ghosts}
+use Rattle.sd_msg.specs.declared.observer.Observer as observers
+use Rattle.sd_history.specs.World.{Setting}
+use Rattle.sd_sched.specs.declared.Event.{Event}
+use Rattle.sd_history.specs.Steps.{Step, seen_of, events_of}
+use Rattle.sd_history.specs.Chronicle.{chronicle, IsHistory}
+use Rattle.sd_history.specs.Nodes.{NodeStep, steps_of}
+use Rattle.sd_history.specs.Premises.{is_honest}
+use Rattle.sd_history.specs.Lines.{Line, IntervalAlarm, reports}
+use Rattle.sd_replay.specs.declared.replay.Replay.{Replay}
+use Rattle.sd_replay.specs.Tallies.{lines_that}
+use Rattle.sd_replay.specs.Replaying.{StandsFor}
+
+-- the replay of devices stands for a run of these events, the newest first
+pub record HasReplayed {V : Type 0} (o : observers.Ghosts V) (replay : Replay Registers V ghosts o) (setting : Setting) (events : List Event) : Type 0 where
+  pub run : List (NodeStep Registers)
+  pub stands : StandsFor ghosts o replay setting run
+  pub happened : events_of (steps_of run) ≡ events
+
+-- whichever run that is, its events are a history, and its steps are their chronicle
+pub record IsChronicle (setting : Setting) (steps : List Step) (events : List Event) : Type 0 where
+  pub history : IsHistory setting events
+  pub chronicle : steps ≡ chronicle setting events
+
+abbrev pub DevicesKeepChronicle : {V : Type 0} → observers.Ghosts V → Type 0
+DevicesKeepChronicle {V} o =
+    (replay : Replay Registers V ghosts o) (setting : Setting) (events : List Event) (replayed : HasReplayed o replay setting events)
+    → IsChronicle setting (steps_of replayed.run) events
+
+-- the line is the alarm of an interval that misses its reference
+abbrev pub is_miss : Line → Bool
+is_miss (IntervalAlarm device reference) = true
+is_miss _ = false
+
+-- each report contains its reference, and no line says otherwise
+pub record AllContain (setting : Setting) (steps : List Step) : Type 0 where
+  pub reports_contain : IsTrue (list_all (λ r. contains r.report r.reference) (reports steps))
+  pub no_miss : lines_that is_miss setting steps ≡ 0
+
+-- Of each run for which a replay of devices stands. So no alarm of an interval comes before the first line that names the premise of starts,
+-- drifts or delays as broken.
+abbrev pub DevicesContain : {V : Type 0} → observers.Ghosts V → Type 0
+DevicesContain {V} o =
+    (replay : Replay Registers V ghosts o) (setting : Setting) (run : List (NodeStep Registers)) → StandsFor ghosts o replay setting run
+    → IsTrue (is_honest setting (seen_of (steps_of run))) → AllContain setting (steps_of run)

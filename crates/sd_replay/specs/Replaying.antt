@@ -1,0 +1,46 @@
+-- For which runs a replay stands, and how it goes on.
+use Rattle.std.specs.Prelude.{◌≡◌, ℕ, Bool, ◌||◌, List, ◌∷◌, Option, Some, None, Ok, Err, IsTrue}
+use Rattle.sd_core.specs.declared.node.Node.{Ghosts}
+use Rattle.sd_msg.specs.declared.observer.Observer as observers
+use Rattle.sd_sched.specs.declared.Event.{Event}
+use Rattle.sd_sched.specs.Lines.{event_of_line}
+use Rattle.sd_history.specs.World.{Setting}
+use Rattle.sd_history.specs.Steps.{Step}
+use Rattle.sd_history.specs.Nodes.{NodeStep, steps_of}
+use Rattle.sd_history.specs.Refusals.{refusal}
+use Rattle.sd_fabric.specs.Doing.{may_send, asks}
+use Rattle.sd_replay.specs.declared.replay.Replay.{Replay}
+use Rattle.sd_replay.specs.declared.faults.ReplayFault.{ReplayFault}
+use Rattle.sd_replay.specs.declared.faults.ReplayFault.TheVariants.{Line, Apply, Memory}
+use Rattle.sd_lines.specs.Printed.{printed}
+use Rattle.sd_replay.specs.Standing.{Stands}
+
+-- The replay keeps what the words on histories say of the run: the fleet, the premises, loops and roots, the lines of its newest event, its
+-- tally and its reports.
+abbrev pub StandsFor : {N V : Type 0} (g : Ghosts N) (o : observers.Ghosts V) → Replay N V g o → Setting → List (NodeStep N) → Type 0
+StandsFor g o replay setting run = Stands g o replay.fleet replay.onlooker replay.journal replay.observer setting run
+
+-- the lines that it lends
+abbrev pub lines_in : {N V : Type 0} {g : Ghosts N} {o : observers.Ghosts V} → Replay N V g o → List ℕ
+lines_in replay = printed replay.journal.lines
+
+-- the event was accepted after the run: the replay stands for the run with one step more, of just this event
+pub record IsStepped {N V : Type 0} (g : Ghosts N) (o : observers.Ghosts V) (replay : Replay N V g o) (setting : Setting) (run : List (NodeStep N)) (e : Event) : Type 0 where
+  pub next : NodeStep N
+  pub happens : next.step.seen.event ≡ e
+  pub stands : StandsFor g o replay setting (next ∷ run)
+
+-- only a tick, a receipt and an ask take memory
+abbrev pub may_take : Event → Bool
+may_take e = may_send e || asks e
+
+-- the fault is that of the history; or memory ran out at an event that the history accepts
+abbrev pub IsFault : ReplayFault → Setting → List Step → Event → Type 0
+IsFault (Line fault) setting steps e = ⊥
+IsFault (Apply fault) setting steps e = refusal setting steps e ≡ Some fault
+IsFault Memory setting steps e = (refusal setting steps e ≡ None) × IsTrue (may_take e)
+
+-- the fault of a line: the bytes are none, or its event is not accepted
+abbrev pub IsLineFault : ReplayFault → Setting → List Step → List ℕ → Type 0
+IsLineFault (Line fault) setting steps line = event_of_line line ≡ Err fault
+IsLineFault fault setting steps line = (e : Event) × (event_of_line line ≡ Ok e) × IsFault fault setting steps e

@@ -1,0 +1,15 @@
+//! Why a replay does not go on.
+
+use sd_fleet::ApplyFault;
+use sd_sched::LineFault;
+
+/// Why an event did not happen. The replay is as before.
+#[derive(Clone, Copy, Debug, PartialEq, Eq)]
+pub enum ReplayFault {
+    /// The bytes are no line of a schedule.
+    Line(LineFault),
+    /// The fleet refuses the event. It is never `Memory` here.
+    Apply(ApplyFault),
+    /// There was no memory for a `tick`, a `recv` or an `ask`.
+    Memory,
+}

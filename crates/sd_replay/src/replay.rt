@@ -1,0 +1,180 @@
+//! The replay: what happens with a line of a schedule.
+ghost use Rattle.std.specs.Prelude.{◌≡◌, ◌≤◌, ◌<◌, ◌^◌, ℕ, List, [], length, Some, Err, IsTrue, OnOk, IfOk, OnErr, IfErr, IfSome};
+ghost use Rattle.sd_topo.specs.Topologies.{network};
+ghost use Rattle.sd_topo.specs.Network.{Each as OfEach};
+ghost use Rattle.sd_plan.specs.Plans.{Fits};
+ghost use Rattle.sd_checker.specs.Verdicts.{IsAccepted};
+ghost use Rattle.sd_sched.specs.Lines.{event_of_line, is_within};
+ghost use Rattle.sd_history.specs.World.{Setting};
+ghost use Rattle.sd_msg.specs.Observed.{ReportAt};
+ghost use Rattle.sd_fabric.specs.Doing.{asks};
+ghost use Rattle.sd_fabric.specs.Room.{most_sent_in};
+ghost use Rattle.sd_history.specs.Steps.{Step, seen_of};
+ghost use Rattle.sd_history.specs.Nodes.{NodeStep, steps_of};
+ghost use Rattle.sd_history.specs.Refusals.{refusal, after_end};
+ghost use Rattle.sd_history.specs.Text.{bytes_of};
+ghost use Rattle.sd_replay.specs.Tallies.{tally_of};
+ghost use Rattle.sd_replay.specs.Standing.{HasRun, Onlooks, room_of};
+
+use crate::journal::Journal;
+use crate::onlooker::Onlooker;
+use crate::{PlanList, ReplayFault, Tally};
+use sd_core::Node;
+use sd_fleet::Fleet;
+use sd_msg::Observer;
+use sd_num::NoMemory;
+use sd_sched::{Event, read_line};
+use sd_topo::Topology;
+use std::alloc::Global;
+
+/// The replay of a schedule by a fleet of nodes of one kind.
+///
+/// An event costs what it costs the fleet and the premises, and a look at the device that it names.
+/// Loops and roots are looked for where a parent, an acting or who counts changed, and a loop first
+/// from the device that changed. A closing goes over all devices.
+#[derive(Drop)]
+pub struct Replay<N: Node, V: Observer> {
+    fleet: Fleet<N>,
+    onlooker: Onlooker,
+    journal: Journal,
+    observer: V,
+    ghost run: { ∥ HasRun N.Node V.Observer fleet onlooker journal observer ∥₁ },
+}
+
+impl<N: Node, V: Observer> Replay<N, V> {
+    ghost use Rattle.sd_replay.specs.Replaying.{StandsFor, IsStepped, IsFault, IsLineFault, lines_in, may_take};
+
+    /// A replay before any event, with the first plan in force. It takes the room for the lines of
+    /// any one event. After `NoMemory` the topology, the plans and the observer are dropped.
+    pub fn new(
+        alloc: Global,
+        topo: Topology,
+        plans: PlanList,
+        observer: V,
+    ) -> Result<Replay<N, V>, NoMemory>
+        requires some { 1 ≤ length plans }
+        requires count { length plans < 2 ^ 32 }
+        requires fit { OfEach (Fits (network topo)) plans }
+        requires accepted { OfEach (IsAccepted (network topo)) plans }
+        requires observer { V.stands observer [] }
+        ensures stands { IfOk result (λ replay. (setting : Setting)
+            → setting.net ≡ network topo → setting.plans ≡ plans → StandsFor N.Node V.Observer replay setting []) }
+    {
+        let fleet = Fleet::new(alloc, &topo, plans.as_slice())?;
+        let onlooker = Onlooker::new(alloc, &topo, plans.as_slice())?;
+        let journal = Journal::new(alloc, topo)?;
+        Ok(Replay {
+            fleet,
+            onlooker,
+            journal,
+            observer,
+        })
+    }
+
+    /// The event of a line happens, if there is one and it is accepted. A fault changes nothing.
+    /// `Memory` is answered for a `tick`, a `recv` or an `ask` alone.
+    pub fn step(&mut self, alloc: Global, line: &[u8]) -> Result<(), ReplayFault>
+        ensures line { IfErr (event_of_line line.now) (λ fault. result ≡ Err (ReplayFault.Line fault)) }
+        ensures refusal { IfOk (event_of_line line.now) (λ e. (setting : Setting) (run : List (NodeStep N))
+            → StandsFor N.Node V.Observer self.old setting run → IfSome (refusal setting (steps_of run) e) (λ fault. result ≡ Err (ReplayFault.Apply fault))) }
+        ensures accepted { OnOk result (IfOk (event_of_line line.now) (λ e. (setting : Setting) (run : List (NodeStep N))
+            → StandsFor N.Node V.Observer self.old setting run → IsStepped N.Node V.Observer self.new setting run e)) }
+        ensures refused { IfErr result (λ fault. (setting : Setting) (run : List (NodeStep N)) → StandsFor N.Node V.Observer self.old setting run
+            → StandsFor N.Node V.Observer self.new setting run × IsLineFault fault setting (steps_of run) line.now) }
+    {
+        match read_line(line) {
+            Ok(event) => self.step_event(alloc, &event),
+            Err(fault) => Err(ReplayFault::Line(fault)),
+        }
+    }
+
+    /// An event happens, if it is accepted. A fault changes nothing. `Memory` is answered for a
+    /// `tick`, a `recv` or an `ask` alone, before anything has changed.
+    pub fn step_event(&mut self, alloc: Global, event: &Event) -> Result<(), ReplayFault>
+        requires within { IsTrue (is_within event.now) }
+        // where the history refuses the event, it is refused for that cause
+        ensures refusal { (setting : Setting) (run : List (NodeStep N)) → StandsFor N.Node V.Observer self.old setting run
+            → IfSome (refusal setting (steps_of run) event.now) (λ fault. result ≡ Err (ReplayFault.Apply fault)) }
+        ensures accepted { OnOk result ((setting : Setting) (run : List (NodeStep N))
+            → StandsFor N.Node V.Observer self.old setting run → IsStepped N.Node V.Observer self.new setting run event.now) }
+        ensures refused { IfErr result (λ fault. (setting : Setting) (run : List (NodeStep N)) → StandsFor N.Node V.Observer self.old setting run
+            → StandsFor N.Node V.Observer self.new setting run × IsFault fault setting (steps_of run) event.now) }
+    {
+        if let Some(fault) = self.fleet.refusal(event) {
+            return Err(ReplayFault::Apply(fault));
+        }
+        let Ok(()) = self.ready(alloc, event) else {
+            return Err(ReplayFault::Memory);
+        };
+        let Ok(outcome) = self.fleet.apply(alloc, event) else {
+            return Err(ReplayFault::Memory);
+        };
+        let findings = self.onlooker.look(&self.fleet, event, &outcome);
+        self.journal.note(&findings, outcome.ended);
+        if let Some((d, report)) = outcome.report {
+            let line = self.journal.tally.events;
+            self.observer.seen(line, d, event.reference(), report);
+        }
+        Ok(())
+    }
+
+    /// Makes the room that the event needs beside the fleet's own.
+    fn ready(&mut self, alloc: Global, event: &Event) -> Result<(), NoMemory>
+        ensures room { OnOk result (most_sent_in self.old.fleet.fabric event.now ≤ room_of self.new.onlooker) }
+        ensures observer { OnOk result (IsTrue (asks event.now) → 1 ≤ V.room self.new.observer) }
+        ensures memory { OnErr result (IsTrue (may_take event.now)) }
+        ensures fleet { self.new.fleet ≡ self.old.fleet }
+        ensures journal { self.new.journal ≡ self.old.journal }
+        ensures onlooks { (setting : Setting) (steps : List Step) → Onlooks self.old.onlooker setting steps → Onlooks self.new.onlooker setting steps }
+        ensures told { (reports : List ReportAt) → V.stands self.old.observer reports → V.stands self.new.observer reports }
+    {
+        match *event {
+            Event::Tick { .. } | Event::Recv { .. } => {
+                let sent = self.fleet.most_sent(event);
+                self.onlooker.ready(alloc, sent)
+            }
+            Event::Ask { .. } => self.observer.ready(alloc),
+            _ => Ok(()),
+        }
+    }
+
+    /// The lines of the last event that was accepted.
+    pub fn lines(&self) -> &[u8]
+        ensures lines { result.now ≡ lines_in self.now }
+        ensures exact { (setting : Setting) (run : List (NodeStep N))
+            → StandsFor N.Node V.Observer self.now setting run → result.now ≡ bytes_of setting (steps_of run) }
+    {
+        self.journal.lines.as_bytes()
+    }
+
+    /// Whether the schedule has ended.
+    pub fn ended(&self) -> bool
+        ensures { (setting : Setting) (run : List (NodeStep N))
+            → StandsFor N.Node V.Observer self.now setting run → result ≡ after_end (seen_of (steps_of run)) }
+    {
+        self.journal.ended
+    }
+
+    /// How much has happened so far.
+    pub fn tally(&self) -> Tally
+        ensures { (setting : Setting) (run : List (NodeStep N))
+            → StandsFor N.Node V.Observer self.now setting run → result ≡ tally_of setting (steps_of run) }
+    {
+        self.journal.tally
+    }
+
+    /// The observer of the reports.
+    pub fn observer(&self) -> &V
+        ensures { result.now ≡ self.now.observer }
+    {
+        &self.observer
+    }
+
+    /// The topology.
+    pub fn topology(&self) -> &Topology
+        ensures { (setting : Setting) (run : List (NodeStep N))
+            → StandsFor N.Node V.Observer self.now setting run → network result.now ≡ setting.net }
+    {
+        &self.journal.topology
+    }
+}
