@@ -21,7 +21,6 @@ use Rattle.sd_safety.specs.Eras.{era, plan_now, failed_now, is_among, touches, f
 use Rattle.sd_safety.specs.Clauses.{backup_root_acts}
 use Rattle.sd_safety.specs.Silences.{WholePathHears, root_failed_at}
 use Rattle.sd_safety.specs.Coming.{Comes, AtNext}
-use Rattle.sd_safety.proofs.Arithmetic.{without_stray, with_stray, with_stray_alive}
 use Rattle.sd_safety.proofs.CutPaths.{root_on_path}
 use Rattle.sd_safety.proofs.Prefix.{any_passing}
 use Rattle.sd_safety.proofs.Sides.{implied, not_both}
@@ -48,33 +47,42 @@ use Rattle.sd_safety_behind.proofs.Ways.{path_by_parts}
 -- Sums: r the event, hd and hb what the device and the backup root heard last, m its move, u its takeover, g and gr the failures of its path and of the root
 
 module _ (k h d p q l1 f1 l2 f2 lw : ℕ) (t : IsTimedBy k h d p q l1 f1 l2 f2 lw) where
-  on_primary_sum : (r hb g hd : ℕ) → r - hb ≤ f1 + q → hb ≤ g + h * d → g ≤ hd + ((k + 1) * p + p + h * d) → r - hd < lw
-  on_primary_sum r hb g hd one two three = omega (arith, one, two, three, without_stray t)
+  -- the sums of `sd_safety`, with a tick more for each bound on feeding
+  without_stray : f1 + f2 + 6 * q + (3 * k + 3) * p + (6 * h + 1) * d < lw
+  without_stray = omega (arith, t.gap, t.wait_long)
 
-  fallback_sum : (r m g hd : ℕ) → r ≤ max hd m + ((k + 1) * p + 2 * h * d) → m ≤ g + h * d + f1 + q → g ≤ hd + ((k + 1) * p + p + h * d) → r - hd < lw
-  fallback_sum r m g hd one two three = omega (arith, one, two, three, without_stray t)
+  with_stray : 2 * f1 + f2 + 4 * q + (2 * k + 2) * p + 3 * h * d < lw
+  with_stray = omega (arith, t.gap, t.wait_longer)
+
+  with_stray_alive : 2 * f1 + 4 * q + (2 * k + 3) * p + 4 * h * d < lw
+  with_stray_alive = omega (arith, t.gap, t.second_order, t.second_long, t.wait_longer)
+
+  on_primary_sum : (r hb g hd : ℕ) → r - hb ≤ f1 + q → hb ≤ g + h * d → g ≤ hd + ((k + 1) * p + p + h * d) → r - hd < lw
+  on_primary_sum r hb g hd one two three = omega (arith, one, two, three, without_stray)
+
+  fallback_sum : (r m g hd : ℕ) → r ≤ max hd m + ((k + 1) * p + 2 * h * d) + 2 * q → m ≤ g + h * d + f1 + q → g ≤ hd + ((k + 1) * p + p + h * d) → r - hd < lw
+  fallback_sum r m g hd one two three = omega (arith, one, two, three, without_stray)
 
   waiting_sum : (r hb m g gr hd : ℕ) → r - max hb m ≤ f2 + q → hb ≤ gr + (h + 1) * d → m ≤ g + h * d + f1 + q → g ≤ hd + ((k + 1) * p + p + h * d)
-      → gr ≤ hd + (((k + 1) * p + p + h * d) + h * d + f1 + q + ((k + 1) * p + 2 * h * d)) → r - hd < lw
-  waiting_sum r hb m g gr hd one two three four five = omega (arith, one, two, three, four, five, without_stray t)
+      → gr ≤ hd + (((k + 1) * p + p + h * d) + h * d + f1 + q + ((k + 1) * p + 2 * h * d) + 2 * q) → r - hd < lw
+  waiting_sum r hb m g gr hd one two three four five = omega (arith, one, two, three, four, five, without_stray)
 
-  acting_sum : (r u m g gr hd : ℕ) → r ≤ max (u + (k * p + h * d)) (hd + ((k + 1) * p + h * d)) → u ≤ max m (gr + (h + 1) * d) + f2 + q → m ≤ g + h * d + f1 + q → g ≤ hd + ((k + 1) * p + p + h * d)
-      → gr ≤ hd + (((k + 1) * p + p + h * d) + h * d + f1 + q + ((k + 1) * p + 2 * h * d)) → r - hd < lw
-  acting_sum r u m g gr hd one two three four five = omega (arith, one, two, three, four, five, without_stray t)
+  acting_sum : (r u m g gr hd : ℕ) → r ≤ max (u + (k * p + h * d)) (hd + ((k + 1) * p + h * d)) + q → u ≤ max m (gr + (h + 1) * d) + f2 + q → m ≤ g + h * d + f1 + q → g ≤ hd + ((k + 1) * p + p + h * d)
+      → gr ≤ hd + (((k + 1) * p + p + h * d) + h * d + f1 + q + ((k + 1) * p + 2 * h * d) + 2 * q) → r - hd < lw
+  acting_sum r u m g gr hd one two three four five = omega (arith, one, two, three, four, five, without_stray)
 
-module _ (k h d p q l1 f1 l2 f2 lw : ℕ) (t : IsTimedBy k h d p q l1 f1 l2 f2 lw) where
-  fed_sum : (r m g hd : ℕ) → r ≤ max hd m + ((k + 1) * p + 2 * h * d) → m ≤ g + h * d + 2 * (f1 + q) → g ≤ hd + ((k + 1) * p + p + h * d) → r - hd < lw
-  fed_sum r m g hd one two three = omega (arith, one, two, three, with_stray_alive t)
+  fed_sum : (r m g hd : ℕ) → r ≤ max hd m + ((k + 1) * p + 2 * h * d) + 2 * q → m ≤ g + h * d + 2 * (f1 + q) → g ≤ hd + ((k + 1) * p + p + h * d) → r - hd < lw
+  fed_sum r m g hd one two three = omega (arith, one, two, three, with_stray_alive)
 
   stray_sum : (r hb g hd : ℕ) → r - hb ≤ f1 + q → hb ≤ g + h * d + f1 + q → g ≤ hd + ((k + 1) * p + p + h * d) → r - hd < lw
-  stray_sum r hb g hd one two three = omega (arith, one, two, three, with_stray t)
+  stray_sum r hb g hd one two three = omega (arith, one, two, three, with_stray)
 
   stray_waiting_sum : (r hb m g gr hd : ℕ) → r - max hb m ≤ f2 + q → hb ≤ gr + (h + 1) * d → gr + (h + 1) * d ≤ m → m ≤ g + h * d + 2 * (f1 + q) → g ≤ hd + ((k + 1) * p + p + h * d) → r - hd < lw
-  stray_waiting_sum r hb m g gr hd one two three four five = omega (arith, one, two, three, four, five, with_stray t)
+  stray_waiting_sum r hb m g gr hd one two three four five = omega (arith, one, two, three, four, five, with_stray)
 
-  stray_acting_sum : (r u m g gr hd : ℕ) → r ≤ max (u + (k * p + h * d)) (hd + ((k + 1) * p + h * d)) → u ≤ max m (gr + (h + 1) * d) + f2 + q → gr + (h + 1) * d ≤ m → m ≤ g + h * d + 2 * (f1 + q)
+  stray_acting_sum : (r u m g gr hd : ℕ) → r ≤ max (u + (k * p + h * d)) (hd + ((k + 1) * p + h * d)) + q → u ≤ max m (gr + (h + 1) * d) + f2 + q → gr + (h + 1) * d ≤ m → m ≤ g + h * d + 2 * (f1 + q)
       → g ≤ hd + ((k + 1) * p + p + h * d) → r - hd < lw
-  stray_acting_sum r u m g gr hd one two three four five = omega (arith, one, two, three, four, five, with_stray t)
+  stray_acting_sum r u m g gr hd one two three four five = omega (arith, one, two, three, four, five, with_stray)
 
 late_split : (a : Bool) (r q c : ℕ) → (if a then max r c else r) ≤ max r (if a then max q c else q)
 late_split true r q c = omega arith
@@ -97,7 +105,7 @@ Fed setting history e d =
     let steps : List Step = chronicle setting history in
     reference_of e
     ≤ max (heard_at steps d) (path_failed_at setting steps + depth setting.net * delay setting.net + 2 * (first_up setting.net (plan_now setting steps) + tick_gap setting.net))
-    + (rounds_gap setting.net + 2 * depth setting.net * delay setting.net)
+    + (rounds_gap setting.net + 2 * depth setting.net * delay setting.net) + tick_gap setting.net
 
 abbrev Heard : Setting → List Event → Type 0
 Heard setting history =
@@ -140,7 +148,7 @@ module _ (setting : Setting) (hears_whole : AtNext WholePathHears setting) (seal
     lag = rounds_gap setting.net + round_gap setting.net + depth setting.net * delay setting.net
 
     abbrev far : ℕ
-    far = lag + depth setting.net * delay setting.net + first_up setting.net (plan_now setting (chronicle setting (x ∷ h))) + tick_gap setting.net + (rounds_gap setting.net + 2 * depth setting.net * delay setting.net)
+    far = lag + depth setting.net * delay setting.net + first_up setting.net (plan_now setting (chronicle setting (x ∷ h))) + tick_gap setting.net + (rounds_gap setting.net + 2 * depth setting.net * delay setting.net) + 2 * tick_gap setting.net
 
     abbrev Short : Type 0
     Short = silent_for (chronicle setting (x ∷ h)) d (reference_of e) < wait_low setting.net (plan_now setting (chronicle setting (x ∷ h)))
@@ -167,7 +175,7 @@ module _ (setting : Setting) (hears_whole : AtNext WholePathHears setting) (seal
       at_root : (z : Event) (earlier : List Event) → IsTail (z ∷ earlier) (x ∷ h) → era (chronicle setting earlier) ≡ era steps → is_among (failed_now (chronicle setting earlier)) (thing.Device plan.root) ≡ false
           → ((y : Thing) → is_among (failed_now (chronicle setting earlier)) y ≡ true → is_among (failed_now steps) y ≡ true)
           → ((nat_eq (era steps) 1 ≡ true) → reference_of z ≤ all_started setting steps → ⊥) → moved_at steps b < reference_of z → heard_at steps d < reference_of z
-          → reference_of z ≤ max (heard_at steps d) (moved_at steps b) + (rounds_gap setting.net + 2 * depth setting.net * delay setting.net)
+          → reference_of z ≤ max (heard_at steps d) (moved_at steps b) + (rounds_gap setting.net + 2 * depth setting.net * delay setting.net) + 2 * tick_gap setting.net
       at_root z [] tail same not_yet grows late_ moved_lt heard_lt =
           let was = was_on_primary setting (x ∷ h) (next_step setting [] z) [] d (chronicle_tail setting (z ∷ []) (x ∷ h) tail) (steps_timed setting x h e comes) heard_lt st.primary in
           absurd (false≢true was.on)
@@ -203,12 +211,12 @@ module _ (setting : Setting) (hears_whole : AtNext WholePathHears setting) (seal
       first_f = first_failing setting (thing.Device plan.root ∷ []) (x ∷ h) root_first.0 root_first.1
 
       fed_by : ((nat_eq (era steps) 1 ≡ true) → root_first.0 ≤ all_started setting steps → ⊥) → (c1 c2 : Bool) → nat_lt (moved_at steps b) root_first.0 ≡ c1 → nat_lt (heard_at steps d) root_first.0 ≡ c2
-          → root_first.0 ≤ max (heard_at steps d) (moved_at steps b) + (rounds_gap setting.net + 2 * depth setting.net * delay setting.net)
+          → root_first.0 ≤ max (heard_at steps d) (moved_at steps b) + (rounds_gap setting.net + 2 * depth setting.net * delay setting.net) + 2 * tick_gap setting.net
       fed_by late_ true true m_lt h_lt =
           let f = first_f in
           let m : moved_at steps b < root_first.0 = ltb-true (moved_at steps b) root_first.0 m_lt in
           let l : heard_at steps d < root_first.0 = ltb-true (heard_at steps d) root_first.0 h_lt in
-          subst (λ q. q ≤ max (heard_at steps d) (moved_at steps b) + (rounds_gap setting.net + 2 * depth setting.net * delay setting.net)) f.at
+          subst (λ q. q ≤ max (heard_at steps d) (moved_at steps b) + (rounds_gap setting.net + 2 * depth setting.net * delay setting.net) + 2 * tick_gap setting.net) f.at
           (at_root f.event f.earlier f.tail f.era (none_failed_yet (thing.Device plan.root ∷ []) (seen_of (chronicle setting f.earlier)) f.none (thing.Device plan.root) first) f.grows
           (λ one le. late_ one (subst (λ q. q ≤ all_started setting steps) f.at le)) (subst (λ q. moved_at steps b < q) (sym f.at) m) (subst (λ q. heard_at steps d < q) (sym f.at) l))
       fed_by late_ false c2 m_lt h_lt = let le : root_first.0 ≤ moved_at steps b = ltb-false (moved_at steps b) root_first.0 m_lt in omega (arith, le)
@@ -252,7 +260,7 @@ module _ (setting : Setting) (hears_whole : AtNext WholePathHears setting) (seal
 
       by_hearing : on_primary steps b ≡ true → Fed setting (x ∷ h) e d ⊎ Heard setting (x ∷ h) → Short
       by_hearing primary (inl fed) =
-          fed_sum (losses setting.net) (depth setting.net) (delay setting.net) (round_gap setting.net) (tick_gap setting.net) _ _ _ _ _ timed_ (reference_of e) (path_failed_at setting steps + depth setting.net * delay setting.net + 2 * (first_up setting.net plan + tick_gap setting.net)) (path_failed_at setting steps) (heard_at steps d) fed (omega arith) g_le
+          fed_sum (losses setting.net) (depth setting.net) (delay setting.net) (round_gap setting.net) (tick_gap setting.net) _ _ _ _ _ timed_ (reference_of e) (path_failed_at setting steps + depth setting.net * delay setting.net + 2 * (first_up setting.net plan + tick_gap setting.net)) (path_failed_at setting steps) (heard_at steps d) (omega (arith, fed)) (omega arith) g_le
       by_hearing primary (inr heard) =
           stray_sum (losses setting.net) (depth setting.net) (delay setting.net) (round_gap setting.net) (tick_gap setting.net) _ _ _ _ _ timed_ (reference_of e) (heard_at steps b) (path_failed_at setting steps) (heard_at steps d) (silence_now setting (x ∷ h) e comes (seals (x ∷ h) e comes) old_b primary) heard g_le
 

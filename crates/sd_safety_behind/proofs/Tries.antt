@@ -7,7 +7,7 @@ use Rattle.sd_sched.specs.Events.{reference_of}
 use Rattle.sd_history.specs.World.{Setting}
 use Rattle.sd_history.specs.Steps.{Step, acts_in}
 use Rattle.sd_history.specs.Chronicle.{chronicle}
-use Rattle.sd_safety.specs.Bounds.{depth, delay, losses, rounds_gap}
+use Rattle.sd_safety.specs.Bounds.{depth, delay, losses, rounds_gap, tick_gap}
 use Rattle.sd_safety.specs.Eras.{plan_now, is_old, on_primary, on_backup, is_behind, hit, path_hit, root_failed, root_lives, heard_at, moved_at}
 use Rattle.sd_safety.specs.Clauses.{◌⟹◌}
 use Rattle.sd_safety.specs.Silences.{root_leads, root_failed_at}
@@ -22,9 +22,9 @@ is_fed setting steps reference d =
     let net = setting.net in
     let b = (plan_now setting steps).backup_root in
     (stands_behind setting steps d && root_lives setting steps && root_leads setting steps && is_old steps b && on_backup steps b
-    ⟹ nat_le reference (max (heard_at steps d) (moved_at steps b) + (rounds_gap net + 2 * depth net * delay net)))
+    ⟹ nat_le reference (max (heard_at steps d) (moved_at steps b) + (rounds_gap net + 2 * depth net * delay net) + 2 * tick_gap net))
     && (stands_behind setting steps d && is_old steps b && acts_in steps b
-    ⟹ nat_le reference (max (took_over_at steps b + (losses net * round_gap net + depth net * delay net)) (heard_at steps d + (rounds_gap net + depth net * delay net))))
+    ⟹ nat_le reference (max (took_over_at steps b + (losses net * round_gap net + depth net * delay net)) (heard_at steps d + (rounds_gap net + depth net * delay net)) + tick_gap net))
 
 abbrev hears_no_more : Setting → List Step → Bool
 hears_no_more setting steps =

@@ -13,7 +13,6 @@
 //!
 //! | Statement | To be shown by |
 //! |---|---|
-//! | `HearsNoMore`, `PathHearsNoMore` | `accepted_traced` at the step at which the backup root last heard, then from the end of the trace by `hop_parent` |
 //! | `FallbackFeeds`, `TakeoverFeeds` | the feeding lemma along the fallback and the cut path |
 //! | `MendedHears` | the trace, and that at most one round is a stray (10) |
 //! | `MendedMoves` | the induction of `Broken` once more, with `Mends` |

@@ -17,9 +17,5 @@
 //! # What is open
 //!
 //! 14 (`BehindWaits`). `sd_safety_behind` has it from statements on feeding; of these `HearsNoMore` is
-//! shown here. `FallbackFeeds`, `TakeoverFeeds` and the first part of `MendedHears` are to be stated
-//! with Q more, as 13 is: an event that fails something of the way may cut off the last of the K + 1
-//! rounds, and comes up to Q after the bound. They are used at the root's failure itself; the sums of
-//! 14 have room for it. `silent_by` of `sd_safety_rounds` is to give `FallbackFeeds` along the
-//! fallback and the cut path, and `from_root` of `sd_safety_traced` `PathHearsNoMore`.
+//! shown here, and `sd_safety_feeds` has safety from those that are left.
 #![tactic(auto)]

@@ -1,54 +1,39 @@
 -- 15 in all eras, before and after a commit: along the fallback, which C7 says is whole.
-use Rattle.std.specs.Prelude.{◌≡◌, ℕ, ◌+◌, ◌*◌, ◌<◌, ◌≤◌, Bool, true, false, ◌&&◌, not, List, [], ◌∷◌, length, nat_eq, Some, IfSome, refl, ◌⊎◌}
-use Rattle.std.proofs.Common.{arith, sym, ◌∙◌, ap, subst, inl, inr}
-use Rattle.std.proofs.lemmas.Bool.{and_from, or_left, or_right, eqb-true, eq-eqb, not-true}
+use Rattle.std.specs.Prelude.{◌≡◌, ℕ, ◌+◌, ◌*◌, ◌<◌, ◌≤◌, Bool, true, false, ◌&&◌, not, List, [], ◌∷◌, length, Some, refl}
+use Rattle.std.proofs.Common.{arith, sym, ◌∙◌, subst}
+use Rattle.std.proofs.lemmas.Bool.{eq-eqb}
 use Rattle.sd_num.specs.Lists.{has}
 use Rattle.sd_topo.specs.declared.Thing.{Thing}
 use Rattle.sd_topo.specs.declared.Thing.TheVariants as thing
 use Rattle.sd_plan.specs.declared.Hop.{Hop}
 use Rattle.sd_plan.specs.declared.Plan.{Plan}
 use Rattle.sd_plan.specs.declared.End.{End}
-use Rattle.sd_plan.specs.Plans.{IsHop, is_member, is_present, is_root, is_backup_root, backup_of}
-use Rattle.sd_plan.specs.Duties.{follows_over}
-use Rattle.sd_plan.specs.Walks.{walk, end_of, things_of, devices_of, links_of}
-use Rattle.sd_plan.proofs.Rules.{hops_within}
+use Rattle.sd_plan.specs.Plans.{is_member, is_root, is_backup_root, backup_of}
+use Rattle.sd_plan.specs.Walks.{walk}
 use Rattle.sd_check_root.specs.Roots.{fallback_devices, fallback_links}
-use Rattle.sd_core.specs.Calls.{Past}
 use Rattle.sd_sched.specs.declared.Event.{Event}
 use Rattle.sd_sched.specs.Events.{reference_of}
-use Rattle.sd_history.specs.World.{Setting, fails, is_up, link_has_failed, plan_numbered}
+use Rattle.sd_history.specs.World.{Setting, fails, is_up}
 use Rattle.sd_history.specs.Steps.{Step, seen_of, acts_in}
-use Rattle.sd_history.specs.Chronicle.{past_in, chronicle}
+use Rattle.sd_history.specs.Chronicle.{chronicle}
 use Rattle.sd_history.proofs.Among.{first}
 use Rattle.sd_safety.specs.Bounds.{depth, delay, rounds_gap}
-use Rattle.sd_safety.specs.Eras.{era, plan_now, all_started, heard_at, moved_at, is_among, touches, failed_now, link_failed_now, is_old, moved, on_backup, hit, root_failed}
-use Rattle.sd_safety.specs.Invariant.{Invariant}
+use Rattle.sd_safety.specs.Eras.{era, plan_now, all_started, heard_at, moved_at, is_among, failed_now, is_old, moved, on_backup, hit, root_failed}
 use Rattle.sd_safety.proofs.Facts.{IsSound}
-use Rattle.sd_safety.proofs.Sides.{implied, not_both}
-use Rattle.sd_safety_messages.specs.Moments.{behind, Moment, when, IsIn}
-use Rattle.sd_safety_messages.specs.Rounds.{IsReady}
-use Rattle.sd_safety_messages.proofs.Ends.{backup_follows}
-use Rattle.sd_safety_timers.proofs.Marks.{some_is}
-use Rattle.sd_safety_waits.proofs.Waits.{Stands, old_stands}
+use Rattle.sd_safety_messages.specs.Moments.{Moment, when, IsIn}
 use Rattle.sd_safety_waits.proofs.Then.{two_parts}
-use Rattle.sd_safety_waits.proofs.Standing.{now, sound}
-use Rattle.sd_safety_silences.proofs.Phases.{fewer}
-use Rattle.sd_safety_silences.proofs.Walking.{Walks, way_of, way_length, way_keeps, end_at, walk_length}
-use Rattle.sd_safety_silences.proofs.Paths.{IsClear, clear_walk}
-use Rattle.sd_safety_silences.proofs.Links.{alone}
-use Rattle.sd_safety_silences.proofs.Sounding.{top_of}
-use Rattle.sd_safety_silences.proofs.Fallen.{falls, the_hop, things_fine, on_fallback, link_of_fallback, ready_back, fallback_hop}
+use Rattle.sd_safety_waits.proofs.Standing.{sound}
+use Rattle.sd_safety_silences.proofs.Walking.{way_of, way_length, way_keeps, end_at, walk_length}
+use Rattle.sd_safety_silences.proofs.Fallen.{falls, the_hop}
 use Rattle.sd_safety_windows.proofs.Committing.{staged_plan}
 use Rattle.sd_safety_entering.proofs.States as states
-use Rattle.sd_safety_rounds.specs.Rounds.{IsOpenHop, AreOpenHops}
 use Rattle.sd_safety_rounds.specs.Spans.{IsSpan}
-use Rattle.sd_safety_rounds.proofs.Places.{InEra, InWindow, place}
-use Rattle.sd_safety_rounds.proofs.Hops.{IsOldRound, since_first, lasts}
 use Rattle.sd_safety_rounds.proofs.Sources.{staged_is}
 use Rattle.sd_safety_rounds.proofs.Silent.{IsSilent, silent_by}
 use Rattle.sd_safety_spans.proofs.Backs.{backup_within}
+use Rattle.sd_safety_spans.proofs.Fallback.{fallback_open}
 use Rattle.sd_safety_spans.proofs.Staged.{is_staged}
-use Rattle.sd_safety_spans.proofs.Thirteen.{not_root, IsSpared, spared, acts, walk_open}
+use Rattle.sd_safety_spans.proofs.Thirteen.{not_root, IsSpared, spared, acts}
 
 -- where the event fails nothing of the fallback of an old backup root on its backup
 module _ (setting : Setting) (x : Event) (h : List Event) (e : Event) (s0 : ℕ) (span : IsSpan setting x h e s0) (kept : root_failed setting (chronicle setting (x ∷ h)) ≡ false) (late : all_started setting (chronicle setting (x ∷ h)) < reference_of e)
@@ -79,128 +64,47 @@ module _ (setting : Setting) (x : Event) (h : List Event) (e : Event) (s0 : ℕ)
   then_ : (q : Moment) → IsIn q (chronicle setting (e ∷ x ∷ h)) → s0 < when q → (era q.earlier ≡ era steps) × (is_old q.earlier b ≡ true) × (on_backup q.earlier b ≡ true) × (is_up (seen_of q.earlier) b ≡ true)
   then_ q here after = backup_within setting (x ∷ h) e span.comes b s0 old on heard put q here after
 
-  module _ (hop : Hop) (is_hop : backup_of (plan_now setting (chronicle setting (x ∷ h))) (plan_now setting (chronicle setting (x ∷ h))).backup_root ≡ Some hop) where
-    on_way : (d : ℕ) → has (devices_of hop.parent (walk setting.net plan hop.parent)) d ≡ true → is_among failed (thing.Device d) ≡ false
-    on_way d is = go (is_root plan d) refl
-      where
-        go : (r : Bool) → is_root plan d ≡ r → is_among failed (thing.Device d) ≡ false
-        go true root = subst (λ z. is_among failed (thing.Device z) ≡ false) (eqb-true plan.root d root) root_spared
-        go false other = devices d (on_fallback setting.net plan hop d is_hop is other)
+  silent : IsSilent setting x h e s0 span kept (plan_now setting (chronicle setting (x ∷ h))).backup_root
+  silent =
+      record {
+        old = old;
+        heard = heard;
+        staged = λ commit. (
+          fine.fits.backup_root,
+          is_staged setting x h e span.comes late b commit own.up own.member (not_ordinary (hit setting steps b) (is_member plan b && not (is_root plan b)) (is_backup_root plan b) (eq-eqb b b refl)),
+          not_root steps (staged_plan setting steps) b
+              (subst (λ z. acts_in steps z ≡ true) (sym (staged_is setting x h e s0 span kept commit) ∙ states.root_is setting (x ∷ h) e span.comes commit) (acts setting x h e s0 span kept late failed more spares)) idle,
+        );
+      }
+    where
+      not_ordinary : (hit_ m backup : Bool) → backup ≡ true → (hit_ && (m && not backup)) ≡ false
+      not_ordinary true true true is = refl
+      not_ordinary true false true is = refl
+      not_ordinary false m true is = refl
+      not_ordinary hit_ m false is = cc
 
-    on_links : (l : ℕ) → has (hop.link ∷ links_of (walk setting.net plan hop.parent)) l ≡ true → is_among failed (thing.Link l) ≡ false
-    on_links l is = links l (link_of_fallback setting.net plan hop l is_hop is)
+  fallback_by : (hop : Hop) → backup_of (plan_now setting (chronicle setting (x ∷ h))) (plan_now setting (chronicle setting (x ∷ h))).backup_root ≡ Some hop → reference_of e ≤ s0 + rounds_gap setting.net + (depth setting.net + 1) * delay setting.net
+  fallback_by hop is_hop =
+      let hs = walk setting.net plan hop.parent in
+      let ends : List End = end_at b hop ∷ [] in
+      silent_by setting x h e s0 span kept b (depth setting.net + 1) silent
+      (record {
+        way = way_of hop.parent hs ends;
+        last = end_at b hop;
+        among = way_keeps hop.parent hs ends (end_at b hop) first;
+        device = refl;
+        short = short_by (length (way_of hop.parent hs ends)) (length hs) (depth setting.net) (way_length hop.parent hs ends) (walk_length setting.net plan hop.parent);
+        hops = λ first_ round limit soon. fallback_open setting x h e s0 span kept late failed more spares devices links root_spared self then_ hop is_hop first_ round limit soon [] tt;
+      }) (more_by (depth setting.net)) (twice (depth setting.net))
+    where
+      short_by : (a c n : ℕ) → a ≡ c + 1 → c ≤ n → a ≤ n + 1
+      short_by a c n is le = omega (arith, is, le)
 
-    parent_fine : is_among failed (thing.Device hop.parent) ≡ false
-    parent_fine = on_way hop.parent (or_left (nat_eq hop.parent hop.parent) _ (eq-eqb hop.parent hop.parent refl))
+      more_by : (n : ℕ) → n ≤ n + 1
+      more_by n = omega arith
 
-    hop_fine : is_among failed (thing.Link hop.link) ≡ false
-    hop_fine = on_links hop.link (or_left (nat_eq hop.link hop.link) _ (eq-eqb hop.link hop.link refl))
-
-    within : IsHop setting.net hop
-    within = subst (λ o. IfSome o (IsHop setting.net)) is_hop (hops_within setting.net plan b fine.fits).1
-
-    right : (is_member plan hop.parent ≡ true) × (is_present plan hop.link ≡ true)
-    right = fallback_hop setting.net plan b hop (fine.rules.hops b fine.fits.backup_root) is_hop
-
-    -- the moment is of the era
-    of_era : (q : Moment) → IsIn q (chronicle setting (e ∷ x ∷ h)) → s0 < when q → InEra setting (chronicle setting (x ∷ h)) q
-    of_era q here after = by (place setting x h e s0 span q here after)
-      where
-        next_not : (a c : ℕ) → a + 1 ≡ c → a ≡ c → ⊥
-        next_not a c next same = omega (arith, next, same)
-
-        by : InEra setting (chronicle setting (x ∷ h)) q ⊎ InWindow setting (chronicle setting (x ∷ h)) q → InEra setting (chronicle setting (x ∷ h)) q
-        by (inl k) = k
-        by (inr k) = absurd (next_not (era (chronicle setting k.h)) (era steps) k.same (sym (ap (λ (p : Moment). era p.earlier) k.is) ∙ (then_ q here after).0))
-
-    ready_at : (q : Moment) → IsIn q (chronicle setting (e ∷ x ∷ h)) → s0 < when q → (past : Past) → past_in q.earlier b ≡ Some past → IsReady past (era (chronicle setting (x ∷ h))) hop.link
-    ready_at q here after past there =
-        let k : InEra setting steps q = of_era q here after in
-        let facts = then_ q here after in
-        let older : List Step = chronicle setting (k.x ∷ k.h) in
-        let same : q.earlier ≡ older = ap (λ (p : Moment). p.earlier) k.is in
-        let s : Stands setting older b = old_stands setting (k.x ∷ k.h) b (subst (λ l. is_old l b ≡ true) same facts.1) in
-        let parts = two_parts (moved older b) (acts_in older b) (subst (λ l. on_backup l b ≡ true) same facts.2) in
-        subst (λ p. IsReady p (era steps) hop.link) (some_is (sym s.there ∙ sym (ap (λ l. past_in l b) same) ∙ there))
-        (subst (λ n. IsReady s.past n hop.link) k.same
-        (ready_back setting.net (plan_now setting older) (era older) b hop s.past s.duty (sym s.moved_is ∙ parts.0) (sym s.acts_is ∙ parts.1)
-        (subst (λ n. backup_of (plan_numbered setting n) b ≡ Some hop) (sym k.same) is_hop)))
-
-    link_at : (q : Moment) → IsIn q (chronicle setting (e ∷ x ∷ h)) → s0 < when q → link_has_failed (seen_of q.earlier) hop.link ≡ false
-    link_at q here after =
-        let k : InEra setting steps q = of_era q here after in
-        let older : List Step = chronicle setting (k.x ∷ k.h) in
-        let same = k.same in
-        let there : Invariant setting older = now setting k.x k.h k.e k.comes in
-        subst (λ (p : Moment). link_has_failed (seen_of p.earlier) hop.link ≡ false) (sym k.is)
-        (not-true (link_has_failed (seen_of older) hop.link)
-        (implied (is_present (plan_now setting older) hop.link && not (link_failed_now older hop.link)) (not (link_has_failed (seen_of older) hop.link)) (there.core.census.links hop.link)
-        (and_from (is_present (plan_now setting older) hop.link) (not (link_failed_now older hop.link)) (subst (λ n. is_present (plan_numbered setting n) hop.link ≡ true) (sym k.same) right.1)
-        (ap not (fewer (thing.Link hop.link) older steps k.part (omega (arith, same)) (more (thing.Link hop.link) hop_fine))))))
-
-    last_hop : (first_ : Moment) → IsOldRound setting x h s0 first_ → (limit : ℕ) → IsOpenHop setting (top_of setting (x ∷ h) e) (era (chronicle setting (x ∷ h))) first_ limit plan.root hop.parent (end_at b hop)
-    last_hop first_ round limit =
-        let follows : follows_over plan hop.parent hop.link b ≡ true = backup_follows plan b hop.parent hop.link hop is_hop refl refl in
-        record {
-          follows = follows;
-          alone = λ c is. alone setting.net plan fine.fits fine.rules hop.parent hop.link b c follows is;
-          known = (within.1, fine.fits.backup_root);
-          apart = λ same. not_both (nat_eq b plan.root) (eq-eqb b plan.root same) fine.apart;
-          whole = λ q q_in started by. let after = since_first setting x h e s0 span kept first_ round.late q (behind q_in) started in (link_at q (behind q_in) after, (then_ q (behind q_in) after).3);
-          ready = λ q q_in since by. ready_at q (behind q_in) (since_first setting x h e s0 span kept first_ round.late q (behind q_in) (behind since));
-          lasts = λ q q_in since. let after = since_first setting x h e s0 span kept first_ round.late q q_in (behind since) in (
-            lasts setting x h e s0 span kept failed more spares (thing.Device hop.parent) parent_fine q q_in after,
-            lasts setting x h e s0 span kept failed more spares (thing.Device b) self q q_in after,
-            lasts setting x h e s0 span kept failed more spares (thing.Link hop.link) hop_fine q q_in after,
-          );
-        }
-
-    silent : IsSilent setting x h e s0 span kept b
-    silent =
-        record {
-          old = old;
-          heard = heard;
-          staged = λ commit. (
-            fine.fits.backup_root,
-            is_staged setting x h e span.comes late b commit own.up own.member (not_ordinary (hit setting steps b) (is_member plan b && not (is_root plan b)) (is_backup_root plan b) (eq-eqb b b refl)),
-            not_root steps (staged_plan setting steps) b
-                (subst (λ z. acts_in steps z ≡ true) (sym (staged_is setting x h e s0 span kept commit) ∙ states.root_is setting (x ∷ h) e span.comes commit) (acts setting x h e s0 span kept late failed more spares)) idle,
-          );
-        }
-      where
-        not_ordinary : (hit_ m backup : Bool) → backup ≡ true → (hit_ && (m && not backup)) ≡ false
-        not_ordinary true true true is = refl
-        not_ordinary true false true is = refl
-        not_ordinary false m true is = refl
-        not_ordinary hit_ m false is = cc
-
-    fallback_by : reference_of e ≤ s0 + rounds_gap setting.net + (depth setting.net + 1) * delay setting.net
-    fallback_by =
-        let hs = walk setting.net plan hop.parent in
-        let ends : List End = end_at b hop ∷ [] in
-        let none : touches failed (things_of hs) ≡ false = things_fine failed hs (λ d is. on_way d (or_right (nat_eq d hop.parent) _ is)) (λ l is. on_links l (or_right (nat_eq l hop.link) _ is)) in
-        let clear : Walks plan (IsClear setting.net plan failed) hop.parent hs = clear_walk plan setting.net failed fine.fits fine.rules hs hop.parent refl within.0 right.0 parent_fine none in
-        let reach : is_root plan (end_of hop.parent hs) ≡ true = implied (is_member plan hop.parent) _ (fine.rules.reaches hop.parent within.0) right.0 in
-        silent_by setting x h e s0 span kept b (depth setting.net + 1) silent
-        (record {
-          way = way_of hop.parent hs ends;
-          last = end_at b hop;
-          among = way_keeps hop.parent hs ends (end_at b hop) first;
-          device = refl;
-          short = short_by (length (way_of hop.parent hs ends)) (length hs) (depth setting.net) (way_length hop.parent hs ends) (walk_length setting.net plan hop.parent);
-          hops = λ first_ round limit soon.
-              subst (λ z. AreOpenHops setting (top_of setting (x ∷ h) e) (era steps) first_ limit plan.root z (way_of hop.parent hs ends)) (sym (eqb-true plan.root (end_of hop.parent hs) reach))
-              (walk_open setting x h e s0 span kept late failed more spares hop.parent hs clear first_ round limit soon ends (last_hop first_ round limit, tt));
-        }) (more_by (depth setting.net)) (twice (depth setting.net))
-      where
-        short_by : (a c n : ℕ) → a ≡ c + 1 → c ≤ n → a ≤ n + 1
-        short_by a c n is le = omega (arith, is, le)
-
-        more_by : (n : ℕ) → n ≤ n + 1
-        more_by n = omega arith
-
-        twice : (n : ℕ) → n + 1 ≤ 2 * (n + 1)
-        twice n = omega arith
+      twice : (n : ℕ) → n + 1 ≤ 2 * (n + 1)
+      twice n = omega arith
 
   pub fallback_silent : reference_of e ≤ s0 + rounds_gap setting.net + (depth setting.net + 1) * delay setting.net
   fallback_silent = let hop = the_hop (backup_of plan b) (falls setting.net plan fine.accepted.structure fine.fits.backup_root) in fallback_by hop.0 hop.1

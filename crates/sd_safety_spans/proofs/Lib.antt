@@ -3,6 +3,7 @@ pub mod Backs
 pub mod Staged
 pub mod Thirteen
 pub mod Lately
+pub mod Fallback
 pub mod Fifteen
 pub mod Rests
 pub mod Waited

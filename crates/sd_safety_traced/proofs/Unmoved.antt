@@ -38,7 +38,7 @@ use Rattle.sd_safety_traced.proofs.Last.{IsStarted, LastHeard, last_heard}
 use Rattle.sd_safety_traced.proofs.Primaries.{heard_by_failure}
 
 -- the beginning stays
-begins_with : (setting : Setting) (x : Event) (older history : List Event) → Tail (x ∷ older) history → beginning (seen_of (chronicle setting history)) ≡ beginning (seen_of (chronicle setting (x ∷ older)))
+pub begins_with : (setting : Setting) (x : Event) (older history : List Event) → Tail (x ∷ older) history → beginning (seen_of (chronicle setting history)) ≡ beginning (seen_of (chronicle setting (x ∷ older)))
 begins_with setting x older _ whole = refl
 begins_with setting x older (e ∷ y ∷ history) (behind t) = begins_with setting x older (y ∷ history) t
 begins_with setting x older (e ∷ []) (behind t) = elim t [ ]
@@ -49,7 +49,7 @@ started_before true r s is = omega arith
 started_before false r s is = cc
 
 -- who was started was so in the first era, before all had started
-start_early : (setting : Setting) (fair : IsFair setting) (d n : ℕ) (f : Event) (earlier : List Event) → IsClean setting (f ∷ earlier) → AtEach (Invariant setting) (chronicle setting earlier) → makes d f ≡ true → (past : Past)
+pub start_early : (setting : Setting) (fair : IsFair setting) (d n : ℕ) (f : Event) (earlier : List Event) → IsClean setting (f ∷ earlier) → AtEach (Invariant setting) (chronicle setting earlier) → makes d f ≡ true → (past : Past)
     → past_in (chronicle setting (f ∷ earlier)) d ≡ Some past → epoch_now past ≡ n → 1 ≤ n → (era (chronicle setting earlier) ≡ 1) × (reference_of f ≤ all_started setting (chronicle setting (f ∷ earlier)))
 start_early setting fair d n (event.Start r m c clock eps) earlier clean each makes_ past there own one =
     let comes : Comes setting earlier (event.Start r m c clock eps) = record { fair = fair; clean = clean; before = each } in
