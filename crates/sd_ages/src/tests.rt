@@ -1,5 +1,7 @@
 //! Ages beside a search over all advances.
 
+ghost use Rattle.sd_topo.specs.Network.{IsRates};
+
 use super::*;
 use sd_num::low;
 use std::test::Fail;
@@ -17,25 +19,34 @@ fn searched(rates: Rates, s: u64) -> u64
     greatest
 }
 
-#[test]
-fn an_age_is_the_last_that_fits(rt: HostRuntime) -> Result<(), Fail> {
-    for rates in [
-        Rates { ppm: 0, grain: 0 },
-        Rates { ppm: 200, grain: 3 },
-        Rates {
-            ppm: 99_999,
-            grain: 0,
-        },
-        Rates {
-            ppm: 100_000,
-            grain: 70,
-        },
-    ] {
-        for s in 0..40 {
-            let age = oldest(rates, 73 * u128::from(s));
-            assert!(rt; age == u128::from(searched(rates, 73 * s)));
+/// Whether the oldest age of each of forty silences is what the search finds.
+fn agrees(rates: Rates) -> bool
+    requires { IsRates rates }
+{
+    for s in 0..40u64 {
+        if oldest(rates, 73 * u128::from(s)) != u128::from(searched(rates, 73 * s)) {
+            return false;
         }
     }
+    true
+}
+
+#[test]
+fn an_age_is_the_last_that_fits(rt: HostRuntime) -> Result<(), Fail> {
+    assert!(rt; agrees(Rates { ppm: 0, grain: 0 }));
+    assert!(rt; agrees(Rates { ppm: 200, grain: 3 }));
+    assert!(rt;
+        agrees(Rates {
+            ppm: 99_999,
+            grain: 0
+        })
+    );
+    assert!(rt;
+        agrees(Rates {
+            ppm: 100_000,
+            grain: 70
+        })
+    );
     Ok(())
 }
 
