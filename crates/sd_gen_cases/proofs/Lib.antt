@@ -1,2 +1,0 @@
--- Rows of small cases, computed.
-mod Rows

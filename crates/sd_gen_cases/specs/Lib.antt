@@ -1,2 +1,0 @@
--- Small cases for examples.
-pub mod Examples
