@@ -43,29 +43,22 @@
 //! | 10 | no overlap: a round is received before the next of its term is emitted | `sd_safety_messages` |
 //! | 11 | flow: a round that is not spoiled comes along a whole way | `sd_safety_messages` |
 //! | 12 | of K + 1 rounds one is not spoiled; feeding: a device along a whole way from an acting one hears within A + m * D | `sd_safety_messages`, `sd_safety_silences` |
-//! | 13 | while the root lives, a device with a whole path hears | `sd_safety_silences` |
-//! | 14 | a device behind the backup root that is not hit is silent for less than its wait | `sd_safety_behind` |
-//! | 15 | while the root lives, the backup root on its backup hears | `sd_safety_silences` |
-//! | 16 | where the root failed, the backup root acts soon | `sd_safety_behind` |
-//! | 17 | a device beside the backup root that is not hit otherwise is silent for less than its wait | `sd_safety_behind` |
-//! | 18 | after a commit each member of the staged plan enters within A + H * D, and goes on hearing | open |
+//! | 13 | while the root lives, a device with a whole path hears | `sd_safety_silences`; in all eras `sd_safety_spans` |
+//! | 14 | a device behind the backup root that is not hit is silent for less than its wait | `sd_safety_behind`, `sd_safety_paths`, `sd_safety_feeds`, from four statements |
+//! | 15 | while the root lives, the backup root on its backup hears | `sd_safety_silences`; in all eras `sd_safety_spans` |
+//! | 16 | where the root failed, the backup root acts soon | `sd_safety_behind`; what it heard `sd_safety_traced`, `sd_safety_fallbacks` |
+//! | 17 | a device beside the backup root that is not hit otherwise is silent for less than its wait | `sd_safety_behind`, `sd_safety_fallbacks` |
+//! | 18 | after a commit each member of the staged plan enters within A + H * D, and goes on hearing | `sd_safety_entering` |
 //! | 19 | a new device moves no more, and its parents are new | `sd_safety_windows`, `sd_safety_moves`, `sd_safety_renewals` |
-//! | 20 | 13, 14, 15 and 17 of devices that are old yet after a commit | open |
+//! | 20 | 13, 15 and 17 of devices that are old yet after a commit | `sd_safety_rounds`, `sd_safety_spans`, `sd_safety_fallbacks` |
 //! | 21 | who is up and left out by the staged plan is hit, and neither root nor backup root | `sd_safety_renewals` |
 //! | 22 | no loop and one root, before a commit and after it | `Safe`, here |
 //! | 23 | a window closes with a seal alone, and C10 holds then | `Closings` here, `sd_safety_windows`, `sd_safety_renewals` |
 //!
 //! # What is open
 //!
-//! The silences: `AreSilent` and `EntersSoon`, for `safe_if_silent`.
-//!
-//! - 13 and 15 are proved in the first era before a commit, and in any era in a phase with `IsLed` of
-//!   `sd_safety_silences`. What `IsLed` asks of terms is proved in all eras (`termed` of
-//!   `sd_safety_terms`): its `life` is the first field, and the second follows from `top`. Open are 13
-//!   and 15 across a commit or a closing.
-//! - 18, in the form `EntersSoon`, which every event needs, and `NewHears`.
-//! - 14, 16 and 17 are proved from seven statements on feeding (specs of `sd_safety_behind`).
-//! - 20 is open, and is wanted by 13, 14, 15 and 17 after a commit.
+//! 14, and of it four statements of `sd_safety_behind`: `TakeoverFeeds`, `MendedHears`, `MendedMoves`
+//! and `BehindWaitsCommitted`. `sd_safety_feeds` has `safe_if_fed`, safety from these four alone.
 //!
 //! The kinds of events are all shown to keep the core: `sd_safety_frame`, `_moves`, `_receipts` and
 //! `_renewals`.

@@ -9,14 +9,17 @@
 //! 14 has three parts: (i) what the backup root hears after its path broke, (ii) how long the devices
 //! behind it wait without a stray, (iii) and with one.
 //!
-//! # What is open, each in specs/ with the numbers (`Pieces`, `Feeding`)
+//! # What it takes as given, each in specs/ with the numbers (`Pieces`, `Feeding`)
 //!
-//! | Statement | To be shown by |
+//! | Statement | Shown in |
 //! |---|---|
-//! | `FallbackFeeds`, `TakeoverFeeds` | the feeding lemma along the fallback and the cut path |
-//! | `MendedHears` | the trace, and that at most one round is a stray (10) |
-//! | `MendedMoves` | the induction of `Broken` once more, with `Mends` |
-//! | `BehindWaitsCommitted` | 20, with `before_entering` of `sd_safety` |
+//! | `HearsNoMore` | `sd_safety_fallbacks` |
+//! | `PathHearsNoMore` | `sd_safety_paths` |
+//! | `FallbackFeeds` | `sd_safety_feeds` |
+//! | `TakeoverFeeds` | open: the feeding lemma along the fallback and the cut path |
+//! | `MendedHears` | open: the trace, and that at most one round is a stray (10) |
+//! | `MendedMoves` | open: the induction of `Broken` once more, with `Mends` |
+//! | `BehindWaitsCommitted` | open: 20, with `before_entering` of `sd_safety` |
 //!
 //! # The way
 //!
