@@ -3,61 +3,51 @@ ghost use Rattle.std.specs.Prelude.{◌≤◌, ◌<◌, ◌^◌, length, IfOk};
 ghost use Rattle.sd_topo.specs.Topologies.{network};
 ghost use Rattle.sd_roster.specs.Plans.{IsFollowable, AreSound};
 
-use sd_num::NoMemory;
 use sd_plan::{Plan, Rule, structure_breach};
 use sd_plantext::{PlanFault, read_plan};
 use sd_topo::Topology;
-use sd_topotext::TopoFault;
 use std::alloc::Global;
 
-/// Why there is no fleet of an example.
+/// Why there are no plans that a fleet can follow.
 #[derive(Debug, Drop)]
-pub enum NoFleet {
-    /// The text of its topology is refused.
-    Topology(TopoFault),
+pub enum NoPlans {
     /// The text of a plan is refused.
     Plan(PlanFault),
     /// A plan breaks a rule of structure, first at this device.
     Unsound(Rule, u32),
-    /// It has no plan, or more than a hundred.
+    /// There is no plan, or there are more than a hundred.
     Count,
     Memory,
 }
 
-impl From<NoMemory> for NoFleet {
-    fn from(_: NoMemory) -> NoFleet {
-        NoFleet::Memory
-    }
-}
-
 /// The plan of a text, where it has the right structure.
-fn plan_of(alloc: Global, topo: &Topology, text: &str) -> Result<Plan, NoFleet>
+fn plan_of(alloc: Global, topo: &Topology, text: &str) -> Result<Plan, NoPlans>
     ensures { IfOk result (IsFollowable (network topo.now)) }
 {
     let plan = match read_plan(alloc, topo, text.as_bytes()) {
         Ok(plan) => plan,
-        Err(fault) => return Err(NoFleet::Plan(fault)),
+        Err(fault) => return Err(NoPlans::Plan(fault)),
     };
     match structure_breach(topo, &plan) {
         None => Ok(plan),
-        Some((rule, device)) => Err(NoFleet::Unsound(rule, device)),
+        Some((rule, device)) => Err(NoPlans::Unsound(rule, device)),
     }
 }
 
 /// The plans of some texts, in their order.
-pub fn plans_of(alloc: Global, topo: &Topology, texts: &[&str]) -> Result<Vec<Plan>, NoFleet>
+pub fn plans_of(alloc: Global, topo: &Topology, texts: &[&str]) -> Result<Vec<Plan>, NoPlans>
     ensures sound { IfOk result (λ plans. AreSound (network topo.now) plans.items) }
     ensures some { IfOk result (λ plans. 1 ≤ length plans.items) }
     ensures count { IfOk result (λ plans. length plans.items < 2 ^ 32) }
 {
     if texts.is_empty() || texts.len() > 100 {
-        return Err(NoFleet::Count);
+        return Err(NoPlans::Count);
     }
     let mut plans = Vec::new(alloc);
     for text in texts {
         let plan = plan_of(alloc, topo, text)?;
         let Ok(()) = plans.push(plan) else {
-            return Err(NoFleet::Memory);
+            return Err(NoPlans::Memory);
         };
     }
     Ok(plans)

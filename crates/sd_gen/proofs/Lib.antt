@@ -1,4 +1,5 @@
 -- Laws of drafts.
+mod Listing
 mod Each
 mod Sent
 mod Trying

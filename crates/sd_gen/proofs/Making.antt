@@ -1,6 +1,7 @@
 -- A recorder at first, round after round, and at last.
 use Rattle.std.specs.Prelude.{◌≡◌, ℕ, ◌+◌, ◌%◌, List, [], length, map, reverse, refl}
 use Rattle.std.proofs.Common.{ap, sym, ◌∙◌, subst, add-one}
+use Rattle.std.proofs.lemmas.List.{reverse-reverse}
 use Rattle.rand_core.specs.Steps.{first_words}
 use Rattle.rand_pcg.specs.Lcg.{Lcg, advance}
 use Rattle.rand_pcg.specs.Pcg.{multiplier_64, pcg32}
@@ -9,10 +10,13 @@ use Rattle.sd_sched.specs.declared.Event.{Event}
 use Rattle.sd_core.specs.contracts.device.DeviceNode.TheImpl.{ghosts}
 use Rattle.sd_history.specs.World.{Setting}
 use Rattle.sd_history.specs.Steps.{events_of}
+use Rattle.sd_history.specs.Nodes.{steps_of}
+use Rattle.sd_history.specs.Chronicle.{IsHistory}
+use Rattle.sd_history.proofs.Devices.{devices_have_history}
 use Rattle.sd_fleet.specs.Standing as fleet
 use Rattle.sd_gen_arrivals.specs.Standing as arrivals
 use Rattle.sd_gen.specs.declared.recorder.Recorder.{Recorder}
-use Rattle.sd_gen.specs.Drafts.{seeded, unstarted, with_starts, round, draft_after, schedule}
+use Rattle.sd_gen.specs.Drafts.{Draft, seeded, unstarted, with_starts, round, draft_after, schedule}
 use Rattle.sd_gen.specs.Standing.{StandsFor}
 
 pub begins : (r : Recorder) (setting : Setting) (number devices : ℕ) (start : Lcg) → IsNetwork setting.net → fleet.StandsFor ghosts r.fleet setting [] → devices ≡ length setting.net.devices
@@ -47,3 +51,10 @@ begun r setting number stands = subst (λ x. StandsFor r setting x) (no_round se
 
 pub gone : (r : Recorder) (setting : Setting) (number k : ℕ) → StandsFor r setting (round setting (k + 1) (draft_after setting number k)) → StandsFor r setting (draft_after setting number (k + 1))
 gone r setting number k stands = subst (λ x. StandsFor r setting x) (one_round setting number k) stands
+
+-- a fleet of devices made the draft's steps, so the events that were recorded are a history
+pub are_history : (r : Recorder) (setting : Setting) (x : Draft) (events : List Event) → events ≡ r.events → StandsFor r setting x → IsHistory setting (reverse events)
+are_history r setting x events same stands =
+    let recorded : reverse events ≡ events_of x.steps = ap reverse (same ∙ stands.events) ∙ reverse-reverse (events_of x.steps) in
+    let drafted : events_of x.steps ≡ events_of (steps_of stands.run) = ap events_of (sym stands.steps) in
+    subst (IsHistory setting) (sym (recorded ∙ drafted)) (devices_have_history setting stands.run stands.fleet.is_run)

@@ -1,4 +1,5 @@
 -- The schedule of a generated case, and for which draft of it a recorder stands.
+pub mod Listed
 pub mod Drafts
 pub mod Turns
 pub mod Posting

@@ -1,9 +1,10 @@
 //! Networks and schedules from a number: what the generated case happens over, and what happens.
 #![tactic(auto)]
 
-ghost use Rattle.std.specs.Prelude.{◌≡◌, ◌≤◌, ◌<◌, ◌^◌, length, IfOk};
+ghost use Rattle.std.specs.Prelude.{◌≡◌, ◌≤◌, ◌<◌, ◌^◌, length, reverse, IfOk};
 ghost use Rattle.sd_topo.specs.Topologies.{network};
 ghost use Rattle.sd_roster.specs.Plans.{AreSound};
+ghost use Rattle.sd_history.specs.Chronicle.{IsHistory};
 ghost use Rattle.sd_gen.specs.Drafts.{schedule};
 
 mod asks;
@@ -39,7 +40,9 @@ pub fn make_schedule(
     requires some { 1 ≤ length plans.now }
     requires count { length plans.now < 2 ^ 32 }
     requires sound { AreSound (network topo.now) plans.now }
-    ensures { IfOk result (λ events. events ≡ schedule (record { net = network topo.now; plans = plans.now }) number) }
+    ensures events { IfOk result (λ events. events ≡ schedule (record { net = network topo.now; plans = plans.now }) number) }
+    // a fleet of devices accepts each of them after those before it
+    ensures history { IfOk result (λ events. IsHistory (record { net = network topo.now; plans = plans.now }) (reverse events)) }
 {
     let mut recorder = Recorder::new(alloc, topo, plans, number)?;
     recorder.start_all(alloc)?;

@@ -1,12 +1,14 @@
 //! Events that are kept one by one.
-ghost use Rattle.std.specs.Prelude.{◌≡◌, ◌++◌, [], ◌∷◌, OnOk, OnErr};
+ghost use Rattle.std.specs.Prelude.{◌≡◌, ◌++◌, [], ◌∷◌, IsTrue, OnOk, OnErr};
+ghost use Rattle.sd_sched.specs.Lines.{is_within};
+ghost use Rattle.sd_gen.specs.Listed.{AreWithin};
 
 use sd_num::NoMemory;
 use sd_sched::Event;
 use std::alloc::Global;
 use std::marker::Model;
 
-/// A list of events.
+/// A list of events, each of which a line of a schedule can say.
 #[derive(Drop)]
 pub struct EventList {
     items: Vec<Event>,
@@ -19,6 +21,10 @@ impl Model for EventList {
     ghost Value = { List Event };
 
     ghost view = { λ l. l.items.items };
+
+    ghost use Rattle.sd_gen.specs.Listed.{AreWithin};
+
+    ghost invariant = { λ l. AreWithin l.items.items };
 }
 
 impl EventList {
@@ -33,6 +39,7 @@ impl EventList {
 
     /// Adds an event at the end.
     pub fn push(&mut self, _alloc: Global, event: Event) -> Result<(), NoMemory>
+        requires { IsTrue (is_within event) }
         ensures added { OnOk result (self.new ≡ self.old ++ (event ∷ [])) }
         ensures same { OnErr result (self.new ≡ self.old) }
     {
@@ -44,7 +51,8 @@ impl EventList {
 
     /// The events in their order.
     pub fn as_slice(&self) -> &[Event]
-        ensures { result.now ≡ self.now }
+        ensures events { result.now ≡ self.now }
+        ensures within { AreWithin result.now }
     {
         self.items.as_slice()
     }

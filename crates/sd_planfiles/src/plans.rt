@@ -8,7 +8,7 @@ ghost use Rattle.sd_checker.specs.Verdicts.{IsAccepted};
 ghost use Rattle.sd_files.specs.Inputs.{plan_in_file};
 ghost use Rattle.sd_files.specs.Texts.{texts_of};
 ghost use Rattle.sd_files.specs.Writes.{Makes};
-ghost use Rattle.sd_planfiles.specs.Early.{made_of};
+ghost use Rattle.sd_planfiles.specs.Early.{IsPlanRefused, made_of};
 ghost use Rattle.sd_planfiles.specs.PlanFiles.{AfterAllPlans, AfterJudged, AfterPlan, AreRead, Nothing};
 
 use crate::Early;
@@ -35,6 +35,7 @@ pub fn load_plans<S: Shelf>(
     ensures accepted { IfOk result (λ plans. Each (IsAccepted (network topo.now)) plans.items) }
     ensures makes { IfErr result (λ early. IfSome (S.held shelf.old) (λ held.
         Makes (AfterAllPlans (network topo.now) (map (λ name. texts_of held name) (map string_bytes names.now)) Nothing) (made_of early))) }
+    ensures answered { IfErr result IsPlanRefused }
     ensures shelf { result ≡ Err (Early.Stopped Ended.Shelf) → Rose (S.faults shelf.old) (S.faults shelf.new) }
     ensures later { S.faults shelf.old ≤ S.faults shelf.new }
     ensures same_held { S.held shelf.new ≡ S.held shelf.old }
@@ -66,6 +67,7 @@ fn load_accepted<S: Shelf>(
     ensures fits { IfOk result (Fits (network topo.now)) }
     ensures accepted { IfOk result (IsAccepted (network topo.now)) }
     ensures makes { IfErr result (λ early. IfSome (S.held shelf.old) (λ held. Makes (AfterPlan (network topo.now) place (texts_of held name.now) Nothing) (made_of early))) }
+    ensures answered { IfErr result IsPlanRefused }
     ensures shelf { result ≡ Err (Early.Stopped Ended.Shelf) → Rose (S.faults shelf.old) (S.faults shelf.new) }
     ensures later { S.faults shelf.old ≤ S.faults shelf.new }
     ensures same_held { S.held shelf.new ≡ S.held shelf.old }
@@ -81,6 +83,7 @@ fn judge(alloc: Global, topo: &Topology, plan: &Plan, place: u32) -> Result<(), 
     requires { Fits (network topo.now) plan.now }
     ensures accepted { IfOk result (λ done. IsAccepted (network topo.now) plan.now) }
     ensures makes { IfErr result (λ early. Makes (AfterJudged (network topo.now) place plan.now (Nothing plan.now)) (made_of early)) }
+    ensures answered { IfErr result IsPlanRefused }
     ensures never { IfErr result (λ early. early ≡ Early.Stopped Ended.Shelf → ⊥) }
 {
     match check(alloc, topo, plan)? {

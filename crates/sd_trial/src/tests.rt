@@ -1,30 +1,15 @@
 //! The checker beside a plain slow program, on networks and plans made by counting and by hand.
-mod closing;
-mod counted;
-mod domains;
-mod plain;
-mod setups;
-mod shapes;
 mod single;
-mod structure;
-mod texts;
-mod timing;
-mod verdicts;
-mod walks;
 mod worked;
 
-use counted::counted_case;
-use plain::Plain;
 use sd_checker::{Verdict, accepted_line, check, refused_line};
+use sd_plain::{Plain, Said, Setup, counted_case, plan_text_of, said_by, topology_text_of};
 use sd_plantext::read_plan;
 use sd_topo::Topology;
 use sd_topotext::read_topology;
-use setups::Setup;
 use std::alloc::{AllocError, Global};
 use std::process::Abort;
 use std::test::Fail;
-use texts::{plan_text_of, topology_text_of};
-use verdicts::{Said, said_by};
 use worked::{WORKED, Worked};
 
 /// How many verdicts there were of each kind.

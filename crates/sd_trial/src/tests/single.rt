@@ -6,14 +6,13 @@ ghost use Rattle.sd_plan.specs.Structure as structure;
 ghost use Rattle.sd_topo.specs.Topologies.{network};
 
 use super::Tally;
-use super::counted::counted_case;
-use super::plain::{Domain, Plain};
-use super::texts::{plan_text_of, topology_text_of};
-use super::verdicts::{CONDITIONS, Said};
 use sd_check_loop::loop_breach;
 use sd_check_reach::{domain_breach, reach_breach};
 use sd_check_root::root_breach;
 use sd_domain::DomainId;
+use sd_plain::{
+    CONDITIONS, Domain, Plain, Said, counted_case, has_domain, plan_text_of, topology_text_of,
+};
 use sd_plan::{Plan, structure_breach};
 use sd_plantext::read_plan;
 use sd_topo::Topology;
@@ -21,17 +20,6 @@ use sd_topotext::read_topology;
 use std::alloc::{AllocError, Global};
 use std::process::Abort;
 use std::test::Fail;
-
-/// Whether a topology has a domain.
-fn has_domain(topo: &Topology, domain: DomainId) -> bool
-    ensures { IsTrue result → IsDomain (network topo.now) domain }
-{
-    match domain {
-        DomainId::Listed(k) => k < topo.domains(),
-        DomainId::Device(d) => d < topo.devices(),
-        DomainId::Link(l) => l < topo.links(),
-    }
-}
 
 /// How a domain breaks the conditions, by the four calls.
 fn asked(alloc: Global, topo: &Topology, plan: &Plan, domain: DomainId) -> Result<Vec<Said>, Fail>
@@ -57,17 +45,15 @@ fn asked(alloc: Global, topo: &Topology, plan: &Plan, domain: DomainId) -> Resul
     Ok(said)
 }
 
-impl Plain<'_> {
-    /// How a domain breaks the conditions, by their definitions.
-    fn all_broken_by(&self, f: &Domain) -> Result<Vec<Said>, AllocError> {
-        let mut all = Vec::new(self.alloc);
-        for condition in CONDITIONS {
-            if let Some(said) = self.broken_by(condition, f)? {
-                all.push(said)?;
-            }
+/// How a domain breaks the conditions, by their definitions.
+fn all_broken_by(plain: &Plain, f: &Domain) -> Result<Vec<Said>, AllocError> {
+    let mut all = Vec::new(plain.alloc);
+    for condition in CONDITIONS {
+        if let Some(said) = plain.broken_by(condition, f)? {
+            all.push(said)?;
         }
-        Ok(all)
     }
+    Ok(all)
 }
 
 /// The calls and the slow program say the same of each domain.
@@ -85,7 +71,7 @@ fn assert_domains(
     for f in &plain.domains {
         assert!(rt; has_domain(topo, f.id));
         let broken = asked(alloc, topo, plan, f.id)?;
-        assert_eq!(rt; broken, plain.all_broken_by(f)?);
+        assert_eq!(rt; broken, all_broken_by(&plain, f)?);
         for said in &broken {
             tally.add(said);
         }

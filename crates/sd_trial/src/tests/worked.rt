@@ -1,6 +1,5 @@
 //! Cases whose verdicts were found by hand.
-use super::setups::Change;
-use super::shapes::{FABRIC, LADDER, MESH, RING, SQUARE, Shape, TRIANGLE};
+use sd_plain::{Change, FABRIC, LADDER, MESH, RING, SQUARE, Shape, TRIANGLE};
 use sd_plan::{Hop, PlanRow};
 use sd_topo::Thing;
 

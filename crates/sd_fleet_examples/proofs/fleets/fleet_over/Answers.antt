@@ -1,6 +1,11 @@
+use Rattle.std.proofs.Common.{refl}
 use Rattle.sd_topo.specs.Topologies.{network}
 use Rattle.sd_fleet_examples.proofs.Followed.{followed_as}
 use Rattle.sd_fleet_examples.proofs.fleets.fleet_over.Goals as goal
 
 pub new-requires-clause-sound : goal.new-requires-clause-sound
 new-requires-clause-sound g c = followed_as (network c.args.topo.now) c.in_ok-plans.plans.items c.as_slice.result.now c.as_slice.ensures.value c.in_ok-plans.ensures.sound
+
+-- it stands for the empty run over this topology and these plans
+pub returns : goal.returns
+returns g c = (record { net = network c.args.topo.now; plans = c.as_slice.result.now }, c.in_ok-new.ensures.stands _ refl refl)

@@ -1,5 +1,5 @@
 //! The verdict of the slow program, and the checker's in the same form.
-use super::plain::{Domain, Plain};
+use crate::plain::{Domain, Plain};
 use sd_check_root::TimingBreach;
 use sd_checker::{Breach, Verdict};
 use sd_domain::DomainId;
@@ -8,7 +8,7 @@ use std::alloc::{AllocError, Global};
 
 /// What is said of a plan.
 #[derive(Debug, PartialEq, Drop)]
-pub(super) enum Said {
+pub enum Said {
     Accepted,
     Structure(u8, u32),
     Ancestor(u32),
@@ -20,7 +20,7 @@ pub(super) enum Said {
 }
 
 /// What the checker says.
-pub(super) fn said_by(alloc: Global, verdict: &Verdict) -> Result<Said, AllocError> {
+pub fn said_by(alloc: Global, verdict: &Verdict) -> Result<Said, AllocError> {
     let breach = match verdict {
         Verdict::Accepted => return Ok(Said::Accepted),
         Verdict::Refused(breach) => breach,
@@ -42,7 +42,7 @@ pub(super) fn said_by(alloc: Global, verdict: &Verdict) -> Result<Said, AllocErr
 
 /// A condition on one domain.
 #[derive(Clone, Copy)]
-pub(super) enum Condition {
+pub enum Condition {
     Root,
     Loop,
     Domain,
@@ -50,7 +50,7 @@ pub(super) enum Condition {
 }
 
 /// The conditions in their order.
-pub(super) const CONDITIONS: [Condition; 4] = [
+pub const CONDITIONS: [Condition; 4] = [
     Condition::Root,
     Condition::Loop,
     Condition::Domain,
@@ -59,11 +59,7 @@ pub(super) const CONDITIONS: [Condition; 4] = [
 
 impl Plain<'_> {
     /// How one domain breaks a condition.
-    pub(super) fn broken_by(
-        &self,
-        condition: Condition,
-        f: &Domain,
-    ) -> Result<Option<Said>, AllocError> {
+    pub fn broken_by(&self, condition: Condition, f: &Domain) -> Result<Option<Said>, AllocError> {
         let said = match condition {
             Condition::Root => self.root_breach(f).map(|at| Said::Root(f.id, at)),
             Condition::Loop => self.loop_breach(f)?.map(|cycle| Said::Loop(f.id, cycle)),
@@ -86,7 +82,7 @@ impl Plain<'_> {
     }
 
     /// The verdict, by the definitions.
-    pub(super) fn judged(&self) -> Result<Said, AllocError> {
+    pub fn judged(&self) -> Result<Said, AllocError> {
         if let Some((rule, device)) = self.structure_breach() {
             return Ok(Said::Structure(rule, device));
         }

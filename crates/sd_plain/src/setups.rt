@@ -1,30 +1,30 @@
 //! A network and a plan before they are written as texts, and what may be changed in them.
-use super::shapes::Shape;
+use crate::shapes::Shape;
 use sd_plan::{Hop, PlanRow};
 use sd_topo::Thing;
 use std::alloc::{AllocError, Global};
 
 /// What the texts of a topology and a plan say.
 #[derive(Drop)]
-pub(super) struct Setup {
-    pub(super) shape: Shape,
-    pub(super) depth: u32,
-    pub(super) tick: u64,
-    pub(super) root: u32,
-    pub(super) backup_root: u32,
-    pub(super) wait_first: u64,
-    pub(super) wait_second: u64,
-    pub(super) wait: u64,
-    pub(super) absent_device: Option<u32>,
-    pub(super) absent_link: Option<u32>,
+pub struct Setup {
+    pub shape: Shape,
+    pub depth: u32,
+    pub tick: u64,
+    pub root: u32,
+    pub backup_root: u32,
+    pub wait_first: u64,
+    pub wait_second: u64,
+    pub wait: u64,
+    pub absent_device: Option<u32>,
+    pub absent_link: Option<u32>,
     /// The domains, each of two things, which may be one.
-    pub(super) listed: Vec<(Thing, Thing)>,
+    pub listed: Vec<(Thing, Thing)>,
     rows: Vec<Option<PlanRow>>,
 }
 
 /// One thing that is different from a network's own plan.
 #[derive(Clone, Copy)]
-pub(super) enum Change {
+pub enum Change {
     /// One more listed domain.
     List(Thing, Thing),
     Row(u32, Option<PlanRow>),
@@ -46,7 +46,7 @@ pub(super) enum Change {
 
 impl Setup {
     /// A network with its own plan, whose waits are a little longer than they need to be.
-    pub(super) fn of(alloc: Global, shape: Shape) -> Result<Setup, AllocError> {
+    pub fn of(alloc: Global, shape: Shape) -> Result<Setup, AllocError> {
         let mut rows = Vec::new(alloc);
         for d in 0..shape.devices {
             rows.push(shape.row(d))?;
@@ -68,7 +68,7 @@ impl Setup {
     }
 
     /// The row of a device as it stands.
-    pub(super) fn row(&self, d: u32) -> Option<PlanRow> {
+    pub fn row(&self, d: u32) -> Option<PlanRow> {
         *self.rows.get(d as usize)?
     }
 
@@ -100,7 +100,7 @@ impl Setup {
     }
 
     /// Changes one thing.
-    pub(super) fn change(&mut self, change: Change) -> Result<(), AllocError> {
+    pub fn change(&mut self, change: Change) -> Result<(), AllocError> {
         match change {
             Change::List(one, other) => self.listed.push((one, other))?,
             Change::Row(d, row) => self.set_row(d, row),

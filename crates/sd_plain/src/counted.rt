@@ -1,6 +1,6 @@
 //! Cases made by counting: the digits of a number pick a network and what is changed in it.
-use super::setups::{Change, Setup};
-use super::shapes::{Shape, shape_of};
+use crate::setups::{Change, Setup};
+use crate::shapes::{Shape, shape_of};
 use sd_plan::PlanRow;
 use sd_topo::Thing;
 use std::alloc::{AllocError, Global};
@@ -135,7 +135,7 @@ fn change_plan(setup: &mut Setup, digits: &mut Digits, kind: u32) -> Result<(), 
 }
 
 /// The case of a number.
-pub(super) fn counted_case(alloc: Global, case: u32) -> Result<Setup, AllocError> {
+pub fn counted_case(alloc: Global, case: u32) -> Result<Setup, AllocError> {
     let mut digits = Digits::of(case);
     let shape = shape_of(digits.take(6));
     let kind = digits.take(19);

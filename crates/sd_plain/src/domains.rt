@@ -1,7 +1,7 @@
 //! The four conditions that are asked of each domain.
-use super::closing::Rule;
-use super::plain::{Domain, Plain};
-use super::walks::Until;
+use crate::closing::Rule;
+use crate::plain::{Domain, Plain};
+use crate::walks::Until;
 use sd_plan::Hop;
 use sd_topo::Thing;
 use std::alloc::{AllocError, Global};
@@ -26,7 +26,7 @@ impl Plain<'_> {
     }
 
     /// What of a domain breaks the root condition.
-    pub(super) fn root_breach(&self, f: &Domain) -> Option<Thing> {
+    pub fn root_breach(&self, f: &Domain) -> Option<Thing> {
         let (root, backup_root) = (self.plan.root, self.plan.backup_root);
         if f.has_device(root) && f.has_device(backup_root) {
             return Some(Thing::Device(backup_root));
@@ -59,7 +59,7 @@ impl Plain<'_> {
     }
 
     /// The loop that a domain may bring about.
-    pub(super) fn loop_breach(&self, f: &Domain) -> Result<Option<Vec<u32>>, AllocError> {
+    pub fn loop_breach(&self, f: &Domain) -> Result<Option<Vec<u32>>, AllocError> {
         let ending = self.closed(f, Rule::Ends)?;
         match (0..self.devices).find(|d| !ending.as_slice().contains(d)) {
             Some(from) => {
@@ -93,7 +93,7 @@ impl Plain<'_> {
     }
 
     /// The lowest device that breaks the domain condition.
-    pub(super) fn domain_breach(&self, f: &Domain) -> Result<Option<u32>, AllocError> {
+    pub fn domain_breach(&self, f: &Domain) -> Result<Option<u32>, AllocError> {
         let joined = self.closed(f, Rule::IsJoined)?;
         let found = (0..self.devices).find(|d| self.is_deserted(f, joined.as_slice(), *d));
         Ok(found)
@@ -117,7 +117,7 @@ impl Plain<'_> {
     }
 
     /// The chain of the lowest device that is left, and neither fed nor cut off.
-    pub(super) fn reach_breach(&self, f: &Domain) -> Result<Option<Vec<u32>>, AllocError> {
+    pub fn reach_breach(&self, f: &Domain) -> Result<Option<Vec<u32>>, AllocError> {
         let joined = self.closed(f, Rule::IsJoined)?;
         let fed = self.closed(f, Rule::IsFed)?;
         let starved = (0..self.devices).find(|d| {

@@ -7,21 +7,21 @@ use std::alloc::{AllocError, Global};
 
 /// A domain with all that it has: devices ascending, then links ascending.
 #[derive(Drop)]
-pub(super) struct Domain {
-    pub(super) id: DomainId,
-    pub(super) things: Vec<Thing>,
+pub struct Domain {
+    pub id: DomainId,
+    pub things: Vec<Thing>,
 }
 
 /// What the conditions are asked of.
 #[derive(Drop)]
-pub(super) struct Plain<'a> {
-    pub(super) alloc: Global,
-    pub(super) devices: u32,
-    pub(super) params: Params,
-    pub(super) rates: Vec<Rates>,
-    pub(super) links: Vec<LinkEntry>,
-    pub(super) domains: Vec<Domain>,
-    pub(super) plan: &'a Plan,
+pub struct Plain<'a> {
+    pub alloc: Global,
+    pub devices: u32,
+    pub params: Params,
+    pub rates: Vec<Rates>,
+    pub links: Vec<LinkEntry>,
+    pub domains: Vec<Domain>,
+    pub plan: &'a Plan,
 }
 
 /// The devices and links of a listed domain.
@@ -74,27 +74,23 @@ fn links_of(alloc: Global, topo: &Topology) -> Result<Vec<LinkEntry>, AllocError
 }
 
 impl Domain {
-    pub(super) fn has(&self, thing: Thing) -> bool {
+    pub fn has(&self, thing: Thing) -> bool {
         self.things.as_slice().contains(&thing)
     }
 
-    pub(super) fn has_device(&self, d: u32) -> bool {
+    pub fn has_device(&self, d: u32) -> bool {
         self.has(Thing::Device(d))
     }
 
     /// Whether a hop has its link or its parent in the domain.
-    pub(super) fn breaks(&self, hop: Hop) -> bool {
+    pub fn breaks(&self, hop: Hop) -> bool {
         self.has(Thing::Link(hop.link)) || self.has_device(hop.parent)
     }
 }
 
 impl Plain<'_> {
     /// What a topology and a plan say.
-    pub(super) fn of<'a>(
-        alloc: Global,
-        topo: &Topology,
-        plan: &'a Plan,
-    ) -> Result<Plain<'a>, AllocError> {
+    pub fn of<'a>(alloc: Global, topo: &Topology, plan: &'a Plan) -> Result<Plain<'a>, AllocError> {
         Ok(Plain {
             alloc,
             devices: topo.devices(),
@@ -106,33 +102,33 @@ impl Plain<'_> {
         })
     }
 
-    pub(super) fn link_count(&self) -> u32 {
+    pub fn link_count(&self) -> u32 {
         u32::try_from(self.links.len()).unwrap_or(0)
     }
 
-    pub(super) fn is_member(&self, d: u32) -> bool {
+    pub fn is_member(&self, d: u32) -> bool {
         !self.plan.absent.devices.as_slice().contains(&d)
     }
 
-    pub(super) fn is_absent_link(&self, l: u32) -> bool {
+    pub fn is_absent_link(&self, l: u32) -> bool {
         self.plan.absent.links.as_slice().contains(&l)
     }
 
-    pub(super) fn row(&self, d: u32) -> Option<PlanRow> {
+    pub fn row(&self, d: u32) -> Option<PlanRow> {
         *self.plan.rows.as_slice().get(d as usize)?
     }
 
-    pub(super) fn primary(&self, d: u32) -> Option<Hop> {
+    pub fn primary(&self, d: u32) -> Option<Hop> {
         let row = self.row(d)?;
         Some(row.primary)
     }
 
-    pub(super) fn backup(&self, d: u32) -> Option<Hop> {
+    pub fn backup(&self, d: u32) -> Option<Hop> {
         self.row(d)?.backup
     }
 
     /// Whether a link joins two devices, either way round.
-    pub(super) fn joins(&self, l: u32, d: u32, e: u32) -> bool {
+    pub fn joins(&self, l: u32, d: u32, e: u32) -> bool {
         match self.links.get(l as usize) {
             Some(link) => {
                 (link.end_a == d && link.end_b == e) || (link.end_a == e && link.end_b == d)
@@ -142,7 +138,7 @@ impl Plain<'_> {
     }
 
     /// Whether a device is a member that is no part of a domain.
-    pub(super) fn is_left(&self, f: &Domain, d: u32) -> bool {
+    pub fn is_left(&self, f: &Domain, d: u32) -> bool {
         self.is_member(d) && !f.has_device(d)
     }
 }

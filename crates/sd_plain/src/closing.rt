@@ -1,12 +1,12 @@
 //! Smallest sets of devices that a rule closes, found by trying all devices again and again.
-use super::plain::{Domain, Plain};
+use crate::plain::{Domain, Plain};
 use sd_plan::Hop;
 use sd_topo::Thing;
 use std::alloc::{AllocError, Global};
 
 /// When a device joins a set.
 #[derive(Clone, Copy)]
-pub(super) enum Rule {
+pub enum Rule {
     /// Each device that it may follow is in the set: each of its walks ends.
     Ends,
     /// It is the acting end, or a link that is left joins it to one of the set.
@@ -22,7 +22,7 @@ fn parent_of(hop: Option<Hop>) -> Option<u32> {
 
 impl Plain<'_> {
     /// Whether a device may follow another while things of a domain fail.
-    pub(super) fn may_follow(&self, f: &Domain, d: u32, e: u32) -> bool {
+    pub fn may_follow(&self, f: &Domain, d: u32, e: u32) -> bool {
         if !self.is_member(d) || d == self.plan.root || d == self.plan.backup_root {
             return false;
         }
@@ -31,7 +31,7 @@ impl Plain<'_> {
     }
 
     /// The root, or the backup root where the domain has the root.
-    pub(super) fn acting_end(&self, f: &Domain) -> u32 {
+    pub fn acting_end(&self, f: &Domain) -> u32 {
         if f.has_device(self.plan.root) {
             self.plan.backup_root
         } else {
@@ -56,7 +56,7 @@ impl Plain<'_> {
     }
 
     /// The backup of a device, or its primary where it has none.
-    pub(super) fn next_hop(&self, d: u32) -> Option<Hop> {
+    pub fn next_hop(&self, d: u32) -> Option<Hop> {
         self.backup(d).or(self.primary(d))
     }
 
@@ -92,7 +92,7 @@ impl Plain<'_> {
     }
 
     /// The smallest set that a rule closes.
-    pub(super) fn closed(&self, f: &Domain, rule: Rule) -> Result<Vec<u32>, AllocError> {
+    pub fn closed(&self, f: &Domain, rule: Rule) -> Result<Vec<u32>, AllocError> {
         let mut set = Vec::new(self.alloc);
         for _ in 0..self.devices {
             self.grow(f, rule, &mut set)?;

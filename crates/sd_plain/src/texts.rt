@@ -1,5 +1,5 @@
 //! The texts of a network and a plan. Device 0 is named `d0`, link 0 `l0`, the first domain `f0`.
-use super::setups::Setup;
+use crate::setups::Setup;
 use sd_plan::PlanRow;
 use sd_topo::Thing;
 use std::alloc::{AllocError, Global};
@@ -31,13 +31,14 @@ fn add_devices(text: &mut String, setup: &Setup) -> Result<(), AllocError> {
     Ok(())
 }
 
-/// The links, each with its ends and delays.
+/// The links, each with its ends and delays: the least delay is another for each.
 fn add_links(text: &mut String, setup: &Setup) -> Result<(), AllocError> {
     let mut link = 0u32;
     for (a, b) in setup.shape.ends {
+        let min = link.saturating_mul(30_001).saturating_add(400_000);
         write!(
             text,
-            "[[link]]\nname = \"l{link}\"\nends = [\"d{a}\", \"d{b}\"]\nmin = 400000\nmax = 1000000\n"
+            "[[link]]\nname = \"l{link}\"\nends = [\"d{a}\", \"d{b}\"]\nmin = {min}\nmax = 1000000\n"
         )?;
         link = link.saturating_add(1);
     }
@@ -59,7 +60,7 @@ fn add_domains(text: &mut String, setup: &Setup) -> Result<(), AllocError> {
 }
 
 /// The text of the topology.
-pub(super) fn topology_text_of(alloc: Global, setup: &Setup) -> Result<String, AllocError> {
+pub fn topology_text_of(alloc: Global, setup: &Setup) -> Result<String, AllocError> {
     let (tick, depth) = (setup.tick, setup.depth);
     let mut text = format!(in alloc;
         "version = 1\nppm = 200\ngrain = 1000\nperiod = 100000000\ntick = {tick}\nloss = 1\ndepth = {depth}\nroots = [\"d0\"]\n"
@@ -114,7 +115,7 @@ fn add_absent(text: &mut String, setup: &Setup) -> Result<(), AllocError> {
 }
 
 /// The text of the plan.
-pub(super) fn plan_text_of(alloc: Global, setup: &Setup) -> Result<String, AllocError> {
+pub fn plan_text_of(alloc: Global, setup: &Setup) -> Result<String, AllocError> {
     let (root, backup_root) = (setup.root, setup.backup_root);
     let (first, second, wait) = (setup.wait_first, setup.wait_second, setup.wait);
     let mut text = format!(in alloc;

@@ -1,6 +1,6 @@
 //! The rules of structure and the ancestor condition.
-use super::plain::Plain;
-use super::walks::Until;
+use crate::plain::Plain;
+use crate::walks::Until;
 use sd_plan::Hop;
 use sd_topo::Thing;
 
@@ -47,7 +47,7 @@ impl Plain<'_> {
     }
 
     /// The first rule of structure that is broken, and the lowest device that breaks it.
-    pub(super) fn structure_breach(&self) -> Option<(u8, u32)> {
+    pub fn structure_breach(&self) -> Option<(u8, u32)> {
         if let Some(d) = self.wrong_root() {
             return Some((1, d));
         }
@@ -73,7 +73,7 @@ impl Plain<'_> {
     }
 
     /// The lowest device that is above its own backup parent.
-    pub(super) fn ancestor_breach(&self) -> Option<u32> {
+    pub fn ancestor_breach(&self) -> Option<u32> {
         (0..self.devices).find(|d| self.is_above_itself(*d))
     }
 }

@@ -1,14 +1,19 @@
 //! The five rules of timing. No case comes near the greatest `u128`, where sums would stop.
-use super::plain::Plain;
+use crate::plain::Plain;
 use sd_check_root::TimingBreach;
 use sd_num::Rates;
 
-/// By how much a time may have grown.
-fn error_of(rates: Rates, x: u64) -> u128 {
-    let grown = u128::from(rates.ppm).saturating_mul(u128::from(x));
+/// By how much an oscillator may be off after a time: its grain and its parts per million of it.
+pub fn error_of(rates: Rates, x: u128) -> u128 {
+    let grown = u128::from(rates.ppm).saturating_mul(x);
     grown
         .div_ceil(1_000_000)
         .saturating_add(u128::from(rates.grain))
+}
+
+/// The least time that a device makes of one.
+pub fn low_of(rates: Rates, x: u128) -> u128 {
+    x.saturating_sub(error_of(rates, x))
 }
 
 impl Plain<'_> {
@@ -16,16 +21,17 @@ impl Plain<'_> {
     fn low(&self, x: u64) -> u128 {
         let mut least = u128::MAX;
         for rates in &self.rates {
-            least = least.min(u128::from(x).saturating_sub(error_of(*rates, x)));
+            least = least.min(low_of(*rates, u128::from(x)));
         }
         least
     }
 
     /// The greatest.
-    fn up(&self, x: u64) -> u128 {
+    pub fn up(&self, x: u64) -> u128 {
         let mut greatest = 0u128;
         for rates in &self.rates {
-            greatest = greatest.max(u128::from(x).saturating_add(error_of(*rates, x)));
+            let error = error_of(*rates, u128::from(x));
+            greatest = greatest.max(u128::from(x).saturating_add(error));
         }
         greatest
     }
@@ -46,7 +52,7 @@ impl Plain<'_> {
     }
 
     /// `W + Q`.
-    fn silence(&self) -> u128 {
+    pub fn silence(&self) -> u128 {
         let tick = u128::from(self.params.tick);
         let rounds = u128::from(self.params.loss).saturating_add(2);
         let gap = self.up(self.params.period).saturating_add(tick);
@@ -65,7 +71,7 @@ impl Plain<'_> {
     }
 
     /// The first rule of timing that is broken, with its two sides.
-    pub(super) fn timing_breach(&self) -> Option<TimingBreach> {
+    pub fn timing_breach(&self) -> Option<TimingBreach> {
         let tick = u128::from(self.params.tick);
         let between = self.low(self.params.period);
         let round = self.trips(2).saturating_add(tick);

@@ -3,18 +3,18 @@ use sd_plan::{Hop, PlanRow};
 
 /// A network and its plan. The last link is one that the plan does not use.
 #[derive(Clone, Copy)]
-pub(super) struct Shape {
-    pub(super) devices: u32,
+pub struct Shape {
+    pub devices: u32,
     /// The greatest number of hops to the root.
-    pub(super) depth: u32,
-    pub(super) backup_root: u32,
+    pub depth: u32,
+    pub backup_root: u32,
     /// The two ends of each link.
-    pub(super) ends: &'static [(u32, u32)],
+    pub ends: &'static [(u32, u32)],
     /// The primary and the backup link of each device from 1 on.
     followed: &'static [(u32, u32)],
 }
 
-pub(super) const TRIANGLE: Shape = Shape {
+pub const TRIANGLE: Shape = Shape {
     devices: 3,
     depth: 2,
     backup_root: 1,
@@ -23,7 +23,7 @@ pub(super) const TRIANGLE: Shape = Shape {
 };
 
 /// Four devices in a ring, and both diagonals.
-pub(super) const SQUARE: Shape = Shape {
+pub const SQUARE: Shape = Shape {
     devices: 4,
     depth: 3,
     backup_root: 1,
@@ -32,7 +32,7 @@ pub(super) const SQUARE: Shape = Shape {
 };
 
 /// Two spines, three leaves, and a link between two leaves.
-pub(super) const FABRIC: Shape = Shape {
+pub const FABRIC: Shape = Shape {
     devices: 5,
     depth: 3,
     backup_root: 1,
@@ -41,7 +41,7 @@ pub(super) const FABRIC: Shape = Shape {
 };
 
 /// Five devices in a ring with two chords; the longest walk is as long as it may be.
-pub(super) const RING: Shape = Shape {
+pub const RING: Shape = Shape {
     devices: 5,
     depth: 3,
     backup_root: 2,
@@ -50,7 +50,7 @@ pub(super) const RING: Shape = Shape {
 };
 
 /// Two rails with three rungs, and one link across.
-pub(super) const LADDER: Shape = Shape {
+pub const LADDER: Shape = Shape {
     devices: 6,
     depth: 3,
     backup_root: 3,
@@ -68,7 +68,7 @@ pub(super) const LADDER: Shape = Shape {
 };
 
 /// Three devices may come to follow each other round, and one more follows two of them.
-pub(super) const MESH: Shape = Shape {
+pub const MESH: Shape = Shape {
     devices: 6,
     depth: 3,
     backup_root: 1,
@@ -88,7 +88,7 @@ pub(super) const MESH: Shape = Shape {
 };
 
 /// The network of a number.
-pub(super) fn shape_of(number: u32) -> Shape {
+pub(crate) fn shape_of(number: u32) -> Shape {
     match number {
         0 => TRIANGLE,
         1 => SQUARE,
@@ -100,12 +100,12 @@ pub(super) fn shape_of(number: u32) -> Shape {
 }
 
 impl Shape {
-    pub(super) fn links(&self) -> u32 {
+    pub fn links(&self) -> u32 {
         u32::try_from(self.ends.len()).unwrap_or(0)
     }
 
     /// The hop from a device over one of its links.
-    pub(super) fn hop(&self, d: u32, link: u32) -> Option<Hop> {
+    pub fn hop(&self, d: u32, link: u32) -> Option<Hop> {
         let (a, b) = *self.ends.get(link as usize)?;
         if a == d {
             Some(Hop { parent: b, link })
@@ -117,7 +117,7 @@ impl Shape {
     }
 
     /// The hop over the next of a device's links, from a number on and round again.
-    pub(super) fn hop_from(&self, d: u32, number: u32) -> Option<Hop> {
+    pub fn hop_from(&self, d: u32, number: u32) -> Option<Hop> {
         let links = self.links();
         for more in 0..links {
             let link = number.saturating_add(more).checked_rem(links)?;
@@ -129,7 +129,7 @@ impl Shape {
     }
 
     /// The row of a device in the network's plan.
-    pub(super) fn row(&self, d: u32) -> Option<PlanRow> {
+    pub fn row(&self, d: u32) -> Option<PlanRow> {
         let place = d.checked_sub(1)?;
         let (primary, backup) = *self.followed.get(place as usize)?;
         Some(PlanRow {

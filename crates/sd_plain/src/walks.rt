@@ -1,10 +1,10 @@
 //! Walks, followed hop by hop each time that something is asked of them.
-use super::plain::{Domain, Plain};
+use crate::plain::{Domain, Plain};
 use sd_topo::Thing;
 
 /// How far a walk is looked at.
 #[derive(Clone, Copy)]
-pub(super) enum Until {
+pub enum Until {
     Root,
     /// The first of backup root and root, that one included.
     EitherRoot,
@@ -20,7 +20,7 @@ impl Plain<'_> {
     }
 
     /// Whether the walk of a device, itself included, has a thing.
-    pub(super) fn walk_has(&self, from: u32, until: Until, thing: Thing) -> bool {
+    pub fn walk_has(&self, from: u32, until: Until, thing: Thing) -> bool {
         let mut here = from;
         for _ in 0..self.devices {
             if thing == Thing::Device(here) {
@@ -51,17 +51,17 @@ impl Plain<'_> {
     }
 
     /// Whether a domain has a thing of a device's path.
-    pub(super) fn hits_path(&self, f: &Domain, d: u32, until: Until) -> bool {
+    pub fn hits_path(&self, f: &Domain, d: u32, until: Until) -> bool {
         f.things.iter().any(|thing| self.path_has(d, until, *thing))
     }
 
     /// Whether a device is hit: nothing beyond the backup root counts.
-    pub(super) fn is_hit(&self, f: &Domain, d: u32) -> bool {
+    pub fn is_hit(&self, f: &Domain, d: u32) -> bool {
         self.hits_path(f, d, Until::EitherRoot)
     }
 
     /// Whether a device comes to the root in as many steps as the depth allows.
-    pub(super) fn reaches_root(&self, from: u32) -> bool {
+    pub fn reaches_root(&self, from: u32) -> bool {
         let mut here = from;
         for _ in 0..self.params.depth {
             match self.primary(here) {
