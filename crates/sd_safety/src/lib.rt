@@ -7,8 +7,8 @@
 //! counted devices comes back to nobody, and at most one of them acts. `EachKeeps`: each kind of event
 //! keeps the core of the invariant. `sd_safety_renewals` shows it from the silences, and so has
 //! `safe_if_silent : AreSilent setting → AtNext EntersSoon setting → StaysSafe setting`. Nothing is
-//! assumed beside them. What is only stated anywhere in these crates is a type in `specs/`, and enters
-//! as a hypothesis.
+//! assumed beside them. What one crate takes as given and another shows is a type in `specs/`, and
+//! enters as a hypothesis.
 //!
 //! # The words, in reading order
 //!
@@ -44,7 +44,7 @@
 //! | 11 | flow: a round that is not spoiled comes along a whole way | `sd_safety_messages` |
 //! | 12 | of K + 1 rounds one is not spoiled; feeding: a device along a whole way from an acting one hears within A + m * D | `sd_safety_messages`, `sd_safety_silences` |
 //! | 13 | while the root lives, a device with a whole path hears | `sd_safety_silences`; in all eras `sd_safety_spans` |
-//! | 14 | a device behind the backup root that is not hit is silent for less than its wait | `sd_safety_behind`, `sd_safety_paths`, `sd_safety_feeds`, from four statements |
+//! | 14 | a device behind the backup root that is not hit is silent for less than its wait | `sd_safety_behind` from `sd_safety_paths`, `sd_safety_feeds`, `sd_safety_takeovers`, `sd_safety_strays`, `sd_safety_commits` |
 //! | 15 | while the root lives, the backup root on its backup hears | `sd_safety_silences`; in all eras `sd_safety_spans` |
 //! | 16 | where the root failed, the backup root acts soon | `sd_safety_behind`; what it heard `sd_safety_traced`, `sd_safety_fallbacks` |
 //! | 17 | a device beside the backup root that is not hit otherwise is silent for less than its wait | `sd_safety_behind`, `sd_safety_fallbacks` |
@@ -55,10 +55,10 @@
 //! | 22 | no loop and one root, before a commit and after it | `Safe`, here |
 //! | 23 | a window closes with a seal alone, and C10 holds then | `Closings` here, `sd_safety_windows`, `sd_safety_renewals` |
 //!
-//! # What is open
+//! # Put together
 //!
-//! 14, and of it four statements of `sd_safety_behind`: `TakeoverFeeds`, `MendedHears`, `MendedMoves`
-//! and `BehindWaitsCommitted`. `sd_safety_feeds` has `safe_if_fed`, safety from these four alone.
+//! `sd_safe` has `stays_safe : (setting : Setting) → StaysSafe setting`, with nothing assumed. 14 came
+//! last: `safe_if_fed` of `sd_safety_feeds` is safety from four statements of `sd_safety_behind`.
 //!
 //! The kinds of events are all shown to keep the core: `sd_safety_frame`, `_moves`, `_receipts` and
 //! `_renewals`.

@@ -16,10 +16,9 @@
 //! | `HearsNoMore` | `sd_safety_fallbacks` |
 //! | `PathHearsNoMore` | `sd_safety_paths` |
 //! | `FallbackFeeds` | `sd_safety_feeds` |
-//! | `TakeoverFeeds` | open: the feeding lemma along the fallback and the cut path |
-//! | `MendedHears` | open: the trace, and that at most one round is a stray (10) |
-//! | `MendedMoves` | open: the induction of `Broken` once more, with `Mends` |
-//! | `BehindWaitsCommitted` | open: 20, with `before_entering` of `sd_safety` |
+//! | `TakeoverFeeds` | `sd_safety_takeovers` |
+//! | `MendedHears`, `MendedMoves` | `sd_safety_strays` |
+//! | `BehindWaitsCommitted` | `sd_safety_commits` |
 //!
 //! # The way
 //!

@@ -42,7 +42,7 @@ use Rattle.sd_safety_rounds.proofs.Hops.{IsOldRound, since_first, lasts}
 use Rattle.sd_safety_rounds.proofs.NewHops.{open_ways}
 use Rattle.sd_safety_rounds.proofs.Places.{InEra, InWindow, place}
 use Rattle.sd_safety_rounds.proofs.Silent.{IsSilent, silent_by}
-use Rattle.sd_safety_rounds.proofs.Sources.{kept_then, rule, staged_is}
+use Rattle.sd_safety_rounds.proofs.Sources.{rule, staged_is}
 use Rattle.sd_safety_spans.proofs.Backs.{idle_of}
 use Rattle.sd_safety_spans.proofs.Fallback.{fallback_open}
 use Rattle.sd_safety_spans.proofs.Staged.{is_staged}
@@ -51,7 +51,7 @@ use Rattle.sd_safety_feeds.proofs.Cuts.{IsCutClear, cut_off, CutWalk, cut_walk_o
 use Rattle.sd_safety_feeds.proofs.Ready.{touches_fewer, cut_fewer, cut_then, cut_up, cut_link, cut_ready}
 use Rattle.sd_safety_feeds.proofs.Since.{IsOnBackup}
 
-behind_parts : (member backup on : Bool) → (member && not backup && on) ≡ true → (backup ≡ false) × (on ≡ true)
+pub behind_parts : (member backup on : Bool) → (member && not backup && on) ≡ true → (backup ≡ false) × (on ≡ true)
 behind_parts true false true all = (refl, refl)
 behind_parts true false false all = cc
 behind_parts true true on all = cc
@@ -96,14 +96,14 @@ module _ (setting : Setting) (x : Event) (h : List Event) (e : Event) (s0 : ℕ)
     whole_at q here after =
         let k : InEra setting steps q = of_era q here after in
         subst (λ (p : Moment). (link_has_failed (seen_of p.earlier) hop.link ≡ false) × (is_up (seen_of p.earlier) y ≡ true)) (sym k.is)
-        (cut_link setting k.x k.h k.e k.comes k.late (kept_then setting x h e s0 span kept q k) y hop (clear_at q k), cut_up setting k.x k.h k.e k.comes k.late (kept_then setting x h e s0 span kept q k) y hop (clear_at q k))
+        (cut_link setting k.x k.h k.e k.comes k.late y hop (clear_at q k), cut_up setting k.x k.h k.e k.comes k.late y hop (clear_at q k))
 
     ready_at : (q : Moment) → IsIn q (chronicle setting (e ∷ x ∷ h)) → s0 < when q → ((k : InEra setting (chronicle setting (x ∷ h)) q) → is_new (chronicle setting (k.x ∷ k.h)) y ≡ false) → (past : Past) → past_in q.earlier y ≡ Some past
         → IsReady past (era (chronicle setting (x ∷ h))) hop.link
     ready_at q here after not_new =
         let k : InEra setting steps q = of_era q here after in
         subst (λ (p : Moment). (past : Past) → past_in p.earlier y ≡ Some past → IsReady past (era steps) hop.link) (sym k.is)
-        (λ past there. subst (λ n. IsReady past n hop.link) k.same (cut_ready setting k.x k.h k.e k.comes k.late (kept_then setting x h e s0 span kept q k) y hop (clear_at q k) (not_new k) past there))
+        (λ past there. subst (λ n. IsReady past n hop.link) k.same (cut_ready setting k.x k.h k.e k.comes k.late y hop (clear_at q k) (not_new k) past there))
 
     cut_hop : (first : Moment) → IsOldRound setting x h s0 first → (limit : ℕ) → limit ≤ when first + 2 * (setting.net.params.depth + 1) * greatest_delay setting.net
         → IsOpenHop setting (top_of setting (x ∷ h) e) (era (chronicle setting (x ∷ h))) first limit (plan_now setting (chronicle setting (x ∷ h))).root hop.parent (end_at y hop)

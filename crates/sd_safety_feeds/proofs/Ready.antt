@@ -1,5 +1,5 @@
--- How a device with a hop on a cut walk of which nothing failed stands before an event of the era, while the root did not fail: it is up, and where it is not
--- new, ready for what comes over that hop.
+-- How a device with a hop on a cut walk of which nothing failed stands before an event of the era: it is up, and where it is not new, ready for what comes
+-- over that hop.
 use Rattle.std.specs.Prelude.{◌≡◌, ℕ, ◌≤◌, Bool, true, false, ◌&&◌, ◌||◌, not, List, [], ◌∷◌, Some, refl}
 use Rattle.std.specs.List.{list_any}
 use Rattle.std.proofs.Common.{arith, ◌∙◌, ap, sym, subst}
@@ -17,7 +17,7 @@ use Rattle.sd_history.specs.World.{Setting, is_up, link_has_failed, plan_numbere
 use Rattle.sd_history.specs.Steps.{Step, seen_of, acts_in}
 use Rattle.sd_history.specs.Chronicle.{past_in, chronicle}
 use Rattle.sd_history.proofs.Given.{some_is}
-use Rattle.sd_safety.specs.Eras.{era, plan_now, is_among, touches, failed_now, link_failed_now, is_old, is_new, moved, is_ordinary, hit, hit_otherwise, root_failed}
+use Rattle.sd_safety.specs.Eras.{era, plan_now, is_among, touches, failed_now, device_failed_now, link_failed_now, is_old, is_new, moved, is_ordinary, hit, hit_otherwise}
 use Rattle.sd_safety.specs.Clauses.{backup_root_acts}
 use Rattle.sd_safety.specs.Invariant.{Invariant}
 use Rattle.sd_safety.specs.Coming.{Comes}
@@ -28,7 +28,6 @@ use Rattle.sd_safety_waits.proofs.Waits.{Stands, old_stands}
 use Rattle.sd_safety_waits.proofs.Standing.{now, Early, is_up_then}
 use Rattle.sd_safety_silences.proofs.Phases.{fewer}
 use Rattle.sd_safety_silences.proofs.States.{ready_of}
-use Rattle.sd_safety_rounds.proofs.Olds as olds
 use Rattle.sd_safety_feeds.proofs.Cuts.{IsCutClear}
 
 -- what fewer touch than touch nothing
@@ -65,7 +64,7 @@ cut_then setting older steps y hop t same clear =
     least : (a b : ℕ) → a ≡ b → b ≤ a
     least a b is = omega (arith, is)
 
-module _ (setting : Setting) (x : Event) (h : List Event) (e : Event) (comes : Comes setting (x ∷ h) e) (late : Early setting x h e comes → ⊥) (kept : root_failed setting (chronicle setting (x ∷ h)) ≡ false) (y : ℕ) (hop : Hop)
+module _ (setting : Setting) (x : Event) (h : List Event) (e : Event) (comes : Comes setting (x ∷ h) e) (late : Early setting x h e comes → ⊥) (y : ℕ) (hop : Hop)
     (clear : IsCutClear setting.net (plan_now setting (chronicle setting (x ∷ h))) (failed_now (chronicle setting (x ∷ h))) y hop) where
   abbrev steps : List Step
   steps = chronicle setting (x ∷ h)
@@ -87,7 +86,15 @@ module _ (setting : Setting) (x : Event) (h : List Event) (e : Event) (comes : C
 
   module _ (not_new : is_new (chronicle setting (x ∷ h)) y ≡ false) where
     old : is_old (chronicle setting (x ∷ h)) y ≡ true
-    old = olds.old_of setting x h e comes late kept y clear.member clear.self cut_up not_new
+    old =
+        old_by (is_old steps y) (is_new steps y)
+        (implied (is_member plan y && not (device_failed_now steps y) && is_up (seen_of steps) y) (is_old steps y || is_new steps y) (inv.core.census.members_follow y)
+        (and_from (is_member plan y && not (device_failed_now steps y)) (is_up (seen_of steps) y) (and_from (is_member plan y) (not (device_failed_now steps y)) clear.member (ap not clear.self)) cut_up)) not_new
+      where
+        old_by : (o n : Bool) → (o || n) ≡ true → n ≡ false → o ≡ true
+        old_by true n either none = refl
+        old_by false true either none = cc
+        old_by false false either none = cc
 
     ordinary : is_ordinary (plan_now setting (chronicle setting (x ∷ h))) y ≡ true
     ordinary = and_from (is_member plan y && not (is_root plan y)) (not (is_backup_root plan y)) (and_from (is_member plan y) (not (is_root plan y)) clear.member (ap not clear.other)) (ap not clear.ordinary)

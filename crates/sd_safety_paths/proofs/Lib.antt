@@ -2,4 +2,5 @@
 pub mod Crossed
 pub mod Links
 pub mod Senders
+pub mod Above
 pub mod Broken

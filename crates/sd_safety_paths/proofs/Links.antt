@@ -33,6 +33,14 @@ unmended_then s older _ (behind {x = w} {xs = ws} t) le none =
     let next : era ws ≤ era (w ∷ ws) = era_grows ws (w ∷ ws) (behind whole) in
     unmended_then s older ws t (omega (arith, le, next)) (unmended w ws (open_at w ws (omega (arith, le, grows, first))) none).1
 
+-- nor was anything mended by then
+pub unmended_back : (older steps : List Step) → Tail older steps → era steps ≤ era older → mended_now steps ≡ false → mended_now older ≡ false
+unmended_back older _ whole le none = none
+unmended_back older _ (behind {x = w} {xs = ws} t) le none =
+    let grows : era older ≤ era ws = era_grows older ws t in
+    let next : era ws ≤ era (w ∷ ws) = era_grows ws (w ∷ ws) (behind whole) in
+    unmended_back older ws t (omega (arith, le, next)) (unmended w ws (open_at w ws (omega (arith, le, grows))) none).1
+
 failed_by : (f m : Bool) (rest : Bool) → m ≡ false → rest ≡ true → of_some (if f then Some true else if m then Some false else None) rest (λ told. told) ≡ true
 failed_by true m rest none is = refl
 failed_by false false rest none is = is

@@ -1,14 +1,16 @@
 -- A device that failed in the era sends and emits no message of its plan later in it.
 use Rattle.std.specs.Prelude.{◌≡◌, ℕ, zero, suc, ◌+◌, ◌≤◌, Bool, true, false, List, [], ◌∷◌, Some, refl}
 use Rattle.std.proofs.Common.{arith, ◌∙◌, ap, sym, subst}
-use Rattle.std.proofs.lemmas.Bool.{eq-eqb}
+use Rattle.std.proofs.lemmas.Bool.{eq-eqb, false_from_ne_true}
 use Rattle.sd_num.specs.Lists.{same_number}
 use Rattle.sd_topo.specs.declared.Thing.TheVariants as thing
+use Rattle.sd_plan.specs.declared.Duty.{Duty}
 use Rattle.sd_plan.specs.declared.Edge.{Edge}
 use Rattle.sd_msg.specs.declared.Stamp.{Stamp}
 use Rattle.sd_msg.specs.declared.Message.{Message}
+use Rattle.sd_msg.specs.Stamps.{is_newer}
 use Rattle.sd_core.specs.Calls.{Call, Past, Receive}
-use Rattle.sd_core.specs.Words.{epoch_now}
+use Rattle.sd_core.specs.Words.{epoch_now, given_now, stamp_now}
 use Rattle.sd_sched.specs.declared.Event.{Event}
 use Rattle.sd_history.specs.World.{Setting, fails, is_up}
 use Rattle.sd_history.specs.Steps.{Step, Calls, seen_of}
@@ -45,7 +47,7 @@ module _ (setting : Setting) (x : Event) (h : List Event) (fair : IsFair setting
       go [] e comes old' = refl
       go (y ∷ hs) e comes old' = (spared setting y hs e comes z old').self
 
-  -- who is called while it is of the era's plan did not fail in the era
+  -- who is called while it is of the era's plan, after an event of the era, did not fail in it
   module _ (q : Moment) (here : IsIn q (chronicle setting (x ∷ h))) (g : Moment) (after : IsBefore g q) (late : era (chronicle setting (x ∷ h)) ≤ era g.earlier) (z : ℕ) (call : Call) (past : Past)
       (there : past_in q.earlier z ≡ Some past) (act : q.step.act ≡ Calls z call) where
     st : Stage setting q
@@ -73,42 +75,51 @@ module _ (setting : Setting) (x : Event) (h : List Event) (fair : IsFair setting
     up : is_up (seen_of (chronicle setting st.h)) z ≡ true
     up = (called_is_up setting (chronicle setting st.h) z call st.e st.comes.clean.is.1 (sym (ap (λ (p : Moment). p.step.act) st.is) ∙ act)).up
 
-    pub spared_by : epoch_now past ≡ era (chronicle setting (x ∷ h)) → fails (thing.Device z) g.step.seen.event ≡ false
-    spared_by own = unless (fails (thing.Device z) g.step.seen.event) refl
-      where
-        old : is_old (chronicle setting st.h) z ≡ true
-        old =
-            ap (λ o. same_number o (era (chronicle setting st.h))) (epoch_is setting st.h z past up there_then)
-            ∙ eq-eqb (epoch_now past) (era (chronicle setting st.h)) (own ∙ sym number)
+    old_then : epoch_now past ≡ era (chronicle setting (x ∷ h)) → is_old (chronicle setting st.h) z ≡ true
+    old_then own =
+        ap (λ o. same_number o (era (chronicle setting st.h))) (epoch_is setting st.h z past up there_then)
+        ∙ eq-eqb (epoch_now past) (era (chronicle setting st.h)) (own ∙ sym number)
 
-        unless : (b : Bool) → fails (thing.Device z) g.step.seen.event ≡ b → fails (thing.Device z) g.step.seen.event ≡ false
-        unless false is = is
-        unless true is =
-            let a = late in
-            let b = first_era in
-            let c = then_era in
-            let d = last_era in
-            let open_ = open_at g.step g.earlier (omega (arith, a, c, d)) in
-            let failed : is_among (failed_now q.earlier) (thing.Device z) ≡ true =
-            failed_on (thing.Device z) (upto g) q.earlier after (omega (arith, a, b, d)) (fails_among g.step g.earlier (thing.Device z) open_ is) in
-            absurd (not_both (device_failed_now (chronicle setting st.h) z) (subst (λ l. is_among (failed_now l) (thing.Device z) ≡ true) earlier_is failed) (by_old q st z old))
+    pub unfailed_by : epoch_now past ≡ era (chronicle setting (x ∷ h)) → device_failed_now q.earlier z ≡ false
+    unfailed_by own = subst (λ l. device_failed_now l z ≡ false) (sym earlier_is) (by_old q st z (old_then own))
 
-    pub ahead_not : (m : Message) (edge : Edge) → m.epoch ≡ era (chronicle setting (x ∷ h)) → Accepts past m edge → epoch_now past ≡ era (chronicle setting (x ∷ h))
-    ahead_not m edge of_era (following epoch parent newer) = epoch ∙ of_era
-    ahead_not m edge of_era (entering duty given epoch primary) =
+    entered_never : (duty : Duty) → given_now past ≡ Some duty → duty.epoch ≡ era (chronicle setting (x ∷ h)) → ⊥
+    entered_never duty given of_era =
         let ahead : IsAhead setting (chronicle setting st.h) z past duty = always_ahead setting st.h st.comes.fair (clean_before setting st.e st.h st.comes.clean) st.comes.before z past up there_then duty given in
-        absurd (next_not (era (chronicle setting st.h)) (era steps) number (sym ahead.number ∙ epoch ∙ of_era))
+        next_not (era (chronicle setting st.h)) (era steps) number (sym ahead.number ∙ of_era)
       where
         next_not : (a b : ℕ) → a ≡ b → a + 1 ≡ b → ⊥
         next_not a b same next = omega (arith, same, next)
 
-  -- so who sends a message of the plan later than the event did not fail with it
+    pub ahead_not : (m : Message) (edge : Edge) → m.epoch ≡ era (chronicle setting (x ∷ h)) → Accepts past m edge → epoch_now past ≡ era (chronicle setting (x ∷ h))
+    ahead_not m edge of_era (following epoch parent newer) = epoch ∙ of_era
+    ahead_not m edge of_era (entering duty given epoch primary) = absurd (entered_never duty given (epoch ∙ of_era))
+
+    -- what it accepts of the era's plan is newer than what it has seen
+    pub newer_then : (m : Message) (edge : Edge) → m.epoch ≡ era (chronicle setting (x ∷ h)) → Accepts past m edge → is_newer m.stamp (stamp_now past) ≡ true
+    newer_then m edge of_era (following epoch parent newer) = newer
+    newer_then m edge of_era (entering duty given epoch primary) = absurd (entered_never duty given (epoch ∙ of_era))
+
+  -- so who sends a message of the era's plan in the era has not failed in it by then
+  pub sender_unfailed : (stamp : Stamp) (first : Moment) (source : ℕ) (g q : Moment) → IsIn q (chronicle setting (x ∷ h)) → IsBefore g q → era (chronicle setting (x ∷ h)) ≤ era g.earlier → (m z : ℕ)
+      → Trace setting stamp (era (chronicle setting (x ∷ h))) first source m q z → device_failed_now q.earlier z ≡ false
+  sender_unfailed stamp first source g q here after late zero z (begins message emits carries epoch_is) =
+      let s = emits.sends in
+      unfailed_by q here g after late z s.call s.past s.there s.act (sym ((sends_own s.past s.call message s.effect).1 ∙ emission_keeps s.past s.call emits.emission) ∙ epoch_is)
+  sender_unfailed stamp first source g q here after late (suc m) z (goes_on trace hop) =
+      let r = hop.receipt in
+      unfailed_by q here g after late z (Receive hop.flight.link hop.flight.message r.counter) r.past r.there r.act
+      (ahead_not q here g after late z (Receive hop.flight.link hop.flight.message r.counter) r.past r.there r.act hop.flight.message r.edge hop.epoch_is r.accepts)
+
+  -- and did not fail with an event before
   pub sender_spared : (stamp : Stamp) (first : Moment) (source : ℕ) (g q : Moment) → IsIn q (chronicle setting (x ∷ h)) → IsBefore g q → era (chronicle setting (x ∷ h)) ≤ era g.earlier → (m z : ℕ)
       → Trace setting stamp (era (chronicle setting (x ∷ h))) first source m q z → fails (thing.Device z) g.step.seen.event ≡ false
-  sender_spared stamp first source g q here after late zero z (begins message emits carries epoch_is) =
-      let s = emits.sends in
-      spared_by q here g after late z s.call s.past s.there s.act (sym ((sends_own s.past s.call message s.effect).1 ∙ emission_keeps s.past s.call emits.emission) ∙ epoch_is)
-  sender_spared stamp first source g q here after late (suc m) z (goes_on trace hop) =
-      let r = hop.receipt in
-      spared_by q here g after late z (Receive hop.flight.link hop.flight.message r.counter) r.past r.there r.act
-      (ahead_not q here g after late z (Receive hop.flight.link hop.flight.message r.counter) r.past r.there r.act hop.flight.message r.edge hop.epoch_is r.accepts)
+  sender_spared stamp first source g q here after late m z trace =
+      false_from_ne_true (fails (thing.Device z) g.step.seen.event)
+      (λ is.
+      let one : era g.earlier ≤ era (upto g) = era_grows g.earlier (upto g) (behind whole) in
+      let two : era (upto g) ≤ era q.earlier = era_grows (upto g) q.earlier after in
+      let three : era q.earlier ≤ era steps = era_grows q.earlier steps (rest_of here) in
+      not_both (device_failed_now q.earlier z)
+      (failed_on (thing.Device z) (upto g) q.earlier after (omega (arith, late, one, three)) (fails_among g.step g.earlier (thing.Device z) (open_at g.step g.earlier (omega (arith, late, two, three))) is))
+      (sender_unfailed stamp first source g q here after late m z trace))

@@ -1,0 +1,129 @@
+-- While a round of the era's plan is on its way, nobody but the backup root enters the staged plan: who enters has a message that the backup root emitted later, and so
+-- a period later at least.
+use Rattle.std.specs.Prelude.{◌≡◌, ℕ, ◌+◌, ◌<◌, ◌≤◌, true, false, ◌&&◌, not, List, [], ◌∷◌, nat_eq, Some, is_some}
+use Rattle.std.proofs.Common.{arith, sym, ◌∙◌, ap, subst}
+use Rattle.std.proofs.lemmas.Bool.{and_parts, and_from, eqb-true, false_from_ne_true}
+use Rattle.sd_num.specs.Lists.{of_some}
+use Rattle.sd_topo.specs.Network.{least_low}
+use Rattle.sd_msg.specs.declared.Message.{Message}
+use Rattle.sd_core.specs.Words.{after, is_acting, epoch_now}
+use Rattle.sd_sched.specs.declared.Event.{Event}
+use Rattle.sd_history.specs.World.{Setting, has_commit, staged_epoch, plan_numbered}
+use Rattle.sd_history.specs.Steps.{Step, seen_of, acts_in, parent_in}
+use Rattle.sd_history.specs.Chronicle.{past_in, chronicle}
+use Rattle.sd_history.proofs.Given.{some_is}
+use Rattle.sd_history.proofs.Parts.{premises_of}
+use Rattle.sd_safety.specs.Eras.{era, plan_now, is_new, on_primary, moved, live_past}
+use Rattle.sd_safety.specs.Clauses.{staged_root}
+use Rattle.sd_safety.specs.Invariant.{Invariant}
+use Rattle.sd_safety.specs.Coming.{IsClean}
+use Rattle.sd_safety.proofs.Prefix.{clean_before}
+use Rattle.sd_safety.proofs.Sides.{implied, not_both}
+use Rattle.sd_safety_messages.specs.Moments.{Tail, IsChronicle, Moment, upto, when, IsIn, Emits}
+use Rattle.sd_safety_messages.specs.Traces.{Traced}
+use Rattle.sd_safety_messages.proofs.Tails.{Order, before as comes_before, same as are_same, after as comes_after, ordered, tail_trans, rest_of, tail_chronicle, history_chronicle, before_is_earlier}
+use Rattle.sd_safety_messages.proofs.Tracing.{accepted_traced}
+use Rattle.sd_safety_messages.proofs.Latest.{Emitted, traced_emission}
+use Rattle.sd_safety_messages.proofs.Sending.{sends_own}
+use Rattle.sd_safety_messages.proofs.Consecutive.{past_after_call, rounds_apart}
+use Rattle.sd_safety_waits.proofs.Standing.{now}
+use Rattle.sd_safety_silences.proofs.Phases.{era_grows}
+use Rattle.sd_safety_silences.proofs.First.{commit_stays}
+use Rattle.sd_safety_windows.proofs.Reaching.{epoch_within}
+use Rattle.sd_safety_windows.proofs.News.{reached}
+use Rattle.sd_safety_windows.proofs.Senders.{NewPast, new_past_of}
+use Rattle.sd_safety_receipts.proofs.Hearings.{IsHeard, heard_in_plan}
+use Rattle.sd_safety_receipts.proofs.Stood.{acts_is}
+use Rattle.sd_safety_entering.proofs.Hears.{idle_by}
+use Rattle.sd_safety_entering.proofs.States as states
+use Rattle.sd_safety_rounds.proofs.Entries.{committed_from}
+use Rattle.sd_safety_rounds.proofs.Places.{InEra}
+use Rattle.sd_safety_commits.specs.Leading.{IsLed}
+use Rattle.sd_safety_commits.proofs.Sources.{spacing, one_life, emitter}
+
+next_not : (a c : ℕ) → a ≡ c → a ≡ c + 1 → ⊥
+next_not a c same next = omega (arith, same, next)
+
+module _ (setting : Setting) (x : Event) (h : List Event) (e : Event) (s0 : ℕ) (led : IsLed setting x h e s0) (first : Moment) (first_in : IsIn first (chronicle setting (x ∷ h))) (late : s0 < when first) (m : Message)
+    (emits : Emits first (plan_now setting (chronicle setting (x ∷ h))).backup_root m) (old : m.epoch ≡ era (chronicle setting (x ∷ h))) (calm : has_commit (seen_of first.earlier) ≡ false) where
+  abbrev steps : List Step
+  steps = chronicle setting (x ∷ h)
+
+  abbrev b : ℕ
+  b = (plan_now setting (chronicle setting (x ∷ h))).backup_root
+
+  clean : IsClean setting (x ∷ h)
+  clean = clean_before setting e (x ∷ h) led.comes.clean
+
+  steps_is : IsChronicle setting (chronicle setting (x ∷ h))
+  steps_is = history_chronicle setting (x ∷ h) clean.is
+
+  -- an emission in the staged plan comes a period later at least
+  comes_late : (p : Moment) → IsIn p (chronicle setting (x ∷ h)) → (y : ℕ) (n : Message) → Emits p y n → n.epoch ≡ era (chronicle setting (x ∷ h)) + 1 → when first + least_low setting.net setting.net.params.period ≤ when p
+  comes_late p p_in y n two next = by_order (ordered steps first p first_in p_in)
+    where
+      there : past_in (upto p) y ≡ Some (after two.sends.past two.sends.call)
+      there = past_after_call p y two.sends.call two.sends.past two.sends.act two.sends.there
+
+      number : epoch_now (after two.sends.past two.sends.call) ≡ era steps + 1
+      number = sym (sends_own two.sends.past two.sends.call n two.sends.effect).1 ∙ next
+
+      far : (has_commit (seen_of (upto p)) ≡ true) × (era steps ≤ era (upto p))
+      far = committed_from setting (x ∷ h) led.comes.fair clean led.comes.before p p_in y (after two.sends.past two.sends.call) there number
+
+      by_order : Order first p → when first + least_low setting.net setting.net.params.period ≤ when p
+      by_order (comes_before t) =
+          let goes : when first ≤ when p = before_is_earlier setting first p (tail_chronicle setting p_in steps_is) t in
+          let by_root : y ≡ b = emitter setting x h e s0 led p p_in (omega (arith, late, goes)) y n two in
+          let two' : Emits p b n = subst (λ z. Emits p z n) by_root two in
+          let life = one_life setting x h e s0 led first p late p_in in
+          spacing setting x h e s0 led first p first_in p_in t b m n emits two' life (sym (rounds_apart first p b m n emits two' t life).0)
+      by_order (are_same equal) =
+          let times : when first ≡ when p = ap when_first equal in
+          let by_root : y ≡ b = emitter setting x h e s0 led p p_in (omega (arith, late, times)) y n two in
+          let s = emits.sends in
+          let here : past_in (upto first) b ≡ Some (after s.past s.call) = past_after_call first b s.call s.past s.act s.there in
+          let there' : past_in (upto first) b ≡ Some (after two.sends.past two.sends.call) = subst (λ l. past_in l b ≡ Some (after two.sends.past two.sends.call)) (sym equal) (subst (λ z. past_in (upto p) z ≡ Some (after two.sends.past two.sends.call)) by_root there) in
+          absurd (next_not (epoch_now (after s.past s.call)) (era steps) (sym (sends_own s.past s.call m s.effect).1 ∙ old) (ap epoch_now (some_is (sym here ∙ there')) ∙ number))
+        where
+          when_first : List Step → ℕ
+          when_first [] = 0
+          when_first (s ∷ earlier) = when (record { step = s; earlier = earlier })
+      by_order (comes_after t) =
+          let two_ : era first.earlier ≤ era steps = era_grows first.earlier steps (rest_of first_in) in
+          let least = far.1 in
+          absurd (not_both (has_commit (seen_of first.earlier)) (commit_stays setting (upto p) first.earlier t (tail_chronicle setting (rest_of first_in) steps_is) (omega (arith, two_, least)) far.0) calm)
+
+  -- so before that no device but the backup root is new
+  pub none_enters : (q : Moment) → IsIn q (chronicle setting (x ∷ h)) → when q < when first + least_low setting.net setting.net.params.period → (k : InEra setting (chronicle setting (x ∷ h)) q) → (y : ℕ)
+      → (y ≡ (plan_now setting (chronicle setting (x ∷ h))).backup_root → ⊥) → is_new (chronicle setting (k.x ∷ k.h)) y ≡ false
+  none_enters q q_in soon k y other = false_from_ne_true (is_new older y) never
+    where
+      older : List Step
+      older = chronicle setting (k.x ∷ k.h)
+
+      k_clean : IsClean setting (k.x ∷ k.h)
+      k_clean = clean_before setting k.e (k.x ∷ k.h) k.comes.clean
+
+      inside : Tail (chronicle setting (k.x ∷ k.h)) (chronicle setting (x ∷ h))
+      inside = k.part
+
+      never : is_new (chronicle setting (k.x ∷ k.h)) y ≡ true → ⊥
+      never new =
+          let own : NewPast older y = new_past_of setting (k.x ∷ k.h) y new in
+          let commit : has_commit (seen_of older) ≡ true = reached (has_commit (seen_of older)) (era older) (epoch_within setting (k.x ∷ k.h) k_clean.is y (staged_epoch (seen_of older)) new) in
+          let is_root : staged_root setting older ≡ b = states.root_is setting (k.x ∷ k.h) k.e k.comes commit ∙ ap (λ n. (plan_numbered setting (n + 1)).root) k.same ∙ led.root in
+          let apart : nat_eq y (staged_root setting older) ≡ false = false_from_ne_true (nat_eq y (staged_root setting older)) (λ same. other (eqb-true y (staged_root setting older) same ∙ is_root)) in
+          let inv : Invariant setting older = now setting k.x k.h k.e k.comes in
+          let linked = implied (is_new older y && not (nat_eq y (staged_root setting older))) _ (inv.core.committed.linked y) (and_from (is_new older y) (not (nat_eq y (staged_root setting older))) new (ap not apart)) in
+          let primary = (and_parts (on_primary older y) _ (and_parts (on_primary older y && of_some (parent_in older y) false (is_new older)) _ linked).0).0 in
+          let idle : is_acting own.past ≡ false = sym (acts_is setting (k.x ∷ k.h) y own.past own.up own.there) ∙ idle_by (is_some (live_past older y)) (moved older y) (acts_in older y) primary in
+          let heard : IsHeard setting (k.x ∷ k.h) y (era older + 1) = heard_in_plan setting (k.x ∷ k.h) k_clean.is y own.past own.there (era older + 1) own.epoch (omega arith) idle in
+          let traced : Traced setting heard.message.stamp heard.message.epoch heard.moment y =
+          accepted_traced setting older (history_chronicle setting (k.x ∷ k.h) k_clean.is) (premises_of setting (seen_of older) k_clean.premises).delay heard.moment heard.inside y heard.link heard.message heard.counter heard.past heard.edge heard.there heard.act heard.over in
+          let em : Emitted older heard.message.stamp heard.message.epoch = traced_emission setting older heard.message.stamp heard.message.epoch heard.moment y heard.inside traced in
+          let p_in : IsIn em.moment steps = tail_trans {xs = upto em.moment} em.is_in inside in
+          let by : when first + least_low setting.net setting.net.params.period ≤ when em.moment = comes_late em.moment p_in em.device em.message em.emits (em.epoch_is ∙ heard.epoch ∙ ap (λ n. n + 1) k.same) in
+          let in_q : Tail (upto em.moment) q.earlier = subst (λ (l : List Step). Tail (upto em.moment) l) (sym (ap (λ (p : Moment). p.earlier) k.is)) em.is_in in
+          let goes : when em.moment ≤ when q = before_is_earlier setting em.moment q (tail_chronicle setting q_in steps_is) in_q in
+          absurd (omega (arith, by, goes, soon))

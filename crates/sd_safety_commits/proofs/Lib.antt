@@ -1,0 +1,12 @@
+-- 14 where the backup root is new, from what is said while it is old.
+pub mod Acted
+pub mod Found
+pub mod Sources
+pub mod Entries
+pub mod Hops
+pub mod Fed
+pub mod Sums
+pub mod Stood
+pub mod Longer
+pub mod Committed
+pub mod Safe

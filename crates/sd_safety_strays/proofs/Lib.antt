@@ -1,0 +1,14 @@
+-- What the backup root hears, and when it moves, in an era with a mend.
+pub mod Mend
+pub mod Unbroken
+pub mod Periods
+pub mod Receipts
+pub mod Second
+pub mod Strays
+pub mod Since
+pub mod Ways
+pub mod Hears
+pub mod Waited
+pub mod Goes
+pub mod Moves
+pub mod Safe
