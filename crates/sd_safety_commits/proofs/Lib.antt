@@ -9,4 +9,3 @@ pub mod Sums
 pub mod Stood
 pub mod Longer
 pub mod Committed
-pub mod Safe

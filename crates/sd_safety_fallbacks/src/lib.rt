@@ -14,8 +14,8 @@
 //! failed but the root; and the backup root did not act before, since who acts acts on (`Onward`). So
 //! a message that it heard then came down the fallback (`Moved`).
 //!
-//! # What is open
+//! # What is left
 //!
 //! 14 (`BehindWaits`). `sd_safety_behind` has it from statements on feeding; of these `HearsNoMore` is
-//! shown here, and `sd_safety_feeds` has safety from those that are left.
+//! shown here, and `sd_safety_feeds` has safety from the others.
 #![tactic(auto)]

@@ -12,10 +12,10 @@
 //!
 //! These are fields of `EachKeeps` of `sd_safety`, for every setting.
 //!
-//! # What is open, in specs/
+//! # What it takes as given, in specs/
 //!
-//! - `EntersSoon` (`Silences` of `sd_safety`): 18 of members. It stands for C9 b, which time alone
-//!   could break, so every event asks for it.
+//! - `EntersSoon` (`Silences` of `sd_safety`): 18 of members, shown in `sd_safety_entering`. It stands
+//!   for C9 b, which time alone could break, so every event asks for it.
 //! - `StoodThen` (`Descents`) and `KeepsEntering` (`Receipts`): proved in `sd_safety_receipts`. They are
 //!   statements here since what stood at earlier events needs the receipts of this crate.
 //!

@@ -21,12 +21,8 @@
 //! at one that fails something: it may cut off the last of the K + 1 rounds, which is then neither
 //! received nor spoiled (`Lately`, `Gaps`).
 //!
-//! # What is open
+//! # What it takes as given
 //!
-//! - `IsLed` in later eras, from `termed` of `sd_safety_terms`: `life` is a field of that, and `newest`
-//!   follows from `top` of the root and that its term stays (`acts_on`).
-//! - 13 and 15 across a commit or a closing. The way has to follow the clean round: one emitted before
-//!   the commit goes the old way, a later one that of the staged plan. So the K + 1 rounds are to be
-//!   chosen first, and `way_flows`, which is of one round, used for the one that is clean.
-//! - 18, by `feeding` with s0 the later of the commit and the last receipt, along the staged plan.
+//! `IsLed` of eras after the first. `sd_safety_terms` has what it asks of terms, and `sd_safety_spans`
+//! has 13 and 15 in all eras, across commits and closings, where the way has to follow the clean round.
 #![tactic(auto)]

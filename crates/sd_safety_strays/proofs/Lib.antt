@@ -11,4 +11,3 @@ pub mod Hears
 pub mod Waited
 pub mod Goes
 pub mod Moves
-pub mod Safe

@@ -6,7 +6,6 @@
 //! |---|---|---|
 //! | `mended_hears` | on its primary the backup root heard nothing long after its path broke, or at most a stray, or its path is whole again and the devices behind it hear soon (`MendedHears` of `sd_safety_behind`) | `Hears` |
 //! | `mended_moves` | it moved without a stray, or after one, which came after the root failed, if it did (`MendedMoves`) | `Moves` |
-//! | `safe_if_taken_over` | safety from `TakeoverFeeds` and `BehindWaitsCommitted` | `Safe` |
 //!
 //! # The way
 //!

@@ -7,4 +7,3 @@ pub mod Open
 pub mod Heard
 pub mod Rounds
 pub mod Feeds
-pub mod Safe

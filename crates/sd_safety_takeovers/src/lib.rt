@@ -1,13 +1,10 @@
-//! How the devices behind the backup root hear after its takeover; and safety from what is left of
-//! lemma 14 of `sd_safety`.
+//! How the devices behind the backup root hear after its takeover (14 of `sd_safety`).
 //!
 //! # The result
 //!
 //! | Name | In words | Module |
 //! |---|---|---|
 //! | `takeover_feeds` | while the old backup root acts, an old device behind it, on its primary and not hit, hears soon (`TakeoverFeeds` of `sd_safety_behind`) | `Feeds` |
-//! | `behind_waits_unmended` | 14 in an era without a mend so far | `Safe` |
-//! | `safe_if_mended` | safety from `MendedHears`, `MendedMoves` and `BehindWaitsCommitted` | `Safe` |
 //!
 //! # The way
 //!
