@@ -9,7 +9,8 @@
 //!
 //! # The last step
 //!
-//! `safe_if_fed` of `sd_safety_feeds` has it from four statements on how long the devices behind the
-//! backup root wait (14). `sd_safety_takeovers` shows the first, after a takeover; `sd_safety_strays`
-//! the second and the third, in eras with a mend; `sd_safety_commits` the fourth, after a commit.
+//! `safe_if_behind` of `sd_safety_fallbacks` has it from 14: that the devices behind the backup root
+//! wait long enough. `sd_safety_behind` has 14 from seven statements, which are shown in
+//! `sd_safety_spans`, `_fallbacks`, `_paths`, `_feeds`, `_takeovers`, `_strays` and, where the backup
+//! root is new, `_commits`.
 #![tactic(auto)]

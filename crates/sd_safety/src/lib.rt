@@ -57,8 +57,7 @@
 //!
 //! # Put together
 //!
-//! `sd_safe` has `stays_safe : (setting : Setting) → StaysSafe setting`, with nothing assumed. 14 came
-//! last: `safe_if_fed` of `sd_safety_feeds` is safety from four statements of `sd_safety_behind`.
+//! `sd_safe` has `stays_safe : (setting : Setting) → StaysSafe setting`, with nothing assumed.
 //!
 //! The kinds of events are all shown to keep the core: `sd_safety_frame`, `_moves`, `_receipts` and
 //! `_renewals`.

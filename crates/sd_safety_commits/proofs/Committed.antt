@@ -36,7 +36,8 @@ use Rattle.sd_safety_terms.proofs.Actors.{IsActor, actor_leads}
 use Rattle.sd_safety_entering.proofs.Entering.{members_enter}
 use Rattle.sd_safety_entering.proofs.States as states
 use Rattle.sd_safety_rounds.proofs.Silent.{not_old_and_new}
-use Rattle.sd_safety_behind.specs.Feeding.{StandsBehind, took_over_at, MendedHears, MendedMoves, BehindWaitsCommitted}
+use Rattle.sd_safety_behind.specs.Pieces.{HearsNoMore}
+use Rattle.sd_safety_behind.specs.Feeding.{PathHearsNoMore, StandsBehind, took_over_at, MendedHears, MendedMoves, BehindWaitsCommitted}
 use Rattle.sd_safety_behind.proofs.Before.{begin_same, heard_rises, tail_timed}
 use Rattle.sd_safety_behind.proofs.Failing.{chronicle_tail, clean_tail, comes_at, below}
 use Rattle.sd_safety_behind.proofs.Sealing.{seals_soon}
@@ -45,8 +46,6 @@ use Rattle.sd_safety_behind.proofs.Ways.{backup_root_on_cut}
 use Rattle.sd_safety_spans.proofs.Lately.{whole_path_hears}
 use Rattle.sd_safety_spans.proofs.Staged.{is_staged}
 use Rattle.sd_safety_spans.proofs.Thirteen.{IsSpared, spared}
-use Rattle.sd_safety_fallbacks.proofs.NoMore.{hears_no_more}
-use Rattle.sd_safety_paths.proofs.Broken.{path_hears_no_more}
 use Rattle.sd_safety_feeds.proofs.Feeds.{fallback_feeds}
 use Rattle.sd_safety_commits.specs.Entering.{BehindWaitsLonger, TookOverEarly}
 use Rattle.sd_safety_commits.specs.Leading.{IsLed}
@@ -297,9 +296,9 @@ module _ (setting : Setting) (longer : AtNext BehindWaitsLonger setting) (early_
   waits_committed (x ∷ h) e comes d st new = waits x h e comes d st new
 
 -- 14 where the backup root is new
-pub behind_waits_committed : (setting : Setting) → AtNext MendedHears setting → AtNext MendedMoves setting → AtNext BehindWaitsCommitted setting
-behind_waits_committed setting hears moves =
-    let took = took_over_soon setting (hears_no_more setting) in
-    let longer = behind_waits_longer setting (whole_path_hears setting) (seals_soon setting) (fallback_feeds setting) took (path_hears_no_more setting) hears moves in
-    let early = took_over_early setting (whole_path_hears setting) (seals_soon setting) (fallback_feeds setting) took (path_hears_no_more setting) hears moves in
+pub behind_waits_committed : (setting : Setting) → AtNext HearsNoMore setting → AtNext PathHearsNoMore setting → AtNext MendedHears setting → AtNext MendedMoves setting → AtNext BehindWaitsCommitted setting
+behind_waits_committed setting no_more path hears moves =
+    let took = took_over_soon setting no_more in
+    let longer = behind_waits_longer setting (whole_path_hears setting) (seals_soon setting) (fallback_feeds setting) took path hears moves in
+    let early = took_over_early setting (whole_path_hears setting) (seals_soon setting) (fallback_feeds setting) took path hears moves in
     waits_committed setting longer early

@@ -5,7 +5,7 @@
 //!
 //! | Name | In words | Module |
 //! |---|---|---|
-//! | `behind_waits_committed` | where the backup root is new, an old device behind it, on its primary and not hit, is silent for less than its wait (`BehindWaitsCommitted` of `sd_safety_behind`), from `MendedHears` and `MendedMoves` | `Committed` |
+//! | `behind_waits_committed` | where the backup root is new, an old device behind it, on its primary and not hit, is silent for less than its wait (`BehindWaitsCommitted` of `sd_safety_behind`), from four of the statements there | `Committed` |
 //! | `behind_waits_longer` | while the root lives and the backup root is old, it is so even A + H * D later (`BehindWaitsLonger`) | `Longer` |
 //! | `took_over_early` | an old backup root that acts took over so early that it is so until A + H * D after the takeover (`TookOverEarly`) | `Longer` |
 //!

@@ -17,5 +17,5 @@
 //! # What is left
 //!
 //! 14 (`BehindWaits`). `sd_safety_behind` has it from statements on feeding; of these `HearsNoMore` is
-//! shown here, and `sd_safety_feeds` has safety from the others.
+//! shown here, and `sd_safe` has safety from all of them.
 #![tactic(auto)]

@@ -1,7 +1,6 @@
--- How the devices behind the backup root hear over its fallback, and safety from what is left.
+-- How the devices behind the backup root hear over its fallback.
 pub mod Cuts
 pub mod Ready
 pub mod Since
 pub mod Fed
 pub mod Feeds
-pub mod Safe

@@ -1,12 +1,11 @@
-//! How the devices behind the backup root hear over its fallback while the root lives; and safety
-//! from what is left of lemma 14 of `sd_safety`.
+//! How the devices behind the backup root hear over its fallback while the root lives (14 of
+//! `sd_safety`).
 //!
 //! # The result
 //!
 //! | Name | In words | Module |
 //! |---|---|---|
 //! | `fallback_feeds` | while the root lives and the backup root is on its backup, an old device behind that, on its primary and not hit, hears soon (`FallbackFeeds` of `sd_safety_behind`) | `Feeds` |
-//! | `safe_if_fed` | safety from `TakeoverFeeds`, `MendedHears`, `MendedMoves` and `BehindWaitsCommitted` | `Safe` |
 //!
 //! # The way
 //!
