@@ -8,6 +8,7 @@ mod plan;
 mod texts;
 
 use sd_outside::{MemShelf, MemSink};
+use sd_rows_kit::USAGE;
 use sd_top::{Status, run};
 use std::alloc::Global;
 use std::process::Abort;
@@ -333,10 +334,7 @@ fn other_words_are_usage(rt: HostRuntime) -> Result<(), Fail> {
         let mut shelf = shelf_with(rt.alloc(), PLAIN.as_bytes(), 8192, &[])?;
         let (status, out) = run_words(rt.alloc(), words, &mut shelf, Vec::new(rt.alloc()))?;
         assert_eq!(rt; status, Status::Usage);
-        assert_eq!(rt;
-            out.bytes(),
-            b"usage: sundial solo SCHEDULE | plan TOPOLOGY | check TOPOLOGY PLAN | renew TOPOLOGY PLAN ABSENT | migrate TOPOLOGY | twoway TOPOLOGY EXCHANGES | drill TOPOLOGY PLAN BASE HOLD\n".as_slice()
-        );
+        assert_eq!(rt; out.bytes(), USAGE.as_bytes());
     }
     Ok(())
 }

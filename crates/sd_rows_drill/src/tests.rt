@@ -5,6 +5,7 @@ use sd_examples::{
     DRIFTLESS, DRIFTLESS_PLAN, FABRIC, FABRIC_PLAN, TRIANGLE, TRIANGLE_2, TRIANGLE_PLAN,
 };
 use sd_outside::{MemShelf, MemSink};
+use sd_rows_kit::USAGE;
 use sd_top::{Status, run};
 use std::alloc::Global;
 use std::process::Abort;
@@ -35,10 +36,6 @@ bound link bx b 4916851
 bound link bx x 5449722
 done 6 3
 ";
-
-/// What is written for words that are no command's.
-const USAGE: &str =
-    "usage: sundial solo SCHEDULE | plan TOPOLOGY | check TOPOLOGY PLAN | renew TOPOLOGY PLAN ABSENT | migrate TOPOLOGY | twoway TOPOLOGY EXCHANGES | drill TOPOLOGY PLAN BASE HOLD\n";
 
 /// A shelf that holds a topology and a plan.
 fn shelf_of(

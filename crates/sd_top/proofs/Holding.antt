@@ -1,5 +1,5 @@
 -- What is promised besides of the texts: the events of a schedule that is read are a history, so the reports of an honest one have their reference times inside; and the bounds of links hold of the exchanges over them.
-use Rattle.std.proofs.Common.{◌≡◌, ℕ, ◌+◌, Bool, true, false, cond, List, [], ◌∷◌, Option, Some, None, Result, Ok, Err, IfOk, refl, ◌∙◌, length}
+use Rattle.std.proofs.Common.{◌≡◌, ℕ, ◌+◌, Bool, true, false, cond, List, [], ◌∷◌, map, Option, Some, None, Result, Ok, Err, IfOk, refl, ◌∙◌, length}
 use Rattle.std.specs.Prelude.{IsTrue}
 use Rattle.sd_stream.specs.Lines.{lines}
 use Rattle.sd_sched.specs.Lines.{event_of_line, first_field}
@@ -12,12 +12,13 @@ use Rattle.sd_solo.specs.declared.SoloFault.{SoloFault}
 use Rattle.sd_solo.proofs.Contained.{reports_contain}
 use Rattle.sd_solo.proofs.Known.{known_as_word}
 use Rattle.sd_exchanges.proofs.Bounding.{bounds_hold}
+use Rattle.sd_schedules.proofs.Lawful.{reports_truly as replay_truly}
 use Rattle.sd_files.specs.Texts.{texts_of}
 use Rattle.sd_top.specs.Promise.{KeepsPromise, task_of}
 use Rattle.sd_work.specs.Works.{Reading, judged, length_fault, read_on, reading, reading_from, unless_too_long}
 use Rattle.sd_top.specs.Schedules.{ReportsTruly, accepted, solo_work, unless_refused}
 use Rattle.sd_top.specs.Words.{Command, command_of}
-use Rattle.sd_top.specs.Words.Command.{Solo, Twoway}
+use Rattle.sd_top.specs.Words.Command.{Solo, Replay, Twoway}
 
 -- an event of a known word, which is accepted after these
 abbrev GoesOn : List Event → Event → Type 0
@@ -79,5 +80,6 @@ keeps_promise (Some h) words = by (command_of words)
   where
     by : (command : Option Command) → (task_of command).holds (texts_of h)
     by (Some (Solo schedule)) = reports_truly (reading solo_work (texts_of h schedule)).taken (reading_is_history (texts_of h schedule))
+    by (Some (Replay topology plans schedule)) = replay_truly (texts_of h topology) (map (texts_of h) plans) (texts_of h schedule)
     by (Some (Twoway topology exchanges)) = λ net read. bounds_hold net (texts_of h exchanges)
     by _ = tt

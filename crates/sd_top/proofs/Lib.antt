@@ -1,3 +1,6 @@
+pub mod Wording
+pub mod Serving
+pub mod Staying
 pub mod Planned
 pub mod Performing
 pub mod Holding

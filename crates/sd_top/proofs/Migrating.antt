@@ -1,5 +1,5 @@
 -- The migration law: what a command answers is carried from a network with one version to the same with another, file by file.
-use Rattle.std.proofs.Common.{◌≡◌, ℕ, List, [], ◌∷◌, Option, Some, None, Result, Ok, Err, ap, sym, ◌∙◌, subst, arith}
+use Rattle.std.proofs.Common.{◌≡◌, ℕ, List, [], ◌∷◌, map, Option, Some, None, Result, Ok, Err, ap, sym, ◌∙◌, subst, arith}
 use Rattle.std.specs.Prelude.{◌≢◌, All}
 use Rattle.serde_json.specs.Data.{Data}
 use Rattle.sd_topo.specs.Network.{Network}
@@ -25,6 +25,8 @@ use Rattle.sd_files.specs.declared.ended.Input.TheVariants as input
 use Rattle.sd_files.specs.declared.ended.Refusal.{Refusal}
 use Rattle.sd_work.specs.Works.{IsOutcome}
 use Rattle.sd_exchanges.specs.Twoways.{twoway_work}
+use Rattle.sd_schedules.specs.Replays.{IsReplay}
+use Rattle.sd_schedules.proofs.Migrating.{replay_with_version}
 use Rattle.sd_top.specs.Checks.{IsCheck, IsJudged, verdict_text}
 use Rattle.sd_top.specs.Drills.{IsDrill, IsDrilled}
 use Rattle.sd_top.specs.Migration.{IsMigrated, IsMigration}
@@ -32,8 +34,9 @@ use Rattle.sd_top.specs.Plannings.{IsPlanning, IsPlanOf, IsRenewal, planned_text
 use Rattle.sd_top.specs.Promise.{Answers}
 use Rattle.sd_top.specs.Twoways.{IsTwoway}
 use Rattle.sd_top.specs.Versions.{MigrationLaw}
-use Rattle.sd_top.specs.Words.{Command, File, OfTopology, OfPlan, OfAbsent, OfExchanges, files_of, name_of}
-use Rattle.sd_top.specs.Words.Command.{Solo, Plan as PlanOf, Check, Renew, Migrate, Twoway, Drill}
+use Rattle.sd_top.specs.Words.{Command, File, OfTopology, OfPlan, OfAbsent, OfExchanges, files_of, name_of, plans_and_schedule}
+use Rattle.sd_top.proofs.Staying.{plans_stay, schedule_stays}
+use Rattle.sd_top.specs.Words.Command.{Solo, Plan as PlanOf, Check, Renew, Replay, Migrate, Twoway, Drill}
 
 -- what comes after a file that says the same
 after_carried : {X : Type 0} (before after : Result X Refusal) (Then Later : X → May) (bytes : List ℕ) (status : Status) → before ≡ after → ((x : X) → Then x bytes status → Later x bytes status) → After before Then bytes status
@@ -121,6 +124,11 @@ module _ (v w : ℕ) (net : Network) where
         written
         )
 
+    replay_stays : (plans plans' : List (List ℕ)) (schedule schedule' : List ℕ) → plans' ≡ plans → schedule' ≡ schedule → IsReplay text plans schedule bytes status → IsReplay other plans' schedule' bytes status
+    replay_stays plans plans' schedule schedule' same_plans same_schedule written =
+        subst (λ (p : List (List ℕ)). IsReplay other p schedule' bytes status) (sym same_plans)
+        (subst (λ (s : List ℕ). IsReplay other plans s bytes status) (sym same_schedule) (replay_with_version v w net text other reads rereads plans schedule bytes status written))
+
     renewal_over : (plan absent : List ℕ) → IsRenewal text plan absent bytes status → IsRenewal other plan absent bytes status
     renewal_over plan absent written =
         topology_carried text other (with_version v net) (with_version w net) (λ n. After (plan_in_file n 1 plan) (λ old. After (absent_in_file n absent) (λ left. IsPlanning n (renewed_root old left) left)))
@@ -166,6 +174,12 @@ module _ (topology : List ℕ) (before after : Texts) (net : Network) (v w : ℕ
       let elsewhere_all = subst (λ (fs : List File). All (λ file. name_of file ≢ topology) fs) rest apart in
       renewal_stays v w net (before name) (after name) (reads_at name same) (rereads_at name same) bytes status (before plan) (after plan) (before absent) (after absent) (elsewhere plan (elsewhere_all 0 (OfTopology []) (omega arith)))
       (elsewhere absent (elsewhere_all 1 (OfTopology []) (omega arith))) written
+  answers_stay (Some (Replay name plans schedule)) others files apart written =
+      let same : name ≡ topology = cc in
+      let rest : others ≡ plans_and_schedule plans schedule = cc in
+      let apart_all = subst (λ (fs : List File). All (λ file. name_of file ≢ topology) fs) rest apart in
+      replay_stays v w net (before name) (after name) (reads_at name same) (rereads_at name same) bytes status (map before plans) (map after plans) (before schedule) (after schedule)
+      (plans_stay topology before after elsewhere schedule plans apart_all) (schedule_stays topology before after elsewhere schedule plans apart_all) written
   answers_stay (Some (Migrate name)) others files apart written =
       let same : name ≡ topology = cc in
       migration_stays v w net (before name) (after name) (reads_at name same) (rereads_at name same) bytes status written

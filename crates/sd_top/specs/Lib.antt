@@ -1,11 +1,11 @@
 pub mod Words
-pub mod Reasons
 pub mod Schedules
 pub mod Migration
 pub mod Checks
 pub mod Drills
 pub mod Plannings
 pub mod Twoways
+pub mod Replays
 pub mod Promise
 pub mod Versions
 pub mod Unique

@@ -1,21 +1,23 @@
 -- What `run` promises: what each command writes and answers over the texts of its files, and what it leaves where it is stopped.
-use Rattle.std.specs.Prelude.{◌≡◌, ◌+◌, ◌≤◌, ℕ, Bool, true, false, List, [], ◌∷◌, length, Option, None, Some, IfSome, codes}
+use Rattle.std.specs.Prelude.{◌≡◌, ◌+◌, ◌≤◌, ℕ, Bool, true, false, List, [], ◌∷◌, length, map, Option, None, Some, IfSome, codes}
 use Rattle.sd_files.specs.Answering.{May}
 use Rattle.sd_files.specs.Inputs.{topology_of}
 use Rattle.sd_files.specs.Statuses.{stop_of}
 use Rattle.sd_files.specs.Texts.{Texts, texts_of}
 use Rattle.sd_files.specs.declared.Status.{Status}
-use Rattle.sd_files.specs.declared.Status.TheVariants.{Done, PlanRefused, Usage, InputRefused}
+use Rattle.sd_files.specs.declared.Status.TheVariants.{Done, PlanRefused, Usage, InputRefused, Broken}
 use Rattle.sd_top.specs.Checks.{IsCheck}
 use Rattle.sd_top.specs.Drills.{IsDrill}
 use Rattle.sd_top.specs.Migration.{IsMigration}
 use Rattle.sd_top.specs.Plannings.{IsPlanOf, IsRenewal}
+use Rattle.sd_schedules.specs.Replays.{IsReplay, refused_over as refused_behind}
 use Rattle.sd_work.specs.Leaving.{Leaves}
 use Rattle.sd_work.specs.Works.{reading, refused_part}
+use Rattle.sd_top.specs.Replays.{ReplaysTruly}
 use Rattle.sd_top.specs.Schedules.{IsSolo, ReportsTruly, solo_work}
 use Rattle.sd_top.specs.Twoways.{BoundsTruly, IsTwoway, refused_over}
 use Rattle.sd_top.specs.Words.{Command, command_of}
-use Rattle.sd_top.specs.Words.Command.{Solo, Plan as PlanOf, Check, Renew, Migrate, Twoway, Drill}
+use Rattle.sd_top.specs.Words.Command.{Solo, Plan as PlanOf, Check, Renew, Replay, Migrate, Twoway, Drill}
 
 -- what is promised of a command
 pub record Task : Type 1 where
@@ -44,7 +46,7 @@ step_by_step statuses Writes = record { Answers = Writes; gives = statuses; in_s
 
 abbrev pub IsUsage : May
 IsUsage bytes status =
-    (bytes ≡ codes "usage: sundial solo SCHEDULE | plan TOPOLOGY | check TOPOLOGY PLAN | renew TOPOLOGY PLAN ABSENT | migrate TOPOLOGY | twoway TOPOLOGY EXCHANGES | drill TOPOLOGY PLAN BASE HOLD\n") × (status ≡ Usage)
+    (bytes ≡ codes "usage: sundial solo SCHEDULE | plan TOPOLOGY | check TOPOLOGY PLAN | renew TOPOLOGY PLAN ABSENT | replay TOPOLOGY PLAN.. SCHEDULE | migrate TOPOLOGY | twoway TOPOLOGY EXCHANGES | drill TOPOLOGY PLAN BASE HOLD\n") × (status ≡ Usage)
 
 -- each command, and words that are none
 abbrev pub task_of : Option Command → Task
@@ -53,6 +55,9 @@ task_of (Some (Solo schedule)) = line_by_line (Done ∷ InputRefused ∷ []) (λ
 task_of (Some (PlanOf topology)) = once (Done ∷ PlanRefused ∷ InputRefused ∷ []) (λ texts. IsPlanOf (texts topology))
 task_of (Some (Check topology plan)) = once (Done ∷ PlanRefused ∷ InputRefused ∷ []) (λ texts. IsCheck (texts topology) (texts plan))
 task_of (Some (Renew topology plan absent)) = once (Done ∷ PlanRefused ∷ InputRefused ∷ []) (λ texts. IsRenewal (texts topology) (texts plan) (texts absent))
+task_of (Some (Replay topology plans schedule)) =
+    line_by_line (Done ∷ PlanRefused ∷ InputRefused ∷ Broken ∷ []) (λ texts. IsReplay (texts topology) (map texts plans) (texts schedule))
+    (λ texts. refused_behind (topology_of (texts topology)) (map texts plans) (texts schedule)) (λ texts. ReplaysTruly (texts topology) (map texts plans) (texts schedule))
 task_of (Some (Migrate topology)) = once (Done ∷ InputRefused ∷ []) (λ texts. IsMigration (texts topology))
 task_of (Some (Twoway topology exchanges)) =
     line_by_line (Done ∷ InputRefused ∷ []) (λ texts. IsTwoway (texts topology) (texts exchanges)) (λ texts. refused_over (topology_of (texts topology)) (texts exchanges))

@@ -12,7 +12,7 @@ use Rattle.sd_files.specs.Answering.{May}
 use Rattle.sd_files.specs.declared.Status.{Status}
 use Rattle.sd_files.specs.declared.Status.TheVariants.{Done}
 use Rattle.sd_work.specs.Works.{Work, IsOutcome, reading}
-use Rattle.sd_top.specs.Reasons.{line_reason}
+use Rattle.sd_schedules.specs.Reasons.{line_reason}
 
 abbrev pub unless_refused : Option SoloFault → Event → Result Event (List ℕ)
 unless_refused None e = Ok e

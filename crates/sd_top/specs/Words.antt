@@ -1,5 +1,5 @@
 -- What the words of the command mean.
-use Rattle.std.specs.Prelude.{ℕ, ◌^◌, List, [], ◌∷◌, Option, None, Some, Result, Ok, Err, codes, nat_le, if◌then◌else◌}
+use Rattle.std.specs.Prelude.{ℕ, ◌^◌, ◌&&◌, Bool, List, [], ◌∷◌, ◌++◌, length, map, Option, None, Some, Result, Ok, Err, codes, nat_le, if◌then◌else◌}
 use Rattle.std.specs.Str.{bytes_eq}
 use Rattle.sd_num.specs.Decimals.{number}
 use Rattle.sd_num.specs.Lists.{of_some}
@@ -12,6 +12,7 @@ pub data Command : Type 0 where
   Plan : (topology : List ℕ) → Command
   Check : (topology plan : List ℕ) → Command
   Renew : (topology plan absent : List ℕ) → Command
+  Replay : (topology : List ℕ) (plans : List (List ℕ)) (schedule : List ℕ) → Command
   Migrate : (topology : List ℕ) → Command
   Twoway : (topology exchanges : List ℕ) → Command
   Drill : (topology plan : List ℕ) (budget : Budget) → Command
@@ -31,21 +32,22 @@ with_two_files word first second =
     else if bytes_eq word (codes "twoway") then Some (Twoway first second)
     else None
 
+-- a number within its limits
+abbrev pub if_within : ℕ → ℕ → Result ℕ NumFault → Option ℕ
+if_within low high (Ok n) = if nat_le low n && nat_le n high then Some n else None
+if_within low high (Err why) = None
+
+-- the number of a word, from the least to the greatest
+abbrev pub number_from : ℕ → ℕ → List ℕ → Option ℕ
+number_from low high word = if_within low high (number word)
+
 -- the command of a word with the names of three files
 abbrev pub with_three_files : List ℕ → List ℕ → List ℕ → List ℕ → Option Command
 with_three_files word first second third = if bytes_eq word (codes "renew") then Some (Renew first second third) else None
 
--- a number up to the limit of a budget
-abbrev pub if_granted : Result ℕ NumFault → Option ℕ
-if_granted (Ok n) = if nat_le n (2 ^ 60) then Some n else None
-if_granted (Err why) = None
-
-abbrev pub granted : List ℕ → Option ℕ
-granted word = if_granted (number word)
-
--- the budget of the words for its base and its hold
+-- the budget of the words for its base and its hold, each up to the limit of a budget
 abbrev pub budget_of : List ℕ → List ℕ → Option Budget
-budget_of base hold = of_some (granted base) None (λ b. of_some (granted hold) None (λ h. Some (record { base = b; hold = h })))
+budget_of base hold = of_some (number_from 0 (2 ^ 60) base) None (λ b. of_some (number_from 0 (2 ^ 60) hold) None (λ h. Some (record { base = b; hold = h })))
 
 -- the command of a word with the names of two files and a budget
 abbrev pub with_budget : List ℕ → List ℕ → List ℕ → List ℕ → List ℕ → Option Command
@@ -53,15 +55,41 @@ with_budget word first second base hold =
     if bytes_eq word (codes "drill") then of_some (budget_of base hold) None (λ budget. Some (Drill first second budget))
     else None
 
+-- the command of a word with a fixed count of words behind it
+abbrev pub with_fixed : List ℕ → List (List ℕ) → Option Command
+with_fixed word [] = None
+with_fixed word (file ∷ []) = with_one_file word file
+with_fixed word (first ∷ second ∷ []) = with_two_files word first second
+with_fixed word (first ∷ second ∷ third ∷ []) = with_three_files word first second third
+with_fixed word (first ∷ second ∷ third ∷ fourth ∷ []) = with_budget word first second third fourth
+with_fixed word (first ∷ second ∷ third ∷ fourth ∷ fifth ∷ others) = None
+
+-- all but the last of this word and the others, and the last
+abbrev pub but_last : List ℕ → List (List ℕ) → List (List ℕ) × List ℕ
+but_last word [] = ([], word)
+but_last word (next ∷ others) = let rest = but_last next others in (word ∷ rest.0, rest.1)
+
+-- the command of a word with the names of a topology, of plans, and of a schedule
+abbrev pub of_plans : List ℕ → (topology : List ℕ) → (plans : List (List ℕ)) → (schedule : List ℕ) → Option Command
+of_plans word topology plans schedule = if bytes_eq word (codes "replay") then Some (Replay topology plans schedule) else None
+
+-- of 1 to 64 plans
+abbrev pub over_plans : List ℕ → (topology : List ℕ) → (plans : List (List ℕ)) → (schedule : List ℕ) → Option Command
+over_plans word topology plans schedule = if nat_le 1 (length plans) && nat_le (length plans) 64 then of_plans word topology plans schedule else None
+
+abbrev pub with_plans : List ℕ → List (List ℕ) → Option Command
+with_plans word [] = None
+with_plans word (topology ∷ []) = None
+with_plans word (topology ∷ next ∷ others) = let rest = but_last next others in over_plans word topology rest.0 rest.1
+
+-- a word whose command has any count of plans
+abbrev pub takes_plans : List ℕ → Bool
+takes_plans word = bytes_eq word (codes "replay")
+
 -- the command of the words, if they are in the table
 abbrev pub command_of : List (List ℕ) → Option Command
 command_of [] = None
-command_of (word ∷ []) = None
-command_of (word ∷ file ∷ []) = with_one_file word file
-command_of (word ∷ first ∷ second ∷ []) = with_two_files word first second
-command_of (word ∷ first ∷ second ∷ third ∷ []) = with_three_files word first second third
-command_of (word ∷ first ∷ second ∷ third ∷ fourth ∷ []) = with_budget word first second third fourth
-command_of (word ∷ first ∷ second ∷ third ∷ fourth ∷ fifth ∷ others) = None
+command_of (word ∷ others) = if takes_plans word then with_plans word others else with_fixed word others
 
 -- a file that is read, by its name
 pub data File : Type 0 where
@@ -78,6 +106,10 @@ name_of (OfAbsent name) = name
 name_of (OfSchedule name) = name
 name_of (OfExchanges name) = name
 
+-- the plans of a command and then its schedule
+abbrev pub plans_and_schedule : List (List ℕ) → List ℕ → List File
+plans_and_schedule plans schedule = map OfPlan plans ++ OfSchedule schedule ∷ []
+
 -- the files that a command reads, in the order of its work
 abbrev pub files_of : Option Command → List File
 files_of None = []
@@ -85,6 +117,7 @@ files_of (Some (Solo schedule)) = OfSchedule schedule ∷ []
 files_of (Some (Plan topology)) = OfTopology topology ∷ []
 files_of (Some (Check topology plan)) = OfTopology topology ∷ OfPlan plan ∷ []
 files_of (Some (Renew topology plan absent)) = OfTopology topology ∷ OfPlan plan ∷ OfAbsent absent ∷ []
+files_of (Some (Replay topology plans schedule)) = OfTopology topology ∷ plans_and_schedule plans schedule
 files_of (Some (Migrate topology)) = OfTopology topology ∷ []
 files_of (Some (Twoway topology exchanges)) = OfTopology topology ∷ OfExchanges exchanges ∷ []
 files_of (Some (Drill topology plan budget)) = OfTopology topology ∷ OfPlan plan ∷ []

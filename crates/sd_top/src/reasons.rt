@@ -1,28 +1,10 @@
-//! Why a line of a schedule is refused, as it is printed.
+//! Why an event of a device alone is refused, as it is printed.
 ghost use Rattle.std.specs.Prelude.{◌≡◌, ◌≤◌, [], length};
 ghost use Rattle.sd_outside.specs.Printed.{printed};
 ghost use Rattle.sd_solo.specs.Faults.{fault_name};
-ghost use Rattle.sd_top.specs.Reasons.{line_reason};
 
 use sd_outside::LineBuffer;
-use sd_sched::LineFault;
 use sd_solo::SoloFault;
-
-/// Prints why a line is no line of a schedule.
-pub fn print_line_fault(out: &mut LineBuffer, fault: LineFault)
-    ensures text { printed out.new ≡ line_reason fault }
-    ensures short { length (printed out.new) ≤ 64 }
-{
-    out.clear();
-    match fault {
-        LineFault::UnknownWord => out.push(b"UnknownWord"),
-        LineFault::FieldCount => out.push(b"FieldCount"),
-        LineFault::Number(field) => {
-            out.push(b"Number ");
-            out.push_number(u128::from(field));
-        }
-    }
-}
 
 /// Prints why an event of a device alone is refused.
 pub fn print_solo_fault(out: &mut LineBuffer, fault: SoloFault)

@@ -8,11 +8,12 @@ ghost use Rattle.sd_work.specs.Works.{refused_part};
 ghost use Rattle.sd_top.specs.Schedules.{IsSolo, solo_work};
 
 use crate::lines::{print_done, print_report};
-use crate::reasons::{print_line_fault, print_solo_fault};
+use crate::reasons::print_solo_fault;
 use sd_files::{Status, Stop, send};
 use sd_num::NoMemory;
 use sd_outside::{LineBuffer, Shelf, Sink};
 use sd_sched::Event;
+use sd_schedules::print_line_fault;
 use sd_solo::{Solo, read_solo_line};
 use sd_work::{LineWork, Taken, work_through};
 use std::alloc::Global;

@@ -23,6 +23,7 @@ use crate::twoway::twoway;
 use crate::words::{Command, command_of};
 use sd_files::{Status, Stop, write_answer};
 use sd_outside::{Shelf, Sink};
+use sd_schedules::{Files, replay};
 use std::alloc::Global;
 
 /// Does the work of the words that follow the program's name, and answers how it ended.
@@ -98,6 +99,20 @@ fn perform<S: Shelf, O: Sink>(
             let made = renew(alloc, shelf, topology, plan, absent);
             write_answer(alloc, &made, out)
         }
+        Some(
+            Command::Replay {
+                topology,
+                plans,
+                schedule,
+            },
+        ) => {
+            let files = Files {
+                topology,
+                plans,
+                schedule,
+            };
+            replay(alloc, shelf, files, out)
+        }
         Some(Command::Migrate { topology }) => {
             let made = migrate(alloc, shelf, topology);
             write_answer(alloc, &made, out)
@@ -146,7 +161,7 @@ fn usage<O: Sink>(out: &mut O) -> Result<Status, Stop>
     ensures sink { result ≡ Err Stop.Sink → Rose (O.faults out.old) (O.faults out.new) }
 {
     match out.write(
-        b"usage: sundial solo SCHEDULE | plan TOPOLOGY | check TOPOLOGY PLAN | renew TOPOLOGY PLAN ABSENT | migrate TOPOLOGY | twoway TOPOLOGY EXCHANGES | drill TOPOLOGY PLAN BASE HOLD\n",
+        b"usage: sundial solo SCHEDULE | plan TOPOLOGY | check TOPOLOGY PLAN | renew TOPOLOGY PLAN ABSENT | replay TOPOLOGY PLAN.. SCHEDULE | migrate TOPOLOGY | twoway TOPOLOGY EXCHANGES | drill TOPOLOGY PLAN BASE HOLD\n",
     ) {
         Ok(()) => Ok(Status::Usage),
         Err(_) => Err(Stop::Sink),

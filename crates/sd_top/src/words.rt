@@ -1,5 +1,5 @@
 //! What the words of the command mean.
-ghost use Rattle.std.specs.Prelude.{◌≡◌, ◌≤◌, ◌^◌, map, option_map, string_bytes, IfSome};
+ghost use Rattle.std.specs.Prelude.{◌≡◌, ◌≤◌, ◌&&◌, ◌^◌, map, option_map, string_bytes, IfSome};
 ghost use Rattle.sd_drill.specs.Bounds.{IsBudget};
 ghost use Rattle.sd_top.specs.Parsed.{IsGranted, named};
 ghost use Rattle.sd_top.specs.Words as meaning;
@@ -25,6 +25,11 @@ pub(crate) enum Command<'w> {
         plan: &'w str,
         absent: &'w str,
     },
+    Replay {
+        topology: &'w str,
+        plans: &'w [String],
+        schedule: &'w str,
+    },
     Migrate {
         topology: &'w str,
     },
@@ -38,6 +43,9 @@ pub(crate) enum Command<'w> {
         budget: Budget,
     },
 }
+
+/// How many plans a command has at most.
+const MOST_PLANS: usize = 64;
 
 /// The command of a word with the name of one file.
 fn with_one_file<'w>(word: &str, file: &'w str) -> Option<Command<'w>>
@@ -73,6 +81,21 @@ fn with_two_files<'w>(word: &str, first: &'w str, second: &'w str) -> Option<Com
     }
 }
 
+/// The number of a word, from the least to the greatest.
+fn number_from(word: &str, low: u64, high: u64) -> Option<u64>
+    ensures is { result ≡ meaning.number_from low high word.now }
+    ensures limits { IfSome result (λ n. (low ≤ n) × (n ≤ high)) }
+{
+    match read_u64(word.as_bytes()) {
+        Ok(number) => if low <= number && number <= high {
+            Some(number)
+        } else {
+            None
+        },
+        Err(_) => None,
+    }
+}
+
 /// The command of a word with the names of three files.
 fn with_three_files<'w>(
     word: &str,
@@ -93,28 +116,13 @@ fn with_three_files<'w>(
     }
 }
 
-/// A number up to the limit of a budget, which is 2^60.
-fn granted(word: &str) -> Option<u64>
-    ensures is { result ≡ meaning.granted word.now }
-    ensures limit { IfSome result (λ n. n ≤ 2 ^ 60) }
-{
-    match read_u64(word.as_bytes()) {
-        Ok(number) => if number <= 1 << 60 {
-            Some(number)
-        } else {
-            None
-        },
-        Err(_) => None,
-    }
-}
-
 /// The budget of the words for its base and its hold.
 fn budget_of(base: &str, hold: &str) -> Option<Budget>
     ensures is { result ≡ meaning.budget_of base.now hold.now }
     ensures limits { IfSome result IsBudget }
 {
-    let base = granted(base)?;
-    let hold = granted(hold)?;
+    let base = number_from(base, 0, 1 << 60)?;
+    let hold = number_from(hold, 0, 1 << 60)?;
     Some(Budget { base, hold })
 }
 
@@ -140,27 +148,84 @@ fn with_budget<'w>(
     })
 }
 
-/// The command of the words, if they are in the table.
-pub(crate) fn command_of(words: &[String]) -> Option<Command<'_>>
-    ensures is { option_map named result ≡ meaning.command_of (map string_bytes words.now) }
+/// The command of a word with a fixed count of words behind it.
+fn with_fixed<'w>(word: &str, others: &'w [String]) -> Option<Command<'w>>
+    ensures is { option_map named result ≡ meaning.with_fixed word.now (map string_bytes others.now) }
     ensures granted { IfSome result IsGranted }
 {
-    match words {
-        [word, file] => with_one_file(word.as_str(), file.as_str()),
-        [word, first, second] => with_two_files(word.as_str(), first.as_str(), second.as_str()),
-        [word, first, second, third] => with_three_files(
-            word.as_str(),
-            first.as_str(),
-            second.as_str(),
-            third.as_str(),
-        ),
-        [word, first, second, third, fourth] => with_budget(
-            word.as_str(),
+    match others {
+        [file] => with_one_file(word, file.as_str()),
+        [first, second] => with_two_files(word, first.as_str(), second.as_str()),
+        [first, second, third] => {
+            with_three_files(word, first.as_str(), second.as_str(), third.as_str())
+        }
+        [first, second, third, fourth] => with_budget(
+            word,
             first.as_str(),
             second.as_str(),
             third.as_str(),
             fourth.as_str(),
         ),
         _ => None,
+    }
+}
+
+/// A word whose command has any count of plans.
+fn takes_plans(word: &str) -> bool
+    ensures { result ≡ meaning.takes_plans word.now }
+{
+    word == "replay"
+}
+
+/// The command of a word with the names of a topology, of plans and of a schedule.
+fn over_plans<'w>(
+    word: &str,
+    topology: &'w str,
+    plans: &'w [String],
+    schedule: &'w str,
+) -> Option<Command<'w>>
+    ensures is { option_map named result ≡ meaning.over_plans word.now topology.now (map string_bytes plans.now) schedule.now }
+    ensures granted { IfSome result IsGranted }
+{
+    if plans.is_empty() || plans.len() > MOST_PLANS {
+        return None;
+    }
+    if word == "replay" {
+        Some(Command::Replay {
+            topology,
+            plans,
+            schedule,
+        })
+    } else {
+        None
+    }
+}
+
+/// The command of a word with the files behind it, whatever the count of its plans.
+fn with_plans<'w>(word: &str, files: &'w [String]) -> Option<Command<'w>>
+    ensures is { option_map named result ≡ meaning.with_plans word.now (map string_bytes files.now) }
+    ensures granted { IfSome result IsGranted }
+{
+    match files {
+        [topology, plans @ .., schedule] => {
+            over_plans(word, topology.as_str(), plans, schedule.as_str())
+        }
+        _ => None,
+    }
+}
+
+/// The command of the words, if they are in the table.
+pub(crate) fn command_of(words: &[String]) -> Option<Command<'_>>
+    ensures is { option_map named result ≡ meaning.command_of (map string_bytes words.now) }
+    ensures granted { IfSome result IsGranted }
+{
+    let [word, others @ ..] = words else {
+        return None;
+    };
+    let word = word.as_str();
+    if takes_plans(word) {
+        with_plans(word, others)
+    } else {
+        with_fixed(word, others)
     }
 }

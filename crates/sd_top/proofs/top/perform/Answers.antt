@@ -1,9 +1,12 @@
-use Rattle.std.proofs.Common.{None, Some, ap, refl, sym, ◌∙◌}
+use Rattle.std.proofs.Common.{[], None, Some, ap, map, refl, string_bytes, sym, ◌∙◌}
+use Rattle.std.specs.Prelude.{IsTrue}
 use Rattle.sd_files.proofs.Loading.{told_always}
 use Rattle.sd_top.specs.Parsed.{named}
-use Rattle.sd_top.specs.Words.Command.{Solo, Plan, Check, Renew, Migrate, Twoway, Drill}
+use Rattle.sd_top.specs.Words.{OfTopology, OfPlan, command_of, files_of}
+use Rattle.sd_top.specs.Words.Command.{Solo, Plan, Check, Renew, Replay, Migrate, Twoway, Drill}
 use Rattle.sd_top.specs.declared.words.Command.{Command as Parsed}
 use Rattle.sd_top.proofs.Performing.{meets_told, meets_once, near_told, near_nothing}
+use Rattle.sd_top.proofs.Serving.{serves_first, serves_second, serves_topology, serves_plans, serves_schedule}
 use Rattle.sd_top.proofs.top.perform.Goals as goal
 
 pub returns-in-Some-Solo-clause-outcome : goal.returns-in-Some-Solo-clause-outcome
@@ -30,6 +33,24 @@ returns-in-Some-Renew-clause-outcome g c = meets_once _ _ (Some (Renew c.in-Some
 pub returns-in-Some-Renew-clause-near : goal.returns-in-Some-Renew-clause-near
 returns-in-Some-Renew-clause-near g c = λ refused. near_nothing _ _ (Some (Renew c.in-Some-Renew.topology.now c.in-Some-Renew.plan.now c.in-Some-Renew.absent.now)) _ (ap (λ (x : Parsed). Some (named x)) (sym c.in-Some-Renew.field-0-is) ∙ c.in-Some-Renew.ensures.is) (λ texts. refl)
 
+pub replay-requires-clause-topology : goal.replay-requires-clause-topology
+replay-requires-clause-topology g c =
+    serves_topology (λ name. IsTrue (g.S.Shelf.serves c.args.shelf.now name)) c.in-Some-Replay.schedule.now c.in-Some-Replay.topology.now (map string_bytes c.in-Some-Replay.plans.now) (files_of (command_of (map string_bytes c.args.words.now))) (ap files_of (ap (λ (x : Parsed). Some (named x)) (sym c.in-Some-Replay.field-0-is) ∙ c.in-Some-Replay.ensures.is)) c.requires
+
+pub replay-requires-clause-plans : goal.replay-requires-clause-plans
+replay-requires-clause-plans g c =
+    serves_plans (λ name. IsTrue (g.S.Shelf.serves c.args.shelf.now name)) c.in-Some-Replay.schedule.now c.in-Some-Replay.topology.now (map string_bytes c.in-Some-Replay.plans.now) (files_of (command_of (map string_bytes c.args.words.now))) (ap files_of (ap (λ (x : Parsed). Some (named x)) (sym c.in-Some-Replay.field-0-is) ∙ c.in-Some-Replay.ensures.is)) c.requires
+
+pub replay-requires-clause-schedule : goal.replay-requires-clause-schedule
+replay-requires-clause-schedule g c =
+    serves_schedule (λ name. IsTrue (g.S.Shelf.serves c.args.shelf.now name)) c.in-Some-Replay.schedule.now c.in-Some-Replay.topology.now (map string_bytes c.in-Some-Replay.plans.now) (files_of (command_of (map string_bytes c.args.words.now))) (ap files_of (ap (λ (x : Parsed). Some (named x)) (sym c.in-Some-Replay.field-0-is) ∙ c.in-Some-Replay.ensures.is)) c.requires
+
+pub returns-in-Some-Replay-clause-outcome : goal.returns-in-Some-Replay-clause-outcome
+returns-in-Some-Replay-clause-outcome g c = meets_told _ _ (Some (Replay c.in-Some-Replay.topology.now (map string_bytes c.in-Some-Replay.plans.now) c.in-Some-Replay.schedule.now)) _ _ _ (ap (λ (x : Parsed). Some (named x)) (sym c.in-Some-Replay.field-0-is) ∙ c.in-Some-Replay.ensures.is) c.replay.ensures.outcome
+
+pub returns-in-Some-Replay-clause-near : goal.returns-in-Some-Replay-clause-near
+returns-in-Some-Replay-clause-near g c = λ refused. near_told _ _ (Some (Replay c.in-Some-Replay.topology.now (map string_bytes c.in-Some-Replay.plans.now) c.in-Some-Replay.schedule.now)) _ (ap (λ (x : Parsed). Some (named x)) (sym c.in-Some-Replay.field-0-is) ∙ c.in-Some-Replay.ensures.is) (c.replay.ensures.near refused)
+
 pub returns-in-Some-Migrate-clause-outcome : goal.returns-in-Some-Migrate-clause-outcome
 returns-in-Some-Migrate-clause-outcome g c = meets_once _ _ (Some (Migrate c.in-Some-Migrate.topology.now)) c.migrate-made.result _ _ _ (ap (λ (x : Parsed). Some (named x)) (sym c.in-Some-Migrate.field-0-is) ∙ c.in-Some-Migrate.ensures.is) refl c.migrate-made.ensures.makes c.write_answer-in-Some-Migrate.ensures.writes
 
@@ -41,6 +62,14 @@ returns-in-Some-Twoway-clause-outcome g c = meets_told _ _ (Some (Twoway c.in-So
 
 pub returns-in-Some-Twoway-clause-near : goal.returns-in-Some-Twoway-clause-near
 returns-in-Some-Twoway-clause-near g c = λ refused. near_told _ _ (Some (Twoway c.in-Some-Twoway.topology.now c.in-Some-Twoway.exchanges.now)) _ (ap (λ (x : Parsed). Some (named x)) (sym c.in-Some-Twoway.field-0-is) ∙ c.in-Some-Twoway.ensures.is) (c.twoway.ensures.near refused)
+
+pub drill-requires-clause-topology : goal.drill-requires-clause-topology
+drill-requires-clause-topology g c =
+    serves_first (λ name. IsTrue (g.S.Shelf.serves c.args.shelf.now name)) (OfTopology c.in-Some-Drill.topology.now) (OfPlan c.in-Some-Drill.plan.now) [] (files_of (command_of (map string_bytes c.args.words.now))) (ap files_of (ap (λ (x : Parsed). Some (named x)) (sym c.in-Some-Drill.field-0-is) ∙ c.in-Some-Drill.ensures.is)) c.requires
+
+pub drill-requires-clause-plan : goal.drill-requires-clause-plan
+drill-requires-clause-plan g c =
+    serves_second (λ name. IsTrue (g.S.Shelf.serves c.args.shelf.now name)) (OfTopology c.in-Some-Drill.topology.now) (OfPlan c.in-Some-Drill.plan.now) [] (files_of (command_of (map string_bytes c.args.words.now))) (ap files_of (ap (λ (x : Parsed). Some (named x)) (sym c.in-Some-Drill.field-0-is) ∙ c.in-Some-Drill.ensures.is)) c.requires
 
 pub returns-in-Some-Drill-clause-outcome : goal.returns-in-Some-Drill-clause-outcome
 returns-in-Some-Drill-clause-outcome g c = meets_told _ _ (Some (Drill c.in-Some-Drill.topology.now c.in-Some-Drill.plan.now c.in-Some-Drill.budget)) _ _ _ (ap (λ (x : Parsed). Some (named x)) (sym c.in-Some-Drill.field-0-is) ∙ c.in-Some-Drill.ensures.is) c.drill.ensures.outcome

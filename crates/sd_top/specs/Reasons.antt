@@ -1,9 +1,0 @@
--- Why a line of a schedule is none, as it is printed.
-use Rattle.std.specs.Prelude.{ℕ, List, ◌++◌, codes, decimal}
-use Rattle.sd_sched.specs.declared.LineFault.{LineFault}
-use Rattle.sd_sched.specs.declared.LineFault.TheVariants.{UnknownWord, FieldCount, Number}
-
-abbrev pub line_reason : LineFault → List ℕ
-line_reason UnknownWord = codes "UnknownWord"
-line_reason FieldCount = codes "FieldCount"
-line_reason (Number field) = codes "Number " ++ decimal field
