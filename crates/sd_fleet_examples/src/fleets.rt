@@ -35,7 +35,11 @@ impl From<NoMemory> for NoFleet {
 }
 
 /// A fleet over a topology with the plans of some texts, before any event.
-fn fleet_over<N: Node>(alloc: Global, topo: &Topology, plans: &[&str]) -> Result<Fleet<N>, NoFleet>
+pub fn fleet_over<N: Node>(
+    alloc: Global,
+    topo: &Topology,
+    plans: &[&str],
+) -> Result<Fleet<N>, NoFleet>
     ensures { IfOk result (λ fleet. (setting : Setting) × StandsFor N.Node fleet setting []) }
 {
     let plans = plans_of(alloc, topo, plans)?;

@@ -9,6 +9,6 @@ mod fleets;
 mod plans;
 mod texts;
 
-pub use fleets::{NoFleet, fleet_of};
+pub use fleets::{NoFleet, fleet_of, fleet_over};
 pub use plans::{NoPlans, plans_of};
 pub use texts::{Example, FABRIC, PAIR, SQUARE, TRIANGLE};

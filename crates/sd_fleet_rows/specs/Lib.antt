@@ -1,0 +1,2 @@
+-- Nodes of other kinds than a device.
+pub mod Kinds
