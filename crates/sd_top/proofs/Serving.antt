@@ -1,5 +1,5 @@
 -- The names that a command needs of the shelf, file by file.
-use Rattle.std.proofs.Common.{◌≡◌, ℕ, List, [], ◌∷◌, sym, subst}
+use Rattle.std.proofs.Common.{◌≡◌, ℕ, List, [], ◌∷◌, refl, sym, subst}
 use Rattle.std.specs.Prelude.{All}
 use Rattle.std.proofs.lemmas.List.Elements.{All-cons, All-head, All-nil, All-tail}
 use Rattle.sd_top.specs.Words.{File, OfTopology, OfPlan, OfSchedule, name_of, plans_and_schedule}
@@ -16,6 +16,11 @@ module _ (Serves : List ℕ → Type 0) where
 
     pub serves_second : Serves (name_of second)
     serves_second = All-head ServesFile second others (All-tail ServesFile first (second ∷ others) (subst (All ServesFile) (sym are) all))
+
+  -- and the third
+  module _ (first second third : File) (others files : List File) (are : first ∷ second ∷ third ∷ others ≡ files) (all : All ServesFile files) where
+    pub serves_third : Serves (name_of third)
+    serves_third = serves_second second third others (second ∷ third ∷ others) refl (All-tail ServesFile first (second ∷ third ∷ others) (subst (All ServesFile) (sym are) all))
 
   module _ (schedule : List ℕ) where
     plans_served : (plans : List (List ℕ)) → All ServesFile (plans_and_schedule plans schedule) → All Serves plans

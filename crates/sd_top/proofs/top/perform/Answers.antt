@@ -1,12 +1,12 @@
-use Rattle.std.proofs.Common.{[], None, Some, ap, map, refl, string_bytes, sym, ◌∙◌}
+use Rattle.std.proofs.Common.{[], ◌∷◌, None, Some, ap, map, refl, string_bytes, sym, ◌∙◌}
 use Rattle.std.specs.Prelude.{IsTrue}
 use Rattle.sd_files.proofs.Loading.{told_always}
 use Rattle.sd_top.specs.Parsed.{named}
-use Rattle.sd_top.specs.Words.{OfTopology, OfPlan, command_of, files_of}
+use Rattle.sd_top.specs.Words.{OfTopology, OfPlan, OfAbsent, command_of, files_of}
 use Rattle.sd_top.specs.Words.Command.{Solo, Plan, Check, Renew, Replay, Migrate, Twoway, Drill}
 use Rattle.sd_top.specs.declared.words.Command.{Command as Parsed}
 use Rattle.sd_top.proofs.Performing.{meets_told, meets_once, near_told, near_nothing}
-use Rattle.sd_top.proofs.Serving.{serves_first, serves_second, serves_topology, serves_plans, serves_schedule}
+use Rattle.sd_top.proofs.Serving.{serves_first, serves_second, serves_third, serves_topology, serves_plans, serves_schedule}
 use Rattle.sd_top.proofs.top.perform.Goals as goal
 
 pub returns-in-Some-Solo-clause-outcome : goal.returns-in-Some-Solo-clause-outcome
@@ -26,6 +26,15 @@ returns-in-Some-Check-clause-outcome g c = meets_once _ _ (Some (Check c.in-Some
 
 pub returns-in-Some-Check-clause-near : goal.returns-in-Some-Check-clause-near
 returns-in-Some-Check-clause-near g c = λ refused. near_nothing _ _ (Some (Check c.in-Some-Check.topology.now c.in-Some-Check.plan.now)) _ (ap (λ (x : Parsed). Some (named x)) (sym c.in-Some-Check.field-0-is) ∙ c.in-Some-Check.ensures.is) (λ texts. refl)
+
+pub renew-made-requires-clause-topology : goal.renew-made-requires-clause-topology
+renew-made-requires-clause-topology g c = serves_first (λ name. IsTrue (g.S.Shelf.serves c.args.shelf.now name)) (OfTopology c.in-Some-Renew.topology.now) (OfPlan c.in-Some-Renew.plan.now) (OfAbsent c.in-Some-Renew.absent.now ∷ []) (files_of (command_of (map string_bytes c.args.words.now))) (ap files_of (ap (λ (x : Parsed). Some (named x)) (sym c.in-Some-Renew.field-0-is) ∙ c.in-Some-Renew.ensures.is)) c.requires
+
+pub renew-made-requires-clause-plan : goal.renew-made-requires-clause-plan
+renew-made-requires-clause-plan g c = serves_second (λ name. IsTrue (g.S.Shelf.serves c.args.shelf.now name)) (OfTopology c.in-Some-Renew.topology.now) (OfPlan c.in-Some-Renew.plan.now) (OfAbsent c.in-Some-Renew.absent.now ∷ []) (files_of (command_of (map string_bytes c.args.words.now))) (ap files_of (ap (λ (x : Parsed). Some (named x)) (sym c.in-Some-Renew.field-0-is) ∙ c.in-Some-Renew.ensures.is)) c.requires
+
+pub renew-made-requires-clause-absent : goal.renew-made-requires-clause-absent
+renew-made-requires-clause-absent g c = serves_third (λ name. IsTrue (g.S.Shelf.serves c.args.shelf.now name)) (OfTopology c.in-Some-Renew.topology.now) (OfPlan c.in-Some-Renew.plan.now) (OfAbsent c.in-Some-Renew.absent.now) [] (files_of (command_of (map string_bytes c.args.words.now))) (ap files_of (ap (λ (x : Parsed). Some (named x)) (sym c.in-Some-Renew.field-0-is) ∙ c.in-Some-Renew.ensures.is)) c.requires
 
 pub returns-in-Some-Renew-clause-outcome : goal.returns-in-Some-Renew-clause-outcome
 returns-in-Some-Renew-clause-outcome g c = meets_once _ _ (Some (Renew c.in-Some-Renew.topology.now c.in-Some-Renew.plan.now c.in-Some-Renew.absent.now)) c.renew-made.result _ _ _ (ap (λ (x : Parsed). Some (named x)) (sym c.in-Some-Renew.field-0-is) ∙ c.in-Some-Renew.ensures.is) refl c.renew-made.ensures.makes c.write_answer-in-Some-Renew.ensures.writes

@@ -1,0 +1,11 @@
+pub mod Reporting
+pub mod Versions
+pub mod Whole
+pub mod Reading
+pub mod Loading
+pub mod Lawful
+pub mod Stepping
+pub mod Refusing
+pub mod Working
+pub mod Ordering
+pub mod Migrating
