@@ -7,6 +7,10 @@
 //! all plans that fit it and are accepted. Nothing is assumed beside the premises of the history.
 //! `StaysSafe` stands in specs/Kept of `sd_safety`; docs/SAFETY.md tells why it is true.
 //!
+//! And so no alarm comes before the first broken premise (proofs/Alarms): `replay_alarms` and
+//! `order_alarms`, of all bytes that the commands may write, for all texts of a topology, of plans and
+//! of a schedule.
+//!
 //! # The last step
 //!
 //! `safe_if_behind` of `sd_safety_fallbacks` has it from 14: that the devices behind the backup root
