@@ -11,9 +11,9 @@ mod words;
 
 use sd_examples::{TRIANGLE, TRIANGLE_PLAN};
 use sd_outside::MemShelf;
-use sd_rows_kit::{run_words, shelf_of};
+use sd_rows_kit::run_words;
 use sd_top::Status;
-use std::alloc::Global;
+use std::alloc::{AllocError, Global};
 use std::process::Abort;
 use std::test::Fail;
 use texts::*;
@@ -29,6 +29,20 @@ struct Row<'a> {
     status: Status,
 }
 
+/// Adds a text under a name.
+fn add_text(
+    alloc: Global,
+    files: &mut Vec<(String, Vec<u8>)>,
+    name: &str,
+    text: &str,
+) -> Result<(), AllocError> {
+    files.push((
+        String::from_str(alloc, name)?,
+        Vec::from_slice(alloc, text.as_bytes())?,
+    ))?;
+    Ok(())
+}
+
 /// A shelf that holds the files of a row.
 fn shelf_for(alloc: Global, row: &Row<'_>, piece: usize, failing: &[u64]) -> Result<MemShelf, Fail>
     requires { 1 ≤ piece }
@@ -38,13 +52,12 @@ fn shelf_for(alloc: Global, row: &Row<'_>, piece: usize, failing: &[u64]) -> Res
     for part in row.schedule {
         schedule.extend_from_slice(part.as_bytes())?;
     }
-    let texts = [
-        ("topology", row.topology.as_bytes()),
-        ("plan", TRIANGLE_PLAN.as_bytes()),
-        ("second", SECOND_PLAN.as_bytes()),
-        ("schedule", schedule.as_slice()),
-    ];
-    let shelf = shelf_of(alloc, &texts, piece, failing)?;
+    let mut files = Vec::new(alloc);
+    add_text(alloc, &mut files, "topology", row.topology)?;
+    add_text(alloc, &mut files, "plan", TRIANGLE_PLAN)?;
+    add_text(alloc, &mut files, "second", SECOND_PLAN)?;
+    files.push((String::from_str(alloc, "schedule")?, schedule))?;
+    let shelf = MemShelf::new(files, piece, Vec::from_slice(alloc, failing)?);
     Ok(shelf)
 }
 
