@@ -9,7 +9,7 @@
 #   check    the first plan is accepted
 #   tenth    a tenth of the rounds
 #   replay   all of them
-# The aim: a microsecond an event is far off, and the peak memory of the last two is the same.
+# The aim: at most 0.3 microseconds an event, and the same peak memory for the last two.
 set -eu
 program=$(realpath "$1")
 rounds=${2:-17000}
