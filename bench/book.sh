@@ -1,7 +1,8 @@
 #!/usr/bin/env bash
 # Times what a flight costs that is taken while 10,000 are on their way, in about the order of their numbers.
 # usage: bench/book.sh TESTS
-# TESTS is the test program of sd_msg, as `rt test` in crates/sd_msg leaves it: crates/sd_msg/out/sd_msg_tests.
+# TESTS is the test program of sd_msg_tests, as `rt test` in crates/sd_msg_tests leaves it:
+# crates/sd_msg_tests/out/sd_msg_tests_tests.
 #
 # No command reads a book yet, so this times a test of it: 10,000 flights are sent, then 100,000 are taken, of each
 # sixteen the latest first, and another is sent after each. The test compares each answer, which is in the time too.

@@ -26,7 +26,7 @@ write_topology s1 >"$folder/topology"
 "$program" plan "$folder/topology" >"$folder/plan"
 measure check 0 "accepted $devices $links $((domains + devices + links))" check "$folder/topology" "$folder/plan"
 checking=$least
-measure drill 0 "bound rack0 s0 " drill "$folder/topology" "$folder/plan" 800000 3000000000
+measure drill 0 "bound listed rack0 s0 " drill "$folder/topology" "$folder/plan" 800000 3000000000
 drilling=$least
 last=$(tail -n 1 "$folder/answer")
 if [ "$last" != "done $((domains + devices + links)) $devices" ]; then

@@ -10,5 +10,4 @@ mod Least
 mod Judging
 mod Trailing
 mod Answering
-mod Samples
 pub mod Unique

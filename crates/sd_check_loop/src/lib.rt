@@ -17,8 +17,6 @@ ghost use Rattle.sd_topo.specs.Topologies.{network};
 mod cycle;
 mod graph;
 mod marking;
-#[cfg(test)]
-mod tests;
 
 use cycle::{cycle_from, first_endless};
 use graph::graph_of;

@@ -2,4 +2,4 @@
 mod Numbering
 mod Naming
 mod Building
-mod Reading
+pub mod Reading

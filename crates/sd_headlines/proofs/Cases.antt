@@ -14,15 +14,15 @@ use Rattle.sd_sched.specs.declared.Event.{Event}
 use Rattle.sd_history.specs.World.{Setting}
 use Rattle.sd_history.specs.Steps.{Step, seen_of}
 use Rattle.sd_history.specs.Chronicle.{next_step, chronicle, IsHistory}
-use Rattle.sd_history.specs.Premises.{breaks, all_hold}
+use Rattle.sd_history.specs.Premises.{all_hold}
 use Rattle.sd_history.specs.Lines.{lines_of}
-use Rattle.sd_history.proofs.Contained.{reports_contain}
-use Rattle.sd_safety.specs.Coming.{IsFair}
-use Rattle.sd_safety.specs.Kept.{IsSafe, StaysSafe}
 use Rattle.sd_headlines.specs.Words.{is_plain}
 use Rattle.sd_headlines.specs.Headlines.{has_word, is_calm_case, no_case_alarm}
 use Rattle.sd_headlines.proofs.Numbers.{decimal_plain, says_zero}
-use Rattle.sd_headlines.proofs.Premises.{none_broken, all_still, all_honest, four_parts, no_alarm_due}
+use Rattle.sd_headlines.proofs.Premises.{all_still}
+use Rattle.sd_replay.specs.Promises.{IsSound, StaysSafe}
+use Rattle.sd_replay.proofs.Calm.{history_is_calm}
+use Rattle.sd_replay.proofs.Due.{four_parts}
 use Rattle.sd_headlines.proofs.Quiet.{first_word_is}
 use Rattle.sd_headlines.proofs.Refused.{breach_line}
 use Rattle.sd_headlines.proofs.Texts.{lines_are, text_is_line, plain_one_line, words_are_fields}
@@ -32,30 +32,27 @@ use Rattle.sd_replay.specs.declared.Tally.{Tally}
 -- Tallies
 
 -- all premises hold, and no alarm was due
-record IsCalm (setting : Setting) (events : List Event) : Type 0 where
+record IsQuietHistory (setting : Setting) (events : List Event) : Type 0 where
   holds : all_hold setting (seen_of (chronicle setting events)) ≡ true
   quiet : lines_that is_alarm setting (chronicle setting events) ≡ 0
 
-calm_history : (setting : Setting) → IsFair setting → StaysSafe setting → (events : List Event) → IsHistory setting events → lines_that is_broken setting (chronicle setting events) ≡ 0 → IsCalm setting events
-calm_history setting fair safe [] is none = record { holds = refl; quiet = refl }
-calm_history setting fair safe (e ∷ earlier) is none =
+quiet_history : (setting : Setting) → IsSound setting → StaysSafe setting → (events : List Event) → IsHistory setting events → lines_that is_broken setting (chronicle setting events) ≡ 0 → IsQuietHistory setting events
+quiet_history setting sound safe [] is none = record { holds = refl; quiet = refl }
+quiet_history setting sound safe (e ∷ earlier) is none =
     let before : List Step = chronicle setting earlier in
     let here : Step = next_step setting before e in
     let count : lines_that is_broken setting before + count_by is_broken (lines_of setting (here ∷ before)) ≡ 0 = none in
-    let broken_parts = four_parts setting here before is_broken in
-    let calm : IsCalm setting earlier = calm_history setting fair safe earlier is.0 (omega (arith, count)) in
-    let now : all_hold setting (seen_of (here ∷ before)) ≡ true = all_still setting here before calm.holds (omega (arith, broken_parts, count)) in
-    let kept : IsSafe setting (here ∷ before) = safe (e ∷ earlier) fair (record { is = is; premises = now }) in
-    let quiet = no_alarm_due setting here before kept.loop kept.root (reports_contain setting (e ∷ earlier) is (all_honest setting here before now)) in
-    let never = none_broken is_alarm (λ p. refl) (breaks setting (seen_of (here ∷ before))) in
-    let alarm_parts = four_parts setting here before is_alarm in
-    let last : lines_that is_alarm setting before + count_by is_alarm (lines_of setting (here ∷ before)) ≡ 0 = omega (arith, calm.quiet, alarm_parts, quiet, never) in
+    let parts = four_parts setting here before is_broken in
+    let so_far : IsQuietHistory setting earlier = quiet_history setting sound safe earlier is.0 (omega (arith, count)) in
+    let now : all_hold setting (seen_of (here ∷ before)) ≡ true = all_still setting here before so_far.holds (omega (arith, parts, count)) in
+    let calm = history_is_calm setting safe sound (e ∷ earlier) is now in
+    let last : lines_that is_alarm setting before + count_by is_alarm (lines_of setting (here ∷ before)) ≡ 0 = let latest = calm.no_alarm in omega (arith, so_far.quiet, latest) in
     record { holds = now; quiet = last }
 
--- a history with no line of a premise has no alarm
-pub no_alarm_without : (setting : Setting) → IsFair setting → StaysSafe setting → (events : List Event) → IsHistory setting events
+-- a history with no line of a premise has no alarm, where clean histories are safe
+pub no_alarm_without : (setting : Setting) → IsSound setting → StaysSafe setting → (events : List Event) → IsHistory setting events
     → lines_that is_broken setting (chronicle setting events) ≡ 0 → lines_that is_alarm setting (chronicle setting events) ≡ 0
-no_alarm_without setting fair safe events is none = (calm_history setting fair safe events is none).quiet
+no_alarm_without setting sound safe events is none = (quiet_history setting sound safe events is none).quiet
 
 -- Lines
 
@@ -94,11 +91,11 @@ module _ (events reports eps broken alarms : ℕ) where
       ∙ ap (λ b. b && true) (line_calm calm)
 
 -- the line of the tally of a history, over plans that are accepted and where clean histories are safe
-pub tally_is_calm : (setting : Setting) → IsFair setting → StaysSafe setting → (events : List Event) → IsHistory setting events
+pub tally_is_calm : (setting : Setting) → IsSound setting → StaysSafe setting → (events : List Event) → IsHistory setting events
     → let t = tally_of setting (chronicle setting events) in no_case_alarm (text_of (case_words t.events t.reports t.greatest_eps t.broken t.alarms)) ≡ true
-tally_is_calm setting fair safe events is =
+tally_is_calm setting sound safe events is =
     let t : Tally = tally_of setting (chronicle setting events) in
-    case_is_calm t.events t.reports t.greatest_eps t.broken t.alarms (no_alarm_without setting fair safe events is)
+    case_is_calm t.events t.reports t.greatest_eps t.broken t.alarms (no_alarm_without setting sound safe events is)
 
 -- Other lines
 

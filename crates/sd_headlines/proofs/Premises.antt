@@ -1,49 +1,22 @@
--- While no line names a premise as broken, the premise holds; and what is then due of one event.
-use Rattle.std.specs.Prelude.{◌≡◌, ℕ, zero, suc, ◌+◌, ◌<◌, ◌≤◌, Bool, true, false, cond, ◌&&◌, not, List, [], ◌∷◌, ◌++◌, length, count_by, nat_le, Option, Some, None, option_map, option_to_list, refl, if◌then◌else◌}
-use Rattle.std.specs.List.{list_all}
-use Rattle.std.proofs.Common.{arith, sym, ap, subst, ◌∙◌}
+-- While no line names a premise as broken, the premise holds; and the order of the lines of one event.
+use Rattle.std.specs.Prelude.{◌≡◌, ℕ, zero, suc, ◌+◌, ◌<◌, Bool, true, false, cond, ◌&&◌, not, List, ◌∷◌, ◌++◌, count_by, refl}
+use Rattle.std.proofs.Common.{arith, ap}
 use Rattle.std.proofs.lemmas.Bool.{and_parts, and_from}
-use Rattle.std.proofs.lemmas.List.Folds.{list_all-append}
-use Rattle.sd_num.specs.Lists.{of_some}
-use Rattle.sd_clock.specs.declared.Report.{Report}
-use Rattle.sd_clock.specs.Estimates.{contains}
-use Rattle.sd_msg.specs.Observed.{ReportAt}
-use Rattle.sd_sched.specs.Events.{reference_of}
 use Rattle.sd_history.specs.declared.BrokenSet.{BrokenSet}
 use Rattle.sd_history.specs.World.{Setting, Seen}
 use Rattle.sd_history.specs.Steps.{Step, seen_of}
 use Rattle.sd_history.proofs.Parts.{premises_of, premises_hold}
 use Rattle.sd_history.specs.Premises.{breaks, is_honest, all_hold, start_holds, drift_holds, delay_holds, tick_holds, loss_holds, domain_holds, renew_holds}
-use Rattle.sd_history.specs.Lines.{Line, Premise, Broken, LoopAlarm, RootsAlarm, Reported, IntervalAlarm, broken_lines, loop_lines, root_lines, report_lines, report_of, reports, roots, first_on_loop, lines_of}
+use Rattle.sd_history.specs.Lines.{Line, Premise, Broken, broken_lines, lines_of}
 use Rattle.sd_history.specs.Lines as premise
 use Rattle.sd_headlines.specs.Headlines.{none_before}
 use Rattle.sd_headlines.specs.Kinds.{names_dishonesty}
 use Rattle.sd_headlines.proofs.Behind.{Goes, none_at_all, extended}
-use Rattle.sd_replay.specs.Tallies.{is_broken, is_alarm}
-use Rattle.sd_replay.specs.Devices.{is_miss}
+use Rattle.sd_replay.specs.Tallies.{is_broken}
 use Rattle.sd_replay.proofs.Counted.{more, line_if, split}
-
-same_some : {A : Type 0} {x y : A} → Some x ≡ Some y → x ≡ y
-same_some {x = x} same = ap (λ o. of_some o x (λ z. z)) same
+use Rattle.sd_replay.proofs.Due.{broken, loop, acting, told, four_parts, none_broken}
 
 -- Lines of premises
-
-none_if : (test : Line → Bool) (b : Bool) (p : Premise) → test (Broken p) ≡ false → count_by test (line_if b p) ≡ 0
-none_if test true p is = ap (λ t. 0 + cond {A = ℕ} t 1 0) is
-none_if test false p is = refl
-
--- none of them is of a kind that is of no premise
-pub none_broken : (test : Line → Bool) → ((p : Premise) → test (Broken p) ≡ false) → (b : BrokenSet) → count_by test (broken_lines b) ≡ 0
-none_broken test never b =
-    let all = split b test in
-    let s = none_if test b.start premise.Start (never premise.Start) in
-    let d = none_if test b.drift premise.Drift (never premise.Drift) in
-    let l = none_if test b.delay premise.Delay (never premise.Delay) in
-    let t = none_if test b.tick premise.Tick (never premise.Tick) in
-    let o = none_if test b.loss premise.Loss (never premise.Loss) in
-    let f = none_if test b.domain premise.Domain (never premise.Domain) in
-    let r = none_if test b.renew premise.Renew (never premise.Renew) in
-    omega (arith, all, s, d, l, t, o, f, r)
 
 off_if : (test : Line → Bool) (b : Bool) (p : Premise) → count_by test (line_if b p) ≡ 0 → test (Broken p) ≡ true → b ≡ false
 off_if test true p none is = let one : 0 + cond {A = ℕ} (test (Broken p)) 1 0 ≡ 1 = ap (λ t. 0 + cond {A = ℕ} t 1 0) is in absurd (omega (arith, none, one))
@@ -82,10 +55,7 @@ module _ (setting : Setting) (s : Step) (earlier : List Step) where
   abbrev seen : List Seen
   seen = seen_of earlier
 
-  abbrev broken : List Line
-  broken = broken_lines (breaks setting (seen_of (s ∷ earlier)))
-
-  pub honest_still : is_honest setting seen ≡ true → count_by names_dishonesty broken ≡ 0 → is_honest setting (s.seen ∷ seen) ≡ true
+  pub honest_still : is_honest setting seen ≡ true → count_by names_dishonesty (broken setting s earlier) ≡ 0 → is_honest setting (s.seen ∷ seen) ≡ true
   honest_still honest none =
       let off = are_off names_dishonesty (breaks setting (seen_of (s ∷ earlier))) none in
       let outer = and_parts (start_holds seen && drift_holds setting seen) (delay_holds setting seen) honest in
@@ -96,7 +66,7 @@ module _ (setting : Setting) (s : Step) (earlier : List Step) where
       (still (drift_holds setting seen) (drift_holds setting (s.seen ∷ seen)) inner.1 (off.drift refl)))
       (still (delay_holds setting seen) (delay_holds setting (s.seen ∷ seen)) outer.1 (off.delay refl))
 
-  pub all_still : all_hold setting seen ≡ true → count_by is_broken broken ≡ 0 → all_hold setting (s.seen ∷ seen) ≡ true
+  pub all_still : all_hold setting seen ≡ true → count_by is_broken (broken setting s earlier) ≡ 0 → all_hold setting (s.seen ∷ seen) ≡ true
   all_still hold none =
       let off = are_off is_broken (breaks setting (seen_of (s ∷ earlier))) none in
       let before = premises_of setting seen hold in
@@ -111,116 +81,29 @@ module _ (setting : Setting) (s : Step) (earlier : List Step) where
         renew = still (renew_holds setting seen) (renew_holds setting (s.seen ∷ seen)) before.renew (off.renew refl);
       })
 
-  -- where all premises hold, clocks, oscillators and links are honest
-  pub all_honest : all_hold setting (s.seen ∷ seen) ≡ true → is_honest setting (s.seen ∷ seen) ≡ true
-  all_honest hold =
-      let all = premises_of setting (s.seen ∷ seen) hold in
-      and_from (start_holds (s.seen ∷ seen) && drift_holds setting (s.seen ∷ seen)) (delay_holds setting (s.seen ∷ seen))
-      (and_from (start_holds (s.seen ∷ seen)) (drift_holds setting (s.seen ∷ seen)) all.start all.drift) all.delay
-
--- The other lines of an event
-
--- none is of the kind but where there is a loop now
-no_loop : (test : Line → Bool) (before now : Option ℕ) → ((d : ℕ) → now ≡ Some d → test (LoopAlarm d) ≡ false) → count_by test (loop_lines before now) ≡ 0
-no_loop test None None never = refl
-no_loop test None (Some d) never = ap (λ t. 0 + cond {A = ℕ} t 1 0) (never d refl)
-no_loop test (Some e) now never = refl
-
--- nor but where there are two roots now
-no_roots : (test : Line → Bool) (before now : List ℕ) → (2 ≤ length now → (d e : ℕ) → test (RootsAlarm d e) ≡ false) → count_by test (root_lines before now) ≡ 0
-no_roots test before [] never = refl
-no_roots test before (d ∷ []) never = refl
-no_roots test before (d ∷ e ∷ others) never = by (nat_le 2 (length before))
-  where
-    by : (b : Bool) → count_by test (if b then [] else RootsAlarm d e ∷ []) ≡ 0
-    by true = refl
-    by false = ap (λ t. 0 + cond {A = ℕ} t 1 0) (never (omega arith) d e)
-
--- nor but where a report misses its reference
-no_miss : (test : Line → Bool) (reference : ℕ) (o : Option (ℕ × Report)) → ((d : ℕ) (report : Report) → test (Reported d report) ≡ false) → ((told : ℕ × Report) → o ≡ Some told → contains told.1 reference ≡ true)
-    → count_by test (of_some o [] (report_lines reference)) ≡ 0
-no_miss test reference None never holds = refl
-no_miss test reference (Some told) never holds = by (contains told.1 reference) (holds told refl)
-  where
-    by : (b : Bool) → b ≡ true → count_by test (Reported told.0 told.1 ∷ (if b then [] else IntervalAlarm told.0 reference ∷ [])) ≡ 0
-    by true is = ap (λ t. 0 + cond {A = ℕ} t 1 0) (never told.0 told.1)
-    by false is = cc
-
-abbrev all_contain : List ReportAt → Bool
-all_contain xs = list_all (λ r. contains r.report r.reference) xs
-
-latest_contains : (n reference : ℕ) (o : Option (ℕ × Report)) → all_contain (option_to_list (option_map (λ x. record { line = n; device = x.0; reference = reference; report = x.1 }) o)) ≡ true
-    → (x : ℕ × Report) → o ≡ Some x → contains x.1 reference ≡ true
-latest_contains n reference None all x same = cc
-latest_contains n reference (Some y) all x same = subst (λ (z : ℕ × Report). contains z.1 reference ≡ true) (same_some same) (and_parts (contains y.1 reference) true all).0
+-- The order of an event's lines: those of premises come first.
 
 module _ (setting : Setting) (s : Step) (earlier : List Step) where
-  abbrev loop : List Line
-  loop = loop_lines (first_on_loop setting earlier) (first_on_loop setting (s ∷ earlier))
-
-  abbrev acting : List Line
-  acting = root_lines (roots setting earlier) (roots setting (s ∷ earlier))
-
-  abbrev told : List Line
-  told = of_some (report_of s) [] (report_lines (reference_of s.seen.event))
-
-  -- the lines of an event by their parts
-  pub four_parts : (test : Line → Bool) → count_by test (lines_of setting (s ∷ earlier)) ≡ count_by test (broken setting s earlier) + (count_by test loop + count_by test acting + count_by test told)
-  four_parts test =
-      let l = more test (broken setting s earlier) loop in
-      let r = more test (broken setting s earlier ++ loop) acting in
-      let t = more test (broken setting s earlier ++ loop ++ acting) told in
-      omega (arith, l, r, t)
-
-  -- the latest report has its reference where all reports do
-  told_contains : all_contain (reports (s ∷ earlier)) ≡ true → (x : ℕ × Report) → report_of s ≡ Some x → contains x.1 (reference_of s.seen.event) ≡ true
-  told_contains all =
-      let here : List ReportAt = option_to_list (option_map (λ x. record { line = length earlier + 1; device = x.0; reference = reference_of s.seen.event; report = x.1 }) (report_of s)) in
-      let both = and_parts (all_contain (reports earlier)) (all_contain here) (sym (list_all-append (λ (r : ReportAt). contains r.report r.reference) (reports earlier) here) ∙ all) in
-      latest_contains (length earlier + 1) (reference_of s.seen.event) (report_of s) both.1
-
-  -- no report misses its reference
-  pub no_interval : all_contain (reports (s ∷ earlier)) ≡ true → count_by is_miss loop + count_by is_miss acting + count_by is_miss told ≡ 0
-  no_interval contained =
-      let l = no_loop is_miss (first_on_loop setting earlier) (first_on_loop setting (s ∷ earlier)) (λ d same. refl) in
-      let r = no_roots is_miss (roots setting earlier) (roots setting (s ∷ earlier)) (λ two d e. refl) in
-      let t = no_miss is_miss (reference_of s.seen.event) (report_of s) (λ d report. refl) (told_contains contained) in
-      omega (arith, l, r, t)
-
-  -- there is no alarm where there is no loop, no second root, and no report that misses its reference
-  pub no_alarm_due : first_on_loop setting (s ∷ earlier) ≡ None → length (roots setting (s ∷ earlier)) ≤ 1 → all_contain (reports (s ∷ earlier)) ≡ true
-      → count_by is_alarm loop + count_by is_alarm acting + count_by is_alarm told ≡ 0
-  no_alarm_due none one contained =
-      let l = no_loop is_alarm (first_on_loop setting earlier) (first_on_loop setting (s ∷ earlier)) (λ d same. contradicts (sym none ∙ same)) in
-      let r = no_roots is_alarm (roots setting earlier) (roots setting (s ∷ earlier)) (λ two d e. absurd (omega (arith, one, two))) in
-      let t = no_miss is_alarm (reference_of s.seen.event) (report_of s) (λ d report. refl) (told_contains contained) in
-      omega (arith, l, r, t)
-    where
-      contradicts : {d : ℕ} → None ≡ Some d → is_alarm (LoopAlarm d) ≡ false
-      contradicts same = cc
-
-  -- The order of an event's lines: those of premises come first.
-
   behind_broken : (bad first : Line → Bool) → count_by bad (broken setting s earlier) ≡ 0 → 0 < count_by first (broken setting s earlier) → none_before bad first (lines_of setting (s ∷ earlier)) ≡ true
   behind_broken bad first none some =
-      let l = more first (broken setting s earlier) loop in
-      let r = more first (broken setting s earlier ++ loop) acting in
-      extended bad first (broken setting s earlier ++ loop ++ acting) told
-      (extended bad first (broken setting s earlier ++ loop) acting (extended bad first (broken setting s earlier) loop (none_at_all bad first (broken setting s earlier) none) some) (omega (arith, l, some)))
+      let l = more first (broken setting s earlier) (loop setting s earlier) in
+      let r = more first (broken setting s earlier ++ (loop setting s earlier)) (acting setting s earlier) in
+      extended bad first (broken setting s earlier ++ (loop setting s earlier) ++ (acting setting s earlier)) (told setting s earlier)
+      (extended bad first (broken setting s earlier ++ (loop setting s earlier)) (acting setting s earlier) (extended bad first (broken setting s earlier) (loop setting s earlier) (none_at_all bad first (broken setting s earlier) none) some) (omega (arith, l, some)))
       (omega (arith, l, r, some))
 
   -- an event goes on: its lines of premises are not of the bad kind, and where none of them is of the other kind, no other line is bad
   pub event_goes : {Well : Type 0} (bad first : Line → Bool) → ((p : Premise) → bad (Broken p) ≡ false)
-      → (count_by first (broken setting s earlier) ≡ 0 → Well × (count_by bad loop + count_by bad acting + count_by bad told ≡ 0)) → Goes bad first (lines_of setting (s ∷ earlier)) Well
+      → (count_by first (broken setting s earlier) ≡ 0 → Well × (count_by bad (loop setting s earlier) + count_by bad (acting setting s earlier) + count_by bad (told setting s earlier) ≡ 0)) → Goes bad first (lines_of setting (s ∷ earlier)) Well
   event_goes {Well} bad first never calm =
       record {
         none = by (count_by first (broken setting s earlier)) refl;
-        well = λ nothing. let all = four_parts first in (calm (omega (arith, all, nothing))).0;
+        well = λ nothing. let all = four_parts setting s earlier first in (calm (omega (arith, all, nothing))).0;
       }
     where
       by : (n : ℕ) → count_by first (broken setting s earlier) ≡ n → none_before bad first (lines_of setting (s ∷ earlier)) ≡ true
       by zero is =
-          let all = four_parts bad in
+          let all = four_parts setting s earlier bad in
           let before = none_broken bad never (breaks setting (seen_of (s ∷ earlier))) in
           let behind = (calm is).1 in
           none_at_all bad first (lines_of setting (s ∷ earlier)) (omega (arith, all, before, behind))

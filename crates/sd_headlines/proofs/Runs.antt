@@ -30,9 +30,9 @@ use Rattle.sd_planfiles.proofs.Reading.{each_more}
 use Rattle.sd_sched.specs.declared.Event.{Event}
 use Rattle.sd_history.specs.World.{Setting}
 use Rattle.sd_work.specs.Works.{Work, IsOutcome}
-use Rattle.sd_safety.specs.Kept.{StaysSafe}
 use Rattle.sd_headlines.specs.Headlines.{whole_lines, none_before, is_alarm, is_broken, is_interval_alarm, is_disorder, is_dishonest, no_early_alarm, no_early_interval, no_early_disorder}
 use Rattle.sd_headlines.specs.Runs.{IsRunOf}
+use Rattle.sd_replay.specs.Promises.{StaysSafe}
 use Rattle.sd_headlines.specs.Works.{PrintsEvents, PrintsWaits}
 use Rattle.sd_headlines.proofs.Behind.{none_at_all}
 use Rattle.sd_headlines.proofs.Quiet.{IsQuiet}

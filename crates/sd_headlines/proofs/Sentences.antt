@@ -20,8 +20,7 @@ use Rattle.sd_wait.specs.Printed.{bytes_at, waits_line}
 use Rattle.sd_wait.specs.declared.WaitTally.{WaitTally}
 use Rattle.sd_wait_order.proofs.Ordered.{keeps_order}
 use Rattle.sd_work.specs.Works.{Work, reading, written_for}
-use Rattle.sd_safety.specs.Coming.{IsFair}
-use Rattle.sd_safety.specs.Kept.{IsSafe, StaysSafe}
+use Rattle.sd_replay.specs.Promises.{IsSound, StaysSafe}
 use Rattle.sd_headlines.specs.Headlines.{is_alarm, is_broken, is_interval_alarm, is_disorder, is_dishonest, no_early_alarm, no_early_interval, no_early_disorder}
 use Rattle.sd_headlines.specs.Words.{is_plain}
 use Rattle.sd_headlines.specs.Kinds.{names_dishonesty}
@@ -30,7 +29,8 @@ use Rattle.sd_headlines.proofs.Behind.{Goes, none_at_all, goes_on, goes_quietly,
 use Rattle.sd_headlines.proofs.Numbers.{decimal_plain}
 use Rattle.sd_headlines.proofs.Quiet.{IsQuiet, quiet_behind, quiet_text}
 use Rattle.sd_headlines.proofs.Texts.{AreLines, no_lines, lines_behind, plain_is_one_line}
-use Rattle.sd_headlines.proofs.Premises.{honest_still, all_still, all_honest, no_interval, no_alarm_due, event_goes}
+use Rattle.sd_headlines.proofs.Premises.{honest_still, all_still, event_goes}
+use Rattle.sd_replay.proofs.Due.{all_honest, no_interval, no_alarm_due}
 use Rattle.sd_headlines.proofs.Printed.{printed, alarm_is, broken_is, interval_is, dishonest_is, disorder_is, device_plain, event_lines, bytes_are_lines}
 use Rattle.sd_headlines.proofs.Waiting as wait
 use Rattle.sd_headlines.proofs.Waiting.{printed_wait}
@@ -60,13 +60,13 @@ module _ (setting : Setting) (earlier : List Event) (e : Event) (is : IsHistory 
       (λ nothing. let now = honest_still setting here before honest nothing in (now, no_interval setting here before (reports_contain setting (e ∷ earlier) is now)))
 
   -- no alarm before the first line of a premise
-  alarm_goes : IsFair setting → StaysSafe setting → IsCalm setting earlier → Goes lines.is_alarm lines.is_broken (lines_of setting (here ∷ before)) (IsCalm setting (e ∷ earlier))
-  alarm_goes fair safe calm =
+  alarm_goes : IsSound setting → StaysSafe setting → IsCalm setting earlier → Goes lines.is_alarm lines.is_broken (lines_of setting (here ∷ before)) (IsCalm setting (e ∷ earlier))
+  alarm_goes sound safe calm =
       event_goes setting here before lines.is_alarm lines.is_broken (λ p. refl)
       (λ nothing.
       let now = all_still setting here before calm nothing in
-      let kept : IsSafe setting (here ∷ before) = safe (e ∷ earlier) fair (record { is = is; premises = now }) in
-      (now, no_alarm_due setting here before kept.loop kept.root (reports_contain setting (e ∷ earlier) is (all_honest setting here before now))))
+      let kept = safe (e ∷ earlier) sound is now in
+      (now, no_alarm_due setting here before kept.0 kept.1 (reports_contain setting (e ∷ earlier) is (all_honest setting here before now))))
 
   -- a line of an event tells no disorder
   no_disorder_goes : IsHonest setting earlier → Goes (λ line. false) names_dishonesty (lines_of setting (here ∷ before)) (IsHonest setting (e ∷ earlier))
@@ -166,10 +166,10 @@ module _ (setting : Setting) (net : IsNetwork setting.net) (work : Work Event) w
         (record { ls = λ earlier e. event_lines setting (chronicle setting (e ∷ earlier)); are = lines_printed; goes = λ earlier e is honest. intervals_printed setting net earlier e (interval_goes setting earlier e is honest) }) refl
         prints.reads last_printed (λ text quiet. quiet.intervals)
 
-    pub events_keep_alarm : IsFair setting → StaysSafe setting → (schedule : List ℕ) → no_early_alarm (written_for work (reading work schedule)) ≡ true
-    events_keep_alarm fair safe =
+    pub events_keep_alarm : IsSound setting → StaysSafe setting → (schedule : List ℕ) → no_early_alarm (written_for work (reading work schedule)) ≡ true
+    events_keep_alarm sound safe =
         reading_passes is_alarm is_broken setting work (IsCalm setting)
-        (record { ls = λ earlier e. event_lines setting (chronicle setting (e ∷ earlier)); are = lines_printed; goes = λ earlier e is calm. alarms_printed setting net earlier e (alarm_goes setting earlier e is fair safe calm) }) refl
+        (record { ls = λ earlier e. event_lines setting (chronicle setting (e ∷ earlier)); are = lines_printed; goes = λ earlier e is calm. alarms_printed setting net earlier e (alarm_goes setting earlier e is sound safe calm) }) refl
         prints.reads last_printed (λ text quiet. quiet.alarms)
 
   module _ (prints : PrintsWaits setting work) where
@@ -203,15 +203,15 @@ module _ (setting : Setting) (net : IsNetwork setting.net) (work : Work Event) w
               (intervals_printed setting net earlier e (interval_goes setting earlier e is honest));
         }) refl prints.reads both_last (λ text quiet. quiet.intervals)
 
-    pub waits_keep_alarm : IsFair setting → StaysSafe setting → (schedule : List ℕ) → no_early_alarm (written_for work (reading work schedule)) ≡ true
-    waits_keep_alarm fair safe =
+    pub waits_keep_alarm : IsSound setting → StaysSafe setting → (schedule : List ℕ) → no_early_alarm (written_for work (reading work schedule)) ≡ true
+    waits_keep_alarm sound safe =
         reading_passes is_alarm is_broken setting work (IsCalm setting)
         (record {
           ls = both_lines;
           are = both_printed;
           goes = λ earlier e is calm.
               quietly is_alarm is_broken earlier e (λ holds. none_waiting setting net (chronicle setting earlier) (next_step setting (chronicle setting earlier) e) is_alarm wait.no_alarm)
-              (alarms_printed setting net earlier e (alarm_goes setting earlier e is fair safe calm));
+              (alarms_printed setting net earlier e (alarm_goes setting earlier e is sound safe calm));
         }) refl prints.reads both_last (λ text quiet. quiet.alarms)
 
     pub waits_keep_order : (schedule : List ℕ) → no_early_disorder (written_for work (reading work schedule)) ≡ true

@@ -21,6 +21,6 @@
 //! and of a schedule, the lines of refusals among it (`Refused`).
 //!
 //! That reports contain their references and that commit wait keeps order is proved of every
-//! history. That there is no loop and one root at most enters as a hypothesis (`StaysSafe`), and
-//! with it `no_early_alarm` and `no_case_alarm`.
+//! history. That there is no loop and one root at most enters as a hypothesis (`StaysSafe`), which is
+//! proved of every setting, and with it `no_early_alarm` and `no_case_alarm`.
 #![tactic(auto)]

@@ -12,7 +12,7 @@ use Rattle.sd_history.specs.Chronicle.{chronicle}
 use Rattle.sd_history.specs.Refusals.{refusal}
 use Rattle.sd_history.specs.declared.ApplyFault.{ApplyFault}
 use Rattle.sd_history.specs.declared.ApplyFault.TheVariants as apply
-use Rattle.sd_safety.specs.Kept.{StaysSafe}
+use Rattle.sd_replay.specs.Promises.{StaysSafe}
 use Rattle.sd_schedules.specs.Reasons.{line_reason, apply_name}
 use Rattle.sd_schedules.specs.Replays.{accepted, unless_refused, replay_work, order_work}
 use Rattle.sd_headlines.specs.Words.{is_one_line}

@@ -5,8 +5,6 @@
 mod buffer;
 mod findings;
 mod printing;
-#[cfg(test)]
-mod tests;
 
 pub use buffer::EventLines;
 pub use findings::Findings;

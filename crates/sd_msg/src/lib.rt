@@ -8,8 +8,6 @@ mod marks;
 mod observer;
 mod spent;
 mod stamps;
-#[cfg(test)]
-mod tests;
 
 pub use book::FlightBook;
 pub use kept::KeptReports;

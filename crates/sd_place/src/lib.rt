@@ -10,8 +10,6 @@ mod present;
 mod roots;
 mod sides;
 mod spreading;
-#[cfg(test)]
-mod tests;
 mod waiting;
 
 pub use placement::{Placed, Placement};

@@ -3,8 +3,6 @@
 
 mod backups;
 mod plan;
-#[cfg(test)]
-mod tests;
 mod waits;
 
 pub use plan::plan_for;

@@ -9,5 +9,4 @@ pub mod Shown
 pub mod Shape
 pub mod Filled
 pub mod ReadBack
-pub mod PrintedFabric
 mod Samples

@@ -4,8 +4,6 @@
 mod fault;
 mod print;
 mod read;
-#[cfg(test)]
-mod tests;
 
 pub use fault::{PlanFault, PlanKey, PlanPlace};
 pub use print::plan_text;

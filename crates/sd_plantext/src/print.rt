@@ -9,8 +9,6 @@ ghost use Rattle.sd_plantext.specs.Reading.{tree_of};
 ghost use Rattle.sd_plantext.specs.Printed.{plan_text as text_of_plan};
 ghost use Rattle.sd_plantext.specs.PrintedTree.{device_data, link_data, list_data, row_data, row_listed, rows_data, plan_data};
 
-#[cfg(test)]
-mod tests;
 mod values;
 
 use sd_num::NoMemory;

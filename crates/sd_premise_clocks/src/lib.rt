@@ -12,8 +12,6 @@ mod extremes;
 mod members;
 mod seen;
 mod start;
-#[cfg(test)]
-mod tests;
 mod tick;
 mod ticks;
 mod tournament;

@@ -5,8 +5,6 @@
 
 mod interruptions;
 mod runs;
-#[cfg(test)]
-mod tests;
 mod waiting;
 
 pub use interruptions::Interruptions;

@@ -3,7 +3,5 @@
 #![tactic(auto)]
 
 mod rounds;
-#[cfg(test)]
-mod tests;
 
 pub use rounds::Rounds;

@@ -1,12 +1,12 @@
 -- How many lines of a kind there are of what was found of an event.
 use Rattle.std.specs.Prelude.{◌≡◌, ℕ, ◌+◌, Bool, true, false, List, [], ◌∷◌, ◌++◌, count_by, cond, Option, Some, None, is_some, not, refl, if◌then◌else◌}
-use Rattle.std.proofs.Common.{arith, ap}
+use Rattle.std.proofs.Common.{arith}
 use Rattle.std.proofs.lemmas.List.Sums.{sum_by-append}
 use Rattle.sd_num.specs.Lists.{of_some}
 use Rattle.sd_clock.specs.declared.Report.{Report}
 use Rattle.sd_clock.specs.Estimates.{contains}
 use Rattle.sd_history.specs.declared.BrokenSet.{BrokenSet}
-use Rattle.sd_history.specs.Lines.{Line, Premise, Start, Drift, Delay, Tick, Loss, Domain, Renew, Broken, LoopAlarm, RootsAlarm, Reported, IntervalAlarm, broken_lines, report_lines}
+use Rattle.sd_history.specs.Lines.{Line, Premise, Start, Drift, Delay, Tick, Loss, Domain, Renew, Broken, Reported, IntervalAlarm, broken_lines, report_lines}
 use Rattle.sd_lines.specs.declared.findings.Findings.{Findings}
 use Rattle.sd_lines.specs.Findings.{found_lines, loop_found, roots_found, misses_in}
 use Rattle.sd_replay.specs.Tallies.{is_broken, is_alarm}

@@ -1,17 +1,16 @@
 -- The flights that a step sent, looked up by their numbers: those that reach are found.
-use Rattle.std.specs.Prelude.{◌≡◌, ℕ, zero, suc, ◌+◌, ◌<◌, ◌≤◌, Bool, true, false, not, List, [], ◌∷◌, ◌++◌, length, take, filter, find, nat_eq, ok_or, Option, Some, None, option_and_then, option_to_list, cond, Result, Ok, Err, refl, if◌then◌else◌}
+use Rattle.std.specs.Prelude.{◌≡◌, ℕ, zero, suc, ◌+◌, ◌<◌, Bool, true, false, not, List, [], ◌∷◌, ◌++◌, length, take, filter, find, ok_or, Option, Some, None, option_and_then, option_to_list, cond, Result, Ok, Err, refl, if◌then◌else◌}
 use Rattle.std.specs.Option.{option_or}
 use Rattle.std.specs.Result.{result_ok}
 use Rattle.std.proofs.Common.{sym, ap, ◌∙◌, subst, arith, get_or}
 use Rattle.std.proofs.lemmas.Bool.{and_from, le-leb, eq-eqb, ne_eqb}
 use Rattle.std.proofs.lemmas.List.Elements.{filter_more}
 use Rattle.std.proofs.lemmas.List.Folds.{find-append}
-use Rattle.sd_num.specs.Lists.{of_some}
 use Rattle.sd_topo.specs.declared.Thing.{Thing}
 use Rattle.sd_msg.specs.declared.Flight.{Flight}
 use Rattle.sd_msg.specs.declared.TakeFault.{TakeFault}
 use Rattle.sd_msg.specs.declared.TakeFault.TheVariants as fault
-use Rattle.sd_msg.specs.Books.{has_number, is_given, found, is_current, is_swept, AreNumbered}
+use Rattle.sd_msg.specs.Books.{has_number, found, is_current, is_swept, AreNumbered}
 use Rattle.sd_msg.proofs.Numbered.{numbered_filter}
 use Rattle.sd_sched.specs.declared.Event.{Event}
 use Rattle.sd_sched.specs.Events.{reference_of, message_of}

@@ -1,6 +1,6 @@
 -- For which runs a replay stands at first, and how it goes on.
-use Rattle.std.specs.Prelude.{◌≡◌, ℕ, ◌≤◌, false, List, [], ◌∷◌, length, slice_get, Some, IfSome, refl}
-use Rattle.std.proofs.Common.{sym, ap, ◌∙◌, subst}
+use Rattle.std.specs.Prelude.{◌≡◌, ◌≤◌, false, List, [], length, slice_get, Some}
+use Rattle.std.proofs.Common.{sym, ◌∙◌, subst}
 use Rattle.sd_topo.specs.Network.{Network, IsNetwork, Each}
 use Rattle.sd_topo.specs.Topologies.{network}
 use Rattle.sd_topo.specs.declared.topology.Topology.{Topology}

@@ -1,11 +1,10 @@
 -- An accepted event: what it needs of the parts of a replay, and for which runs these stand after it.
-use Rattle.std.specs.Prelude.{◌≡◌, ℕ, ◌+◌, ◌^◌, ◌<◌, ◌≤◌, true, List, ◌∷◌, ◌++◌, [], length, Option, Some, None, IfSome, IsTrue, MatchOption, refl}
+use Rattle.std.specs.Prelude.{◌≡◌, ℕ, ◌+◌, ◌^◌, ◌<◌, ◌≤◌, List, ◌∷◌, ◌++◌, [], length, Option, Some, None, IfSome, IsTrue, MatchOption, refl}
 use Rattle.std.proofs.Common.{sym, ap, ◌∙◌, subst}
 use Rattle.std.proofs.Props.{props}
 use Rattle.std.proofs.Math.Logic.{∥∥₁_elim, ∥∥₁_map}
 use Rattle.sd_topo.specs.Network.{Network}
 use Rattle.sd_topo.specs.Topologies.{network}
-use Rattle.sd_topo.specs.declared.topology.Topology.{Topology}
 use Rattle.sd_clock.specs.declared.Report.{Report}
 use Rattle.sd_core.specs.declared.node.Node.{Ghosts}
 use Rattle.sd_msg.specs.Observed.{ReportAt}

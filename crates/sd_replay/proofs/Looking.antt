@@ -1,10 +1,10 @@
 -- What an onlooker sees of an accepted step, and what it finds, is what the history says.
-use Rattle.std.specs.Prelude.{◌≡◌, ℕ, zero, suc, ◌+◌, ◌*◌, ◌^◌, ◌<◌, ◌≤◌, Bool, true, false, List, [], ◌∷◌, ◌++◌, length, filter, find, All, Option, Some, None, is_some, IfSome, refl, option_map, if◌then◌else◌}
+use Rattle.std.specs.Prelude.{◌≡◌, ℕ, zero, suc, ◌+◌, ◌^◌, ◌<◌, ◌≤◌, Bool, true, List, [], ◌∷◌, ◌++◌, length, filter, All, Option, Some, None, is_some, IfSome, refl, option_map, if◌then◌else◌}
 use Rattle.std.proofs.Common.{sym, ap, ◌∙◌, subst, arith}
 use Rattle.std.proofs.lemmas.Option.{same_Some}
-use Rattle.std.proofs.lemmas.List.Elements.{All-nil, All-push, All-filter, All-head, All-tail, All-weaker}
+use Rattle.std.proofs.lemmas.List.Elements.{All-nil, All-push, All-filter, All-head, All-tail}
 use Rattle.sd_num.specs.Lists.{below, of_some}
-use Rattle.sd_topo.specs.Network.{Network, IsNetwork}
+use Rattle.sd_topo.specs.Network.{IsNetwork}
 use Rattle.sd_plan.proofs.Numbered.{found_passes}
 use Rattle.sd_clock.specs.declared.Report.{Report}
 use Rattle.sd_msg.specs.declared.Flight.{Flight}
@@ -15,7 +15,6 @@ use Rattle.sd_sched.specs.Events.{reference_of, device_of}
 use Rattle.sd_history.specs.declared.BrokenSet.{BrokenSet}
 use Rattle.sd_history.specs.World.{Setting, Seen}
 use Rattle.sd_history.specs.Steps.{Step, seen_of, flight_count}
-use Rattle.sd_history.specs.Refusals.{refusal}
 use Rattle.sd_history.specs.Accepted.{AreSteps}
 use Rattle.sd_history.specs.Premises.{breaks}
 use Rattle.sd_history.specs.Lines.{Line, broken_lines, loop_lines, root_lines, report_lines, report_of, is_on_loop, first_on_loop, roots, lines_of}

@@ -1,6 +1,6 @@
 -- The premises are shown just what is seen of an accepted step.
-use Rattle.std.specs.Prelude.{◌≡◌, ℕ, ◌<◌, ◌≤◌, Bool, List, ◌∷◌, filter, length, Option}
-use Rattle.std.proofs.Common.{sym, ap, subst}
+use Rattle.std.specs.Prelude.{◌≡◌, ◌<◌, ◌≤◌, List, ◌∷◌, filter, length}
+use Rattle.std.proofs.Common.{sym, subst}
 use Rattle.std.proofs.Props.{props}
 use Rattle.std.proofs.Math.Logic.{∥∥₁_elim, ∥∥₁_map}
 use Rattle.sd_sched.specs.Events.{device_of, link_of}

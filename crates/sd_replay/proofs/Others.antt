@@ -1,20 +1,17 @@
 -- An accepted event changes how its own device stands, and no other's, unless the window closes with it. So only devices of the topology are up.
-use Rattle.std.specs.Prelude.{◌≡◌, ◌≢◌, ℕ, ◌+◌, ◌<◌, Bool, true, false, ◌&&◌, ◌||◌, List, [], ◌∷◌, length, nat_eq, count_by, Option, Some, None, option_map, option_and_then, is_some, refl, if◌then◌else◌}
+use Rattle.std.specs.Prelude.{◌≡◌, ℕ, Bool, true, false, ◌&&◌, ◌||◌, List, [], ◌∷◌, Option, Some, None, option_map, is_some, refl, if◌then◌else◌}
 use Rattle.std.specs.List.{list_any}
-use Rattle.std.proofs.Common.{sym, ap, ◌∙◌, subst, inl, inr}
-use Rattle.std.proofs.lemmas.Bool.{and_parts, or_parts, eqb-true, cases_Bool}
+use Rattle.std.proofs.Common.{sym, ap, ◌∙◌, inl, inr}
+use Rattle.std.proofs.lemmas.Bool.{or_parts, eqb-true, cases_Bool}
 use Rattle.sd_num.specs.Lists.{of_some, same_number}
-use Rattle.sd_topo.specs.declared.Thing.TheVariants as thing
-use Rattle.sd_plan.specs.Plans.{is_member}
 use Rattle.sd_sched.specs.declared.Event.{Event}
 use Rattle.sd_sched.specs.declared.Event.TheVariants as event
 use Rattle.sd_sched.specs.Events.{device_of, joined, is_stage}
-use Rattle.sd_history.specs.World.{Setting, Seen, up_after, is_up, is_counted, window, window_is_open, epoch_in_force, in_force, plan_numbered, joined_in_window, in_window}
-use Rattle.sd_history.specs.Steps.{Step, Answers, seen_of, changed, act_by, answers_in, live_answers, parent_in, acts_in}
+use Rattle.sd_history.specs.World.{Setting, Seen, up_after, is_up, is_counted, window, window_is_open, joined_in_window}
+use Rattle.sd_history.specs.Steps.{Step, seen_of, changed, live_answers}
 use Rattle.sd_history.specs.Refusals.{causes, window_order_within, window_order}
-use Rattle.sd_history.specs.Lines.{counted_parent}
 use Rattle.sd_history.specs.Accepted.{AreSteps}
-use Rattle.sd_history.proofs.Among.{Among, first, later}
+use Rattle.sd_history.proofs.Among.{first, later}
 use Rattle.sd_history.proofs.Contained.{none_holds}
 use Rattle.sd_history.proofs.Known.{named_is_known}
 use Rattle.sd_history_loops.proofs.Loops.{UpIsKnown}
@@ -22,8 +19,7 @@ use Rattle.sd_history_flights.proofs.Places.{changed_named}
 use Rattle.sd_world.specs.Registers.{untouched}
 use Rattle.sd_world.proofs.Changes.{changes_other}
 use Rattle.sd_world.proofs.Shutting.{window_next}
-use Rattle.sd_stances.specs.declared.stances.Stance.{Stance}
-use Rattle.sd_replay.specs.Standing.{counted_acts, stance_in}
+use Rattle.sd_replay.specs.Standing.{stance_in}
 
 -- the option holds this number
 holds : (o : Option ℕ) (d : ℕ) → same_number o d ≡ true → o ≡ Some d

@@ -1,5 +1,5 @@
 -- What is kept of the stances of devices is how they stand after an event, and answers for loops and roots of the history.
-use Rattle.std.specs.Prelude.{◌≡◌, ◌≢◌, ℕ, zero, suc, ◌+◌, ◌<◌, ◌≤◌, Bool, true, false, ◌&&◌, List, [], ◌∷◌, ◌++◌, length, filter, nat_eq, nat_le, replicate, slice_set, slice_get, Option, Some, None, is_some, option_and_then, MatchOption, IfSome, refl, if◌then◌else◌}
+use Rattle.std.specs.Prelude.{◌≡◌, ◌≢◌, ℕ, zero, suc, ◌+◌, ◌<◌, Bool, false, List, [], ◌∷◌, ◌++◌, length, filter, nat_eq, replicate, Option, Some, None, is_some, option_and_then, MatchOption, refl, if◌then◌else◌}
 use Rattle.std.proofs.Common.{sym, ap, ◌∙◌, subst, arith, inl, inr}
 use Rattle.std.proofs.lemmas.Bool.{cases_lt, cases_Bool, eqb-true, eqb-false, ne_eqb, le-leb}
 use Rattle.std.proofs.lemmas.List.{length-set, length-replicate}
@@ -13,7 +13,7 @@ use Rattle.sd_sched.specs.Events.{device_of}
 use Rattle.sd_history.specs.World.{Setting}
 use Rattle.sd_history.specs.Steps.{Step}
 use Rattle.sd_history.specs.Accepted.{AreSteps}
-use Rattle.sd_history.specs.Lines.{Line, LoopAlarm, RootsAlarm, counted_parent, first_on_loop, roots, loop_lines, root_lines}
+use Rattle.sd_history.specs.Lines.{RootsAlarm, counted_parent, first_on_loop, roots, loop_lines, root_lines}
 use Rattle.sd_history_loops.proofs.Loops.{UpIsKnown, parents_known, first_is}
 use Rattle.sd_stances.specs.Stances as stances
 use Rattle.sd_stances.specs.declared.stances.Stance.{Stance}

@@ -1,5 +1,5 @@
--- What is promised of each replay of devices: it stands for the chronicle of its events; and while clocks, oscillators and links are honest,
--- each report has its reference time in it.
+-- What is promised of each replay of devices: it stands for the chronicle of its events; while clocks, oscillators and links are honest,
+-- each report has its reference time in it; and while no premise is broken, there is no alarm.
 use Rattle.std.specs.Prelude.{◌≡◌, Bool, true, false, List, IsTrue}
 use Rattle.std.specs.List.{list_all}
 use Rattle.sd_clock.specs.Estimates.{contains}
@@ -9,13 +9,14 @@ use Rattle.sd_msg.specs.declared.observer.Observer as observers
 use Rattle.sd_history.specs.World.{Setting}
 use Rattle.sd_sched.specs.declared.Event.{Event}
 use Rattle.sd_history.specs.Steps.{Step, seen_of, events_of}
-use Rattle.sd_history.specs.Chronicle.{chronicle, IsHistory}
 use Rattle.sd_history.specs.Nodes.{NodeStep, steps_of}
-use Rattle.sd_history.specs.Premises.{is_honest}
+use Rattle.sd_history.specs.Premises.{is_honest, all_hold}
 use Rattle.sd_history.specs.Lines.{Line, IntervalAlarm, reports}
 use Rattle.sd_replay.specs.declared.replay.Replay.{Replay}
 use Rattle.sd_replay.specs.Tallies.{lines_that}
 use Rattle.sd_replay.specs.Replaying.{StandsFor}
+use Rattle.sd_replay.specs.Promises.{StaysSafe}
+use Rattle.sd_replay.specs.Calm.{IsChronicle, IsCalm}
 
 -- the replay of devices stands for a run of these events, the newest first
 pub record HasReplayed {V : Type 0} (o : observers.Ghosts V) (replay : Replay Registers V ghosts o) (setting : Setting) (events : List Event) : Type 0 where
@@ -24,10 +25,6 @@ pub record HasReplayed {V : Type 0} (o : observers.Ghosts V) (replay : Replay Re
   pub happened : events_of (steps_of run) ≡ events
 
 -- whichever run that is, its events are a history, and its steps are their chronicle
-pub record IsChronicle (setting : Setting) (steps : List Step) (events : List Event) : Type 0 where
-  pub history : IsHistory setting events
-  pub chronicle : steps ≡ chronicle setting events
-
 abbrev pub DevicesKeepChronicle : {V : Type 0} → observers.Ghosts V → Type 0
 DevicesKeepChronicle {V} o =
     (replay : Replay Registers V ghosts o) (setting : Setting) (events : List Event) (replayed : HasReplayed o replay setting events)
@@ -49,3 +46,9 @@ abbrev pub DevicesContain : {V : Type 0} → observers.Ghosts V → Type 0
 DevicesContain {V} o =
     (replay : Replay Registers V ghosts o) (setting : Setting) (run : List (NodeStep Registers)) → StandsFor ghosts o replay setting run
     → IsTrue (is_honest setting (seen_of (steps_of run))) → AllContain setting (steps_of run)
+
+-- Of each run for which a replay of devices stands: while no premise is broken.
+abbrev pub DevicesStayCalm : {V : Type 0} → observers.Ghosts V → Type 0
+DevicesStayCalm {V} o =
+    (replay : Replay Registers V ghosts o) (setting : Setting) (run : List (NodeStep Registers)) → StaysSafe setting → StandsFor ghosts o replay setting run
+    → IsTrue (all_hold setting (seen_of (steps_of run))) → IsCalm setting (steps_of run)

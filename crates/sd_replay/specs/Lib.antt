@@ -4,4 +4,5 @@ pub mod Promises
 pub mod Counting
 pub mod Standing
 pub mod Replaying
+pub mod Calm
 pub mod Devices

@@ -1,12 +1,12 @@
 -- For which runs a replay stands, and how it goes on.
-use Rattle.std.specs.Prelude.{◌≡◌, ℕ, Bool, ◌||◌, List, ◌∷◌, Option, Some, None, Ok, Err, IsTrue}
+use Rattle.std.specs.Prelude.{◌≡◌, ℕ, Bool, ◌||◌, List, ◌∷◌, Some, None, Ok, Err, IsTrue}
 use Rattle.sd_core.specs.declared.node.Node.{Ghosts}
 use Rattle.sd_msg.specs.declared.observer.Observer as observers
 use Rattle.sd_sched.specs.declared.Event.{Event}
 use Rattle.sd_sched.specs.Lines.{event_of_line}
 use Rattle.sd_history.specs.World.{Setting}
 use Rattle.sd_history.specs.Steps.{Step}
-use Rattle.sd_history.specs.Nodes.{NodeStep, steps_of}
+use Rattle.sd_history.specs.Nodes.{NodeStep}
 use Rattle.sd_history.specs.Refusals.{refusal}
 use Rattle.sd_fabric.specs.Doing.{may_send, asks}
 use Rattle.sd_replay.specs.declared.replay.Replay.{Replay}

@@ -1,5 +1,5 @@
 -- For which steps and runs the parts of a replay stand.
-use Rattle.std.specs.Prelude.{◌≡◌, ℕ, ◌<◌, ◌≤◌, ◌&&◌, List, ◌∷◌, length, min, slice_set, Bool, false}
+use Rattle.std.specs.Prelude.{◌≡◌, ℕ, ◌<◌, ◌&&◌, List, length, min, slice_set, Bool, false}
 use Rattle.std.specs.Vec.{vec_capacity}
 use Rattle.sd_num.specs.Lists.{at_place}
 use Rattle.sd_lines.specs.Printed.{printed}

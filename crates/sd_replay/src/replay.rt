@@ -43,6 +43,7 @@ pub struct Replay<N: Node, V: Observer> {
 
 impl<N: Node, V: Observer> Replay<N, V> {
     ghost use Rattle.sd_replay.specs.Replaying.{StandsFor, IsStepped, IsFault, IsLineFault, lines_in, may_take};
+    ghost use Rattle.sd_replay.specs.Calm.{StaysCalm};
 
     /// A replay before any event, with the first plan in force. It takes the room for the lines of
     /// any one event. After `NoMemory` the topology, the plans and the observer are dropped.
@@ -79,6 +80,8 @@ impl<N: Node, V: Observer> Replay<N, V> {
             → StandsFor N.Node V.Observer self.old setting run → IfSome (refusal setting (steps_of run) e) (λ fault. result ≡ Err (ReplayFault.Apply fault))) }
         ensures accepted { OnOk result (IfOk (event_of_line line.now) (λ e. (setting : Setting) (run : List (NodeStep N))
             → StandsFor N.Node V.Observer self.old setting run → IsStepped N.Node V.Observer self.new setting run e)) }
+        // while no premise is broken there is no alarm, where the nodes tell what devices tell
+        ensures calm { OnOk result ((setting : Setting) (run : List (NodeStep N)) → StandsFor N.Node V.Observer self.new setting run → StaysCalm setting (steps_of run)) }
         ensures refused { IfErr result (λ fault. (setting : Setting) (run : List (NodeStep N)) → StandsFor N.Node V.Observer self.old setting run
             → StandsFor N.Node V.Observer self.new setting run × IsLineFault fault setting (steps_of run) line.now) }
     {
@@ -97,6 +100,8 @@ impl<N: Node, V: Observer> Replay<N, V> {
             → IfSome (refusal setting (steps_of run) event.now) (λ fault. result ≡ Err (ReplayFault.Apply fault)) }
         ensures accepted { OnOk result ((setting : Setting) (run : List (NodeStep N))
             → StandsFor N.Node V.Observer self.old setting run → IsStepped N.Node V.Observer self.new setting run event.now) }
+        // while no premise is broken there is no alarm, where the nodes tell what devices tell
+        ensures calm { OnOk result ((setting : Setting) (run : List (NodeStep N)) → StandsFor N.Node V.Observer self.new setting run → StaysCalm setting (steps_of run)) }
         ensures refused { IfErr result (λ fault. (setting : Setting) (run : List (NodeStep N)) → StandsFor N.Node V.Observer self.old setting run
             → StandsFor N.Node V.Observer self.new setting run × IsFault fault setting (steps_of run) event.now) }
     {

@@ -274,7 +274,7 @@ fn other_words_are_usage(rt: HostRuntime) -> Result<(), Fail> {
         &["Twoway", "topology", "exchanges"],
     ];
     let usage =
-        "usage: sundial solo SCHEDULE | plan TOPOLOGY | check TOPOLOGY PLAN | renew TOPOLOGY PLAN ABSENT | replay TOPOLOGY PLAN.. SCHEDULE | migrate TOPOLOGY | twoway TOPOLOGY EXCHANGES | drill TOPOLOGY PLAN BASE HOLD\n";
+        "usage: sundial solo SCHEDULE | plan TOPOLOGY | check TOPOLOGY PLAN | renew TOPOLOGY PLAN ABSENT | replay TOPOLOGY PLAN.. SCHEDULE | migrate TOPOLOGY | order TOPOLOGY PLAN.. SCHEDULE | twoway TOPOLOGY EXCHANGES | drill TOPOLOGY PLAN BASE HOLD\n";
     for words in cases {
         let mut shelf = shelf_of(rt.alloc(), TRIANGLE, b"end\n", 8192, &[])?;
         let (status, out) = run_words(rt.alloc(), words, &mut shelf, Vec::new(rt.alloc()))?;

@@ -1,2 +1,3 @@
+pub mod Silent
+pub mod Kept
 pub mod Safe
-pub mod Alarms

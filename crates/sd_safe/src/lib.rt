@@ -7,14 +7,12 @@
 //! all plans that fit it and are accepted. Nothing is assumed beside the premises of the history.
 //! `StaysSafe` stands in specs/Kept of `sd_safety`; docs/SAFETY.md tells why it is true.
 //!
-//! And so no alarm comes before the first broken premise (proofs/Alarms): `replay_alarms` and
-//! `order_alarms`, of all bytes that the commands may write, for all texts of a topology, of plans and
-//! of a schedule.
-//!
 //! # The last step
 //!
-//! `safe_if_behind` of `sd_safety_fallbacks` has it from 14: that the devices behind the backup root
-//! wait long enough. `sd_safety_behind` has 14 from seven statements, which are shown in
+//! `Silent` puts together how long devices stay silent (13 to 18). 14, that the devices behind the
+//! backup root wait long enough, comes from the statements of `sd_safety_behind`, which are shown in
 //! `sd_safety_spans`, `_fallbacks`, `_paths`, `_feeds`, `_takeovers`, `_strays` and, where the backup
-//! root is new, `_commits`.
+//! root is new, `_commits`. With the silences each kind of event keeps the invariant
+//! (`sd_safety_renewals`), so it holds after each event of a clean history (`Kept`: `stays_invariant`,
+//! and `comes` for what the silences are said of), and from it follows safety (`Safe`).
 #![tactic(auto)]

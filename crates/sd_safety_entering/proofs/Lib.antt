@@ -7,4 +7,3 @@ pub mod Ways
 pub mod Fed
 pub mod Entering
 pub mod Hears
-pub mod Heard

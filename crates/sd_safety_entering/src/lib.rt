@@ -6,7 +6,6 @@
 //! |---|---|---|
 //! | `members_enter` | at an event later than A + H * D after the commit each member of the staged plan is new (`EntersSoon`) | `Entering` |
 //! | `new_hears` | a new device other than the staged root is silent for at most A + H * D (`NewHears`) | `Hears` |
-//! | `safe_if_heard` | safety from 13 to 17 alone | `Heard` |
 //!
 //! # The way
 //!

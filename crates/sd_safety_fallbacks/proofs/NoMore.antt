@@ -1,15 +1,13 @@
--- 16's piece: where the root failed, an old backup root that does not act heard at most (H + 1) * D after that. And with it safety from 14 alone.
+-- 16's piece: where the root failed, an old backup root that does not act heard at most (H + 1) * D after that.
 use Rattle.std.specs.Prelude.{◌≡◌, ℕ, ◌+◌, ◌*◌, ◌≤◌, Bool, true, false, [], ◌∷◌, refl}
 use Rattle.sd_history.specs.World.{Setting}
 use Rattle.sd_history.specs.Chronicle.{chronicle}
 use Rattle.sd_safety.specs.Bounds.{depth, delay}
 use Rattle.sd_safety.specs.Eras.{plan_now, moved, heard_at}
-use Rattle.sd_safety.specs.Silences.{root_failed_at, BehindWaits}
+use Rattle.sd_safety.specs.Silences.{root_failed_at}
 use Rattle.sd_safety.specs.Coming.{AtNext}
-use Rattle.sd_safety.specs.Kept.{StaysSafe}
 use Rattle.sd_safety_behind.specs.Pieces.{HearsNoMore}
 use Rattle.sd_safety_behind.proofs.Takeover.{primary_where, backup_where}
-use Rattle.sd_safety_spans.proofs.Waited.{safe_if_waited}
 use Rattle.sd_safety_traced.proofs.Unmoved.{primary_hears_no_more}
 use Rattle.sd_safety_fallbacks.proofs.Moved.{moved_hears_no_more}
 
@@ -24,7 +22,3 @@ hears_no_more setting (x ∷ h) e comes failed old still = by (moved (chronicle 
         → heard_at (chronicle setting (x ∷ h)) (plan_now setting (chronicle setting (x ∷ h))).backup_root ≤ root_failed_at setting (chronicle setting (x ∷ h)) + (depth setting.net + 1) * delay setting.net
     by true put = moved_hears_no_more setting (x ∷ h) e comes failed old (backup_where (chronicle setting (x ∷ h)) b put still)
     by false stays = primary_hears_no_more setting x h e comes failed old (primary_where setting (x ∷ h) b old stays still)
-
--- safety from 14
-pub safe_if_behind : (setting : Setting) → AtNext BehindWaits setting → StaysSafe setting
-safe_if_behind setting behind = safe_if_waited setting (hears_no_more setting) behind

@@ -1,11 +1,10 @@
-//! What the backup root heard over its fallback; and so 16 and 17, and safety from 14.
+//! What the backup root heard over its fallback; and so 16 and 17.
 //!
 //! # The result (`NoMore`)
 //!
 //! | Name | In words |
 //! |---|---|
 //! | `hears_no_more` | where the root failed, an old backup root that does not act heard at most (H + 1) * D after that (`HearsNoMore`) |
-//! | `safe_if_behind` | safety from 14: 13, 15, 16, 17 and 18 hold |
 //!
 //! # The way
 //!
@@ -13,9 +12,4 @@
 //! plan (`Fallbacks`): who moved was hit otherwise than by the root, and nothing of the fallback
 //! failed but the root; and the backup root did not act before, since who acts acts on (`Onward`). So
 //! a message that it heard then came down the fallback (`Moved`).
-//!
-//! # What is left
-//!
-//! 14 (`BehindWaits`). `sd_safety_behind` has it from statements on feeding; of these `HearsNoMore` is
-//! shown here, and `sd_safe` has safety from all of them.
 #![tactic(auto)]

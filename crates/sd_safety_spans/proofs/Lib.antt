@@ -1,4 +1,4 @@
--- How far back silences go, 13 and 15 in all eras, and safety from what is left.
+-- How far back silences go, and 13 and 15 in all eras.
 pub mod Backs
 pub mod Staged
 pub mod Thirteen
@@ -6,4 +6,3 @@ pub mod Lately
 pub mod Fallback
 pub mod Fifteen
 pub mod Rests
-pub mod Waited

@@ -6,7 +6,6 @@
 //! |---|---|---|
 //! | `whole_path_hears` | 13: while the root lives a device with a whole path hears (`WholePathHears`) | `Lately` |
 //! | `fallback_hears` | 15: while it lives the backup root on its backup hears (`FallbackHears`) | `Rests` |
-//! | `safe_if_waited` | safety from `HearsNoMore` and 14 | `Waited` |
 //!
 //! # The way
 //!

@@ -19,8 +19,6 @@ mod fields;
 mod making;
 mod printing;
 mod reading;
-#[cfg(test)]
-mod tests;
 mod words;
 
 pub use fields::{Found, behind_space, first_field, read_number};

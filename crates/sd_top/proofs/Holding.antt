@@ -12,13 +12,13 @@ use Rattle.sd_solo.specs.declared.SoloFault.{SoloFault}
 use Rattle.sd_solo.proofs.Contained.{reports_contain}
 use Rattle.sd_solo.proofs.Known.{known_as_word}
 use Rattle.sd_exchanges.proofs.Bounding.{bounds_hold}
-use Rattle.sd_schedules.proofs.Lawful.{reports_truly as replay_truly}
+use Rattle.sd_schedules.proofs.Lawful.{order_reports_truly, reports_truly as replay_reports_truly}
 use Rattle.sd_files.specs.Texts.{texts_of}
 use Rattle.sd_top.specs.Promise.{KeepsPromise, task_of}
 use Rattle.sd_work.specs.Works.{Reading, judged, length_fault, read_on, reading, reading_from, unless_too_long}
 use Rattle.sd_top.specs.Schedules.{ReportsTruly, accepted, solo_work, unless_refused}
 use Rattle.sd_top.specs.Words.{Command, command_of}
-use Rattle.sd_top.specs.Words.Command.{Solo, Replay, Twoway}
+use Rattle.sd_top.specs.Words.Command.{Solo, Replay, Order, Twoway}
 
 -- an event of a known word, which is accepted after these
 abbrev GoesOn : List Event → Event → Type 0
@@ -80,6 +80,7 @@ keeps_promise (Some h) words = by (command_of words)
   where
     by : (command : Option Command) → (task_of command).holds (texts_of h)
     by (Some (Solo schedule)) = reports_truly (reading solo_work (texts_of h schedule)).taken (reading_is_history (texts_of h schedule))
-    by (Some (Replay topology plans schedule)) = replay_truly (texts_of h topology) (map (texts_of h) plans) (texts_of h schedule)
+    by (Some (Replay topology plans schedule)) = replay_reports_truly (texts_of h topology) (map (texts_of h) plans) (texts_of h schedule)
+    by (Some (Order topology plans schedule)) = order_reports_truly (texts_of h topology) (map (texts_of h) plans) (texts_of h schedule)
     by (Some (Twoway topology exchanges)) = λ net read. bounds_hold net (texts_of h exchanges)
     by _ = tt

@@ -25,7 +25,7 @@ use Rattle.sd_work.specs.Works.{IsOutcome, reading, status_for}
 use Rattle.sd_top.specs.Schedules.{SoloCompletes, solo_work}
 use Rattle.sd_top.specs.Twoways.{TwowayCompletes}
 use Rattle.sd_exchanges.specs.Twoways.{twoway_work}
-use Rattle.sd_schedules.proofs.Lawful.{replay_completes}
+use Rattle.sd_schedules.proofs.Lawful.{order_completes, replay_completes}
 use Rattle.sd_twoway.proofs.Covering.{none_is_honest}
 use Rattle.sd_top.proofs.Migrating.{migration_law}
 use Rattle.sd_top.proofs.Unique.{one_answer}
@@ -98,6 +98,7 @@ laws =
       twoway_completes = twoway_completes;
       drill_completes = drill_completes;
       replay_completes = replay_completes;
+      order_completes = order_completes;
       migration_law = migration_law;
       reports_contain = reports_contain;
       none_is_honest = none_is_honest;

@@ -4,6 +4,8 @@ pub mod Staying
 pub mod Planned
 pub mod Performing
 pub mod Holding
+pub mod Within
+pub mod Headlines
 pub mod Migrating
 pub mod Unique
 pub mod Lawful

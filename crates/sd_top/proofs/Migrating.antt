@@ -25,8 +25,8 @@ use Rattle.sd_files.specs.declared.ended.Input.TheVariants as input
 use Rattle.sd_files.specs.declared.ended.Refusal.{Refusal}
 use Rattle.sd_work.specs.Works.{IsOutcome}
 use Rattle.sd_exchanges.specs.Twoways.{twoway_work}
-use Rattle.sd_schedules.specs.Replays.{IsReplay}
-use Rattle.sd_schedules.proofs.Migrating.{replay_with_version}
+use Rattle.sd_schedules.specs.Replays.{IsOrder, IsReplay}
+use Rattle.sd_schedules.proofs.Migrating.{order_with_version, replay_with_version}
 use Rattle.sd_top.specs.Checks.{IsCheck, IsJudged, verdict_text}
 use Rattle.sd_top.specs.Drills.{IsDrill, IsDrilled}
 use Rattle.sd_top.specs.Migration.{IsMigrated, IsMigration}
@@ -36,7 +36,7 @@ use Rattle.sd_top.specs.Twoways.{IsTwoway}
 use Rattle.sd_top.specs.Versions.{MigrationLaw}
 use Rattle.sd_top.specs.Words.{Command, File, OfTopology, OfPlan, OfAbsent, OfExchanges, files_of, name_of, plans_and_schedule}
 use Rattle.sd_top.proofs.Staying.{plans_stay, schedule_stays}
-use Rattle.sd_top.specs.Words.Command.{Solo, Plan as PlanOf, Check, Renew, Replay, Migrate, Twoway, Drill}
+use Rattle.sd_top.specs.Words.Command.{Solo, Plan as PlanOf, Check, Renew, Replay, Migrate, Order, Twoway, Drill}
 
 -- what comes after a file that says the same
 after_carried : {X : Type 0} (before after : Result X Refusal) (Then Later : X → May) (bytes : List ℕ) (status : Status) → before ≡ after → ((x : X) → Then x bytes status → Later x bytes status) → After before Then bytes status
@@ -124,11 +124,6 @@ module _ (v w : ℕ) (net : Network) where
         written
         )
 
-    replay_stays : (plans plans' : List (List ℕ)) (schedule schedule' : List ℕ) → plans' ≡ plans → schedule' ≡ schedule → IsReplay text plans schedule bytes status → IsReplay other plans' schedule' bytes status
-    replay_stays plans plans' schedule schedule' same_plans same_schedule written =
-        subst (λ (p : List (List ℕ)). IsReplay other p schedule' bytes status) (sym same_plans)
-        (subst (λ (s : List ℕ). IsReplay other plans s bytes status) (sym same_schedule) (replay_with_version v w net text other reads rereads plans schedule bytes status written))
-
     renewal_over : (plan absent : List ℕ) → IsRenewal text plan absent bytes status → IsRenewal other plan absent bytes status
     renewal_over plan absent written =
         topology_carried text other (with_version v net) (with_version w net) (λ n. After (plan_in_file n 1 plan) (λ old. After (absent_in_file n absent) (λ left. IsPlanning n (renewed_root old left) left)))
@@ -157,6 +152,18 @@ module _ (topology : List ℕ) (before after : Texts) (net : Network) (v w : ℕ
   rereads_at : (name : List ℕ) → name ≡ topology → topology_of (after name) ≡ Ok (with_version w net)
   rereads_at name same = subst (λ (t : List ℕ). topology_of (after t) ≡ Ok (with_version w net)) (sym same) rereads
 
+  -- a command over plans and a schedule, which are the files behind its topology
+  schedule_stays_over : (Writes : (topology : List ℕ) (plans : List (List ℕ)) (schedule : List ℕ) → May) (text other : List ℕ) → ((plans : List (List ℕ)) (schedule : List ℕ) → Writes text plans schedule bytes status → Writes other plans schedule bytes status)
+      → (plans : List (List ℕ)) (schedule : List ℕ) (others : List File) → others ≡ plans_and_schedule plans schedule → All (λ file. name_of file ≢ topology) others → Writes text (map before plans) (before schedule) bytes status
+      → Writes other (map after plans) (after schedule) bytes status
+  schedule_stays_over Writes text other carried plans schedule others are apart written =
+      let apart_all = subst (λ (fs : List File). All (λ file. name_of file ≢ topology) fs) are apart in
+      subst (λ (p : List (List ℕ)). Writes other p (after schedule) bytes status) (sym (plans_stay topology before after elsewhere schedule plans apart_all))
+      (
+      subst (λ (s : List ℕ). Writes other (map before plans) s bytes status) (sym (schedule_stays topology before after elsewhere schedule plans apart_all))
+      (carried (map before plans) (before schedule) written)
+      )
+
   answers_stay : (command : Option Command) (others : List File) → files_of command ≡ OfTopology topology ∷ others → All (λ file. name_of file ≢ topology) others → Answers command before bytes status → Answers command after bytes status
   answers_stay None others files apart written = cc
   answers_stay (Some (Solo schedule)) others files apart written = cc
@@ -177,12 +184,14 @@ module _ (topology : List ℕ) (before after : Texts) (net : Network) (v w : ℕ
   answers_stay (Some (Replay name plans schedule)) others files apart written =
       let same : name ≡ topology = cc in
       let rest : others ≡ plans_and_schedule plans schedule = cc in
-      let apart_all = subst (λ (fs : List File). All (λ file. name_of file ≢ topology) fs) rest apart in
-      replay_stays v w net (before name) (after name) (reads_at name same) (rereads_at name same) bytes status (map before plans) (map after plans) (before schedule) (after schedule)
-      (plans_stay topology before after elsewhere schedule plans apart_all) (schedule_stays topology before after elsewhere schedule plans apart_all) written
+      schedule_stays_over IsReplay (before name) (after name) (λ ps s. replay_with_version v w net (before name) (after name) (reads_at name same) (rereads_at name same) ps s bytes status) plans schedule others rest apart written
   answers_stay (Some (Migrate name)) others files apart written =
       let same : name ≡ topology = cc in
       migration_stays v w net (before name) (after name) (reads_at name same) (rereads_at name same) bytes status written
+  answers_stay (Some (Order name plans schedule)) others files apart written =
+      let same : name ≡ topology = cc in
+      let rest : others ≡ plans_and_schedule plans schedule = cc in
+      schedule_stays_over IsOrder (before name) (after name) (λ ps s. order_with_version v w net (before name) (after name) (reads_at name same) (rereads_at name same) ps s bytes status) plans schedule others rest apart written
   answers_stay (Some (Twoway name exchanges)) others files apart written =
       let same : name ≡ topology = cc in
       let rest : others ≡ OfExchanges exchanges ∷ [] = cc in

@@ -17,7 +17,7 @@ use Rattle.sd_work.specs.Leaving.{Leaves, LeavesAt}
 use Rattle.sd_top.specs.Ends.{MeetsResult}
 use Rattle.sd_top.specs.Promise.{LeavesAfter, IsNearRefusal, MeetsOutcome, task_of}
 use Rattle.sd_top.specs.Words.{Command, command_of}
-use Rattle.sd_top.specs.Words.Command.{Solo, Replay, Twoway, Drill}
+use Rattle.sd_top.specs.Words.Command.{Solo, Replay, Order, Twoway, Drill}
 
 -- what was made and told may be written
 told : (Writes : May) (made : Result Answer Ended) (bytes : List ℕ) (status : Status) → Makes Writes made → Tells made bytes status → Writes bytes status
@@ -73,6 +73,7 @@ near_nothing held words command rest is none = near_told held words command rest
 no_shelf : (command : Option Command) → IsTrue (is_among (task_of command).gives ShelfFault) → ⊥
 no_shelf (Some (Solo schedule)) among = cc
 no_shelf (Some (Replay topology plans schedule)) among = cc
+no_shelf (Some (Order topology plans schedule)) among = cc
 no_shelf (Some (Drill topology plan budget)) among = cc
 no_shelf (Some (Twoway topology exchanges)) among = cc
 no_shelf _ among = cc
@@ -80,6 +81,7 @@ no_shelf _ among = cc
 no_sink : (command : Option Command) → IsTrue (is_among (task_of command).gives SinkFault) → ⊥
 no_sink (Some (Solo schedule)) among = cc
 no_sink (Some (Replay topology plans schedule)) among = cc
+no_sink (Some (Order topology plans schedule)) among = cc
 no_sink (Some (Drill topology plan budget)) among = cc
 no_sink (Some (Twoway topology exchanges)) among = cc
 no_sink _ among = cc
@@ -87,6 +89,7 @@ no_sink _ among = cc
 no_memory : (command : Option Command) → IsTrue (is_among (task_of command).gives Memory) → ⊥
 no_memory (Some (Solo schedule)) among = cc
 no_memory (Some (Replay topology plans schedule)) among = cc
+no_memory (Some (Order topology plans schedule)) among = cc
 no_memory (Some (Drill topology plan budget)) among = cc
 no_memory (Some (Twoway topology exchanges)) among = cc
 no_memory _ among = cc

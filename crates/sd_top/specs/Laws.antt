@@ -1,6 +1,6 @@
 -- What holds of the answers themselves, whatever a run does.
 use Rattle.sd_schedules.specs.Promises.{Completes}
-use Rattle.sd_schedules.specs.Replays.{IsReplay}
+use Rattle.sd_schedules.specs.Replays.{IsOrder, IsReplay}
 use Rattle.sd_solo.specs.Promises.{ReportsContain}
 use Rattle.sd_twoway.specs.Spans.{NoneIsHonest}
 use Rattle.sd_top.specs.Checks.{CheckCompletes}
@@ -25,6 +25,7 @@ pub record Laws : Type 0 where
   pub drill_completes : DrillCompletes
   -- and those of a schedule with Done, or with Broken where it shows some trouble
   pub replay_completes : Completes IsReplay
+  pub order_completes : Completes IsOrder
   -- a topology that is written again with version 2 changes no answer
   pub migration_law : MigrationLaw
   -- whatever the events that one device alone accepts, an honest report has its reference time inside

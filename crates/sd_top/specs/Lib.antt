@@ -7,6 +7,8 @@ pub mod Plannings
 pub mod Twoways
 pub mod Replays
 pub mod Promise
+pub mod Headlines
+pub mod Safe
 pub mod Versions
 pub mod Unique
 pub mod Laws

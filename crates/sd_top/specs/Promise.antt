@@ -1,5 +1,7 @@
 -- What `run` promises: what each command writes and answers over the texts of its files, and what it leaves where it is stopped.
 use Rattle.std.specs.Prelude.{◌≡◌, ◌+◌, ◌≤◌, ℕ, Bool, true, false, List, [], ◌∷◌, length, map, Option, None, Some, IfSome, codes}
+use Rattle.sd_sched.specs.declared.Event.{Event}
+use Rattle.sd_history.specs.World.{Setting}
 use Rattle.sd_files.specs.Answering.{May}
 use Rattle.sd_files.specs.Inputs.{topology_of}
 use Rattle.sd_files.specs.Statuses.{stop_of}
@@ -10,14 +12,14 @@ use Rattle.sd_top.specs.Checks.{IsCheck}
 use Rattle.sd_top.specs.Drills.{IsDrill}
 use Rattle.sd_top.specs.Migration.{IsMigration}
 use Rattle.sd_top.specs.Plannings.{IsPlanOf, IsRenewal}
-use Rattle.sd_schedules.specs.Replays.{IsReplay, refused_over as refused_behind}
+use Rattle.sd_schedules.specs.Replays.{IsRun, order_work, replay_work, refused_over as refused_behind}
 use Rattle.sd_work.specs.Leaving.{Leaves}
-use Rattle.sd_work.specs.Works.{reading, refused_part}
-use Rattle.sd_top.specs.Replays.{ReplaysTruly}
+use Rattle.sd_work.specs.Works.{Work, reading, refused_part}
+use Rattle.sd_top.specs.Replays.{RunsTruly}
 use Rattle.sd_top.specs.Schedules.{IsSolo, ReportsTruly, solo_work}
 use Rattle.sd_top.specs.Twoways.{BoundsTruly, IsTwoway, refused_over}
 use Rattle.sd_top.specs.Words.{Command, command_of}
-use Rattle.sd_top.specs.Words.Command.{Solo, Plan as PlanOf, Check, Renew, Replay, Migrate, Twoway, Drill}
+use Rattle.sd_top.specs.Words.Command.{Solo, Plan as PlanOf, Check, Renew, Replay, Migrate, Order, Twoway, Drill}
 
 -- what is promised of a command
 pub record Task : Type 1 where
@@ -32,7 +34,7 @@ pub record Task : Type 1 where
   -- what else holds of what it writes, in terms of the clocks and networks that its files speak of
   pub holds : Texts → Type 0
 
--- a command that reads whole files and writes once
+-- a command that writes once, when its files are read whole
 abbrev pub once : List Status → (Texts → May) → Task
 once statuses Writes = record { Answers = Writes; gives = statuses; in_steps = false; refused_part = λ texts. None; holds = λ texts. Unit {0} }
 
@@ -44,9 +46,15 @@ line_by_line statuses Writes refused Holds = record { Answers = Writes; gives = 
 abbrev pub step_by_step : List Status → (Texts → May) → Task
 step_by_step statuses Writes = record { Answers = Writes; gives = statuses; in_steps = true; refused_part = λ texts. None; holds = λ texts. Unit {0} }
 
+-- a command that reads a schedule over a topology and plans: such commands differ by the work that a schedule asks for
+abbrev pub over_schedule : (Setting → Work Event) → (topology : List ℕ) (plans : List (List ℕ)) (schedule : List ℕ) → Task
+over_schedule work topology plans schedule =
+    line_by_line (Done ∷ PlanRefused ∷ InputRefused ∷ Broken ∷ []) (λ texts. IsRun work (texts topology) (map texts plans) (texts schedule))
+    (λ texts. refused_behind (topology_of (texts topology)) (map texts plans) (texts schedule)) (λ texts. RunsTruly work (texts topology) (map texts plans) (texts schedule))
+
 abbrev pub IsUsage : May
 IsUsage bytes status =
-    (bytes ≡ codes "usage: sundial solo SCHEDULE | plan TOPOLOGY | check TOPOLOGY PLAN | renew TOPOLOGY PLAN ABSENT | replay TOPOLOGY PLAN.. SCHEDULE | migrate TOPOLOGY | twoway TOPOLOGY EXCHANGES | drill TOPOLOGY PLAN BASE HOLD\n") × (status ≡ Usage)
+    (bytes ≡ codes "usage: sundial solo SCHEDULE | plan TOPOLOGY | check TOPOLOGY PLAN | renew TOPOLOGY PLAN ABSENT | replay TOPOLOGY PLAN.. SCHEDULE | migrate TOPOLOGY | order TOPOLOGY PLAN.. SCHEDULE | twoway TOPOLOGY EXCHANGES | drill TOPOLOGY PLAN BASE HOLD\n") × (status ≡ Usage)
 
 -- each command, and words that are none
 abbrev pub task_of : Option Command → Task
@@ -55,10 +63,9 @@ task_of (Some (Solo schedule)) = line_by_line (Done ∷ InputRefused ∷ []) (λ
 task_of (Some (PlanOf topology)) = once (Done ∷ PlanRefused ∷ InputRefused ∷ []) (λ texts. IsPlanOf (texts topology))
 task_of (Some (Check topology plan)) = once (Done ∷ PlanRefused ∷ InputRefused ∷ []) (λ texts. IsCheck (texts topology) (texts plan))
 task_of (Some (Renew topology plan absent)) = once (Done ∷ PlanRefused ∷ InputRefused ∷ []) (λ texts. IsRenewal (texts topology) (texts plan) (texts absent))
-task_of (Some (Replay topology plans schedule)) =
-    line_by_line (Done ∷ PlanRefused ∷ InputRefused ∷ Broken ∷ []) (λ texts. IsReplay (texts topology) (map texts plans) (texts schedule))
-    (λ texts. refused_behind (topology_of (texts topology)) (map texts plans) (texts schedule)) (λ texts. ReplaysTruly (texts topology) (map texts plans) (texts schedule))
+task_of (Some (Replay topology plans schedule)) = over_schedule replay_work topology plans schedule
 task_of (Some (Migrate topology)) = once (Done ∷ InputRefused ∷ []) (λ texts. IsMigration (texts topology))
+task_of (Some (Order topology plans schedule)) = over_schedule order_work topology plans schedule
 task_of (Some (Twoway topology exchanges)) =
     line_by_line (Done ∷ InputRefused ∷ []) (λ texts. IsTwoway (texts topology) (texts exchanges)) (λ texts. refused_over (topology_of (texts topology)) (texts exchanges))
     (λ texts. BoundsTruly (texts topology) (texts exchanges))

@@ -1,5 +1,5 @@
 -- What the words of the command mean.
-use Rattle.std.specs.Prelude.{ℕ, ◌^◌, ◌&&◌, Bool, List, [], ◌∷◌, ◌++◌, length, map, Option, None, Some, Result, Ok, Err, codes, nat_le, if◌then◌else◌}
+use Rattle.std.specs.Prelude.{ℕ, ◌^◌, ◌&&◌, ◌||◌, Bool, List, [], ◌∷◌, ◌++◌, length, map, Option, None, Some, Result, Ok, Err, codes, nat_le, if◌then◌else◌}
 use Rattle.std.specs.Str.{bytes_eq}
 use Rattle.sd_num.specs.Decimals.{number}
 use Rattle.sd_num.specs.Lists.{of_some}
@@ -14,6 +14,7 @@ pub data Command : Type 0 where
   Renew : (topology plan absent : List ℕ) → Command
   Replay : (topology : List ℕ) (plans : List (List ℕ)) (schedule : List ℕ) → Command
   Migrate : (topology : List ℕ) → Command
+  Order : (topology : List ℕ) (plans : List (List ℕ)) (schedule : List ℕ) → Command
   Twoway : (topology exchanges : List ℕ) → Command
   Drill : (topology plan : List ℕ) (budget : Budget) → Command
 
@@ -71,7 +72,10 @@ but_last word (next ∷ others) = let rest = but_last next others in (word ∷ r
 
 -- the command of a word with the names of a topology, of plans, and of a schedule
 abbrev pub of_plans : List ℕ → (topology : List ℕ) → (plans : List (List ℕ)) → (schedule : List ℕ) → Option Command
-of_plans word topology plans schedule = if bytes_eq word (codes "replay") then Some (Replay topology plans schedule) else None
+of_plans word topology plans schedule =
+    if bytes_eq word (codes "replay") then Some (Replay topology plans schedule)
+    else if bytes_eq word (codes "order") then Some (Order topology plans schedule)
+    else None
 
 -- of 1 to 64 plans
 abbrev pub over_plans : List ℕ → (topology : List ℕ) → (plans : List (List ℕ)) → (schedule : List ℕ) → Option Command
@@ -84,7 +88,7 @@ with_plans word (topology ∷ next ∷ others) = let rest = but_last next others
 
 -- a word whose command has any count of plans
 abbrev pub takes_plans : List ℕ → Bool
-takes_plans word = bytes_eq word (codes "replay")
+takes_plans word = bytes_eq word (codes "replay") || bytes_eq word (codes "order")
 
 -- the command of the words, if they are in the table
 abbrev pub command_of : List (List ℕ) → Option Command
@@ -119,5 +123,6 @@ files_of (Some (Check topology plan)) = OfTopology topology ∷ OfPlan plan ∷ 
 files_of (Some (Renew topology plan absent)) = OfTopology topology ∷ OfPlan plan ∷ OfAbsent absent ∷ []
 files_of (Some (Replay topology plans schedule)) = OfTopology topology ∷ plans_and_schedule plans schedule
 files_of (Some (Migrate topology)) = OfTopology topology ∷ []
+files_of (Some (Order topology plans schedule)) = OfTopology topology ∷ plans_and_schedule plans schedule
 files_of (Some (Twoway topology exchanges)) = OfTopology topology ∷ OfExchanges exchanges ∷ []
 files_of (Some (Drill topology plan budget)) = OfTopology topology ∷ OfPlan plan ∷ []

@@ -7,8 +7,10 @@ ghost use Rattle.sd_files.specs.Texts.{texts_of};
 ghost use Rattle.sd_work.specs.Leaving.{LeavesAt};
 ghost use Rattle.sd_work.specs.Works.{refused_part};
 ghost use Rattle.sd_top.specs.Ends.{MeetsResult};
+ghost use Rattle.sd_top.specs.Headlines.{MeetsHeadline};
 ghost use Rattle.sd_top.specs.Laws.{Laws};
 ghost use Rattle.sd_top.specs.Promise.{IsNearRefusal, IsUsage, KeepsPromise, MeetsOutcome, task_of};
+ghost use Rattle.sd_top.specs.Safe.{AreSafe};
 ghost use Rattle.sd_top.specs.Schedules.{IsSolo, solo_work};
 ghost use Rattle.sd_top.specs.Words as meaning;
 ghost use Rattle.sd_top.specs.Words.{files_of, name_of};
@@ -23,7 +25,7 @@ use crate::twoway::twoway;
 use crate::words::{Command, command_of};
 use sd_files::{Status, Stop, write_answer};
 use sd_outside::{Shelf, Sink};
-use sd_schedules::{Files, replay};
+use sd_schedules::{order, replay};
 use std::alloc::Global;
 
 /// Does the work of the words that follow the program's name, and answers how it ended.
@@ -46,6 +48,8 @@ pub fn run<S: Shelf, O: Sink>(alloc: Global, words: &[String], shelf: &mut S, ou
     ensures outcome { MeetsOutcome (S.held shelf.old) (map string_bytes words.now) (O.written out.old) (O.written out.new) result }
     ensures near { result ≡ Status.InputRefused → IsNearRefusal (S.held shelf.old) (map string_bytes words.now) (S.rest shelf.new) }
     ensures promise { KeepsPromise (S.held shelf.old) (map string_bytes words.now) }
+    // where clean histories are safe, which `sd_run` shows of all
+    ensures headline { AreSafe → MeetsHeadline (S.held shelf.old) (map string_bytes words.now) (O.written out.old) (O.written out.new) }
 
     // Over every shelf and sink: a run that is not stopped gives one of the command's statuses, and
     // the outside is blamed only where it failed in this call.
@@ -99,24 +103,12 @@ fn perform<S: Shelf, O: Sink>(
             let made = renew(alloc, shelf, topology, plan, absent);
             write_answer(alloc, &made, out)
         }
-        Some(
-            Command::Replay {
-                topology,
-                plans,
-                schedule,
-            },
-        ) => {
-            let files = Files {
-                topology,
-                plans,
-                schedule,
-            };
-            replay(alloc, shelf, files, out)
-        }
+        Some(Command::Replay { files }) => replay(alloc, shelf, files, out),
         Some(Command::Migrate { topology }) => {
             let made = migrate(alloc, shelf, topology);
             write_answer(alloc, &made, out)
         }
+        Some(Command::Order { files }) => order(alloc, shelf, files, out),
         Some(
             Command::Twoway {
                 topology,
@@ -161,7 +153,7 @@ fn usage<O: Sink>(out: &mut O) -> Result<Status, Stop>
     ensures sink { result ≡ Err Stop.Sink → Rose (O.faults out.old) (O.faults out.new) }
 {
     match out.write(
-        b"usage: sundial solo SCHEDULE | plan TOPOLOGY | check TOPOLOGY PLAN | renew TOPOLOGY PLAN ABSENT | replay TOPOLOGY PLAN.. SCHEDULE | migrate TOPOLOGY | twoway TOPOLOGY EXCHANGES | drill TOPOLOGY PLAN BASE HOLD\n",
+        b"usage: sundial solo SCHEDULE | plan TOPOLOGY | check TOPOLOGY PLAN | renew TOPOLOGY PLAN ABSENT | replay TOPOLOGY PLAN.. SCHEDULE | migrate TOPOLOGY | order TOPOLOGY PLAN.. SCHEDULE | twoway TOPOLOGY EXCHANGES | drill TOPOLOGY PLAN BASE HOLD\n",
     ) {
         Ok(()) => Ok(Status::Usage),
         Err(_) => Err(Stop::Sink),

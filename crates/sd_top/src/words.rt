@@ -6,6 +6,7 @@ ghost use Rattle.sd_top.specs.Words as meaning;
 
 use sd_drill::Budget;
 use sd_num::read_u64;
+use sd_schedules::Files;
 
 /// A command, with the names of its files and its numbers.
 #[derive(Clone, Copy)]
@@ -26,12 +27,13 @@ pub(crate) enum Command<'w> {
         absent: &'w str,
     },
     Replay {
-        topology: &'w str,
-        plans: &'w [String],
-        schedule: &'w str,
+        files: Files<'w>,
     },
     Migrate {
         topology: &'w str,
+    },
+    Order {
+        files: Files<'w>,
     },
     Twoway {
         topology: &'w str,
@@ -174,7 +176,7 @@ fn with_fixed<'w>(word: &str, others: &'w [String]) -> Option<Command<'w>>
 fn takes_plans(word: &str) -> bool
     ensures { result ≡ meaning.takes_plans word.now }
 {
-    word == "replay"
+    word == "replay" || word == "order"
 }
 
 /// The command of a word with the names of a topology, of plans and of a schedule.
@@ -190,12 +192,15 @@ fn over_plans<'w>(
     if plans.is_empty() || plans.len() > MOST_PLANS {
         return None;
     }
+    let files = Files {
+        topology,
+        plans,
+        schedule,
+    };
     if word == "replay" {
-        Some(Command::Replay {
-            topology,
-            plans,
-            schedule,
-        })
+        Some(Command::Replay { files })
+    } else if word == "order" {
+        Some(Command::Order { files })
     } else {
         None
     }

@@ -4,8 +4,6 @@
 mod fault;
 mod print;
 mod read;
-#[cfg(test)]
-mod tests;
 
 pub use fault::{Key, Kind, Place, TopoFault};
 pub use print::topology_text;

@@ -1,4 +1,5 @@
 //! The checker beside a plain slow program, on networks and plans made by counting and by hand.
+mod cycles;
 mod single;
 mod worked;
 

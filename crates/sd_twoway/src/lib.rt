@@ -10,8 +10,6 @@ pub mod bounds;
 mod by_link;
 mod fields;
 mod reading;
-#[cfg(test)]
-mod tests;
 
 pub use by_link::Spans;
 pub use reading::read_exchange;

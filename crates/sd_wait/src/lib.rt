@@ -8,8 +8,6 @@
 #![tactic(auto)]
 
 mod printing;
-#[cfg(test)]
-mod tests;
 mod transactions;
 mod waits;
 

@@ -8,8 +8,6 @@
 mod alarms;
 mod loops;
 mod marks;
-#[cfg(test)]
-mod tests;
 
 pub use alarms::{outside, two_acting};
 pub use loops::{first_loop, loop_at};

@@ -6,8 +6,6 @@
 #![tactic(auto)]
 
 mod device;
-#[cfg(test)]
-mod tests;
 mod things;
 mod window;
 mod world;

@@ -1,10 +1,10 @@
-//! The program: `sd_top`'s run over the files of the system and standard output. Its status is the
+//! The program: `run` over the files of the system and standard output. Its status is the
 //! exit code.
 #![tactic(auto)]
 
 use sd_num::NoMemory;
 use sd_outside::{FileShelf, StdSink};
-use sd_top::{Status, run};
+use sd_run::{Status, run};
 use std::io::ErrorKind;
 use std::process::ExitCode;
 use std::{env, io};

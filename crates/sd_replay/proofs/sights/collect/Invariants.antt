@@ -1,4 +1,4 @@
-use Rattle.std.proofs.Common.{◌≡◌, ℕ, ◌<◌, ◌≤◌, List, length, take, filter}
+use Rattle.std.proofs.Common.{◌≡◌, ◌≤◌, List, length, take, filter}
 use Rattle.std.specs.Vec.{vec_capacity}
 use Rattle.sd_sched.specs.declared.Event.{Event}
 use Rattle.sd_history.specs.World.{Setting}

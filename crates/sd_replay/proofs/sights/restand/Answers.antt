@@ -1,6 +1,5 @@
 -- Where the window stays open, each device but the named one stands as before.
 use Rattle.std.proofs.Common.{◌∷◌, refl, sym, ap, ◌∙◌}
-use Rattle.sd_sched.specs.declared.Event.{Event}
 use Rattle.sd_sched.specs.Events.{device_of}
 use Rattle.sd_history.specs.Nodes.{steps_of}
 use Rattle.sd_history.proofs.Known.{named_is_known}

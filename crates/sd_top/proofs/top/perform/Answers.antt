@@ -3,7 +3,7 @@ use Rattle.std.specs.Prelude.{IsTrue}
 use Rattle.sd_files.proofs.Loading.{told_always}
 use Rattle.sd_top.specs.Parsed.{named}
 use Rattle.sd_top.specs.Words.{OfTopology, OfPlan, OfAbsent, command_of, files_of}
-use Rattle.sd_top.specs.Words.Command.{Solo, Plan, Check, Renew, Replay, Migrate, Twoway, Drill}
+use Rattle.sd_top.specs.Words.Command.{Solo, Plan, Check, Renew, Replay, Migrate, Order, Twoway, Drill}
 use Rattle.sd_top.specs.declared.words.Command.{Command as Parsed}
 use Rattle.sd_top.proofs.Performing.{meets_told, meets_once, near_told, near_nothing}
 use Rattle.sd_top.proofs.Serving.{serves_first, serves_second, serves_third, serves_topology, serves_plans, serves_schedule}
@@ -44,27 +44,45 @@ returns-in-Some-Renew-clause-near g c = λ refused. near_nothing _ _ (Some (Rene
 
 pub replay-requires-clause-topology : goal.replay-requires-clause-topology
 replay-requires-clause-topology g c =
-    serves_topology (λ name. IsTrue (g.S.Shelf.serves c.args.shelf.now name)) c.in-Some-Replay.schedule.now c.in-Some-Replay.topology.now (map string_bytes c.in-Some-Replay.plans.now) (files_of (command_of (map string_bytes c.args.words.now))) (ap files_of (ap (λ (x : Parsed). Some (named x)) (sym c.in-Some-Replay.field-0-is) ∙ c.in-Some-Replay.ensures.is)) c.requires
+    serves_topology (λ name. IsTrue (g.S.Shelf.serves c.args.shelf.now name)) c.in-Some-Replay.files.schedule.now c.in-Some-Replay.files.topology.now (map string_bytes c.in-Some-Replay.files.plans.now) (files_of (command_of (map string_bytes c.args.words.now))) (ap files_of (ap (λ (x : Parsed). Some (named x)) (sym c.in-Some-Replay.field-0-is) ∙ c.in-Some-Replay.ensures.is)) c.requires
 
 pub replay-requires-clause-plans : goal.replay-requires-clause-plans
 replay-requires-clause-plans g c =
-    serves_plans (λ name. IsTrue (g.S.Shelf.serves c.args.shelf.now name)) c.in-Some-Replay.schedule.now c.in-Some-Replay.topology.now (map string_bytes c.in-Some-Replay.plans.now) (files_of (command_of (map string_bytes c.args.words.now))) (ap files_of (ap (λ (x : Parsed). Some (named x)) (sym c.in-Some-Replay.field-0-is) ∙ c.in-Some-Replay.ensures.is)) c.requires
+    serves_plans (λ name. IsTrue (g.S.Shelf.serves c.args.shelf.now name)) c.in-Some-Replay.files.schedule.now c.in-Some-Replay.files.topology.now (map string_bytes c.in-Some-Replay.files.plans.now) (files_of (command_of (map string_bytes c.args.words.now))) (ap files_of (ap (λ (x : Parsed). Some (named x)) (sym c.in-Some-Replay.field-0-is) ∙ c.in-Some-Replay.ensures.is)) c.requires
 
 pub replay-requires-clause-schedule : goal.replay-requires-clause-schedule
 replay-requires-clause-schedule g c =
-    serves_schedule (λ name. IsTrue (g.S.Shelf.serves c.args.shelf.now name)) c.in-Some-Replay.schedule.now c.in-Some-Replay.topology.now (map string_bytes c.in-Some-Replay.plans.now) (files_of (command_of (map string_bytes c.args.words.now))) (ap files_of (ap (λ (x : Parsed). Some (named x)) (sym c.in-Some-Replay.field-0-is) ∙ c.in-Some-Replay.ensures.is)) c.requires
+    serves_schedule (λ name. IsTrue (g.S.Shelf.serves c.args.shelf.now name)) c.in-Some-Replay.files.schedule.now c.in-Some-Replay.files.topology.now (map string_bytes c.in-Some-Replay.files.plans.now) (files_of (command_of (map string_bytes c.args.words.now))) (ap files_of (ap (λ (x : Parsed). Some (named x)) (sym c.in-Some-Replay.field-0-is) ∙ c.in-Some-Replay.ensures.is)) c.requires
 
 pub returns-in-Some-Replay-clause-outcome : goal.returns-in-Some-Replay-clause-outcome
-returns-in-Some-Replay-clause-outcome g c = meets_told _ _ (Some (Replay c.in-Some-Replay.topology.now (map string_bytes c.in-Some-Replay.plans.now) c.in-Some-Replay.schedule.now)) _ _ _ (ap (λ (x : Parsed). Some (named x)) (sym c.in-Some-Replay.field-0-is) ∙ c.in-Some-Replay.ensures.is) c.replay.ensures.outcome
+returns-in-Some-Replay-clause-outcome g c = meets_told _ _ (Some (Replay c.in-Some-Replay.files.topology.now (map string_bytes c.in-Some-Replay.files.plans.now) c.in-Some-Replay.files.schedule.now)) _ _ _ (ap (λ (x : Parsed). Some (named x)) (sym c.in-Some-Replay.field-0-is) ∙ c.in-Some-Replay.ensures.is) c.replay.ensures.outcome
 
 pub returns-in-Some-Replay-clause-near : goal.returns-in-Some-Replay-clause-near
-returns-in-Some-Replay-clause-near g c = λ refused. near_told _ _ (Some (Replay c.in-Some-Replay.topology.now (map string_bytes c.in-Some-Replay.plans.now) c.in-Some-Replay.schedule.now)) _ (ap (λ (x : Parsed). Some (named x)) (sym c.in-Some-Replay.field-0-is) ∙ c.in-Some-Replay.ensures.is) (c.replay.ensures.near refused)
+returns-in-Some-Replay-clause-near g c = λ refused. near_told _ _ (Some (Replay c.in-Some-Replay.files.topology.now (map string_bytes c.in-Some-Replay.files.plans.now) c.in-Some-Replay.files.schedule.now)) _ (ap (λ (x : Parsed). Some (named x)) (sym c.in-Some-Replay.field-0-is) ∙ c.in-Some-Replay.ensures.is) (c.replay.ensures.near refused)
 
 pub returns-in-Some-Migrate-clause-outcome : goal.returns-in-Some-Migrate-clause-outcome
 returns-in-Some-Migrate-clause-outcome g c = meets_once _ _ (Some (Migrate c.in-Some-Migrate.topology.now)) c.migrate-made.result _ _ _ (ap (λ (x : Parsed). Some (named x)) (sym c.in-Some-Migrate.field-0-is) ∙ c.in-Some-Migrate.ensures.is) refl c.migrate-made.ensures.makes c.write_answer-in-Some-Migrate.ensures.writes
 
 pub returns-in-Some-Migrate-clause-near : goal.returns-in-Some-Migrate-clause-near
 returns-in-Some-Migrate-clause-near g c = λ refused. near_nothing _ _ (Some (Migrate c.in-Some-Migrate.topology.now)) _ (ap (λ (x : Parsed). Some (named x)) (sym c.in-Some-Migrate.field-0-is) ∙ c.in-Some-Migrate.ensures.is) (λ texts. refl)
+
+pub order-requires-clause-topology : goal.order-requires-clause-topology
+order-requires-clause-topology g c =
+    serves_topology (λ name. IsTrue (g.S.Shelf.serves c.args.shelf.now name)) c.in-Some-Order.files.schedule.now c.in-Some-Order.files.topology.now (map string_bytes c.in-Some-Order.files.plans.now) (files_of (command_of (map string_bytes c.args.words.now))) (ap files_of (ap (λ (x : Parsed). Some (named x)) (sym c.in-Some-Order.field-0-is) ∙ c.in-Some-Order.ensures.is)) c.requires
+
+pub order-requires-clause-plans : goal.order-requires-clause-plans
+order-requires-clause-plans g c =
+    serves_plans (λ name. IsTrue (g.S.Shelf.serves c.args.shelf.now name)) c.in-Some-Order.files.schedule.now c.in-Some-Order.files.topology.now (map string_bytes c.in-Some-Order.files.plans.now) (files_of (command_of (map string_bytes c.args.words.now))) (ap files_of (ap (λ (x : Parsed). Some (named x)) (sym c.in-Some-Order.field-0-is) ∙ c.in-Some-Order.ensures.is)) c.requires
+
+pub order-requires-clause-schedule : goal.order-requires-clause-schedule
+order-requires-clause-schedule g c =
+    serves_schedule (λ name. IsTrue (g.S.Shelf.serves c.args.shelf.now name)) c.in-Some-Order.files.schedule.now c.in-Some-Order.files.topology.now (map string_bytes c.in-Some-Order.files.plans.now) (files_of (command_of (map string_bytes c.args.words.now))) (ap files_of (ap (λ (x : Parsed). Some (named x)) (sym c.in-Some-Order.field-0-is) ∙ c.in-Some-Order.ensures.is)) c.requires
+
+pub returns-in-Some-Order-clause-outcome : goal.returns-in-Some-Order-clause-outcome
+returns-in-Some-Order-clause-outcome g c = meets_told _ _ (Some (Order c.in-Some-Order.files.topology.now (map string_bytes c.in-Some-Order.files.plans.now) c.in-Some-Order.files.schedule.now)) _ _ _ (ap (λ (x : Parsed). Some (named x)) (sym c.in-Some-Order.field-0-is) ∙ c.in-Some-Order.ensures.is) c.order.ensures.outcome
+
+pub returns-in-Some-Order-clause-near : goal.returns-in-Some-Order-clause-near
+returns-in-Some-Order-clause-near g c = λ refused. near_told _ _ (Some (Order c.in-Some-Order.files.topology.now (map string_bytes c.in-Some-Order.files.plans.now) c.in-Some-Order.files.schedule.now)) _ (ap (λ (x : Parsed). Some (named x)) (sym c.in-Some-Order.field-0-is) ∙ c.in-Some-Order.ensures.is) (c.order.ensures.near refused)
 
 pub returns-in-Some-Twoway-clause-outcome : goal.returns-in-Some-Twoway-clause-outcome
 returns-in-Some-Twoway-clause-outcome g c = meets_told _ _ (Some (Twoway c.in-Some-Twoway.topology.now c.in-Some-Twoway.exchanges.now)) _ _ _ (ap (λ (x : Parsed). Some (named x)) (sym c.in-Some-Twoway.field-0-is) ∙ c.in-Some-Twoway.ensures.is) c.twoway.ensures.outcome

@@ -1,22 +1,17 @@
 -- What is seen of the step, how devices stand after it, and what is found of it.
-use Rattle.std.proofs.Common.{◌≡◌, ◌∷◌, ◌≤◌, ◌<◌, ℕ, List, Option, length, arith, sym, ap, ◌∙◌, subst, IfSome, Some, None, refl}
+use Rattle.std.proofs.Common.{◌≡◌, ◌∷◌, ◌<◌, ℕ, List, Option, length, arith, sym, ap, ◌∙◌, subst, IfSome, Some, None, refl}
 use Rattle.std.proofs.Props.{props}
 use Rattle.std.proofs.Math.Logic.{∥∥₁_elim, ∥∥₁_map}
 use Rattle.sd_topo.specs.Network.{Network}
-use Rattle.sd_sched.specs.declared.Event.{Event}
 use Rattle.sd_sched.specs.Events.{device_of, reference_of}
-use Rattle.sd_msg.specs.declared.Flight.{Flight}
-use Rattle.sd_history.specs.World.{Setting, Seen}
+use Rattle.sd_history.specs.World.{Setting}
 use Rattle.sd_history.specs.Steps.{seen_of}
 use Rattle.sd_history.specs.Nodes.{NodeStep, steps_of}
 use Rattle.sd_history.proofs.Known.{named_is_known}
 use Rattle.sd_fabric.specs.declared.Outcome.{Outcome}
-use Rattle.sd_fabric.specs.Registers.{Registers}
 use Rattle.sd_watch.specs.Watch.{two_least}
 use Rattle.sd_fleet.specs.Standing.{IsAccepted}
-use Rattle.sd_premise.specs.Standing as premises
-use Rattle.sd_lines.specs.declared.findings.Findings.{Findings}
-use Rattle.sd_replay.specs.Standing.{Onlooks, HasStep}
+use Rattle.sd_replay.specs.Standing.{Onlooks}
 use Rattle.sd_replay.proofs.Others.{steps_know}
 use Rattle.sd_replay.proofs.Stances.{loop_is, roots_are}
 use Rattle.sd_replay.proofs.Looking.{seen_by, AreFound, lines_are, found_of}

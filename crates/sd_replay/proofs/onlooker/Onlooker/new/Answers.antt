@@ -1,5 +1,5 @@
 -- Nothing was seen, and no device counts.
-use Rattle.std.proofs.Common.{◌≡◌, ℕ, length, sym, ap, ◌∙◌}
+use Rattle.std.proofs.Common.{length, sym, ap, ◌∙◌}
 use Rattle.sd_topo.specs.Network.{Network}
 use Rattle.sd_replay.proofs.Stances.{first_stances}
 use Rattle.sd_replay.proofs.onlooker.Onlooker.new.Goals as goal

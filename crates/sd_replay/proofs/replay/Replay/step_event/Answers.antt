@@ -1,10 +1,12 @@
 -- The event happens in the fleet, is looked at, is noted and is told.
-use Rattle.std.proofs.Common.{◌≡◌, ◌+◌, ◌++◌, ◌∷◌, [], ℕ, List, Option, Some, None, MatchOption, refl, sym, ap, ◌∙◌, subst}
+use Rattle.std.proofs.Common.{◌≡◌, ◌++◌, ◌∷◌, [], ℕ, List, Option, Some, MatchOption, refl, sym, subst}
 use Rattle.std.proofs.Math.Logic.{∥∥₁_map}
 use Rattle.sd_clock.specs.declared.Report.{Report}
 use Rattle.sd_msg.specs.Observed.{ReportAt}
 use Rattle.sd_msg.specs.Observing.{report_at}
 use Rattle.sd_sched.specs.Events.{reference_of}
+use Rattle.sd_history.specs.Nodes.{steps_of}
+use Rattle.sd_replay.proofs.Calm.{stays_calm}
 use Rattle.sd_replay.proofs.Going.{with_fleet, stands_ready}
 use Rattle.sd_replay.proofs.Happening.{IsDone, has_step, numbers_merely, tally_merely, devices_merely, ready_merely, stands_on, run_on}
 use Rattle.sd_replay.proofs.replay.Replay.step_event.Given.{Over}
@@ -138,3 +140,9 @@ returns-in_default-report-clause-accepted g c = λ setting run stands.
           stands_on g.N.Node g.V.Observer c.ready.new.self.fleet c.apply.new.self c.ready.new.self.onlooker c.look-findings.new.self c.ready.new.self.journal c.note.new.self c.ready.new.self.observer c.ready.new.self.observer c.args.event.now
           c.in-Ok-apply.outcome c.look-findings.result (untold g c.before) setting run ready;
     }
+
+pub returns-in-Some-report-clause-calm : goal.returns-in-Some-report-clause-calm
+returns-in-Some-report-clause-calm g c = λ setting run stands. stays_calm setting stands.sound (steps_of run)
+
+pub returns-in_default-report-clause-calm : goal.returns-in_default-report-clause-calm
+returns-in_default-report-clause-calm g c = λ setting run stands. stays_calm setting stands.sound (steps_of run)

@@ -1,0 +1,5 @@
+//! Stamps, the book of flights, observers, and commit wait.
+#![tactic(auto)]
+
+#[cfg(test)]
+mod tests;

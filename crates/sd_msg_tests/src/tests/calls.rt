@@ -1,0 +1,111 @@
+//! Calls on a book, and their answers.
+
+ghost use Rattle.std.specs.Prelude.{◌≡◌};
+
+use sd_msg::{Flight, FlightBook, Message, Stamp, TakeFault};
+use sd_topo::Thing;
+use std::alloc::Global;
+
+#[derive(Clone, Copy, Debug, PartialEq, Eq)]
+pub enum Call {
+    Send(Flight),
+    Look { number: u64 },
+    Take { number: u64, device: u32 },
+    Lose { number: u64 },
+    Sweep(Thing),
+    Purge { reference: u64 },
+}
+
+#[derive(Clone, Copy, Debug, PartialEq, Eq)]
+pub enum Answer {
+    Sent(u64),
+    Found(Flight),
+    Lost,
+    Failed(TakeFault),
+    Done,
+    /// There was no memory, or no number left.
+    NotSent,
+}
+
+pub fn flight(link: u32, receiver: u32, last: u64, reaches: bool) -> Flight {
+    Flight {
+        number: 77,
+        link,
+        sender: 9,
+        receiver,
+        sent_at: 3,
+        due: 5,
+        last,
+        reaches,
+        message: Message {
+            epoch: 1,
+            stamp: Stamp {
+                term: 0,
+                round: last,
+            },
+            clock: 4,
+            eps: 2,
+        },
+    }
+}
+
+pub fn found(looked: Result<Flight, TakeFault>) -> Answer {
+    match looked {
+        Ok(flight) => Answer::Found(flight),
+        Err(fault) => Answer::Failed(fault),
+    }
+}
+
+pub fn lost(tried: Result<(), TakeFault>) -> Answer {
+    match tried {
+        Ok(()) => Answer::Lost,
+        Err(fault) => Answer::Failed(fault),
+    }
+}
+
+/// A book that is sent only what it may be sent.
+#[derive(Drop)]
+pub struct Tried {
+    book: FlightBook,
+    sent: u64,
+    ghost sent_is: { book.last ≡ sent },
+}
+
+impl Tried {
+    pub fn new(alloc: Global) -> Tried {
+        Tried {
+            book: FlightBook::new(alloc),
+            sent: 0,
+        }
+    }
+
+    fn send(&mut self, alloc: Global, flight: Flight) -> Answer {
+        if self.sent == u64::MAX {
+            return Answer::NotSent;
+        }
+        match self.book.ready(alloc, 1) {
+            Ok(()) => {
+                self.sent += 1;
+                Answer::Sent(self.book.send(flight))
+            }
+            Err(_) => Answer::NotSent,
+        }
+    }
+
+    pub fn call(&mut self, alloc: Global, call: Call) -> Answer {
+        match call {
+            Call::Send(flight) => self.send(alloc, flight),
+            Call::Look { number } => found(self.book.look(number)),
+            Call::Take { number, device } => found(self.book.take(number, device)),
+            Call::Lose { number } => lost(self.book.lose(number)),
+            Call::Sweep(thing) => {
+                self.book.sweep(thing);
+                Answer::Done
+            }
+            Call::Purge { reference } => {
+                self.book.purge(reference);
+                Answer::Done
+            }
+        }
+    }
+}

@@ -1,0 +1,5 @@
+//! The monitors of the premises on worked events.
+#![tactic(auto)]
+
+#[cfg(test)]
+mod tests;

@@ -1,0 +1,4 @@
+//! The monitors of the premises, one after another.
+mod clocks;
+mod flights;
+mod rounds;

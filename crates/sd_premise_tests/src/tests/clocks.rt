@@ -1,0 +1,249 @@
+//! Each monitor at its bound and just past it.
+ghost use Rattle.std.specs.Prelude.{◌≡◌, ◌<◌, ◌^◌, length};
+ghost use Rattle.sd_topo.specs.Topologies.{network};
+
+use sd_examples::TRIANGLE;
+use sd_msg::{Flight, Message, Stamp};
+use sd_premise_clocks::{DelayMonitor, DriftMonitor, Members, Seen, StartMonitor, TickMonitor};
+use sd_sched::Event;
+use sd_topo::Topology;
+use sd_topotext::read_topology;
+use sd_world::World;
+use std::test::Fail;
+
+/// What is seen of an event that receives and sends nothing.
+fn seen(event: Event) -> Seen<'static>
+    ensures { result.event ≡ event }
+{
+    Seen {
+        event,
+        taken: None,
+        sent: &[],
+        activated: None,
+        acted: false,
+        closed: false,
+    }
+}
+
+/// Whether the premise on starts holds of a clock that is set, and of what comes then.
+fn stays_true(reference: u64, clock: u64, eps: u64) -> (bool, bool) {
+    let mut monitor = StartMonitor::new();
+    let set = Event::Fix {
+        reference,
+        device: 0,
+        counter: 0,
+        clock,
+        eps,
+    };
+    let holds = monitor.observe(&seen(set));
+    (holds, monitor.observe(&seen(Event::End { reference })))
+}
+
+#[test]
+fn clocks_set_within_their_uncertainty(rt: HostRuntime) -> Result<(), Fail> {
+    assert_eq!(rt; stays_true(1000, 1500, 500), (true, true));
+    assert_eq!(rt; stays_true(1000, 500, 500), (true, true));
+    assert_eq!(rt; stays_true(1000, 1501, 500), (false, false));
+    assert_eq!(rt; stays_true(1000, 499, 500), (false, false));
+    Ok(())
+}
+
+/// Whether the premise on drift holds at a start of device 0 with counter 0.
+fn starts(monitor: &mut DriftMonitor, topo: &Topology, reference: u64) -> bool
+    requires lives { length monitor.old.lives ≡ length (network topo.now).devices }
+    requires device { 0 < length (network topo.now).devices }
+    ensures { length monitor.new.lives ≡ length monitor.old.lives }
+{
+    let seen = seen(Event::Start {
+        reference,
+        device: 0,
+        counter: 0,
+        clock: reference,
+        eps: 0,
+    });
+    monitor.observe(topo, &seen)
+}
+
+/// Whether it holds at a join of device 0 with counter 0.
+fn joins(monitor: &mut DriftMonitor, topo: &Topology, reference: u64) -> bool
+    requires lives { length monitor.old.lives ≡ length (network topo.now).devices }
+    requires device { 0 < length (network topo.now).devices }
+    ensures { length monitor.new.lives ≡ length monitor.old.lives }
+{
+    let seen = seen(Event::Join {
+        reference,
+        device: 0,
+        counter: 0,
+        clock: reference,
+        eps: 0,
+    });
+    monitor.observe(topo, &seen)
+}
+
+/// Whether it holds at a reading of device 0.
+fn reads(monitor: &mut DriftMonitor, topo: &Topology, reference: u64, counter: u64) -> bool
+    requires lives { length monitor.old.lives ≡ length (network topo.now).devices }
+    requires device { 0 < length (network topo.now).devices }
+    ensures { length monitor.new.lives ≡ length monitor.old.lives }
+{
+    let seen = seen(Event::Ask {
+        reference,
+        device: 0,
+        counter,
+    });
+    monitor.observe(topo, &seen)
+}
+
+/// Whether it holds of two readings, the first at 0 and 0.
+fn keeps(rt: &impl AllocGlobal, topo: &Topology, reference: u64, counter: u64) -> Result<bool, Fail>
+    requires { 0 < length (network topo.now).devices }
+{
+    let mut monitor = DriftMonitor::new(rt.alloc(), topo)?;
+    let first = starts(&mut monitor, topo, 0);
+    Ok(first && reads(&mut monitor, topo, reference, counter))
+}
+
+#[test]
+fn drift_at_the_bound(rt: HostRuntime) -> Result<(), Fail> {
+    let topo = read_topology(rt.alloc(), TRIANGLE.as_bytes())?;
+    assert!(rt; topo.devices() == 3);
+    assert!(rt; keeps(&rt, &topo, 50_011_000, 50_000_000)?);
+    assert!(rt; !keeps(&rt, &topo, 50_011_001, 50_000_000)?);
+    assert!(rt; keeps(&rt, &topo, 49_989_000, 50_000_000)?);
+    assert!(rt; !keeps(&rt, &topo, 49_988_999, 50_000_000)?);
+    Ok(())
+}
+
+#[test]
+fn drift_of_the_outer_pair(rt: HostRuntime) -> Result<(), Fail> {
+    let topo = read_topology(rt.alloc(), TRIANGLE.as_bytes())?;
+    assert!(rt; topo.devices() == 3);
+    let mut monitor = DriftMonitor::new(rt.alloc(), &topo)?;
+    assert!(rt; starts(&mut monitor, &topo, 0));
+    assert!(rt; reads(&mut monitor, &topo, 1_001_200, 1_000_000));
+    assert!(rt; !reads(&mut monitor, &topo, 2_002_400, 2_000_000));
+    Ok(())
+}
+
+#[test]
+fn drift_is_judged_within_one_life(rt: HostRuntime) -> Result<(), Fail> {
+    let topo = read_topology(rt.alloc(), TRIANGLE.as_bytes())?;
+    assert!(rt; topo.devices() == 3);
+    let mut monitor = DriftMonitor::new(rt.alloc(), &topo)?;
+    assert!(rt; starts(&mut monitor, &topo, 0));
+    assert!(rt; reads(&mut monitor, &topo, 1_001_200, 1_000_000));
+    assert!(rt; joins(&mut monitor, &topo, 9_000_000));
+    assert!(rt; reads(&mut monitor, &topo, 10_001_200, 1_000_000));
+    assert!(rt; !reads(&mut monitor, &topo, 11_002_400, 2_000_000));
+    Ok(())
+}
+
+/// Two devices, and a link with its own bounds for each direction.
+const TWO_WAYS: &str = r#"
+version = 2
+ppm = 200
+grain = 1000
+period = 100000000
+tick = 90000000
+loss = 1
+depth = 2
+roots = ["r", "b"]
+device = [{ name = "r" }, { name = "b" }]
+link = [
+    { name = "rb", ends = ["r", "b"], min = 400000, max = 1000000, back_min = 7000, back_max = 9000 },
+]
+"#;
+
+/// A message over link 0 to a receiver, which was sent at reference 1000.
+fn flight(receiver: u32) -> Flight
+    ensures { result.link ≡ 0 }
+{
+    Flight {
+        number: 1,
+        link: 0,
+        sender: 0,
+        receiver,
+        sent_at: 1000,
+        due: 0,
+        last: 0,
+        reaches: true,
+        message: Message {
+            epoch: 1,
+            stamp: Stamp { term: 0, round: 1 },
+            clock: 0,
+            eps: 0,
+        },
+    }
+}
+
+/// Whether the premise on delays holds of that message, received at the reference.
+fn comes_in_time(topo: &Topology, receiver: u32, reference: u64) -> bool
+    requires { 0 < length (network topo.now).links }
+{
+    let mut monitor = DelayMonitor::new();
+    let flight = flight(receiver);
+    let seen = Seen {
+        event: Event::Recv {
+            reference,
+            device: receiver,
+            counter: reference,
+            message: 1,
+        },
+        taken: Some(flight),
+        sent: &[],
+        activated: None,
+        acted: false,
+        closed: false,
+    };
+    monitor.observe(topo, &seen)
+}
+
+#[test]
+fn messages_at_both_bounds_of_their_direction(rt: HostRuntime) -> Result<(), Fail> {
+    let topo = read_topology(rt.alloc(), TWO_WAYS.as_bytes())?;
+    assert!(rt; topo.links() == 1);
+    assert!(rt; comes_in_time(&topo, 1, 401_000));
+    assert!(rt; comes_in_time(&topo, 1, 1_001_000));
+    assert!(rt; !comes_in_time(&topo, 1, 400_999));
+    assert!(rt; !comes_in_time(&topo, 1, 1_001_001));
+    assert!(rt; comes_in_time(&topo, 0, 8000));
+    assert!(rt; comes_in_time(&topo, 0, 10_000));
+    assert!(rt; !comes_in_time(&topo, 0, 7999));
+    assert!(rt; !comes_in_time(&topo, 0, 10_001));
+    Ok(())
+}
+
+/// The world sees that time goes on.
+fn pass(world: &mut World, reference: u64)
+    requires { world.old.events < 2 ^ 63 }
+    ensures { length world.new.devices ≡ length world.old.devices }
+{
+    world.observe(&Event::End { reference });
+}
+
+/// Whether the premise on ticks holds when the monitor sees it too.
+fn waits(monitor: &mut TickMonitor, members: &Members, world: &World, reference: u64) -> bool
+    requires { length world.now.devices ≡ length monitor.old.owed }
+    ensures { length monitor.new.owed ≡ length monitor.old.owed }
+{
+    let seen = seen(Event::End { reference });
+    monitor.observe(members, world, &seen)
+}
+
+#[test]
+fn members_that_never_start_are_late(rt: HostRuntime) -> Result<(), Fail> {
+    let topo = read_topology(rt.alloc(), TRIANGLE.as_bytes())?;
+    let members = Members::new(rt.alloc(), &topo, &[])?;
+    let mut world = World::new(rt.alloc(), topo.devices(), topo.links())?;
+    let mut monitor = TickMonitor::new(rt.alloc(), &topo, &members)?;
+    assert!(rt; world.events() < 100);
+    pass(&mut world, 5);
+    assert!(rt; waits(&mut monitor, &members, &world, 5));
+    assert!(rt; world.events() < 100);
+    pass(&mut world, 90_000_005);
+    assert!(rt; waits(&mut monitor, &members, &world, 90_000_005));
+    assert!(rt; world.events() < 100);
+    pass(&mut world, 90_000_006);
+    assert!(rt; !waits(&mut monitor, &members, &world, 90_000_006));
+    Ok(())
+}

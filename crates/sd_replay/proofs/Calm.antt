@@ -1,0 +1,48 @@
+-- While no premise is broken there is no alarm, where clean histories are safe: their reports contain their references.
+use Rattle.std.specs.Prelude.{◌≡◌, true, count_by, List, [], ◌∷◌, IsTrue, refl}
+use Rattle.std.proofs.Common.{arith, sym, subst}
+use Rattle.sd_msg.specs.declared.observer.Observer as observers
+use Rattle.sd_sched.specs.declared.Event.{Event}
+use Rattle.sd_history.specs.World.{Setting}
+use Rattle.sd_history.specs.Steps.{Step, seen_of, events_of}
+use Rattle.sd_history.specs.Nodes.{steps_of}
+use Rattle.sd_history.specs.Chronicle.{next_step, chronicle, IsHistory}
+use Rattle.sd_history.specs.Premises.{breaks, all_hold}
+use Rattle.sd_history.specs.Lines.{lines_of}
+use Rattle.sd_history.proofs.Devices.{devices_run, devices_have_history}
+use Rattle.sd_replay.specs.Promises.{IsSound, StaysSafe}
+use Rattle.sd_replay.specs.Tallies.{is_alarm}
+use Rattle.sd_replay.specs.Calm.{IsCalm, StaysCalm}
+use Rattle.sd_replay.specs.Devices.{DevicesStayCalm}
+use Rattle.sd_replay.proofs.Due.{none_broken, four_parts, no_alarm_due, all_honest}
+use Rattle.sd_replay.proofs.Kept.{reports_contain}
+
+module _ (setting : Setting) (safe : StaysSafe setting) (sound : IsSound setting) where
+  no_alarm : (history : List Event) → IsHistory setting history → all_hold setting (seen_of (chronicle setting history)) ≡ true
+      → count_by is_alarm (lines_of setting (chronicle setting history)) ≡ 0
+  no_alarm [] is holds = refl
+  no_alarm (e ∷ earlier) is holds =
+      let before : List Step = chronicle setting earlier in
+      let here : Step = next_step setting before e in
+      let kept = safe (e ∷ earlier) sound is holds in
+      let others = no_alarm_due setting here before kept.0 kept.1 (reports_contain setting (e ∷ earlier) is (all_honest setting here before holds)) in
+      let premises = none_broken is_alarm (λ p. refl) (breaks setting (seen_of (here ∷ before))) in
+      let parts = four_parts setting here before is_alarm in
+      omega (arith, parts, premises, others)
+
+  -- a history in which no premise is broken is calm
+  pub history_is_calm : (history : List Event) → IsHistory setting history → IsTrue (all_hold setting (seen_of (chronicle setting history))) → IsCalm setting (chronicle setting history)
+  history_is_calm history is holds =
+      let kept = safe history sound is holds in
+      record { no_loop = kept.0; one_root = kept.1; no_alarm = no_alarm history is holds }
+
+-- and so are steps that are one
+pub stays_calm : (setting : Setting) → IsSound setting → (steps : List Step) → StaysCalm setting steps
+stays_calm setting sound steps safe is holds =
+    subst (IsCalm setting) (sym is.chronicle)
+    (history_is_calm setting safe sound (events_of steps) is.history (subst (λ (s : List Step). IsTrue (all_hold setting (seen_of s))) is.chronicle holds))
+
+pub devices_stay_calm : {V : Type 0} (o : observers.Ghosts V) → DevicesStayCalm o
+devices_stay_calm o replay setting run safe stands holds =
+    stays_calm setting stands.sound (steps_of run) safe
+    (record { history = devices_have_history setting run stands.made.is_run; chronicle = devices_run setting run stands.made.is_run }) holds

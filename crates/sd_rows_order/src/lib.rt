@@ -1,0 +1,5 @@
+//! Worked runs of `order`, over a shelf and a sink in memory.
+#![tactic(auto)]
+
+#[cfg(test)]
+mod tests;

@@ -1,0 +1,5 @@
+//! Lines of schedules and of exchanges.
+#![tactic(auto)]
+
+#[cfg(test)]
+mod tests;

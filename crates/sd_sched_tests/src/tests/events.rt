@@ -1,0 +1,201 @@
+//! A line for each word and kind, and lines that are refused.
+use sd_sched::{Event, LineFault, first_field, line_text, read_line};
+use std::test::Fail;
+
+/// A line for each word and kind, with its event.
+const LINES: [(&str, Event); 16] = [
+    (
+        "start 1000000 0 0 1000000 500",
+        Event::Start {
+            reference: 1_000_000,
+            device: 0,
+            counter: 0,
+            clock: 1_000_000,
+            eps: 500,
+        },
+    ),
+    (
+        "tick 5000000 4294967295 4000000",
+        Event::Tick {
+            reference: 5_000_000,
+            device: 4_294_967_295,
+            counter: 4_000_000,
+        },
+    ),
+    (
+        "recv 110700000 1 110700001 1",
+        Event::Recv {
+            reference: 110_700_000,
+            device: 1,
+            counter: 110_700_001,
+            message: 1,
+        },
+    ),
+    (
+        "lose 110700000 18",
+        Event::Lose {
+            reference: 110_700_000,
+            message: 18,
+        },
+    ),
+    (
+        "fail 112000000 device 2",
+        Event::FailDevice {
+            reference: 112_000_000,
+            device: 2,
+        },
+    ),
+    (
+        "fail 112000000 link 0",
+        Event::FailLink {
+            reference: 112_000_000,
+            link: 0,
+        },
+    ),
+    (
+        "fix 9 8 7 6 5",
+        Event::Fix {
+            reference: 9,
+            device: 8,
+            counter: 7,
+            clock: 6,
+            eps: 5,
+        },
+    ),
+    (
+        "ask 6000000 0 1152921504606846976",
+        Event::Ask {
+            reference: 6_000_000,
+            device: 0,
+            counter: 1 << 60,
+        },
+    ),
+    ("stage 0", Event::Stage { reference: 0 }),
+    (
+        "give 10 3",
+        Event::Give {
+            reference: 10,
+            device: 3,
+        },
+    ),
+    (
+        "commit 12 3 11",
+        Event::Commit {
+            reference: 12,
+            device: 3,
+            counter: 11,
+        },
+    ),
+    (
+        "seal 13 3",
+        Event::Seal {
+            reference: 13,
+            device: 3,
+        },
+    ),
+    (
+        "join 14 4 2 15 1",
+        Event::Join {
+            reference: 14,
+            device: 4,
+            counter: 2,
+            clock: 15,
+            eps: 1,
+        },
+    ),
+    (
+        "mend 112000000 device 2",
+        Event::MendDevice {
+            reference: 112_000_000,
+            device: 2,
+        },
+    ),
+    (
+        "mend 112000000 link 4294967295",
+        Event::MendLink {
+            reference: 112_000_000,
+            link: 4_294_967_295,
+        },
+    ),
+    ("end 1152921504606846976", Event::End { reference: 1 << 60 }),
+];
+
+/// Lines that are refused, with their faults.
+const REFUSED: [(&[u8], LineFault); 24] = [
+    (b"", LineFault::UnknownWord),
+    (b" ", LineFault::UnknownWord),
+    (b" end 5", LineFault::UnknownWord),
+    (b"End 5", LineFault::UnknownWord),
+    (b"ends 5", LineFault::UnknownWord),
+    (b"\xff\xfe 1 2", LineFault::UnknownWord),
+    (b"tick\xc3\xa9 1 2 3", LineFault::UnknownWord),
+    (b"fail 5 thing 2", LineFault::UnknownWord),
+    (b"mend x devices 2", LineFault::UnknownWord),
+    (b"end", LineFault::FieldCount),
+    (b"end ", LineFault::Number(1)),
+    (b"end 5 ", LineFault::FieldCount),
+    (b"end  5", LineFault::FieldCount),
+    (b"fail 5 thing", LineFault::FieldCount),
+    (b"start 1 2 3 4 5 6 7 8", LineFault::FieldCount),
+    (b"ask 6000000 0 05", LineFault::Number(3)),
+    (b"ask 6000000 0 1152921504606846977", LineFault::Number(3)),
+    (b"ask 6000000 4294967296 05", LineFault::Number(2)),
+    (b"fail 5 link 4294967296", LineFault::Number(3)),
+    (b"mend -5 device x", LineFault::Number(1)),
+    (b"fix 1 2 3 4 1152921504606846977", LineFault::Number(5)),
+    (b"recv 1 2 3 \xc3\xa9", LineFault::Number(4)),
+    (b"tick 1 2 18446744073709551616", LineFault::Number(3)),
+    (b"lose 1\t2 3", LineFault::Number(1)),
+];
+
+#[test]
+fn reads_each_word(rt: HostRuntime) {
+    for (line, event) in LINES {
+        assert_eq!(rt; read_line(line.as_bytes()), Ok(event), "{line}");
+    }
+}
+
+#[test]
+fn prints_each_event(rt: HostRuntime) -> Result<(), Fail> {
+    for (line, event) in LINES {
+        let text = line_text(rt.alloc(), &event)?;
+        match text.as_slice() {
+            [front @ .., b'\n'] => assert_eq!(rt; front, line.as_bytes(), "{line}"),
+            _ => panic!(rt; "no newline after {line}"),
+        }
+    }
+    Ok(())
+}
+
+#[test]
+fn refuses(rt: HostRuntime) {
+    for (line, fault) in REFUSED {
+        assert_eq!(rt; read_line(line), Err(fault));
+    }
+}
+
+#[test]
+fn tells_the_fields(rt: HostRuntime) {
+    let received = Event::Recv {
+        reference: 4,
+        device: 3,
+        counter: 2,
+        message: 1,
+    };
+    assert_eq!(rt; received.reference(), 4);
+    assert_eq!(rt; received.device(), Some(3));
+    assert_eq!(rt; received.counter(), Some(2));
+    let lost = Event::Lose {
+        reference: 4,
+        message: 1,
+    };
+    assert_eq!(rt; lost.device(), None);
+    assert_eq!(rt; lost.counter(), None);
+}
+
+#[test]
+fn takes_the_first_field(rt: HostRuntime) {
+    assert_eq!(rt; first_field(b"ask 1 2 3"), b"ask".as_slice());
+    assert_eq!(rt; first_field(b"ask"), b"ask".as_slice());
+    assert_eq!(rt; first_field(b" ask"), b"".as_slice());
+}

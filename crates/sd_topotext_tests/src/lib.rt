@@ -1,0 +1,5 @@
+//! Topologies that are read and printed.
+#![tactic(auto)]
+
+#[cfg(test)]
+mod tests;

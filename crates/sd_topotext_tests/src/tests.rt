@@ -1,0 +1,2 @@
+//! Topologies: texts that are read, refused and printed.
+mod topologies;

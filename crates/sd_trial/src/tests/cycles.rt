@@ -1,0 +1,45 @@
+//! Loops over a square with one diagonal, which is read.
+ghost use Rattle.std.specs.Prelude.{◌≡◌};
+ghost use Rattle.sd_domain.specs.Domains.{IsDomain};
+ghost use Rattle.sd_plan.specs.Examples as examples;
+ghost use Rattle.sd_plan.specs.Examples.{IsSquare};
+ghost use Rattle.sd_topo.specs.Topologies.{network};
+
+use sd_check_loop::loop_breach;
+use sd_domain::DomainId::{self, Link, Listed};
+use sd_examples::{square, square_plan};
+use sd_num::NoMemory;
+use sd_plan::{DeviceList, Plan};
+use sd_topo::Topology;
+use std::alloc::Global;
+use std::test::Fail;
+
+/// The cycle that a domain of the square may bring about.
+#[tactic(auto, using(crate::proofs::Samples::square_fits, crate::proofs::Samples::square_structured))]
+fn breach(
+    alloc: Global,
+    topo: &Topology,
+    plan: &Plan,
+    domain: DomainId,
+) -> Result<Option<DeviceList>, NoMemory>
+    requires square { IsSquare (network topo.now) }
+    requires plan { plan.now ≡ examples.square_plan }
+    requires domain { IsDomain (network topo.now) domain }
+{
+    loop_breach(alloc, topo, plan, domain)
+}
+
+#[test]
+fn loops_of_a_square(rt: HostRuntime) -> Result<(), Fail> {
+    let alloc = rt.alloc();
+    let topo = square(alloc)?;
+    let plan = square_plan(alloc)?;
+    assert!(rt; topo.domains() == 1);
+    let Some(cycle) = breach(alloc, &topo, &plan, Listed(0))? else {
+        panic!(rt; "both links may fail, and no cycle is shown");
+    };
+    assert_eq!(rt; cycle.as_slice(), [2, 3].as_slice());
+    assert!(rt; breach(alloc, &topo, &plan, Link(1))?.is_none());
+    assert!(rt; breach(alloc, &topo, &plan, Link(3))?.is_none());
+    Ok(())
+}
