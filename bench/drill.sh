@@ -7,10 +7,11 @@
 # The network is that of bench/plan.sh, with the greedy plan. There is a line for each device under each listed domain,
 # each device and each link, so the drill writes DEVICES times (DOMAINS + DEVICES + LINKS) lines and a last one.
 #
-# Two runs tell checking and drilling apart:
+# Two runs tell checking and drilling apart, and where rustc is there a third tells what writing takes:
 #   check    the plan is accepted
 #   drill    the same, and every line is written
-# The aim: no line costs more than a microsecond.
+#   lines    a program in plain Rust (bench/lines.rs) writes the same lines from a table
+# The aim: drilling takes at most 1.5 times what that program takes.
 set -eu
 program=$(realpath "$1")
 devices=${2:-1024}
@@ -36,3 +37,13 @@ fi
 lines=$((devices * (domains + devices + links)))
 awk -v drilling="$drilling" -v checking="$checking" -v lines="$lines" \
     'BEGIN { printf "%d lines, %.0f ns for each\n", lines, (drilling - checking) * 1000 / lines }'
+if command -v rustc >/dev/null; then
+    rustc -O -o "$folder/lines" "$(dirname "$0")/lines.rs"
+    writing=
+    for _ in 1 2 3; do
+        took=$("$folder/lines" "$folder/answer" 2>&1 >"$folder/copy")
+        if [ -z "$writing" ] || [ "$took" -lt "$writing" ]; then writing=$took; fi
+    done
+    awk -v drilling="$drilling" -v checking="$checking" -v writing="$writing" -v lines="$lines" \
+        'BEGIN { printf "lines    %8.3f s, %.0f ns for each; ratio %.2f\n", writing / 1000000, writing * 1000 / lines, (drilling - checking) / writing }'
+fi

@@ -1,7 +1,7 @@
 -- Names fit into a line, and a line is that of its bound.
 use Rattle.std.specs.Prelude.{◌≡◌, ℕ, ◌<◌, ◌≤◌, true, ◌&&◌, List, [], ◌∷◌, ◌++◌, length, nat_le, IsTrue, Option, Some, None, codes, decimal}
 use Rattle.std.specs.List.{list_all}
-use Rattle.std.proofs.Common.{get_or, sym, ap, ◌∙◌, subst}
+use Rattle.std.proofs.Common.{append_assoc, get_or, sym, ap, ◌∙◌, subst}
 use Rattle.std.proofs.lemmas.Bool.{and_parts, leb-true}
 use Rattle.std.proofs.lemmas.Option.{slice_get-get_or}
 use Rattle.sd_num.specs.Texts.{text_of}
@@ -11,7 +11,7 @@ use Rattle.sd_domain.specs.declared.DomainId.{DomainId}
 use Rattle.sd_checker.specs.Text.{device_name, domain_words}
 use Rattle.sd_drill.specs.Bounds.{bound_at}
 use Rattle.sd_drill.specs.Printed.{bound_line, bound_words}
-use Rattle.sd_drilling.specs.Printing.{line_of}
+use Rattle.sd_drilling.specs.Printing.{front_of, line_behind, line_of}
 
 pub name_short : (names : List (List ℕ)) (i : ℕ) → i < length names → Each (λ name. IsTrue (is_name name)) names → length (name_at names i) ≤ 64
 name_short names i within each =
@@ -30,3 +30,8 @@ line_is net f bounds d kind name None words is =
     sym (ap (λ (b : Option ℕ). text_of (bound_words net f d b)) is ∙ ap (λ (ws : List (List ℕ)). text_of (codes "nobound" ∷ ws ++ device_name net d ∷ [])) words)
 line_is net f bounds d kind name (Some w) words is =
     sym (ap (λ (b : Option ℕ). text_of (bound_words net f d b)) is ∙ ap (λ (ws : List (List ℕ)). text_of (codes "bound" ∷ ws ++ device_name net d ∷ decimal w ∷ [])) words)
+
+-- the line of a domain behind its front
+pub behind_front : (kind name device : List ℕ) (o : Option ℕ) → line_behind (front_of kind name) device o ≡ line_of kind name device o
+behind_front kind name device None = simp append_assoc
+behind_front kind name device (Some w) = simp append_assoc

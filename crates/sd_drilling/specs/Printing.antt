@@ -8,9 +8,14 @@ abbrev pub line_of : List ℕ → List ℕ → List ℕ → Option ℕ → List 
 line_of kind name device (Some w) = text_of (codes "bound" ∷ kind ∷ name ∷ device ∷ decimal w ∷ [])
 line_of kind name device None = text_of (codes "nobound" ∷ kind ∷ name ∷ device ∷ [])
 
--- its front, before the bound
-abbrev pub head_of : List ℕ → List ℕ → List ℕ → List ℕ → List ℕ
-head_of word kind name device = word ++ 32 ∷ kind ++ 32 ∷ name ++ 32 ∷ device
+-- a domain as it stands in its lines
+abbrev pub front_of : List ℕ → List ℕ → List ℕ
+front_of kind name = 32 ∷ kind ++ 32 ∷ name ++ 32 ∷ []
+
+-- a line by the front of its domain
+abbrev pub line_behind : List ℕ → List ℕ → Option ℕ → List ℕ
+line_behind front device (Some w) = codes "bound" ++ front ++ device ++ 32 ∷ decimal w ++ 10 ∷ []
+line_behind front device None = codes "nobound" ++ front ++ device ++ 10 ∷ []
 
 -- the names fit into a line
 abbrev pub IsShort : Named → Type 0

@@ -4,6 +4,7 @@
 mod kinds;
 mod lines;
 mod members;
+mod page;
 mod writing;
 
 pub use writing::write_drill;

@@ -2,7 +2,6 @@
 ghost use Rattle.std.specs.Prelude.{◌≡◌, ◌<◌, ◌≤◌, [], ◌∷◌, length, codes, decimal};
 ghost use Rattle.sd_checker.specs.Text as text;
 ghost use Rattle.sd_domain.specs.Domains.{IsDomain};
-ghost use Rattle.sd_drilling.specs.Printing as words;
 ghost use Rattle.sd_drilling.specs.Printing.{IsShort};
 ghost use Rattle.sd_num.specs.Texts.{text_of};
 ghost use Rattle.sd_outside.specs.Printed.{printed};
@@ -65,44 +64,6 @@ pub(crate) fn domain_named(topo: &Topology, domain: DomainId) -> Named<'_>
             kind: "link",
             name: link_name(topo, l),
         },
-    }
-}
-
-/// Prints the front of a line: a word, a domain and a device.
-fn print_head(out: &mut LineBuffer, word: &[u8], named: Named<'_>, device: &str)
-    requires word { length word.now ≤ 7 }
-    requires named { IsShort named }
-    requires device { length device.now ≤ 64 }
-    ensures head { printed out.new ≡ words.head_of word.now named.entry.kind.now named.entry.name.now device.now }
-    ensures short { length (printed out.new) ≤ 144 }
-{
-    out.clear();
-    out.push(word);
-    out.push(b" ");
-    out.push(named.kind.as_bytes());
-    out.push(b" ");
-    out.push(named.name.as_bytes());
-    out.push(b" ");
-    out.push(device.as_bytes());
-}
-
-/// Prints the line of a device's bound in ps, or that it has none, under a domain.
-pub(crate) fn print_bound(out: &mut LineBuffer, named: Named<'_>, device: &str, bound: Option<u128>)
-    requires named { IsShort named }
-    requires device { length device.now ≤ 64 }
-    ensures { printed out.new ≡ words.line_of named.entry.kind.now named.entry.name.now device.now bound }
-{
-    match bound {
-        Some(bound) => {
-            print_head(out, b"bound", named, device);
-            out.push(b" ");
-            out.push_number(bound);
-            out.push(b"\n");
-        }
-        None => {
-            print_head(out, b"nobound", named, device);
-            out.push(b"\n");
-        }
     }
 }
 

@@ -1,13 +1,11 @@
 //! Writing a drill, domain by domain.
 ghost use Rattle.std.specs.Prelude.{◌≡◌, ◌≤◌, ◌<◌, ◌++◌, ◌∷◌, [], All, length, slice_index_or, flat_map, None, Err, IfErr, IfOk, OnOk};
 ghost use Rattle.sd_checker.specs.Verdicts.{IsAccepted};
-ghost use Rattle.sd_checker.specs.Text as text;
 ghost use Rattle.sd_domain.specs.Domains.{IsDomain, domains};
 ghost use Rattle.sd_drill.specs.Bounds.{IsBudget};
 ghost use Rattle.sd_drill.specs.Printed.{IsLinesOf, bound_line, done_line};
 ghost use Rattle.sd_drilling.specs.Adding.{AddsLines, Drills};
 ghost use Rattle.sd_drilling.specs.Kinds.{all_of};
-ghost use Rattle.sd_drilling.specs.Printing.{IsShort, line_of};
 ghost use Rattle.sd_drilling.specs.Rooms.{IsRoomFor, budget_of};
 ghost use Rattle.sd_outside.specs.Causes.{Rose};
 ghost use Rattle.sd_files.specs.Writes.{Adds};
@@ -15,25 +13,17 @@ ghost use Rattle.sd_plan.specs.Plans.{Fits};
 ghost use Rattle.sd_topo.specs.Topologies.{network};
 
 use crate::kinds::Kind;
-use crate::lines::{Named, device_name, domain_named, print_bound, print_done};
+use crate::lines::{device_name, domain_named, print_done};
 use crate::members::members_of;
+use crate::page::Page;
 use sd_domain::DomainId;
 use sd_drill::{Budget, Drill};
 use sd_files::{Status, Stop, send};
 use sd_num::NoMemory;
-use sd_outside::{LineBuffer, Sink};
+use sd_outside::Sink;
 use sd_plan::{DeviceList, Indexed, Plan, WalkIndex};
 use sd_topo::Topology;
 use std::alloc::Global;
-
-/// Room for what is printed of a domain.
-#[derive(Drop)]
-struct Page {
-    /// The line of one device.
-    line: LineBuffer,
-    /// All lines so far.
-    text: Vec<u8>,
-}
 
 /// A drill, and room for what is written of one domain after another.
 #[derive(Drop)]
@@ -41,16 +31,6 @@ struct Room {
     drill: Drill,
     members: DeviceList,
     page: Page,
-}
-
-/// Adds bytes to a text.
-fn append(text: &mut Vec<u8>, bytes: &[u8]) -> Result<(), NoMemory>
-    ensures { OnOk result (text.new.items ≡ text.old.items ++ bytes.now) }
-{
-    match text.extend_from_slice(bytes) {
-        Ok(()) => Ok(()),
-        Err(_) => Err(NoMemory),
-    }
 }
 
 impl Room {
@@ -62,11 +42,7 @@ impl Room {
     {
         let drill = Drill::new(alloc, planned, budget)?;
         let members = members_of(alloc, planned)?;
-        let line = LineBuffer::new(alloc)?;
-        let page = Page {
-            line,
-            text: Vec::new(alloc),
-        };
+        let page = Page::new(alloc)?;
         Ok(Room {
             drill,
             members,
@@ -83,22 +59,6 @@ fn bound_of(bounds: &[Option<u128>], d: u32) -> Option<u128>
     bounds[d as usize]
 }
 
-/// Prints the line of a member behind the others.
-fn print_member(
-    page: &mut Page,
-    topo: &Topology,
-    named: Named<'_>,
-    d: u32,
-    bound: Option<u128>,
-) -> Result<(), NoMemory>
-    requires device { d < length (network topo.now).devices }
-    requires named { IsShort named }
-    ensures { OnOk result (page.new.text.items ≡ page.old.text.items ++ line_of named.entry.kind.now named.entry.name.now (text.device_name (network topo.now) d) bound) }
-{
-    print_bound(&mut page.line, named, device_name(topo, d), bound);
-    append(&mut page.text, page.line.printed())
-}
-
 /// Prints the lines of a domain, one for each member.
 fn print_domain(
     page: &mut Page,
@@ -112,10 +72,9 @@ fn print_domain(
     requires bounds { length bounds.now ≡ length (network topo.now).devices }
     ensures { OnOk result (page.new.text.items ≡ flat_map (bound_line (network topo.now) domain bounds.now) members.now) }
 {
-    let named = domain_named(topo, domain);
-    page.text.clear();
+    page.begin(domain_named(topo, domain));
     for d in members {
-        print_member(page, topo, named, *d, bound_of(bounds, *d))?;
+        page.add(device_name(topo, *d), bound_of(bounds, *d))?;
     }
     Ok(())
 }
@@ -220,8 +179,8 @@ fn write_done<O: Sink>(room: &mut Room, planned: Indexed<'_>, out: &mut O) -> Re
     let topo = planned.topo;
     let domains = topo.domains() + topo.devices() + topo.links();
     let members = room.members.as_slice().len();
-    print_done(&mut room.page.line, domains, members);
-    match send(out, room.page.line.printed()) {
+    print_done(&mut room.page.front, domains, members);
+    match send(out, room.page.front.printed()) {
         Ok(()) => Ok(Status::Done),
         Err(stop) => Err(stop),
     }

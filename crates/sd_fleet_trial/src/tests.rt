@@ -5,23 +5,16 @@ ghost use Rattle.sd_roster.specs.Plans.{AreSound};
 
 mod causes;
 mod drawn;
-mod flights;
-mod history;
-mod lives;
-mod net;
-mod numbers;
 mod outcomes;
 mod tally;
-mod turns;
-mod windows;
 
+use causes::refusal;
 use drawn::{draw, line_of};
-use history::Plain;
-use net::Net;
-use numbers::Numbers;
+use outcomes::{happen, look};
 use sd_core::Device;
 use sd_fleet::Fleet;
 use sd_fleet_examples::{Example, FABRIC, PAIR, SQUARE, TRIANGLE, plans_of};
+use sd_fleet_plain::{Net, Numbers, Plain};
 use sd_plan::Plan;
 use sd_sched::read_line;
 use sd_topo::Topology;
@@ -53,7 +46,7 @@ fn is_as(fleet: &Fleet<Device>, plain: &Plain<'_>) -> bool {
 /// Whether the fleet finds what the plain program finds under each number of a message.
 fn finds_as(fleet: &Fleet<Device>, plain: &Plain<'_>) -> bool {
     for number in 0..(plain.sent.len() as u64).saturating_add(2) {
-        if fleet.flight(number) != plain.look(number) {
+        if fleet.flight(number) != look(plain, number) {
             return false;
         }
     }
@@ -76,11 +69,11 @@ fn compare(
     line: &str,
 ) -> Result<(), Fail> {
     let event = read_line(line.as_bytes())?;
-    let refusal = trial.plain.refusal(&event);
+    let refused = refusal(&trial.plain, &event);
     let most = trial.fleet.most_sent(&event);
-    assert_eq!(rt; trial.fleet.refusal(&event), refusal, "{line}");
+    assert_eq!(rt; trial.fleet.refusal(&event), refused, "{line}");
     let came = trial.fleet.apply(rt.alloc(), &event);
-    if let Some(fault) = refusal {
+    if let Some(fault) = refused {
         assert_eq!(rt; came, Err(fault), "{line}");
         trial.tally.refuse(fault);
         return Ok(());
@@ -88,7 +81,7 @@ fn compare(
     if trial.plain.sweeps(&event) {
         trial.tally.sweep();
     }
-    let outcome = trial.plain.happen(event)?;
+    let outcome = happen(&mut trial.plain, event)?;
     assert_eq!(rt; came, Ok(outcome), "{line}");
     assert!(rt; outcome.sent as usize <= most, "{line}");
     trial

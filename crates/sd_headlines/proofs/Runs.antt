@@ -56,7 +56,7 @@ file_says {X} {F} file Fault meaning text x same = by (nat_lt (2 ^ 26) (length t
 pub text_is_network : (text : List ℕ) (net : Network) → topology_of text ≡ Ok net → IsNetwork net
 text_is_network text net same = meant_is_network (toml_of text) net (file_says input.Topology fault.Topology (λ t. network_of (toml_of t)) text net same)
 
-plan_fits : (net : Network) (place : ℕ) (text : List ℕ) (plan : Plan) → plan_in_file net place text ≡ Ok plan → Fits net plan
+pub plan_fits : (net : Network) (place : ℕ) (text : List ℕ) (plan : Plan) → plan_in_file net place text ≡ Ok plan → Fits net plan
 unfolding plan_of
 plan_fits net place text plan same = by (json_of text) (file_says (input.Plan place) fault.Plan (λ t. plan_of net (json_of t)) text plan same)
   where

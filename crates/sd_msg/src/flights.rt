@@ -1,5 +1,5 @@
 //! The flights of a book, which ascend by number: found by halving, and left out.
-ghost use Rattle.std.specs.Prelude.{◌≡◌, ℕ, ◌+◌, ◌-◌, ◌<◌, ◌≤◌, filter, length, Ok, Err, IfOk, IfErr, slice_index_or};
+ghost use Rattle.std.specs.Prelude.{◌≡◌, ℕ, ◌+◌, ◌-◌, ◌<◌, ◌≤◌, filter, length, Ok, Err, IfOk, IfErr, IfSome, slice_index_or};
 ghost use Rattle.std.specs.VecDeque.{deque_len, deque_capacity};
 ghost use Rattle.sd_msg.specs.Books.{found, without, AreNumbered};
 ghost use Rattle.sd_msg.specs.Spent.{is_left, AreKept, room_of};
@@ -18,6 +18,19 @@ fn place_from(flights: &VecDeque<Flight>, last: u64, number: u64) -> usize
     flights.partition_point(|flight| flight.number < number)
 }
 
+/// The place of the flight with a number while each number behind the first has its place.
+fn place_guessed(flights: &VecDeque<Flight>, number: u64) -> Option<usize>
+    ensures place { IfSome result (λ i. i < length flights.now.items) }
+    ensures number { IfSome result (λ i. (d : Flight) → (slice_index_or flights.now.items i d).number ≡ number) }
+{
+    let first = flights.front()?;
+    let place = usize::try_from(number.checked_sub(first.number)?).ok()?;
+    match flights.get(place) {
+        Some(flight) if flight.number == number => Some(place),
+        _ => None,
+    }
+}
+
 /// The place of the flight with a number, of those given up to the last, or why there is none.
 pub(crate) fn place_given(
     flights: &VecDeque<Flight>,
@@ -32,6 +45,9 @@ pub(crate) fn place_given(
 {
     if number == 0 || number > last {
         return Err(TakeFault::Unknown);
+    }
+    if let Some(place) = place_guessed(flights, number) {
+        return Ok(place);
     }
     let place = place_from(flights, last, number);
     match flights.get(place) {

@@ -1,5 +1,7 @@
 //! Marks on links or on receivers.
-ghost use Rattle.std.specs.Prelude.{◌≡◌, ◌≤◌, ◌+◌, ◌&&◌, ℕ, nat_eq, true, OnOk, if◌then◌else◌};
+ghost use Rattle.std.specs.Prelude.{◌≡◌, ◌≤◌, ◌+◌, ◌&&◌, ℕ, nat_eq, nat_lt, true, OnOk, if◌then◌else◌};
+ghost use Rattle.std.specs.Option.{unwrap_or};
+ghost use Rattle.std.specs.HashMap.{get};
 
 use sd_num::NoMemory;
 use std::alloc::Global;
@@ -10,6 +12,9 @@ use std::collections::HashMap;
 #[derive(Drop)]
 pub(crate) struct Marks {
     numbers: HashMap<u32, u64>,
+    /// At least each mark: few flights are swept, and nearly all numbers are greater.
+    greatest: u64,
+    ghost bound: { (key : ℕ) → unwrap_or (get nat_eq numbers key) 0 ≤ greatest },
 }
 
 impl Marks {
@@ -21,6 +26,7 @@ impl Marks {
     {
         Marks {
             numbers: HashMap::new(alloc),
+            greatest: 0,
         }
     }
 
@@ -36,8 +42,15 @@ impl Marks {
         }
     }
 
+    /// Whether the mark of a key, 0 where it was not entered, is less than the number.
+    pub fn is_below(&self, key: u32, number: u64) -> bool
+        ensures { result ≡ nat_lt (mark_of self.now key) number }
+    {
+        self.greatest < number || self.get(key) < number
+    }
+
     /// The mark of a key, 0 where it was not entered.
-    pub fn get(&self, key: u32) -> u64
+    fn get(&self, key: u32) -> u64
         ensures { result ≡ mark_of self.now key }
     {
         self.numbers.get(&key).copied().unwrap_or(0)
@@ -66,6 +79,7 @@ impl Marks {
         ensures marks { (k : ℕ) → mark_of self.new k ≡ (if nat_eq key k && is_entered self.old k then number else mark_of self.old k) }
         ensures room { room_of self.old ≤ room_of self.new }
     {
+        self.greatest = self.greatest.max(number);
         if let Some(mark) = self.numbers.get_mut(&key) {
             *mark = number;
         }

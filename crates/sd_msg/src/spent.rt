@@ -50,8 +50,8 @@ impl Spent {
     {
         flight.reaches
             && self.reference <= flight.last
-            && self.links.get(flight.link) < flight.number
-            && self.receivers.get(flight.receiver) < flight.number
+            && self.links.is_below(flight.link, flight.number)
+            && self.receivers.is_below(flight.receiver, flight.number)
     }
 
     /// A flight comes to those that are kept.

@@ -13,6 +13,9 @@ ghost use Rattle.sd_premise_renewal.specs.Progressing.{HasDevices};
 ghost use Rattle.sd_premise.specs.Order.{CanFollow};
 ghost use Rattle.sd_premise.specs.Worlds.{world_after};
 
+#[cfg(test)]
+mod tests;
+
 use crate::sets::{NONE_BROKEN, newly_broken};
 use sd_history::BrokenSet;
 use sd_num::NoMemory;

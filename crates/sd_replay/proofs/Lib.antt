@@ -1,6 +1,7 @@
 pub mod Kept
 pub mod Counted
 pub mod Due
+pub mod Causes
 pub mod Calm
 pub mod Telling
 pub mod Others

@@ -4,5 +4,6 @@ pub mod Promises
 pub mod Counting
 pub mod Standing
 pub mod Replaying
+pub mod FleetFaults
 pub mod Calm
 pub mod Devices

@@ -1,4 +1,5 @@
 //! Why a replay does not go on.
+ghost use Rattle.std.specs.Prelude.{◌≡◌};
 
 use sd_fleet::ApplyFault;
 use sd_sched::LineFault;
@@ -12,4 +13,17 @@ pub enum ReplayFault {
     Apply(ApplyFault),
     /// There was no memory for a `tick`, a `recv` or an `ask`.
     Memory,
+}
+
+impl From<ApplyFault> for ReplayFault {
+    ghost use Rattle.sd_replay.specs.FleetFaults.{of_fleet};
+
+    ghost from_gives = { λ fault replay_fault. replay_fault ≡ of_fleet fault };
+
+    fn from(fault: ApplyFault) -> ReplayFault {
+        match fault {
+            ApplyFault::Memory => ReplayFault::Memory,
+            _ => ReplayFault::Apply(fault),
+        }
+    }
 }

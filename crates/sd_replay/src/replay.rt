@@ -105,15 +105,11 @@ impl<N: Node, V: Observer> Replay<N, V> {
         ensures refused { IfErr result (λ fault. (setting : Setting) (run : List (NodeStep N)) → StandsFor N.Node V.Observer self.old setting run
             → StandsFor N.Node V.Observer self.new setting run × IsFault fault setting (steps_of run) event.now) }
     {
-        if let Some(fault) = self.fleet.refusal(event) {
-            return Err(ReplayFault::Apply(fault));
-        }
+        // The fleet asks itself whether it refuses the event: only where there is no room is it asked here.
         let Ok(()) = self.ready(alloc, event) else {
-            return Err(ReplayFault::Memory);
+            return Err(self.without_room(event));
         };
-        let Ok(outcome) = self.fleet.apply(alloc, event) else {
-            return Err(ReplayFault::Memory);
-        };
+        let outcome = self.fleet.apply(alloc, event)?;
         let findings = self.onlooker.look(&self.fleet, event, &outcome);
         self.journal.note(&findings, outcome.ended);
         if let Some((d, report)) = outcome.report {
@@ -121,6 +117,18 @@ impl<N: Node, V: Observer> Replay<N, V> {
             self.observer.seen(line, d, event.reference(), report);
         }
         Ok(())
+    }
+
+    /// Why an event does not happen for which there is no room: a refusal comes first.
+    fn without_room(&self, event: &Event) -> ReplayFault
+        requires { IsTrue (may_take event.now) }
+        ensures { (setting : Setting) (run : List (NodeStep N)) → StandsFor N.Node V.Observer self.now setting run
+            → IsFault result setting (steps_of run) event.now }
+    {
+        match self.fleet.refusal(event) {
+            Some(fault) => ReplayFault::Apply(fault),
+            None => ReplayFault::Memory,
+        }
     }
 
     /// Makes the room that the event needs beside the fleet's own.

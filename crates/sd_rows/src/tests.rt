@@ -7,9 +7,9 @@ mod migrate;
 mod plan;
 mod texts;
 
-use sd_outside::{MemShelf, MemSink};
-use sd_rows_kit::USAGE;
-use sd_top::{Status, run};
+use sd_outside::MemShelf;
+use sd_rows_kit::{USAGE, run_words, shelf_of};
+use sd_top::Status;
 use std::alloc::Global;
 use std::process::Abort;
 use std::test::Fail;
@@ -17,50 +17,12 @@ use std::test::Fail;
 /// A start, an ask five microseconds later and an end.
 const PLAIN: &str = "start 1000000 0 0 1000000 500\nask 6000000 0 5000000\nend 6000000\n";
 
-/// The bytes that a run writes, with its status.
-fn run_words(
-    alloc: Global,
-    words: &[&str],
-    shelf: &mut MemShelf,
-    failing: Vec<(u64, usize)>,
-) -> Result<(Status, MemSink), Fail>
-    requires { shelf.old.begun ≡ false }
-{
-    let mut list = Vec::new(alloc);
-    for word in words {
-        list.push(String::from_str(alloc, word)?)?;
-    }
-    let mut out = MemSink::new(alloc, 10_000, failing)?;
-    let status = run(alloc, list.as_slice(), shelf, &mut out);
-    Ok((status, out))
-}
-
-/// A shelf that holds these texts under their names.
-fn shelf_of(
-    alloc: Global,
-    texts: &[(&str, &[u8])],
-    piece: usize,
-    failing: &[u64],
-) -> Result<MemShelf, Fail>
-    requires { 1 ≤ piece }
-    ensures { IfOk result (λ shelf. shelf.begun ≡ false) }
-{
-    let mut files = Vec::new(alloc);
-    for (name, text) in texts {
-        files.push((
-            String::from_str(alloc, name)?,
-            Vec::from_slice(alloc, text)?,
-        ))?;
-    }
-    Ok(MemShelf::new(files, piece, Vec::from_slice(alloc, failing)?))
-}
-
 /// A shelf that holds a text under the name `file`.
 fn shelf_with(alloc: Global, text: &[u8], piece: usize, failing: &[u64]) -> Result<MemShelf, Fail>
     requires { 1 ≤ piece }
     ensures { IfOk result (λ shelf. shelf.begun ≡ false) }
 {
-    shelf_of(alloc, &[("file", text)], piece, failing)
+    Ok(shelf_of(alloc, &[("file", text)], piece, failing)?)
 }
 
 /// One schedule over a shelf in memory: what is written and answered.
@@ -75,10 +37,10 @@ fn assert_run(
 {
     let alloc = rt.alloc();
     let mut shelf = shelf_with(alloc, schedule, piece, &[])?;
-    let (answer, out) = run_words(alloc, &["solo", "file"], &mut shelf, Vec::new(alloc))?;
-    assert_eq!(rt; answer, status, "{output:?} in pieces of {piece}");
+    let ran = run_words(alloc, &["solo", "file"], &mut shelf, &[])?;
+    assert_eq!(rt; ran.status, status, "{output:?} in pieces of {piece}");
     assert_eq!(rt;
-        out.bytes(),
+        ran.out.bytes(),
         output.as_bytes(),
         "{output:?} in pieces of {piece}"
     );
@@ -261,9 +223,12 @@ fn reads_no_further_than_a_refused_line_needs(rt: HostRuntime) -> Result<(), Fai
     schedule.as_mut_slice()[..2].copy_from_slice(b"x\n");
     let mut shelf = shelf_with(rt.alloc(), schedule.as_slice(), 8192, &[3])?;
     let words = ["solo", "file"];
-    let (status, out) = run_words(rt.alloc(), &words, &mut shelf, Vec::new(rt.alloc()))?;
-    assert_eq!(rt; status, Status::InputRefused);
-    assert_eq!(rt; out.bytes(), b"input schedule 1 UnknownWord\n".as_slice());
+    let ran = run_words(rt.alloc(), &words, &mut shelf, &[])?;
+    assert_eq!(rt; ran.status, Status::InputRefused);
+    assert_eq!(rt;
+        ran.out.bytes(),
+        b"input schedule 1 UnknownWord\n".as_slice()
+    );
     assert!(rt; shelf.left().len() >= 11_810);
     Ok(())
 }
@@ -273,22 +238,22 @@ fn each_call_of_the_shelf_fails(rt: HostRuntime) -> Result<(), Fail> {
     for call in 1..=8u64 {
         let mut shelf = shelf_with(rt.alloc(), PLAIN.as_bytes(), 12, &[call])?;
         let words = ["solo", "file"];
-        let (status, out) = run_words(rt.alloc(), &words, &mut shelf, Vec::new(rt.alloc()))?;
+        let ran = run_words(rt.alloc(), &words, &mut shelf, &[])?;
         let output = if call < 7 {
             ""
         } else {
             "report 2 0 6000000 2500\n"
         };
-        assert_eq!(rt; status, Status::ShelfFault, "call {call}");
-        assert_eq!(rt; out.bytes(), output.as_bytes(), "call {call}");
+        assert_eq!(rt; ran.status, Status::ShelfFault, "call {call}");
+        assert_eq!(rt; ran.out.bytes(), output.as_bytes(), "call {call}");
     }
     // a third call that fails in pieces of 30 bytes, and a name that is not held
     for (name, call) in [("file", 3), ("other", 4)] {
         let mut shelf = shelf_with(rt.alloc(), PLAIN.as_bytes(), 30, &[call])?;
         let words = ["solo", name];
-        let (status, out) = run_words(rt.alloc(), &words, &mut shelf, Vec::new(rt.alloc()))?;
-        assert_eq!(rt; status, Status::ShelfFault, "{name}");
-        assert_eq!(rt; out.bytes(), b"".as_slice(), "{name}");
+        let ran = run_words(rt.alloc(), &words, &mut shelf, &[])?;
+        assert_eq!(rt; ran.status, Status::ShelfFault, "{name}");
+        assert_eq!(rt; ran.out.bytes(), b"".as_slice(), "{name}");
     }
     Ok(())
 }
@@ -301,11 +266,10 @@ fn each_write_fails(rt: HostRuntime) -> Result<(), Fail> {
         (1, 9, "report 2 "),
         (2, 3, "report 2 0 6000000 2500\ndon"),
     ] {
-        let failing = Vec::from_slice(rt.alloc(), &[(write, kept)])?;
         let mut shelf = shelf_with(rt.alloc(), PLAIN.as_bytes(), 8192, &[])?;
-        let (status, out) = run_words(rt.alloc(), &words, &mut shelf, failing)?;
-        assert_eq!(rt; status, Status::SinkFault);
-        assert_eq!(rt; out.bytes(), output.as_bytes());
+        let ran = run_words(rt.alloc(), &words, &mut shelf, &[(write, kept)])?;
+        assert_eq!(rt; ran.status, Status::SinkFault);
+        assert_eq!(rt; ran.out.bytes(), output.as_bytes());
     }
     Ok(())
 }
@@ -332,9 +296,9 @@ fn other_words_are_usage(rt: HostRuntime) -> Result<(), Fail> {
     ];
     for words in cases {
         let mut shelf = shelf_with(rt.alloc(), PLAIN.as_bytes(), 8192, &[])?;
-        let (status, out) = run_words(rt.alloc(), words, &mut shelf, Vec::new(rt.alloc()))?;
-        assert_eq!(rt; status, Status::Usage);
-        assert_eq!(rt; out.bytes(), USAGE.as_bytes());
+        let ran = run_words(rt.alloc(), words, &mut shelf, &[])?;
+        assert_eq!(rt; ran.status, Status::Usage);
+        assert_eq!(rt; ran.out.bytes(), USAGE.as_bytes());
     }
     Ok(())
 }

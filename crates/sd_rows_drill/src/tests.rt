@@ -4,10 +4,10 @@ ghost use Rattle.std.specs.Prelude.{◌≡◌, ◌≤◌, false, IfOk};
 use sd_examples::{
     DRIFTLESS, DRIFTLESS_PLAN, FABRIC, FABRIC_PLAN, TRIANGLE, TRIANGLE_2, TRIANGLE_PLAN,
 };
-use sd_outside::{MemShelf, MemSink};
-use sd_rows_kit::USAGE;
-use sd_top::{Status, run};
-use std::alloc::Global;
+use sd_outside::MemShelf;
+use sd_rows_kit::{USAGE, run_words, shelf_of};
+use sd_top::Status;
+use std::alloc::{AllocError, Global};
 use std::process::Abort;
 use std::test::Fail;
 
@@ -38,42 +38,18 @@ done 6 3
 ";
 
 /// A shelf that holds a topology and a plan.
-fn shelf_of(
+fn shelf_for<'a>(
     alloc: Global,
-    topology: &str,
-    plan: &str,
+    topology: &'a str,
+    plan: &'a str,
     piece: usize,
     failing: &[u64],
-) -> Result<MemShelf, Fail>
+) -> Result<MemShelf, AllocError>
     requires { 1 ≤ piece }
     ensures { IfOk result (λ shelf. shelf.begun ≡ false) }
 {
-    let mut files = Vec::new(alloc);
-    for (name, text) in [("topology", topology), ("plan", plan)] {
-        files.push((
-            String::from_str(alloc, name)?,
-            Vec::from_slice(alloc, text.as_bytes())?,
-        ))?;
-    }
-    Ok(MemShelf::new(files, piece, Vec::from_slice(alloc, failing)?))
-}
-
-/// The status of a run, with its sink.
-fn run_words(
-    alloc: Global,
-    words: &[&str],
-    shelf: &mut MemShelf,
-    failing: Vec<(u64, usize)>,
-) -> Result<(Status, MemSink), Fail>
-    requires { shelf.old.begun ≡ false }
-{
-    let mut list = Vec::new(alloc);
-    for word in words {
-        list.push(String::from_str(alloc, word)?)?;
-    }
-    let mut out = MemSink::new(alloc, 10_000, failing)?;
-    let status = run(alloc, list.as_slice(), shelf, &mut out);
-    Ok((status, out))
+    let texts = [("topology", topology.as_bytes()), ("plan", plan.as_bytes())];
+    shelf_of(alloc, &texts, piece, failing)
 }
 
 /// One run that nothing stops: what is written and answered.
@@ -89,10 +65,10 @@ fn assert_run(
     let alloc = rt.alloc();
     let (topology, plan) = files;
     let (output, status) = due;
-    let mut shelf = shelf_of(alloc, topology, plan, piece, &[])?;
-    let (answer, out) = run_words(alloc, words, &mut shelf, Vec::new(alloc))?;
-    assert_eq!(rt; std::str::from_utf8(out.bytes()), Ok(output));
-    assert_eq!(rt; answer, status, "{output:?} in pieces of {piece}");
+    let mut shelf = shelf_for(alloc, topology, plan, piece, &[])?;
+    let ran = run_words(alloc, words, &mut shelf, &[])?;
+    assert_eq!(rt; std::str::from_utf8(ran.out.bytes()), Ok(output));
+    assert_eq!(rt; ran.status, status, "{output:?} in pieces of {piece}");
     Ok(())
 }
 
@@ -154,10 +130,10 @@ fn a_budget_is_two_numbers_within_their_limit(rt: HostRuntime) -> Result<(), Fai
     }
     let alloc = rt.alloc();
     let limit = "1152921504606846976";
-    let mut shelf = shelf_of(alloc, TRIANGLE, TRIANGLE_PLAN, 8192, &[])?;
+    let mut shelf = shelf_for(alloc, TRIANGLE, TRIANGLE_PLAN, 8192, &[])?;
     let words = ["drill", "topology", "plan", limit, limit];
-    let (status, _) = run_words(alloc, &words, &mut shelf, Vec::new(alloc))?;
-    assert_eq!(rt; status, Status::Done);
+    let ran = run_words(alloc, &words, &mut shelf, &[])?;
+    assert_eq!(rt; ran.status, Status::Done);
     Ok(())
 }
 
@@ -165,12 +141,14 @@ fn a_budget_is_two_numbers_within_their_limit(rt: HostRuntime) -> Result<(), Fai
 fn a_write_that_fails_ends_the_drill(rt: HostRuntime) -> Result<(), Fail> {
     let alloc = rt.alloc();
     for (write, kept, length) in [(1, 0, 0), (1, 8, 8), (2, 0, 69), (7, 7, 430)] {
-        let failing = Vec::from_slice(alloc, &[(write, kept)])?;
-        let mut shelf = shelf_of(alloc, TRIANGLE, TRIANGLE_PLAN, 8192, &[])?;
-        let (status, out) = run_words(alloc, &WORDS, &mut shelf, failing)?;
-        assert_eq!(rt; status, Status::SinkFault, "write {write}");
-        assert_eq!(rt; out.bytes().len(), length, "write {write}");
-        assert!(rt; BOUNDS.as_bytes().starts_with(out.bytes()), "write {write}");
+        let mut shelf = shelf_for(alloc, TRIANGLE, TRIANGLE_PLAN, 8192, &[])?;
+        let ran = run_words(alloc, &WORDS, &mut shelf, &[(write, kept)])?;
+        assert_eq!(rt; ran.status, Status::SinkFault, "write {write}");
+        assert_eq!(rt; ran.out.bytes().len(), length, "write {write}");
+        assert!(rt;
+            BOUNDS.as_bytes().starts_with(ran.out.bytes()),
+            "write {write}"
+        );
     }
     Ok(())
 }
@@ -179,10 +157,10 @@ fn a_write_that_fails_ends_the_drill(rt: HostRuntime) -> Result<(), Fail> {
 fn a_read_that_fails_leaves_nothing(rt: HostRuntime) -> Result<(), Fail> {
     let alloc = rt.alloc();
     for call in [1, 2, 4] {
-        let mut shelf = shelf_of(alloc, TRIANGLE, TRIANGLE_PLAN, 8192, &[call])?;
-        let (status, out) = run_words(alloc, &WORDS, &mut shelf, Vec::new(alloc))?;
-        assert_eq!(rt; status, Status::ShelfFault, "call {call}");
-        assert_eq!(rt; out.bytes().len(), 0, "call {call}");
+        let mut shelf = shelf_for(alloc, TRIANGLE, TRIANGLE_PLAN, 8192, &[call])?;
+        let ran = run_words(alloc, &WORDS, &mut shelf, &[])?;
+        assert_eq!(rt; ran.status, Status::ShelfFault, "call {call}");
+        assert_eq!(rt; ran.out.bytes().len(), 0, "call {call}");
     }
     Ok(())
 }

@@ -2,9 +2,10 @@
 ghost use Rattle.std.specs.Prelude.{◌≡◌, ◌≤◌, false, IfOk};
 
 use sd_examples::{TRIANGLE, TRIANGLE_2};
-use sd_outside::{MemShelf, MemSink};
-use sd_top::{Status, run};
-use std::alloc::Global;
+use sd_outside::MemShelf;
+use sd_rows_kit::{USAGE, run_words, shelf_of};
+use sd_top::Status;
+use std::alloc::{AllocError, Global};
 use std::process::Abort;
 use std::test::Fail;
 
@@ -12,42 +13,18 @@ use std::test::Fail;
 const WORDS: [&str; 3] = ["twoway", "topology", "exchanges"];
 
 /// A shelf that holds a topology and exchanges.
-fn shelf_of(
+fn shelf_for<'a>(
     alloc: Global,
-    topology: &str,
-    exchanges: &[u8],
+    topology: &'a str,
+    exchanges: &'a [u8],
     piece: usize,
     failing: &[u64],
-) -> Result<MemShelf, Fail>
+) -> Result<MemShelf, AllocError>
     requires { 1 ≤ piece }
     ensures { IfOk result (λ shelf. shelf.begun ≡ false) }
 {
-    let mut files = Vec::new(alloc);
-    for (name, text) in [("topology", topology.as_bytes()), ("exchanges", exchanges)] {
-        files.push((
-            String::from_str(alloc, name)?,
-            Vec::from_slice(alloc, text)?,
-        ))?;
-    }
-    Ok(MemShelf::new(files, piece, Vec::from_slice(alloc, failing)?))
-}
-
-/// The status of a run, with its sink.
-fn run_words(
-    alloc: Global,
-    words: &[&str],
-    shelf: &mut MemShelf,
-    failing: Vec<(u64, usize)>,
-) -> Result<(Status, MemSink), Fail>
-    requires { shelf.old.begun ≡ false }
-{
-    let mut list = Vec::new(alloc);
-    for word in words {
-        list.push(String::from_str(alloc, word)?)?;
-    }
-    let mut out = MemSink::new(alloc, 10_000, failing)?;
-    let status = run(alloc, list.as_slice(), shelf, &mut out);
-    Ok((status, out))
+    let texts = [("topology", topology.as_bytes()), ("exchanges", exchanges)];
+    shelf_of(alloc, &texts, piece, failing)
 }
 
 /// One run over the triangle: what is written and answered.
@@ -62,10 +39,10 @@ fn assert_bounds(
     requires { 1 ≤ piece }
 {
     let alloc = rt.alloc();
-    let mut shelf = shelf_of(alloc, topology, exchanges, piece, &[])?;
-    let (answer, out) = run_words(alloc, &WORDS, &mut shelf, Vec::new(alloc))?;
-    assert_eq!(rt; std::str::from_utf8(out.bytes()), Ok(output));
-    assert_eq!(rt; answer, status, "{output:?} in pieces of {piece}");
+    let mut shelf = shelf_for(alloc, topology, exchanges, piece, &[])?;
+    let ran = run_words(alloc, &WORDS, &mut shelf, &[])?;
+    assert_eq!(rt; std::str::from_utf8(ran.out.bytes()), Ok(output));
+    assert_eq!(rt; ran.status, status, "{output:?} in pieces of {piece}");
     Ok(())
 }
 
@@ -210,10 +187,13 @@ fn long_lines(rt: HostRuntime) -> Result<(), Fail> {
 fn reads_no_further_than_a_refused_line_needs(rt: HostRuntime) -> Result<(), Fail> {
     let mut exchanges = vec![in rt.alloc(); b'y'; 20_002]?;
     exchanges.as_mut_slice()[..2].copy_from_slice(b"x\n");
-    let mut shelf = shelf_of(rt.alloc(), TRIANGLE, exchanges.as_slice(), 8192, &[])?;
-    let (status, out) = run_words(rt.alloc(), &WORDS, &mut shelf, Vec::new(rt.alloc()))?;
-    assert_eq!(rt; status, Status::InputRefused);
-    assert_eq!(rt; out.bytes(), b"input exchanges 1 UnknownWord\n".as_slice());
+    let mut shelf = shelf_for(rt.alloc(), TRIANGLE, exchanges.as_slice(), 8192, &[])?;
+    let ran = run_words(rt.alloc(), &WORDS, &mut shelf, &[])?;
+    assert_eq!(rt; ran.status, Status::InputRefused);
+    assert_eq!(rt;
+        ran.out.bytes(),
+        b"input exchanges 1 UnknownWord\n".as_slice()
+    );
     assert!(rt; shelf.left().len() >= 11_810);
     Ok(())
 }
@@ -230,15 +210,15 @@ fn nothing_is_written_where_a_call_of_the_shelf_fails(rt: HostRuntime) -> Result
     let exchanges = TWO.0.as_bytes();
     // each text is begun, read, and found to be at its end
     for call in 1..=6u64 {
-        let mut shelf = shelf_of(alloc, TRIANGLE, exchanges, 8192, &[call])?;
-        let (status, out) = run_words(alloc, &WORDS, &mut shelf, Vec::new(alloc))?;
-        assert_eq!(rt; status, Status::ShelfFault, "call {call}");
-        assert_eq!(rt; out.bytes(), b"".as_slice(), "call {call}");
+        let mut shelf = shelf_for(alloc, TRIANGLE, exchanges, 8192, &[call])?;
+        let ran = run_words(alloc, &WORDS, &mut shelf, &[])?;
+        assert_eq!(rt; ran.status, Status::ShelfFault, "call {call}");
+        assert_eq!(rt; ran.out.bytes(), b"".as_slice(), "call {call}");
     }
-    let mut shelf = shelf_of(alloc, TRIANGLE, exchanges, 8192, &[7])?;
-    let (status, out) = run_words(alloc, &WORDS, &mut shelf, Vec::new(alloc))?;
-    assert_eq!(rt; status, Status::Done);
-    assert_eq!(rt; std::str::from_utf8(out.bytes()), Ok(TWO.1));
+    let mut shelf = shelf_for(alloc, TRIANGLE, exchanges, 8192, &[7])?;
+    let ran = run_words(alloc, &WORDS, &mut shelf, &[])?;
+    assert_eq!(rt; ran.status, Status::Done);
+    assert_eq!(rt; std::str::from_utf8(ran.out.bytes()), Ok(TWO.1));
     Ok(())
 }
 
@@ -255,11 +235,10 @@ fn each_line_is_a_write_of_its_own(rt: HostRuntime) -> Result<(), Fail> {
             "link rb 698660 701340 1 inside\nlink rx 0 500 1 outside\ndone 3",
         ),
     ] {
-        let failing = Vec::from_slice(alloc, &[(write, kept)])?;
-        let mut shelf = shelf_of(alloc, TRIANGLE, TWO.0.as_bytes(), 8192, &[])?;
-        let (status, out) = run_words(alloc, &WORDS, &mut shelf, failing)?;
-        assert_eq!(rt; status, Status::SinkFault, "write {write}");
-        assert_eq!(rt; std::str::from_utf8(out.bytes()), Ok(output));
+        let mut shelf = shelf_for(alloc, TRIANGLE, TWO.0.as_bytes(), 8192, &[])?;
+        let ran = run_words(alloc, &WORDS, &mut shelf, &[(write, kept)])?;
+        assert_eq!(rt; ran.status, Status::SinkFault, "write {write}");
+        assert_eq!(rt; std::str::from_utf8(ran.out.bytes()), Ok(output));
     }
     Ok(())
 }
@@ -273,13 +252,15 @@ fn other_words_are_usage(rt: HostRuntime) -> Result<(), Fail> {
         &["topology", "twoway", "exchanges"],
         &["Twoway", "topology", "exchanges"],
     ];
-    let usage =
-        "usage: sundial solo SCHEDULE | plan TOPOLOGY | check TOPOLOGY PLAN | renew TOPOLOGY PLAN ABSENT | replay TOPOLOGY PLAN.. SCHEDULE | migrate TOPOLOGY | order TOPOLOGY PLAN.. SCHEDULE | twoway TOPOLOGY EXCHANGES | drill TOPOLOGY PLAN BASE HOLD\n";
     for words in cases {
-        let mut shelf = shelf_of(rt.alloc(), TRIANGLE, b"end\n", 8192, &[])?;
-        let (status, out) = run_words(rt.alloc(), words, &mut shelf, Vec::new(rt.alloc()))?;
-        assert_eq!(rt; status, Status::Usage, "{words:?}");
-        assert_eq!(rt; std::str::from_utf8(out.bytes()), Ok(usage), "{words:?}");
+        let mut shelf = shelf_for(rt.alloc(), TRIANGLE, b"end\n", 8192, &[])?;
+        let ran = run_words(rt.alloc(), words, &mut shelf, &[])?;
+        assert_eq!(rt; ran.status, Status::Usage, "{words:?}");
+        assert_eq!(rt;
+            std::str::from_utf8(ran.out.bytes()),
+            Ok(USAGE),
+            "{words:?}"
+        );
     }
     Ok(())
 }

@@ -1,5 +1,5 @@
-//! `run`, with all that is promised of the program: the commands of `sd_top`, joined with the proof
-//! that an accepted plan is safe (`sd_safe`).
+//! `run`, with all that is promised of the program: the commands of `sd_top`, joined with the proofs
+//! that an accepted plan is safe and that no report is above its number of a drill (`sd_safe`).
 //!
 //! `sd_top` says what holds where clean histories are safe; here it holds with nothing assumed.
 #![tactic(auto)]
@@ -7,6 +7,7 @@
 ghost use Rattle.std.specs.Prelude.{◌≡◌, ◌⊎◌, false, All, IsTrue, None, map, string_bytes};
 ghost use Rattle.sd_outside.specs.Causes.{Rose};
 ghost use Rattle.sd_files.specs.Statuses.{is_among, stop_of};
+ghost use Rattle.sd_run.specs.Bounds.{MeetsBounds};
 ghost use Rattle.sd_top.specs.Headlines.{MeetsHeadline};
 ghost use Rattle.sd_top.specs.Laws.{Laws};
 ghost use Rattle.sd_top.specs.Promise.{IsNearRefusal, KeepsPromise, MeetsOutcome, task_of};
@@ -38,6 +39,8 @@ pub fn run<S: Shelf, O: Sink>(alloc: Global, words: &[String], shelf: &mut S, ou
     ensures promise { KeepsPromise (S.held shelf.old) (map string_bytes words.now) }
     // no alarm before the first broken premise, in all that this run added to what was written
     ensures headline { MeetsHeadline (S.held shelf.old) (map string_bytes words.now) (O.written out.old) (O.written out.new) }
+    // no report above the number that a drill prints for its device, in any history that meets the premises of the drill
+    ensures bounds { MeetsBounds (S.held shelf.old) (map string_bytes words.now) }
 
     // Over every shelf and sink: a run that is not stopped gives one of the command's statuses, and
     // the outside is blamed only where it failed in this call.

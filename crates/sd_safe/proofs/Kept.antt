@@ -2,8 +2,6 @@
 use Rattle.std.specs.Prelude.{List, ◌∷◌}
 use Rattle.sd_sched.specs.declared.Event.{Event}
 use Rattle.sd_history.specs.World.{Setting}
-use Rattle.sd_history.specs.Chronicle.{chronicle}
-use Rattle.sd_safety.specs.Invariant.{Invariant}
 use Rattle.sd_safety.specs.Coming.{IsFair, IsClean, Comes}
 use Rattle.sd_safety.specs.Kept.{StaysInvariant}
 use Rattle.sd_safety.proofs.Prefix.{clean_before}

@@ -1,3 +1,4 @@
 pub mod Silent
 pub mod Kept
 pub mod Safe
+pub mod Bounded

@@ -30,6 +30,7 @@ use Rattle.sd_safety_timers.proofs.Histories.{timely, timed}
 use Rattle.sd_safety_behind.specs.Pieces.{SealsSoon}
 use Rattle.sd_safety_behind.specs.Feeding.{mended_now, PathHearsNoMore}
 use Rattle.sd_safety_waits.proofs.Long.{epoch_kept}
+use Rattle.sd_safety_behind.proofs.Late.{late_since}
 use Rattle.sd_safety_behind.proofs.Failing.{failed_grows, some_failed}
 use Rattle.sd_safety.proofs.Facts.{IsSound, sound_now}
 use Rattle.sd_safety_behind.proofs.Moved.{begins, unmoved, not_root, silence_now}
@@ -109,10 +110,6 @@ late_grows true true r q c d same le first = omega (arith, le, first)
 late_grows false false r q c d same le first = le
 late_grows true false r q c d same le first = cc
 late_grows false true r q c d same le first = cc
-
-late_since : (a : Bool) (r c : ℕ) → r ≤ (if a then max r c else r)
-late_since true r c = omega arith
-late_since false r c = omega arith
 
 pub late_stays : (setting : Setting) (e : Event) (h : List Event) (things : List Thing) → (next_step setting (chronicle setting h) e).seen.closed ≡ false
     → late setting (chronicle setting h) (first_at things (seen_of (chronicle setting h))) ≤ late setting (chronicle setting (e ∷ h)) (first_at things (seen_of (chronicle setting (e ∷ h))))

@@ -1,5 +1,6 @@
 -- Going back to the first failure, the deadlines of the backup root, and 14, 16 and 17 from them.
 pub mod Failing
+pub mod Late
 pub mod Before
 pub mod Beside
 pub mod Moved
@@ -7,6 +8,8 @@ pub mod Takeover
 pub mod Going
 pub mod Broken
 pub mod Ways
+pub mod Stood
+pub mod Breaks
 pub mod Behind
 pub mod Given
 pub mod Waiting

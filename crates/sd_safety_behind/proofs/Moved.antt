@@ -141,6 +141,11 @@ standing true false true l m a = cc
 standing true true acts l m a = cc
 standing false moved_ acts l m a = cc
 
+pub on_backup_by : (moved_ acts : Bool) → moved_ ≡ true → acts ≡ false → (moved_ && not acts) ≡ true
+on_backup_by true false m a = refl
+on_backup_by true true m a = cc
+on_backup_by false acts m a = cc
+
 pub not_root : (net : Network) (plan : Plan) → IsSound net plan → is_root plan plan.backup_root ≡ false
 not_root net plan facts = false_from_ne_true (is_root plan plan.backup_root) (λ is. not_both (nat_eq plan.backup_root plan.root) (eq-eqb plan.backup_root plan.root (sym (eqb-true plan.root plan.backup_root is))) facts.apart)
 

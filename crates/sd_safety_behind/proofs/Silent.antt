@@ -50,7 +50,7 @@ pub mended : (setting : Setting) → AtNext WholePathHears setting → AtNext He
 mended setting hears no_more mended_hears mended_moves fallback takes =
     behind_waits_mended setting hears (seals_soon setting) no_more fallback takes (took_over_soon setting no_more) mended_hears mended_moves
 
-behind_parts : (member backup on : Bool) → (member && not backup && on) ≡ true → (backup ≡ false) × (on ≡ true)
+pub behind_parts : (member backup on : Bool) → (member && not backup && on) ≡ true → (backup ≡ false) × (on ≡ true)
 behind_parts true false true all = (refl, refl)
 behind_parts true false false all = cc
 behind_parts true true on all = cc

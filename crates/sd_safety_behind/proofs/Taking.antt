@@ -37,10 +37,11 @@ use Rattle.sd_safety_waits.proofs.Waits.{Stands, old_stands}
 use Rattle.sd_safety_behind.specs.Pieces.{HearsNoMore}
 use Rattle.sd_safety_behind.specs.Feeding.{TookOverSoon, takes_over, took_over_at}
 use Rattle.sd_safety_waits.proofs.Long.{epoch_kept}
+use Rattle.sd_safety_behind.proofs.Late.{late_since}
 use Rattle.sd_safety_behind.proofs.Failing.{some_failed}
 use Rattle.sd_safety.proofs.Facts.{IsSound, sound_now}
-use Rattle.sd_safety_behind.proofs.Moved.{StandsBy, stands_so, up_before, begins, not_root, rest_now}
-use Rattle.sd_safety_behind.proofs.Behind.{moved_rises}
+use Rattle.sd_safety_behind.proofs.Moved.{StandsBy, stands_so, up_before, begins, not_root, rest_now, on_backup_by}
+use Rattle.sd_safety_behind.proofs.Breaks.{moved_rises}
 use Rattle.sd_safety_behind.proofs.Broken.{first_at, first_hits, first_is_now, late_stays}
 use Rattle.sd_safety_behind.proofs.Sealing.{taken_waited}
 use Rattle.sd_safety_behind.proofs.Waiting.{waiting}
@@ -147,15 +148,6 @@ acting_not true false true p = cc
 acting_not true true acts p = cc
 acting_not false moved_ acts p = cc
 
-backup_by : (moved_ acts : Bool) → moved_ ≡ true → acts ≡ false → (moved_ && not acts) ≡ true
-backup_by true false m a = refl
-backup_by true true m a = cc
-backup_by false acts m a = cc
-
-since_late : (a : Bool) (r c : ℕ) → r ≤ (if a then max r c else r)
-since_late true r c = omega arith
-since_late false r c = omega arith
-
 module _ (setting : Setting) (fair : IsFair setting) (no_more : AtNext HearsNoMore setting) where
   abbrev Soon : List Event → Plan → Type 0
   Soon history pl =
@@ -253,12 +245,12 @@ module _ (setting : Setting) (fair : IsFair setting) (no_more : AtNext HearsNoMo
           let r = some_failed things (seen_of (chronicle setting (e ∷ h))) (thing.Device plan.root) first root_now in
           let at : first_at things (seen_of (chronicle setting (e ∷ h))) ≡ r.0 = ap (λ o. of_some o 0 (λ reference. reference)) r.1 in
           let is_now : reference_of e ≡ r.0 = first_is_now things s (seen_of (chronicle setting h)) r.0 open_ none r.1 in
-          let since = since_late (nat_eq (era (chronicle setting (e ∷ h))) 1) (first_at things (seen_of (chronicle setting (e ∷ h)))) (all_started setting (chronicle setting (e ∷ h))) in
+          let since = late_since (nat_eq (era (chronicle setting (e ∷ h))) 1) (first_at things (seen_of (chronicle setting (e ∷ h)))) (all_started setting (chronicle setting (e ∷ h))) in
           omega (arith, within_now, at, is_now, since)
       by_first was then_ inside put still (Some r) some =
           let rest : Rests plan = subst (λ n. Rests (plan_numbered setting n)) (sym era_kept) rests in
           let acts_not : acts_in (chronicle setting h) b ≡ false = then_.acts_is ∙ still in
-          let le = rest (old_then was then_ inside) (backup_by (moved (chronicle setting h) b) (acts_in (chronicle setting h) b) (then_.moved_is ∙ put) acts_not) acts_not
+          let le = rest (old_then was then_ inside) (on_backup_by (moved (chronicle setting h) b) (acts_in (chronicle setting h) b) (then_.moved_is ∙ put) acts_not) acts_not
           (one_hit (failed_now (chronicle setting h)) (first_hits things (seen_of (chronicle setting h)) r some)) in
           omega (arith, le, within_now, grows, moved_up)
         where

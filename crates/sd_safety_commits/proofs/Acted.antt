@@ -1,14 +1,13 @@
 -- A backup root that acts has acted, in the same era, at each event later than its takeover: going back event by event, nothing else than a takeover makes it act,
 -- and a closing would have put it on its primary.
-use Rattle.std.specs.Prelude.{◌≡◌, ℕ, ◌+◌, ◌<◌, ◌≤◌, Bool, true, false, ◌&&◌, ◌||◌, List, [], ◌∷◌, length, nat_eq, nat_lt, Option, Some, None, option_map, refl, if◌then◌else◌}
+use Rattle.std.specs.Prelude.{◌≡◌, ℕ, ◌<◌, ◌≤◌, Bool, true, false, ◌&&◌, ◌||◌, List, [], ◌∷◌, length, nat_lt, Some, None, option_map, refl, if◌then◌else◌}
 use Rattle.std.proofs.Common.{arith, ◌∙◌, ap, sym, subst}
 use Rattle.std.proofs.lemmas.Bool.{and_from, eq-eqb, lt-ltb}
+use Rattle.std.proofs.Math.Nat.{lt_of_lt_of_le}
 use Rattle.sd_num.specs.Lists.{of_some}
 use Rattle.sd_topo.specs.declared.Thing.TheVariants as thing
-use Rattle.sd_plan.specs.declared.Duty.{Duty}
 use Rattle.sd_plan.specs.Plans.{is_member, is_root}
-use Rattle.sd_core.specs.Calls as calls
-use Rattle.sd_core.specs.Calls.{Call, Deed, Committed, Past}
+use Rattle.sd_core.specs.Calls.{Call, Deed, Past}
 use Rattle.sd_core.specs.Words.{deed_of, after, is_acting}
 use Rattle.sd_sched.specs.declared.Event.{Event}
 use Rattle.sd_sched.specs.Events.{reference_of}
@@ -26,9 +25,9 @@ use Rattle.sd_safety.proofs.Sides.{implied, not_both}
 use Rattle.sd_safety_messages.specs.Moments.{whole, behind, Moment, when, IsIn}
 use Rattle.sd_safety_messages.proofs.Latest.{never_committed}
 use Rattle.sd_safety_messages.proofs.Tails.{history_chronicle, no_later}
-use Rattle.sd_safety_timers.proofs.Deeds.{Cases, by_case}
 use Rattle.sd_safety_timers.proofs.Turns.{BeganToAct, by_takeover, by_commit, began_to_act}
 use Rattle.sd_safety_receipts.proofs.Alive.{Went, made, called, alone, went}
+use Rattle.sd_safety_terms.proofs.Came.{committed_is}
 use Rattle.sd_safety_terms.proofs.Actors.{IsActor, actor_acts}
 use Rattle.sd_safety_behind.specs.Feeding.{takes_over, took_over_at}
 use Rattle.sd_safety_behind.proofs.Moved.{begins, not_root}
@@ -40,24 +39,6 @@ none_by : (s0 r : ℕ) (m y : Bool) (before : ℕ) → s0 < r → (if m || y the
 none_by s0 r true y before late le = absurd (omega (arith, le, late))
 none_by s0 r false true before late le = absurd (omega (arith, le, late))
 none_by s0 r false false before late le = (refl, refl)
-
--- who begins to act by a commit was called to commit
-committed_is : (past : Past) (call : Call) (u : Duty) → deed_of past call ≡ Committed u → (c : ℕ) × (call ≡ calls.Commit c)
-committed_is past call u is = by_case past (λ c deed. deed ≡ Committed u → (k : ℕ) × (c ≡ calls.Commit k)) cases call is
-  where
-    cases : Cases past (λ c deed. deed ≡ Committed u → (k : ℕ) × (c ≡ calls.Commit k))
-    cases =
-        record {
-          emitted = λ c e is. cc;
-          took = λ c e t is. cc;
-          moved = λ c e t m is. cc;
-          still = λ c e t m is. cc;
-          entered = λ link message c duty edge is. cc;
-          accepted = λ link message c edge is. cc;
-          committed = λ c duty a is. (c, refl);
-          recommitted = λ c duty a is. cc;
-          nothing = λ call n is. cc;
-        }
 
 -- One event back
 
@@ -116,9 +97,6 @@ none_closed setting x h e comes acts closed =
 abbrev pub HasActed : List Step → Moment → ℕ → Type 0
 HasActed steps q b = (era q.earlier ≡ era steps) × (acts_in q.earlier b ≡ true)
 
-late_by : (s0 w r : ℕ) → s0 < w → w ≤ r → s0 < r
-late_by s0 w r less le = omega (arith, less, le)
-
 pub acted_since : (setting : Setting) (history : List Event) (e : Event) → Comes setting history e → (s0 b : ℕ) → b ≡ (plan_now setting (chronicle setting history)).backup_root → IsActor setting (chronicle setting history) b
     → took_over_at (chronicle setting history) b ≤ s0 → (q : Moment) → IsIn q (chronicle setting (e ∷ history)) → s0 < when q → HasActed (chronicle setting history) q b
 acted_since setting [] e comes s0 b is actor took q here late = elim (none actor.past actor.there) [ ]
@@ -132,7 +110,7 @@ acted_since setting (x ∷ h) e comes s0 b is actor took q (behind t) late = by_
     clean = clean_before setting e (x ∷ h) comes.clean
 
     less : s0 < reference_of x
-    less = late_by s0 (when q) (reference_of x) late (no_later setting q (chronicle setting (x ∷ h)) (history_chronicle setting (x ∷ h) comes.clean.is.0) t)
+    less = lt_of_lt_of_le late (no_later setting q (chronicle setting (x ∷ h)) (history_chronicle setting (x ∷ h) comes.clean.is.0) t)
 
     by_closed : (Comes setting h x → b ≡ (plan_now setting (chronicle setting h)).backup_root → IsActor setting (chronicle setting h) b → took_over_at (chronicle setting h) b ≤ s0 → HasActed (chronicle setting h) q b)
         → (c : Bool) → (next_step setting (chronicle setting h) x).seen.closed ≡ c → HasActed (chronicle setting (x ∷ h)) q b

@@ -1,6 +1,6 @@
 -- 14 where the backup root is new: before the commit the device had time to spare. After it, it enters within A + H * D of a commit of the root; and where the backup root has
 -- committed, it hears or enters within that time of the takeover.
-use Rattle.std.specs.Prelude.{◌≡◌, ℕ, ◌+◌, ◌*◌, ◌<◌, ◌≤◌, Bool, true, false, ◌&&◌, ◌||◌, not, List, [], ◌∷◌, length, max, nat_eq, nat_lt, refl, ◌⊎◌, if◌then◌else◌}
+use Rattle.std.specs.Prelude.{◌≡◌, ℕ, ◌+◌, ◌*◌, ◌<◌, ◌≤◌, Bool, true, false, ◌&&◌, List, [], ◌∷◌, length, max, nat_eq, nat_lt, refl, ◌⊎◌, if◌then◌else◌}
 use Rattle.std.proofs.Common.{arith, ◌∙◌, ap, sym, subst, inl, inr}
 use Rattle.std.proofs.lemmas.Bool.{and_from, cases_lt, eqb-true, ltb-false, lt-ltb, false_from_ne_true, false≢true}
 use Rattle.sd_topo.specs.declared.Thing.TheVariants as thing
@@ -25,9 +25,10 @@ use Rattle.sd_safety.proofs.Sides.{implied, not_both}
 use Rattle.sd_safety_timers.specs.Times.{AreTimed}
 use Rattle.sd_safety_timers.specs.Since.{IsTail}
 use Rattle.sd_safety_messages.specs.Moments.{whole, behind, Moment, when, IsIn}
-use Rattle.sd_safety_waits.proofs.Standing as standing
-use Rattle.sd_safety_waits.proofs.Standing.{now, clean, steps_timed, sound, is_up_then, heard_late}
+use Rattle.sd_safety_waits.proofs.Standing.{clean, steps_timed, sound, is_up_then, heard_late}
 use Rattle.sd_safety_waits.proofs.Waits.{Stands, old_stands}
+use Rattle.sd_safety_silences.proofs.Phases.{failed_on, as_tail}
+use Rattle.sd_safety_silences.proofs.States.{not_old_and_new, old_unless_new}
 use Rattle.sd_safety_windows.proofs.Acting.{not_new}
 use Rattle.sd_safety_windows.proofs.Committing.{ActingPast, acting_past, up_and_past, staged_plan}
 use Rattle.sd_safety_windows.proofs.News.{reached}
@@ -35,7 +36,6 @@ use Rattle.sd_safety_windows.proofs.Reaching.{epoch_within}
 use Rattle.sd_safety_terms.proofs.Actors.{IsActor, actor_leads}
 use Rattle.sd_safety_entering.proofs.Entering.{members_enter}
 use Rattle.sd_safety_entering.proofs.States as states
-use Rattle.sd_safety_rounds.proofs.Silent.{not_old_and_new}
 use Rattle.sd_safety_behind.specs.Pieces.{HearsNoMore}
 use Rattle.sd_safety_behind.specs.Feeding.{PathHearsNoMore, StandsBehind, took_over_at, MendedHears, MendedMoves, BehindWaitsCommitted}
 use Rattle.sd_safety_behind.proofs.Before.{begin_same, heard_rises, tail_timed}
@@ -50,11 +50,11 @@ use Rattle.sd_safety_feeds.proofs.Feeds.{fallback_feeds}
 use Rattle.sd_safety_commits.specs.Entering.{BehindWaitsLonger, TookOverEarly}
 use Rattle.sd_safety_commits.specs.Leading.{IsLed}
 use Rattle.sd_safety_commits.proofs.Acted.{HasActed, acted_since}
-use Rattle.sd_safety_commits.proofs.Fed.{behind_parts, fed_by}
+use Rattle.sd_safety_behind.proofs.Silent.{behind_parts}
+use Rattle.sd_safety_commits.proofs.Fed.{fed_by}
 use Rattle.sd_safety_commits.proofs.Found.{CommitOf, commit_of}
-use Rattle.sd_safety_commits.proofs.Hops.{old_by}
 use Rattle.sd_safety_commits.proofs.Longer.{behind_waits_longer, took_over_early}
-use Rattle.sd_safety_commits.proofs.Stood.{stood_then}
+use Rattle.sd_safety_behind.proofs.Stood.{stood_then}
 use Rattle.sd_safety_commits.proofs.Sums.{begun_sum, spared_sum, heard_sum, early_sum, enters_sum, led_sum}
 
 -- Before the commit, in the era
@@ -70,9 +70,7 @@ record IsThen (setting : Setting) (z : Event) (earlier : List Event) (d : ℕ) :
 backup_old : (setting : Setting) (z : Event) (earlier : List Event) (d : ℕ) → IsThen setting z earlier d → is_old (chronicle setting earlier) (plan_now setting (chronicle setting earlier)).backup_root ≡ true
 backup_old setting z [] d t = absurd (false≢true t.stood.old)
 backup_old setting z (y ∷ ys) d t =
-    old_by (is_old older b) (is_new older b)
-    (implied (is_member plan b && not (device_failed_now older b) && is_up (seen_of older) b) (is_old older b || is_new older b) ((now setting y ys z t.comes).core.census.members_follow b)
-    (and_from (is_member plan b && not (device_failed_now older b)) (is_up (seen_of older) b) (and_from (is_member plan b) (not (device_failed_now older b)) fine.backup_member (ap not kept)) up)) (not_new setting (y ∷ ys) b (clean setting y ys z t.comes).is t.calm)
+    old_unless_new setting y ys z t.comes b fine.backup_member kept up (not_new setting (y ∷ ys) b (clean setting y ys z t.comes).is t.calm)
   where
     older : List Step
     older = chronicle setting (y ∷ ys)
@@ -172,7 +170,9 @@ module _ (setting : Setting) (longer : AtNext BehindWaitsLonger setting) (early_
       -- where it heard nothing since the commit, and members had started by then
       module _ (silent : heard_at (chronicle setting (x ∷ h)) d < f.reference) (begun : all_started setting (chronicle setting (x ∷ h)) < f.reference) where
         stood : StandsBehind setting (chronicle setting f.earlier) d
-        stood = stood_then setting (x ∷ h) all_timed d st committed f.earlier f.tail f.era_is silent
+        stood =
+            stood_then setting (x ∷ h) all_timed d st committed f.earlier f.tail f.era_is
+            (λ y is. failed_on y (chronicle setting f.earlier) steps (as_tail (chronicle_tail setting f.earlier (x ∷ h) (below f.tail))) (let same_ = f.era_is in omega (arith, same_)) is) silent
 
         same_start : (hs : List Event) → IsTail (committed ∷ hs) (x ∷ h) → is_old (chronicle setting hs) d ≡ true → all_started setting (chronicle setting hs) ≡ all_started setting (chronicle setting (x ∷ h))
         same_start [] tail old = absurd (false≢true old)

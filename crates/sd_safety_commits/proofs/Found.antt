@@ -1,12 +1,10 @@
 -- The commit of the open window: the event, what came before it in the era, and that each other moment has it behind it in the era, or came no later.
-use Rattle.std.specs.Prelude.{◌≡◌, ℕ, ◌≤◌, Bool, true, false, List, [], ◌∷◌, Option, Some, None, option_map, refl, ◌⊎◌, if◌then◌else◌}
-use Rattle.std.specs.List.{list_any}
-use Rattle.std.proofs.Common.{arith, ◌∙◌, ap, sym, inl, inr}
-use Rattle.sd_num.specs.Lists.{of_some}
+use Rattle.std.specs.Prelude.{◌≡◌, ℕ, ◌≤◌, Bool, true, false, List, [], ◌∷◌, refl, ◌⊎◌}
+use Rattle.std.proofs.Common.{arith, ◌∙◌, sym, inl, inr}
 use Rattle.sd_sched.specs.declared.Event.{Event}
 use Rattle.sd_sched.specs.declared.Event.TheVariants as event
 use Rattle.sd_sched.specs.Events.{is_stage, is_commit}
-use Rattle.sd_history.specs.World.{Setting, Seen, window, has_commit}
+use Rattle.sd_history.specs.World.{Setting, window, has_commit}
 use Rattle.sd_history.specs.Steps.{Step, seen_of}
 use Rattle.sd_history.specs.Chronicle.{chronicle, next_step}
 use Rattle.sd_safety.specs.Eras.{era}
@@ -14,12 +12,12 @@ use Rattle.sd_safety.specs.Clauses.{commit_at}
 use Rattle.sd_safety.specs.Coming.{IsFair, IsClean}
 use Rattle.sd_safety.proofs.Prefix.{clean_before}
 use Rattle.sd_safety_timers.specs.Since.{IsTail, whole, beyond}
-use Rattle.sd_safety_messages.specs.Moments.{Tail, whole as whole_, behind, Moment, IsIn}
+use Rattle.sd_safety_messages.specs.Moments.{whole as whole_, behind, Moment, IsIn}
 use Rattle.sd_safety_messages.proofs.Tails.{history_chronicle}
 use Rattle.sd_safety_windows.proofs.Committing.{AtCommit, commit_asks}
 use Rattle.sd_safety_windows.proofs.Eras.{era_kept}
 use Rattle.sd_safety_frame.proofs.Plain.{commit_kept, commit_at_kept}
-use Rattle.sd_safety_entering.proofs.Since.{commit_no_later}
+use Rattle.sd_safety_entering.proofs.Since.{commit_no_later, goes_on}
 
 pub record CommitOf (setting : Setting) (history : List Event) : Type 0 where
   pub reference : ℕ
@@ -32,12 +30,6 @@ pub record CommitOf (setting : Setting) (history : List Event) : Type 0 where
   pub asks : AtCommit setting (chronicle setting earlier) device
   -- a moment that came no later than the commit, or has it behind it in the era
   pub place : (q : Moment) → IsIn q (chronicle setting history) → IsIn q (chronicle setting (event.Commit reference device counter ∷ earlier)) ⊎ (has_commit (seen_of q.earlier) ≡ true) × (era q.earlier ≡ era (chronicle setting history))
-
--- with a commit in its window a step neither closes nor opens one
-goes_on : (s : Seen) (c st : Bool) (w : Option (List Seen)) → of_some (if c then None else if st then Some [] else option_map (λ v. s ∷ v) w) false (list_any (λ x. is_commit x.event)) ≡ true → (c ≡ false) × (st ≡ false)
-goes_on s true st w has = cc
-goes_on s false true w has = cc
-goes_on s false false w has = (refl, refl)
 
 module _ (setting : Setting) (fair : IsFair setting) where
   here : (r d c : ℕ) (h : List Event) → IsClean setting (event.Commit r d c ∷ h) → (next_step setting (chronicle setting h) (event.Commit r d c)).seen.closed ≡ false → CommitOf setting (event.Commit r d c ∷ h)

@@ -2,10 +2,7 @@
 pub mod Acted
 pub mod Found
 pub mod Sources
-pub mod Entries
-pub mod Hops
 pub mod Fed
 pub mod Sums
-pub mod Stood
 pub mod Longer
 pub mod Committed

@@ -12,17 +12,17 @@
 //! # The way
 //!
 //! The device is a member of the staged plan, so it enters within A + H * D of the commit (18). Where
-//! it heard nothing since the commit it stood behind the backup root before that (`Found`, `Stood`),
-//! which was old then.
+//! it heard nothing since the commit it stood behind the backup root before that (`Found`), which was
+//! old then.
 //!
 //! - The root committed: the time that entering takes is added to the silence at the commit. The sums
 //!   of 14 have room for it (`Longer`), since rule 5 of the checker counts a second wait that does not
 //!   pass while the root lives.
 //! - The backup root committed: there is no such room after a stray. But the K + 1 rounds that end a
 //!   silence may lie on both sides of the commit. The backup root acted since its takeover (`Acted`)
-//!   and is a source (`Sources`). Of K + 1 rounds one is clean: one of the era's plan comes down the
-//!   cut walk, which nobody leaves before by entering (`Entries`, `Hops`), and one of the staged plan
-//!   makes the device new (`Fed`). So only A + H * D after the takeover counts.
+//!   and leads (`Sources`). By `silent_by` of `sd_safety_rounds`, of K + 1 rounds one is clean: one of
+//!   the era's plan comes down the cut walk, and one of the staged plan makes the device new (`Fed`).
+//!   So only A + H * D after the takeover counts.
 //!
 //! After a commit nothing fails, so that no round is cut off, and no tick gap is added.
 #![tactic(auto)]

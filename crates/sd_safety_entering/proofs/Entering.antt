@@ -2,6 +2,7 @@
 use Rattle.std.specs.Prelude.{◌≡◌, ℕ, ◌+◌, ◌*◌, ◌<◌, ◌≤◌, Bool, true, false, ◌&&◌, List, [], ◌∷◌, length, nat_lt, Some, refl}
 use Rattle.std.proofs.Common.{arith, sym, ◌∙◌, ap, subst}
 use Rattle.std.proofs.lemmas.Bool.{and_parts, eqb-true, ltb-true}
+use Rattle.std.proofs.Math.Nat.{le_antisymm}
 use Rattle.sd_num.specs.Lists.{of_some}
 use Rattle.sd_plan.specs.Plans.{is_root}
 use Rattle.sd_msg.specs.declared.Stamp.{Stamp}
@@ -68,11 +69,8 @@ new_from setting (x ∷ h) fair clean each q here d past up there epoch =
     let far = reached_from (has_commit (seen_of after_)) (era after_) (era steps) grows (subst (λ n. n ≤ reach after_) epoch le) in
     let least = far.1 in
     let own : NewPast after_ d =
-    record { past = past; up = subst (λ l. is_up (seen_of l) d ≡ true) is up; there = there'; epoch = epoch ∙ ap (λ n. n + 1) (meet (era steps) (era after_) least grows) } in
+    record { past = past; up = subst (λ l. is_up (seen_of l) d ≡ true) is up; there = there'; epoch = epoch ∙ ap (λ n. n + 1) (le_antisymm least grows) } in
     new_on setting after_ d (x ∷ h) clean tail least (new_by_past setting (st.e ∷ st.h) d own)
-  where
-    meet : (a b : ℕ) → a ≤ b → b ≤ a → a ≡ b
-    meet a b one two = omega (arith, one, two)
 
 -- a device that accepted a message of the plan after the era's is new
 pub hearer_new : (setting : Setting) (history : List Event) → IsFair setting → IsClean setting history → AtEach (Invariant setting) (chronicle setting history) → (q : Moment) → IsIn q (chronicle setting history) → (stamp : Stamp) (d link : ℕ)

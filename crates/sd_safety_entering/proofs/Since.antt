@@ -24,7 +24,7 @@ abbrev commit_time : List Seen → ℕ
 commit_time w = latest (λ x. if is_commit x.event then Some (reference_of x.event) else None) w 0
 
 -- with a commit in its window a step neither closes nor opens one
-goes_on : (s : Seen) (c st : Bool) (w : Option (List Seen)) → of_some (if c then None else if st then Some [] else option_map (λ v. s ∷ v) w) false (list_any (λ x. is_commit x.event)) ≡ true → (c ≡ false) × (st ≡ false)
+pub goes_on : (s : Seen) (c st : Bool) (w : Option (List Seen)) → of_some (if c then None else if st then Some [] else option_map (λ v. s ∷ v) w) false (list_any (λ x. is_commit x.event)) ≡ true → (c ≡ false) × (st ≡ false)
 goes_on s true st w has = cc
 goes_on s false true w has = cc
 goes_on s false false w has = (refl, refl)

@@ -28,16 +28,17 @@ use Rattle.sd_safety_silences.specs.Feeds.{IsSource, Feeds}
 use Rattle.sd_safety_silences.proofs.Sounding.{top_of}
 use Rattle.sd_safety_silences.proofs.Spacing.{emissions_are_apart}
 use Rattle.sd_safety_silences.proofs.Sourced.{emission_keeps}
+use Rattle.sd_safety_windows.proofs.Given.{remakes_none}
 use Rattle.sd_safety_windows.proofs.Committing.{staged_plan}
 use Rattle.sd_safety_windows.proofs.News.{new_has_none}
 use Rattle.sd_safety_terms.proofs.Actors.{IsActor}
-use Rattle.sd_safety_terms.proofs.Terms.{IsTermed, termed, remakes_none}
+use Rattle.sd_safety_terms.proofs.Terms.{IsTermed, termed}
 use Rattle.sd_safety_entering.specs.After.{IsAfter}
 use Rattle.sd_safety_entering.proofs.Stages.{Known, known}
 use Rattle.sd_safety_entering.proofs.States as states
 
 -- who enters takes up a duty
-entering_takes : (deed : Deed) → enters deed ≡ true → (u : Duty) × (taken_up deed ≡ Some u)
+pub entering_takes : (deed : Deed) → enters deed ≡ true → (u : Duty) × (taken_up deed ≡ Some u)
 entering_takes (Entered duty edge) is = (duty, refl)
 entering_takes (Committed duty) is = cc
 entering_takes (Recommitted duty) is = cc

@@ -34,6 +34,7 @@ use Rattle.sd_safety_timers.proofs.Histories.{Timely, timely, timed, before, sen
 use Rattle.sd_safety_waits.proofs.Same.{sent_is}
 use Rattle.sd_safety_silences.proofs.Paths.{IsClear}
 use Rattle.sd_safety_silences.proofs.States.{ready_of}
+use Rattle.sd_safety_windows.proofs.Leading.{stands_by}
 use Rattle.sd_safety_windows.proofs.Committing.{staged_plan, staged_too, staged_some}
 use Rattle.sd_safety_windows.proofs.Closing.{commit_is_open, epoch_up}
 use Rattle.sd_safety_windows.proofs.Links.{staged_links}
@@ -59,13 +60,6 @@ enters_as true true false false true given is c m = inr (inr refl)
 enters_as true true false false false given is c m = cc
 enters_as true false new old blank given is c m = cc
 enters_as false w new old blank given is c m = cc
-
--- on its primary a device has not moved and does not act
-off_by : (some moved_ acts : Bool) → (some && not moved_ && not acts) ≡ true → (moved_ ≡ false) × (acts ≡ false)
-off_by true false false on = (refl, refl)
-off_by true false true on = cc
-off_by true true acts on = cc
-off_by false moved_ acts on = cc
 
 -- the duty that was given to a device of this past
 given_so : (g : Option Duty) (n : ℕ) → same_number (option_map (λ (u : Duty). u.epoch) g) n ≡ true → (u : Duty) × (g ≡ Some u) × (u.epoch ≡ n)
@@ -184,7 +178,7 @@ module _ (setting : Setting) (h : List Event) (e : Event) (comes : Comes setting
         let epoch : epoch_now past ≡ next = ap epoch_now (some_is (sym there ∙ own.there)) ∙ own.epoch in
         let linked = implied (is_new steps y && not (nat_eq y (staged_root setting steps))) _ (core.committed.linked y) (and_from (is_new steps y) (not (nat_eq y (staged_root setting steps))) new (ap not apart)) in
         let primary = (and_parts (on_primary steps y) _ (and_parts (on_primary steps y && of_some (parent_in steps y) false (is_new steps)) _ linked).0).0 in
-        let put = off_by (is_some (live_past steps y)) (moved steps y) (acts_in steps y) primary in
+        let put = stands_by (is_some (live_past steps y)) (moved steps y) (acts_in steps y) primary in
         ready_of setting.net plan next y hop past (duty_so past there epoch (duty_now past) refl) (sym (moved_is setting h y past own.up there) ∙ put.0) (sym (acts_is setting h y past own.up there) ∙ put.1) clear.primary
 
     ready_given : (past : Past) → past_in (chronicle setting h) y ≡ Some past → same_number (given_in (chronicle setting h) y) (staged_epoch (seen_of (chronicle setting h))) ≡ true → IsReady past (staged_epoch (seen_of (chronicle setting h))) hop.link

@@ -2,6 +2,7 @@
 use Rattle.std.specs.Prelude.{◌≡◌, ℕ, ◌<◌, ◌≤◌, Bool, true, false, ◌&&◌, ◌||◌, not, List, [], ◌∷◌, filter, length, nat_eq, Option, Some, IfSome, refl, ◌⊎◌, if◌then◌else◌}
 use Rattle.std.proofs.Common.{arith, ◌∙◌, ap, sym, subst, inl, inr}
 use Rattle.std.proofs.lemmas.Bool.{and_parts, and_from, or_cases, or_left, or_right, or_from, cases_lt, eqb-true, eq-eqb, not-true, not-false, false_from_ne_true}
+use Rattle.std.proofs.Math.Nat.{le_antisymm}
 use Rattle.sd_num.specs.Lists.{of_some, has, same_number}
 use Rattle.sd_topo.specs.declared.Thing.{Thing}
 use Rattle.sd_topo.specs.declared.Thing.TheVariants as thing
@@ -27,8 +28,9 @@ use Rattle.sd_safety.specs.Coming.{IsFair, IsClean}
 use Rattle.sd_safety.proofs.Facts.{IsSound, sound_now}
 use Rattle.sd_safety.proofs.Sides.{implied, not_both}
 use Rattle.sd_safety.proofs.Staying.{old_is_member}
-use Rattle.sd_safety_messages.specs.Moments.{Tail, whole, behind}
-use Rattle.sd_safety_silences.proofs.Phases.{era_grows, failed_on}
+use Rattle.sd_safety_messages.specs.Moments.{Tail}
+use Rattle.sd_safety_silences.proofs.States.{not_old_and_new}
+use Rattle.sd_safety_silences.proofs.Phases.{era_grows, failed_on, chronicles}
 use Rattle.sd_safety_silences.proofs.Walking.{Walks, over, walks}
 use Rattle.sd_safety_silences.proofs.Paths.{IsClear, clear_walk, path_misses_cut}
 use Rattle.sd_safety_silences.proofs.Fallen.{things_fine, on_fallback, link_of_fallback, fallback_hop}
@@ -38,7 +40,6 @@ use Rattle.sd_safety_receipts.proofs.Alive.{WasAlive, was_alive, IsOf, events_of
 use Rattle.sd_safety_receipts.proofs.Stood.{core_of, clean_of, each_of, history_of, next_stood, moved_is, acts_is, epoch_is}
 use Rattle.sd_safety_messages.proofs.Tails.{tail_trans}
 use Rattle.sd_safety_terms.proofs.Actors.{IsActor, actor_is_current}
-use Rattle.sd_safety_rounds.proofs.Silent.{not_old_and_new}
 use Rattle.sd_safety_fallbacks.proofs.Onward.{Onward, onward}
 
 -- what is among the filtered is among all
@@ -160,11 +161,7 @@ module _ (setting : Setting) (history : List Event) (fair : IsFair setting) (cle
       core = core_of setting then_ each_then
 
       below_now : Tail (chronicle setting then_) (chronicle setting history)
-      below_now = chronicles then_ history tail
-        where
-          chronicles : (a c : List Event) → Tail a c → Tail (chronicle setting a) (chronicle setting c)
-          chronicles a _ whole = whole
-          chronicles a (z ∷ c) (behind t) = behind (chronicles a c t)
+      below_now = chronicles setting then_ history tail
 
       module _ (same : era (chronicle setting then_) ≡ era (chronicle setting history)) where
         same_plan : plan_now setting (chronicle setting then_) ≡ plan_now setting (chronicle setting history)
@@ -242,13 +239,10 @@ module _ (setting : Setting) (history : List Event) (fair : IsFair setting) (cle
       stood_alive : (has_moved past ≡ false) × (is_acting past ≡ false)
       stood_alive = by (cases_lt (era (chronicle setting then_)) (era (chronicle setting history)))
         where
-          meet : (a c : ℕ) → a ≤ c → c ≤ a → a ≡ c
-          meet a c one two = omega (arith, one, two)
-
           by : (era (chronicle setting then_) < era (chronicle setting history)) ⊎ (era (chronicle setting history) ≤ era (chronicle setting then_)) → (has_moved past ≡ false) × (is_acting past ≡ false)
           by (inl less) = next_stood setting then_ fair clean_then core y past up there (era steps) own less low
           by (inr more) =
-              let same = meet (era older) (era steps) (era_grows older steps below_now) more in
+              let same = le_antisymm (era_grows older steps below_now) more in
               (sym (moved_is setting then_ y past up there) ∙ unmoved same, sym (acts_is setting then_ y past up there) ∙ still same)
 
     pub stood_on_fallback : (older : List Step) → Tail older (chronicle setting history) → (past : Past) → past_in older y ≡ Some past → epoch_now past ≡ era (chronicle setting history) → (has_moved past ≡ false) × (is_acting past ≡ false)

@@ -2,6 +2,7 @@
 use Rattle.std.specs.Prelude.{◌≡◌, ℕ, zero, suc, ◌+◌, ◌*◌, ◌<◌, ◌≤◌, Bool, true, false, ◌&&◌, ◌||◌, not, List, [], ◌∷◌, map, nat_eq, Option, Some, None, option_map, refl, ◌⊎◌, if◌then◌else◌}
 use Rattle.std.proofs.Common.{arith, ◌∙◌, ap, sym, subst, inl, inr}
 use Rattle.std.proofs.lemmas.Bool.{and_from, or_left, or_right, cases_lt, eqb-true, eq-eqb, false_from_ne_true}
+use Rattle.std.proofs.Math.Nat.{le_antisymm}
 use Rattle.sd_num.specs.Lists.{of_some, has, same_number}
 use Rattle.sd_topo.specs.Network.{greatest_delay}
 use Rattle.sd_plan.specs.declared.Hop as declared
@@ -13,7 +14,7 @@ use Rattle.sd_plan.specs.Duties.{edge_of}
 use Rattle.sd_plan.specs.Walks.{hops, walk, end_of, devices_of}
 use Rattle.sd_msg.specs.declared.Message.{Message}
 use Rattle.sd_core.specs.Calls as calls
-use Rattle.sd_core.specs.Calls.{Call, Deed, Past}
+use Rattle.sd_core.specs.Calls.{Deed, Past}
 use Rattle.sd_core.specs.Words.{deed_of, accepted_over, duty_now, epoch_now, given_now, has_moved, is_acting, parent_edge, primary_now, backup_now}
 use Rattle.sd_sched.specs.declared.Event.{Event}
 use Rattle.sd_history.specs.World.{Setting, is_up, plan_numbered}
@@ -43,19 +44,18 @@ use Rattle.sd_safety_messages.proofs.Flowing.{tail_rest}
 use Rattle.sd_safety_waits.proofs.Waits.{Stands, old_stands}
 use Rattle.sd_safety_waits.proofs.Then.{two_parts}
 use Rattle.sd_safety_silences.proofs.Fallen.{falls, the_hop}
-use Rattle.sd_safety_silences.proofs.Phases.{era_grows}
+use Rattle.sd_safety_silences.proofs.Phases.{era_grows, chronicles}
 use Rattle.sd_safety_frame.specs.Descents.{TakesFromAbove}
 use Rattle.sd_safety_frame.proofs.Descending.{takes_from_above}
 use Rattle.sd_safety_frame.proofs.Telling.{links_tell}
 use Rattle.sd_safety_moves.proofs.Ahead.{IsAhead, always_ahead}
 use Rattle.sd_safety_windows.proofs.Senders.{called_is_up}
-use Rattle.sd_safety_receipts.proofs.Hearings.{IsHeard}
+use Rattle.sd_safety_receipts.proofs.Hearings.{IsHeard, LastHeard, last_heard}
 use Rattle.sd_safety_receipts.proofs.Stood.{core_of, clean_of, each_of, stood_then, next_stood, history_of, moved_is, acts_is, epoch_is, primary_is}
 use Rattle.sd_safety_receipts.proofs.Alive.{WasAlive, was_alive, IsOf, events_of_tail}
 use Rattle.sd_safety_entering.proofs.Stages.{Stage, stage}
 use Rattle.sd_safety_spans.proofs.Thirteen.{spared}
 use Rattle.sd_safety_fallbacks.specs.Moved.{MovedHearsNoMore}
-use Rattle.sd_safety_traced.proofs.Last.{LastHeard, last_heard}
 use Rattle.sd_safety_traced.proofs.Down.{FromRoot, at_root, from_root}
 use Rattle.sd_safety_traced.proofs.Roots.{root_takes_none, not_acting}
 use Rattle.sd_safety_traced.proofs.Unmoved.{started_by}
@@ -165,12 +165,8 @@ module _ (setting : Setting) (x : Event) (h : List Event) (e : Event) (comes : C
       let then_ : past_in (chronicle setting of.events) y ≡ Some past = subst (λ l. past_in l y ≡ Some past) of.is there_ in
       let was : WasAlive setting of.events y past = was_alive setting of.events (history_of setting of.events st.h of.tail clean_at.is) y past then_ in
       let tail : Tail was.then_ st.h = tail_trans was.tail of.tail in
-      let le : era (chronicle setting was.then_) ≤ era (chronicle setting st.h) = era_grows (chronicle setting was.then_) (chronicle setting st.h) (chronicles was.then_ st.h tail) in
+      let le : era (chronicle setting was.then_) ≤ era (chronicle setting st.h) = era_grows (chronicle setting was.then_) (chronicle setting st.h) (chronicles setting was.then_ st.h tail) in
       next_stood setting was.then_ comes.fair (clean_of setting was.then_ st.h tail clean_at) (core_of setting was.then_ (each_of setting was.then_ st.h tail st.comes.before)) y past was.up was.there (era steps) own (omega (arith, le, less)) low
-    where
-      chronicles : (a c : List Event) → Tail a c → Tail (chronicle setting a) (chronicle setting c)
-      chronicles a _ whole = whole
-      chronicles a (z ∷ c) (behind t) = behind (chronicles a c t)
 
   -- while the backup root stood on its primary nobody of its path had
   stood_now : era (chronicle setting st.h) ≡ era (chronicle setting (x ∷ h)) → epoch_now heard.past ≡ era (chronicle setting (x ∷ h)) → has_moved heard.past ≡ false → is_acting heard.past ≡ false → StoodOn
@@ -318,19 +314,13 @@ module _ (setting : Setting) (x : Event) (h : List Event) (e : Event) (comes : C
 
       with_past : epoch_now heard.past ≡ era (chronicle setting (x ∷ h)) → parent_edge heard.past ≡ Some last.receipt.edge → (m_ : Bool) → has_moved heard.past ≡ m_ → (era (chronicle setting st.h) < era (chronicle setting (x ∷ h))) ⊎ (era (chronicle setting (x ∷ h)) ≤ era (chronicle setting st.h)) → Bound
       with_past own edge false put (inl less) = over_path (stood_ahead less)
-      with_past own edge false put (inr more) = over_path (stood_now (meet (era (chronicle setting st.h)) (era steps) least more) own put (not_acting heard.past last.receipt.edge edge))
-        where
-          meet : (a c : ℕ) → a ≤ c → c ≤ a → a ≡ c
-          meet a c one two = omega (arith, one, two)
+      with_past own edge false put (inr more) = over_path (stood_now (le_antisymm least more) own put (not_acting heard.past last.receipt.edge edge))
       with_past own edge true put (inl less) =
           absurd (not_both (has_moved heard.past) put (next_stood setting st.h comes.fair clean_at (core_of setting st.h st.comes.before) b heard.past up there (era steps) own less other).0)
       with_past own edge true put (inr more) =
-          let same : era (chronicle setting st.h) ≡ era steps = meet (era (chronicle setting st.h)) (era steps) least more in
+          let same : era (chronicle setting st.h) ≡ era steps = le_antisymm least more in
           let back = backup_edge heard.past last.receipt.edge put edge in
           over_fallback same own put (fallback_of st.h heard.past there st.comes.before) m from z trace last last.receipt.edge refl back.0 back.1
-        where
-          meet : (a c : ℕ) → a ≤ c → c ≤ a → a ≡ c
-          meet a c one two = omega (arith, one, two)
 
       go : Accepts last.receipt.past last.flight.message last.receipt.edge → Bound
       go (entering duty given number primary) =

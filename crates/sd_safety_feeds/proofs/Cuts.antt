@@ -1,7 +1,6 @@
 -- The cut walk of a device behind the backup root: it ends there, and each of its hops is the primary one of an ordinary member, whose own cut path is
 -- missed where that of the device is.
 use Rattle.std.specs.Prelude.{◌≡◌, ℕ, zero, suc, ◌+◌, ◌<◌, ◌≤◌, Bool, true, false, ◌&&◌, ◌||◌, List, [], ◌∷◌, length, map, nat_eq, Option, Some, None, IfSome, refl, if◌then◌else◌}
-use Rattle.std.specs.List.{list_any}
 use Rattle.std.proofs.Common.{arith, ◌∙◌, ap, sym, subst}
 use Rattle.std.proofs.lemmas.Bool.{and_parts, or_parts, or_from, eqb-true, eq-eqb}
 use Rattle.sd_num.specs.Lists.{has}

@@ -1,7 +1,7 @@
 -- While the root lives and the backup root is on its backup, a round comes over the fallback to the backup root, and down the cut walk of a device behind it.
-use Rattle.std.specs.Prelude.{◌≡◌, ℕ, suc, ◌+◌, ◌*◌, ◌<◌, ◌≤◌, Bool, true, false, ◌&&◌, not, List, [], ◌∷◌, length, nat_eq, Some, refl, ◌⊎◌}
-use Rattle.std.proofs.Common.{arith, ◌∙◌, ap, sym, subst, inl, inr}
-use Rattle.std.proofs.lemmas.Bool.{and_parts, eq-eqb, not-true}
+use Rattle.std.specs.Prelude.{◌≡◌, ℕ, suc, ◌+◌, ◌*◌, ◌<◌, ◌≤◌, true, false, ◌&&◌, List, [], ◌∷◌, length, Some, refl}
+use Rattle.std.proofs.Common.{arith, ◌∙◌, ap, sym, subst}
+use Rattle.std.proofs.lemmas.Bool.{eq-eqb}
 use Rattle.sd_num.specs.Lists.{has}
 use Rattle.sd_topo.specs.declared.Thing.{Thing}
 use Rattle.sd_topo.specs.declared.Thing.TheVariants as thing
@@ -10,52 +10,41 @@ use Rattle.sd_plan.specs.declared.Hop.{Hop}
 use Rattle.sd_plan.specs.declared.Plan.{Plan}
 use Rattle.sd_plan.specs.declared.End.{End}
 use Rattle.sd_plan.specs.Plans.{is_member, is_root, is_backup_root, backup_of}
-use Rattle.sd_plan.specs.Duties.{follows_over}
 use Rattle.sd_plan.specs.Walks.{walk, epath, end_of, on_walk}
 use Rattle.sd_check_root.specs.Roots.{fallback_devices, fallback_links}
-use Rattle.sd_core.specs.Calls.{Past}
 use Rattle.sd_sched.specs.declared.Event.{Event}
 use Rattle.sd_sched.specs.Events.{reference_of}
-use Rattle.sd_history.specs.World.{Setting, fails, is_up, has_commit, link_has_failed}
-use Rattle.sd_history.specs.Steps.{Step, seen_of, acts_in}
-use Rattle.sd_history.specs.Chronicle.{past_in, chronicle}
-use Rattle.sd_history.proofs.Among.{Among, later}
+use Rattle.sd_history.specs.World.{Setting, fails}
+use Rattle.sd_history.specs.Steps.{Step, acts_in}
+use Rattle.sd_history.specs.Chronicle.{chronicle}
+use Rattle.sd_history.proofs.Among.{later}
 use Rattle.sd_history.proofs.Known.{up_is_known}
 use Rattle.sd_safety.specs.Bounds.{depth, delay, rounds_gap}
-use Rattle.sd_safety.specs.Eras.{era, plan_now, all_started, is_among, touches, failed_now, heard_at, is_old, is_new, is_behind, is_ordinary, on_primary, hit, root_failed}
+use Rattle.sd_safety.specs.Eras.{era, plan_now, all_started, is_among, touches, failed_now, heard_at, is_old, is_behind, is_ordinary, on_primary, hit, root_failed}
 use Rattle.sd_safety.proofs.Facts.{IsSound}
 use Rattle.sd_safety.proofs.Sides.{not_both}
-use Rattle.sd_safety_messages.specs.Moments.{whole, behind, Moment, upto, when, IsIn}
-use Rattle.sd_safety_messages.specs.Rounds.{IsReady}
-use Rattle.sd_safety_messages.proofs.Ends.{primary_follows}
+use Rattle.sd_safety_messages.specs.Moments.{Moment, when, IsIn}
 use Rattle.sd_safety_waits.proofs.Standing.{sound}
 use Rattle.sd_safety_silences.proofs.Fallen.{falls, the_hop}
-use Rattle.sd_safety_silences.proofs.Links.{alone}
+use Rattle.sd_safety_silences.proofs.Phases.{touched_less}
 use Rattle.sd_safety_silences.proofs.Sounding.{top_of, map_walks}
 use Rattle.sd_safety_silences.proofs.Walking.{Walks, end_at, way_of, way_length, way_keeps, begins, walk_length}
 use Rattle.sd_safety_windows.proofs.Committing.{staged_plan}
 use Rattle.sd_safety_entering.proofs.States as states
 use Rattle.sd_safety_rounds.specs.Rounds.{IsOpenHop, AreOpenHops}
 use Rattle.sd_safety_rounds.specs.Spans.{IsSpan}
-use Rattle.sd_safety_rounds.proofs.Entries.{none_enters}
-use Rattle.sd_safety_rounds.proofs.Hops.{IsOldRound, since_first, lasts}
+use Rattle.sd_safety_rounds.proofs.Hops.{IsOldRound, lasting_hop}
 use Rattle.sd_safety_rounds.proofs.NewHops.{open_ways}
-use Rattle.sd_safety_rounds.proofs.Places.{InEra, InWindow, place}
 use Rattle.sd_safety_rounds.proofs.Silent.{IsSilent, silent_by}
-use Rattle.sd_safety_rounds.proofs.Sources.{rule, staged_is}
+use Rattle.sd_safety_rounds.proofs.Sources.{root_leads, staged_is}
+use Rattle.sd_safety_behind.proofs.Silent.{behind_parts}
 use Rattle.sd_safety_spans.proofs.Backs.{idle_of}
 use Rattle.sd_safety_spans.proofs.Fallback.{fallback_open}
 use Rattle.sd_safety_spans.proofs.Staged.{is_staged}
 use Rattle.sd_safety_spans.proofs.Thirteen.{not_root, IsSpared, spared, acts}
 use Rattle.sd_safety_feeds.proofs.Cuts.{IsCutClear, cut_off, CutWalk, cut_walk_of}
-use Rattle.sd_safety_feeds.proofs.Ready.{touches_fewer, cut_fewer, cut_then, cut_up, cut_link, cut_ready}
+use Rattle.sd_safety_feeds.proofs.Ready.{cut_lasting}
 use Rattle.sd_safety_feeds.proofs.Since.{IsOnBackup}
-
-pub behind_parts : (member backup on : Bool) → (member && not backup && on) ≡ true → (backup ≡ false) × (on ≡ true)
-behind_parts true false true all = (refl, refl)
-behind_parts true false false all = cc
-behind_parts true true on all = cc
-behind_parts false backup on all = cc
 
 -- where the event fails nothing of the fallback, nor of the cut path of the device
 module _ (setting : Setting) (x : Event) (h : List Event) (e : Event) (s0 : ℕ) (span : IsSpan setting x h e s0) (kept : root_failed setting (chronicle setting (x ∷ h)) ≡ false) (late : all_started setting (chronicle setting (x ∷ h)) < reference_of e)
@@ -76,60 +65,13 @@ module _ (setting : Setting) (x : Event) (h : List Event) (e : Event) (s0 : ℕ)
   fine : IsSound setting.net (plan_now setting (chronicle setting (x ∷ h)))
   fine = sound setting x h e span.comes
 
-  -- each moment since is of the era
-  of_era : (q : Moment) → IsIn q (chronicle setting (e ∷ x ∷ h)) → s0 < when q → InEra setting (chronicle setting (x ∷ h)) q
-  of_era q here after = by (place setting x h e s0 span q here after)
-    where
-      next_not : (a c : ℕ) → a + 1 ≡ c → a ≡ c → ⊥
-      next_not a c next same = omega (arith, next, same)
-
-      by : InEra setting (chronicle setting (x ∷ h)) q ⊎ InWindow setting (chronicle setting (x ∷ h)) q → InEra setting (chronicle setting (x ∷ h)) q
-      by (inl k) = k
-      by (inr k) = absurd (next_not (era (chronicle setting k.h)) (era steps) k.same (sym (ap (λ (p : Moment). era p.earlier) k.is) ∙ (then_ q here after).0))
-
   -- a hop of a cut walk is open to each round
-  module _ (y : ℕ) (hop : Hop) (clear : IsCutClear setting.net (plan_now setting (chronicle setting (x ∷ h))) failed y hop) where
-    clear_at : (q : Moment) (k : InEra setting (chronicle setting (x ∷ h)) q) → IsCutClear setting.net (plan_now setting (chronicle setting (k.x ∷ k.h))) (failed_now (chronicle setting (k.x ∷ k.h))) y hop
-    clear_at q k = cut_then setting (chronicle setting (k.x ∷ k.h)) steps y hop k.part k.same (cut_fewer setting.net plan failed (failed_now steps) y hop more clear)
-
-    whole_at : (q : Moment) → IsIn q (chronicle setting (e ∷ x ∷ h)) → s0 < when q → (link_has_failed (seen_of q.earlier) hop.link ≡ false) × (is_up (seen_of q.earlier) y ≡ true)
-    whole_at q here after =
-        let k : InEra setting steps q = of_era q here after in
-        subst (λ (p : Moment). (link_has_failed (seen_of p.earlier) hop.link ≡ false) × (is_up (seen_of p.earlier) y ≡ true)) (sym k.is)
-        (cut_link setting k.x k.h k.e k.comes k.late y hop (clear_at q k), cut_up setting k.x k.h k.e k.comes k.late y hop (clear_at q k))
-
-    ready_at : (q : Moment) → IsIn q (chronicle setting (e ∷ x ∷ h)) → s0 < when q → ((k : InEra setting (chronicle setting (x ∷ h)) q) → is_new (chronicle setting (k.x ∷ k.h)) y ≡ false) → (past : Past) → past_in q.earlier y ≡ Some past
-        → IsReady past (era (chronicle setting (x ∷ h))) hop.link
-    ready_at q here after not_new =
-        let k : InEra setting steps q = of_era q here after in
-        subst (λ (p : Moment). (past : Past) → past_in p.earlier y ≡ Some past → IsReady past (era steps) hop.link) (sym k.is)
-        (λ past there. subst (λ n. IsReady past n hop.link) k.same (cut_ready setting k.x k.h k.e k.comes k.late y hop (clear_at q k) (not_new k) past there))
-
-    cut_hop : (first : Moment) → IsOldRound setting x h s0 first → (limit : ℕ) → limit ≤ when first + 2 * (setting.net.params.depth + 1) * greatest_delay setting.net
-        → IsOpenHop setting (top_of setting (x ∷ h) e) (era (chronicle setting (x ∷ h))) first limit (plan_now setting (chronicle setting (x ∷ h))).root hop.parent (end_at y hop)
-    cut_hop first round limit soon =
-        let follows : follows_over plan hop.parent hop.link y ≡ true = primary_follows plan y hop.parent hop.link hop clear.primary refl refl in
-        record {
-          follows = follows;
-          alone = λ c is. alone setting.net plan fine.fits fine.rules hop.parent hop.link y c follows is;
-          known = (clear.within.1, clear.known);
-          apart = other;
-          whole = λ q q_in started by. whole_at q (behind q_in) (since_first setting x h e s0 span kept first round.late q (behind q_in) started);
-          ready = λ q q_in since by. ready_at q (behind q_in) (since_first setting x h e s0 span kept first round.late q (behind q_in) (behind since)) (not_new q q_in by);
-          lasts = λ q q_in since. let after = since_first setting x h e s0 span kept first round.late q q_in (behind since) in (
-            lasts setting x h e s0 span kept failed more spares (thing.Device hop.parent) clear.parent q q_in after,
-            lasts setting x h e s0 span kept failed more spares (thing.Device y) clear.self q q_in after,
-            lasts setting x h e s0 span kept failed more spares (thing.Link hop.link) clear.link q q_in after,
-          );
-        }
-      where
-        other : y ≡ plan.root → ⊥
-        other same = not_both (is_root plan y) (eq-eqb plan.root y (sym same)) clear.other
-
-        not_new : (q : Moment) → IsIn q (chronicle setting (x ∷ h)) → when q ≤ limit → (k : InEra setting (chronicle setting (x ∷ h)) q) → is_new (chronicle setting (k.x ∷ k.h)) y ≡ false
-        not_new q q_in by k =
-            let less = rule setting x h e s0 span kept in
-            none_enters setting x h e s0 span kept first round.here round.late round.message round.emits round.epoch round.calm q q_in (omega (arith, by, soon, less)) k y other
+  cut_hop : (y : ℕ) (hop : Hop) → IsCutClear setting.net (plan_now setting (chronicle setting (x ∷ h))) failed y hop → (first : Moment) → IsOldRound setting x h s0 first → (limit : ℕ)
+      → limit ≤ when first + 2 * (setting.net.params.depth + 1) * greatest_delay setting.net
+      → IsOpenHop setting (top_of setting (x ∷ h) e) (era (chronicle setting (x ∷ h))) first limit (plan_now setting (chronicle setting (x ∷ h))).root hop.parent (end_at y hop)
+  cut_hop y hop clear =
+      lasting_hop setting x h e s0 plan.root (root_leads setting x h e s0 span kept) y hop
+      (cut_lasting setting x h e s0 span (λ q here after. (then_ q here after).0) failed more spares plan.root y hop clear (λ same. not_both (is_root plan y) (eq-eqb plan.root y (sym same)) clear.other))
 
   module _ (d : ℕ) (behind_ : is_behind setting.net (plan_now setting (chronicle setting (x ∷ h))) d ≡ true) (old : is_old (chronicle setting (x ∷ h)) d ≡ true) (primary : on_primary (chronicle setting (x ∷ h)) d ≡ true)
       (self_d : is_among failed (thing.Device d) ≡ false) (missed : touches failed (epath setting.net (plan_now setting (chronicle setting (x ∷ h))) d) ≡ false) (heard : heard_at (chronicle setting (x ∷ h)) d ≤ s0) where
@@ -143,9 +85,9 @@ module _ (setting : Setting) (x : Event) (h : List Event) (e : Event) (s0 : ℕ)
     parts = behind_parts (is_member plan d) (is_backup_root plan d) (on_walk setting.net plan d b) behind_
 
     unhit : hit setting (chronicle setting (x ∷ h)) d ≡ false
-    unhit = touches_fewer failed (failed_now steps) (epath setting.net plan d) more missed
+    unhit = touched_less (is_among (failed_now steps)) (is_among failed) (epath setting.net plan d) more missed
 
-    silent : IsSilent setting x h e s0 span kept d
+    silent : IsSilent setting x h s0 d
     silent =
         record {
           old = old;
@@ -173,7 +115,7 @@ module _ (setting : Setting) (x : Event) (h : List Event) (e : Event) (s0 : ℕ)
     fed_by hop is_hop (k ∷ ks) clear ends short =
         let up : List Hop = walk setting.net plan hop.parent in
         let cuts : List End = way_of d (k ∷ ks) [] in
-        silent_by setting x h e s0 span kept d (2 * depth setting.net) silent
+        silent_by setting x h e s0 plan.root (root_leads setting x h e s0 span kept) d (2 * depth setting.net) silent
         (record {
           way = way_of hop.parent up (end_at b hop ∷ cuts);
           last = end_at d k;

@@ -1,7 +1,8 @@
 -- At each event: counted up to the event before, which fails nothing of the way that is not failed now; the next one comes at most a tick gap later.
 use Rattle.std.specs.Prelude.{◌≡◌, ℕ, ◌+◌, ◌*◌, ◌<◌, ◌≤◌, Bool, true, false, ◌&&◌, not, max, List, [], ◌∷◌, refl, ◌⊎◌}
-use Rattle.std.proofs.Common.{arith, ◌∙◌, ap, sym, subst, inl, inr}
+use Rattle.std.proofs.Common.{arith, ap, subst, inl, inr}
 use Rattle.std.proofs.lemmas.Bool.{and_parts, and_from, cases_lt, not-true}
+use Rattle.std.proofs.Math.Nat.{le-max_right}
 use Rattle.sd_num.specs.Lists.{has}
 use Rattle.sd_topo.specs.declared.Thing.{Thing}
 use Rattle.sd_topo.specs.declared.Thing.TheVariants as thing
@@ -122,9 +123,6 @@ heard_of a m s = omega arith
 moved_of : (a m s : ℕ) → m ≤ max (max a m) s
 moved_of a m s = omega arith
 
-started_of : (a s : ℕ) → s ≤ max a s
-started_of a s = omega arith
-
 sum : (r l hd m r0 q a c : ℕ) → r ≤ l + q → l ≤ max (max hd m) (r0 + q) + a + c → r0 ≤ hd → r ≤ max hd m + (a + c) + 2 * q
 sum r l hd m r0 q a c gap by began = omega (arith, gap, by, began)
 
@@ -143,6 +141,6 @@ fallback_feeds setting (x ∷ h) e comes d st lives leads old on =
     let s : Stands setting steps d = old_stands setting (x ∷ h) d st.old in
     let gap : reference_of e ≤ reference_of x + tick_gap net = next_event setting x h e comes d own.up own.member in
     let by : reference_of x ≤ max (max hd mb) rs + rounds_gap net + 2 * depth net * delay net =
-    lately setting x h e comes (max (max hd mb) rs) (started_of (max hd mb) rs) kept old on (moved_of hd mb rs) d st (heard_of hd mb rs) in
+    lately setting x h e comes (max (max hd mb) rs) (le-max_right (max hd mb) rs) kept old on (moved_of hd mb rs) d st (heard_of hd mb rs) in
     let began : beginning (seen_of steps) ≤ hd = heard_late setting x h e comes d s.past s.there in
     sum (reference_of e) (reference_of x) hd mb (beginning (seen_of steps)) (tick_gap net) (rounds_gap net) (2 * depth net * delay net) gap by began

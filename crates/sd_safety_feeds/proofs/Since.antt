@@ -1,7 +1,8 @@
 -- While the root did not fail, an old backup root on its backup has been so, in the same plan, at each event later than its move.
-use Rattle.std.specs.Prelude.{◌≡◌, ℕ, ◌<◌, ◌≤◌, Bool, true, false, ◌&&◌, not, List, [], ◌∷◌, length, nat_eq, nat_lt, is_some, refl}
+use Rattle.std.specs.Prelude.{◌≡◌, ℕ, ◌<◌, ◌≤◌, Bool, true, false, ◌&&◌, not, List, [], ◌∷◌, length, nat_lt, is_some, refl}
 use Rattle.std.proofs.Common.{arith, ◌∙◌, ap, sym, subst}
 use Rattle.std.proofs.lemmas.Bool.{and_from, lt-ltb, false_from_ne_true}
+use Rattle.std.proofs.Math.Nat.{lt_of_lt_of_le}
 use Rattle.sd_plan.specs.Plans.{is_member, is_root}
 use Rattle.sd_sched.specs.declared.Event.{Event}
 use Rattle.sd_sched.specs.Events.{reference_of}
@@ -42,9 +43,6 @@ none_closed setting x h e comes put closed =
     (and_from (nat_lt b (length setting.net.devices)) (is_member (plan_now setting steps) b) (lt-ltb b (length setting.net.devices) fine.fits.backup_root) fine.backup_member))) (not_root setting.net (plan_now setting steps) fine) in
     not_both (moved steps b) put (unmoved (is_some (live_past steps b)) (moved steps b) (acts_in steps b) primary)
 
-late_by : (s0 w r : ℕ) → s0 < w → w ≤ r → s0 < r
-late_by s0 w r less le = omega (arith, less, le)
-
 -- with the first event it did not move before
 none_first : (setting : Setting) (x e : Event) → Comes setting (x ∷ []) e → (s0 b : ℕ) → b ≡ (plan_now setting (chronicle setting (x ∷ []))).backup_root → moved (chronicle setting (x ∷ [])) b ≡ true → moved_at (chronicle setting (x ∷ [])) b ≤ s0
     → s0 < reference_of x → ⊥
@@ -71,7 +69,7 @@ backup_since setting (x ∷ h) e comes s0 b is old on put alive q whole late =
 backup_since setting (x ∷ []) e comes s0 b is old on put alive q (behind t) late =
     absurd
     (none_first setting x e comes s0 b is (two_parts (moved (chronicle setting (x ∷ [])) b) (acts_in (chronicle setting (x ∷ [])) b) on).0 put
-    (late_by s0 (when q) (reference_of x) late (no_later setting q (chronicle setting (x ∷ [])) (history_chronicle setting (x ∷ []) comes.clean.is.0) t)))
+    (lt_of_lt_of_le late (no_later setting q (chronicle setting (x ∷ [])) (history_chronicle setting (x ∷ []) comes.clean.is.0) t)))
 backup_since setting (x ∷ y ∷ hs) e comes s0 b is old on put alive q (behind t) late =
     by_closed (λ before_ is' old' on' put' alive'. backup_since setting (y ∷ hs) x before_ s0 b is' old' on' put' alive' q t late) (next_step setting (chronicle setting (y ∷ hs)) x).seen.closed refl
   where
@@ -88,7 +86,7 @@ backup_since setting (x ∷ y ∷ hs) e comes s0 b is old on put alive q (behind
     last = no_later setting q (chronicle setting (x ∷ y ∷ hs)) (history_chronicle setting (x ∷ y ∷ hs) comes.clean.is.0) t
 
     less : s0 < reference_of x
-    less = late_by s0 (when q) (reference_of x) late last
+    less = lt_of_lt_of_le late last
 
     open_by : (Comes setting (y ∷ hs) x → b ≡ (plan_now setting (chronicle setting (y ∷ hs))).backup_root → is_old (chronicle setting (y ∷ hs)) b ≡ true → on_backup (chronicle setting (y ∷ hs)) b ≡ true → moved_at (chronicle setting (y ∷ hs)) b ≤ s0 → root_failed setting (chronicle setting (y ∷ hs)) ≡ false → IsOnBackup (chronicle setting (y ∷ hs)) q b) → (next_step setting (chronicle setting (y ∷ hs)) x).seen.closed ≡ false → WasMoved setting x (y ∷ hs) b → IsOnBackup (chronicle setting (x ∷ y ∷ hs)) q b
     open_by again open_ (goes primary epoch at) = absurd (omega (arith, at, put, less))

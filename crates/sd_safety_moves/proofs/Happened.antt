@@ -1,8 +1,8 @@
 -- The step of a tick that takes up nothing, and that no window closes with it. And of the plan in force: its root and backup root are two members.
-use Rattle.std.specs.Prelude.{◌≡◌, ℕ, ◌<◌, Bool, true, false, ◌||◌, not, List, ◌∷◌, length, filter, nat_eq, Option, Some, None, option_map, refl, if◌then◌else◌}
+use Rattle.std.specs.Prelude.{◌≡◌, ℕ, ◌<◌, Bool, true, false, ◌&&◌, ◌||◌, not, List, ◌∷◌, length, filter, nat_eq, nat_lt, Option, Some, None, option_map, refl, if◌then◌else◌}
 use Rattle.std.specs.Option.{option_or}
 use Rattle.std.proofs.Common.{◌∙◌, ap, sym}
-use Rattle.std.proofs.lemmas.Bool.{eqb-true, eq-eqb, false_from_ne_true, both_ways}
+use Rattle.std.proofs.lemmas.Bool.{and_from, lt-ltb, eqb-true, eq-eqb, false_from_ne_true, both_ways}
 use Rattle.sd_num.specs.Lists.{of_some}
 use Rattle.sd_topo.specs.Network.{Network}
 use Rattle.sd_plan.specs.declared.Plan.{Plan}
@@ -18,14 +18,17 @@ use Rattle.sd_core.specs.Words.{deed_of, taken_up, effect_of}
 use Rattle.sd_core.proofs.Reached.{added}
 use Rattle.sd_sched.specs.declared.Event.{Event}
 use Rattle.sd_sched.specs.declared.Event.TheVariants as event
-use Rattle.sd_history.specs.World.{Setting}
-use Rattle.sd_history.specs.Steps.{Calls, Told, tells_nothing, tells_called, Step, flights_of, activated_by, acted_by, first_step}
+use Rattle.sd_history.specs.World.{Setting, is_up}
+use Rattle.sd_history.specs.Steps.{Calls, Told, tells_nothing, tells_called, Step, seen_of, flights_of, activated_by, acted_by, first_step}
 use Rattle.sd_history.specs.Chronicle.{answers_by, past_in, told_by, chronicle, IsHistory}
 use Rattle.sd_safety.specs.Bounds.{IsTimedBy, losses, depth, delay, tick_gap, first_low, first_up, second_low, second_up, wait_low}
-use Rattle.sd_safety.specs.Eras.{plan_now}
+use Rattle.sd_safety.specs.Eras.{plan_now, belongs, root_failed}
+use Rattle.sd_safety.specs.Clauses.{is_beginning}
+use Rattle.sd_safety.specs.Invariant.{Core}
 use Rattle.sd_safety.specs.Coming.{IsFair, Comes}
 use Rattle.sd_safety.proofs.Timed.{timed_by}
 use Rattle.sd_safety.proofs.InForce.{in_force_too}
+use Rattle.sd_safety.proofs.Sides.{implied}
 use Rattle.sd_safety.proofs.Closings.{no_window_closes}
 use Rattle.sd_safety_moves.proofs.Ticks as ticks
 use Rattle.sd_safety_moves.proofs.Movers.{live, answers}
@@ -52,6 +55,15 @@ pub record HasRoots (net : Network) (plan : Plan) : Type 0 where
   pub backup_member : is_member plan plan.backup_root ≡ true
   pub apart : nat_eq plan.backup_root plan.root ≡ false
   pub timed : IsTimedBy (losses net) (depth net) (delay net) (round_gap net) (tick_gap net) (first_low net plan) (first_up net plan) (second_low net plan) (second_up net plan) (wait_low net plan)
+
+-- after the beginning a root that did not fail is up
+pub root_up : (setting : Setting) (steps : List Step) → Core setting steps → is_beginning setting steps ≡ false → HasRoots setting.net (plan_now setting steps) → root_failed setting steps ≡ false → is_up (seen_of steps) (plan_now setting steps).root ≡ true
+root_up setting steps core begun roots kept =
+    let plan : Plan = plan_now setting steps in
+    implied (not (is_beginning setting steps) && belongs setting.net plan plan.root && not (root_failed setting steps)) (is_up (seen_of steps) plan.root) (core.census.members_up plan.root)
+    (and_from (not (is_beginning setting steps) && belongs setting.net plan plan.root) (not (root_failed setting steps))
+    (and_from (not (is_beginning setting steps)) (belongs setting.net plan plan.root) (ap not begun)
+    (and_from (nat_lt plan.root (length setting.net.devices)) (is_member plan plan.root) (lt-ltb plan.root (length setting.net.devices) roots.root_within) roots.rules.root)) (ap not kept))
 
 -- before any first event no window closes
 

@@ -1,9 +1,9 @@
 -- A tick with which a device moves to its backup keeps the core: C3 for an ordinary device, by what the silences say; C4 for the backup root; C5, since a
 -- device above a backup root on its primary has not been silent for its wait; and the rest as every tick does.
-use Rattle.std.specs.Prelude.{◌≡◌, ℕ, ◌≤◌, Bool, true, false, ◌&&◌, ◌||◌, not, List, [], ◌∷◌, length, nat_eq, nat_le, nat_lt, Option, Some, None, is_some, option_map, IsTrue, refl, if◌then◌else◌}
+use Rattle.std.specs.Prelude.{◌≡◌, ℕ, ◌≤◌, Bool, true, false, ◌&&◌, ◌||◌, not, List, [], ◌∷◌, nat_eq, nat_le, Option, Some, None, is_some, option_map, IsTrue, refl, if◌then◌else◌}
 use Rattle.std.specs.List.{list_all}
 use Rattle.std.proofs.Common.{◌∙◌, ap, sym, subst}
-use Rattle.std.proofs.lemmas.Bool.{and_parts, and_from, lt-ltb, eqb-true, eq-eqb, false_from_ne_true, both_ways, not-true}
+use Rattle.std.proofs.lemmas.Bool.{and_parts, and_from, eqb-true, eq-eqb, false_from_ne_true, both_ways, not-true}
 use Rattle.sd_num.specs.Lists.{of_some, has}
 use Rattle.sd_topo.specs.Network.{Network}
 use Rattle.sd_plan.specs.declared.Plan.{Plan}
@@ -15,22 +15,21 @@ use Rattle.sd_plan.specs.Duties.{duty_of, edge_of}
 use Rattle.sd_msg.specs.declared.Flight.{Flight}
 use Rattle.sd_core.specs.declared.Effect.TheVariants.{Quiet}
 use Rattle.sd_core.specs.Calls as calls
-use Rattle.sd_core.specs.Calls.{Deed, Nothing, Emitted, TookOver, Moved, Past}
+use Rattle.sd_core.specs.Calls.{Nothing, Emitted, TookOver, Moved, Past}
 use Rattle.sd_core.specs.Words.{deed_of, duty_now, wait_to_move, moves_at, takes_over_at, emits_at, effect_of, effect_of_latest}
 use Rattle.sd_core.proofs.Reached.{added}
 use Rattle.sd_sched.specs.declared.Event.{Event}
 use Rattle.sd_sched.specs.declared.Event.TheVariants as event
-use Rattle.sd_history.specs.World.{Setting, is_up, has_commit}
+use Rattle.sd_history.specs.World.{Setting, has_commit}
 use Rattle.sd_history.specs.Steps.{Answers, Step, seen_of, acts_in, tells_nothing, tells_called, flights_by, flights}
 use Rattle.sd_history.specs.Chronicle.{answers_by, past_in, chronicle}
 use Rattle.sd_safety.specs.Bounds.{first_low, wait_low}
-use Rattle.sd_safety.specs.Eras.{era, plan_now, is_old, is_new, is_blank, live_past, moved, on_primary, silent_for, is_ordinary, hit, hit_otherwise, path_hit, root_failed, failed_now, is_among, belongs}
+use Rattle.sd_safety.specs.Eras.{era, plan_now, is_old, is_new, is_blank, live_past, moved, on_primary, silent_for, is_ordinary, hit, hit_otherwise, path_hit, root_failed, failed_now, is_among}
 use Rattle.sd_safety.specs.Clauses.{is_beginning, nothing_emitted, stays, root_acts, ordinary_follows, backup_is_caused, move_is_caused, takeover_is_caused, path_stays, above_backup_root, backup_root_stays, backup_root_acts, none_sent_ahead, committer_acts}
 use Rattle.sd_safety.specs.Invariant.{Core}
 use Rattle.sd_safety.specs.Silences.{AreSilent}
 use Rattle.sd_safety.specs.Kept.{KeepsTick}
 use Rattle.sd_safety.specs.Coming.{Comes, AtNext}
-use Rattle.sd_safety.proofs.Sides.{implied}
 use Rattle.sd_safety.proofs.Prefix.{any_passing}
 use Rattle.sd_safety.proofs.Fallback.{from_absurd}
 use Rattle.sd_safety.proofs.Causes.{move_is_hit, move_needs_hit, above_does_not_move, ordinary_parts}
@@ -45,7 +44,7 @@ use Rattle.sd_safety_moves.proofs.Ticks.{tick_step}
 use Rattle.sd_safety_moves.proofs.Tickings as tickings
 use Rattle.sd_safety_moves.proofs.Tickings.{shown, stays_on}
 use Rattle.sd_safety_moves.proofs.Movers.{timely_now, inv, live, answers, acts_is, known, with_duty_not_blank, from_primary, mover_is_not_new, not_beginning}
-use Rattle.sd_safety_moves.proofs.Happened.{HasRoots, roots_then, told, sent, reaching, activated, acted, told_is, now_is}
+use Rattle.sd_safety_moves.proofs.Happened.{HasRoots, root_up, roots_then, told, sent, reaching, activated, acted, told_is, now_is}
 use Rattle.sd_safety_moves.proofs.Happened as happened
 use Rattle.sd_safety_moves.proofs.Ends.{backup_root_ends}
 
@@ -62,13 +61,6 @@ waits_with_backup net plan epoch d w root backup waits = by (backup_of plan d) (
     by : (o : Option Hop) → (if is_some (option_map (edge_of net d) o) then Some plan.wait else None) ≡ Some w → of_some o false (λ hop. true) ≡ true
     by None h = cc
     by (Some hop) h = refl
-
-four_parts : (a b c' e : Bool) → (a && b && not c' && e) ≡ true → (a ≡ true) × (b ≡ true) × (c' ≡ false) × (e ≡ true)
-four_parts true true false true h = (refl, refl, refl, refl)
-four_parts true true false false h = cc
-four_parts true true true e h = cc
-four_parts true false c' e h = cc
-four_parts false b c' e h = cc
 
 pub put_there : (l a : Bool) → (l && not true && not a) ≡ false
 put_there true a = refl
@@ -184,20 +176,13 @@ module _ (setting : Setting) (silent : AreSilent setting) (enters : AtNext Enter
       other_b : is_root plan plan.backup_root ≡ false
       other_b = false_from_ne_true (is_root plan plan.backup_root) (λ is. both_ways (nat_eq plan.backup_root plan.root) roots.apart (eq-eqb plan.backup_root plan.root (sym (eqb-true plan.root plan.backup_root is))))
 
-      root_up : root_failed setting steps ≡ false → is_up (seen_of steps) plan.root ≡ true
-      root_up sound =
-          implied (not (is_beginning setting steps) && belongs setting.net plan plan.root && not (root_failed setting steps)) (is_up (seen_of steps) plan.root) (core_then.census.members_up plan.root)
-          (and_from (not (is_beginning setting steps) && belongs setting.net plan plan.root) (not (root_failed setting steps))
-          (and_from (not (is_beginning setting steps)) (belongs setting.net plan plan.root) (ap not started)
-          (and_from (nat_lt plan.root (length setting.net.devices)) (is_member plan plan.root) (lt-ltb plan.root (length setting.net.devices) roots.root_within) roots.rules.root)) (ap not sound))
-
       by_root : is_old steps plan.backup_root ≡ true → on_primary steps plan.backup_root ≡ true → first_low setting.net plan ≤ silent_for steps plan.backup_root r
           → (f : Bool) → root_failed setting steps ≡ f → path_hit setting steps plan.backup_root ≡ true
       by_root old_b on_b long true failed =
           any_passing (is_among (failed_now steps)) (thing.Device plan.root) (path setting.net plan plan.backup_root)
           (root_on_path plan setting.net roots.rules plan.backup_root roots.backup_within roots.backup_member other_b) failed
       by_root old_b on_b long false sound =
-          move_needs_hit setting steps r core_then roots.rules roots.apart roots.timed (silent.whole history (event.Tick r d c) comes) roots.backup_within roots.backup_member (root_up sound) old_b on_b long
+          move_needs_hit setting steps r core_then roots.rules roots.apart roots.timed (silent.whole history (event.Tick r d c) comes) roots.backup_within roots.backup_member (root_up setting steps core_then started roots sound) old_b on_b long
 
   move_caused : IsTrue (move_is_caused setting now)
   move_caused = go (nat_eq d plan.backup_root) refl
@@ -267,28 +252,21 @@ module _ (setting : Setting) (silent : AreSilent setting) (enters : AtNext Enter
 
   core_now : Core setting now
   core_now =
-      record {
-        calm =
-            record {
-              quiet = subst (λ n. IsTrue (nothing_emitted setting n)) (now_is setting r d c history comes p there Moved deed_is refl) (quiet setting (event.Tick r d c ∷ history) comes.fair comes.clean);
-              still = λ x. subst (λ n. IsTrue (stays setting n x)) (now_is setting r d c history comes p there Moved deed_is refl) (still setting (event.Tick r d c ∷ history) comes.fair comes.clean x);
-              touched = tickings.touched setting history r d c (reaching setting r d c history comes p there) (activated setting r d c history comes p there) (acted setting r d c history comes p there) (told setting r d c history comes p there) (sent setting r d c history comes p there) p Moved refl refl (live setting r d c history comes p there) there (answers setting r d c history comes p there) deed_is (told_is setting r d c history comes p there Moved deed_is) core_then not_new not_blank started;
-            };
-        census = tickings.counts setting history r d c (reaching setting r d c history comes p there) (activated setting r d c history comes p there) (acted setting r d c history comes p there) (told setting r d c history comes p there) (sent setting r d c history comes p there) p Moved refl refl (live setting r d c history comes p there) there (answers setting r d c history comes p there) deed_is (told_is setting r d c history comes p there Moved deed_is) core_then not_new not_blank started;
-        roles = record { root = roots_act; failed_root = tickings.failed_root setting history r d c (reaching setting r d c history comes p there) (activated setting r d c history comes p there) (acted setting r d c history comes p there) (told setting r d c history comes p there) (sent setting r d c history comes p there) p Moved refl refl (live setting r d c history comes p there) there (answers setting r d c history comes p there) deed_is (told_is setting r d c history comes p there Moved deed_is) core_then not_new not_blank started; ordinary = ordinary_idle };
-        causes = record { backups = caused; move = move_caused; takeover = takeover_caused; path = path_put; shadow = tickings.shadow setting history r d c (reaching setting r d c history comes p there) (activated setting r d c history comes p there) (acted setting r d c history comes p there) (told setting r d c history comes p there) (sent setting r d c history comes p there) p Moved refl refl (live setting r d c history comes p there) there (answers setting r d c history comes p there) deed_is (told_is setting r d c history comes p there Moved deed_is) core_then not_new not_blank started (λ is. (stayed is).0) };
-        uncommitted = record { devices = tickings.none_new setting history r d c (reaching setting r d c history comes p there) (activated setting r d c history comes p there) (acted setting r d c history comes p there) (told setting r d c history comes p there) (sent setting r d c history comes p there) p Moved refl refl (live setting r d c history comes p there) there (answers setting r d c history comes p there) deed_is (told_is setting r d c history comes p there Moved deed_is) core_then not_new not_blank started; messages = messages };
-        committed =
-            record {
-              entering = tickings.entering setting history r d c (reaching setting r d c history comes p there) (activated setting r d c history comes p there) (acted setting r d c history comes p there) (told setting r d c history comes p there) (sent setting r d c history comes p there) p Moved refl refl (live setting r d c history comes p there) there (answers setting r d c history comes p there) deed_is (told_is setting r d c history comes p there Moved deed_is) core_then not_new not_blank started;
-              entered = tickings.entered setting history r d c (reaching setting r d c history comes p there) (activated setting r d c history comes p there) (acted setting r d c history comes p there) (told setting r d c history comes p there) (sent setting r d c history comes p there) p Moved refl refl (live setting r d c history comes p there) there (answers setting r d c history comes p there) deed_is (told_is setting r d c history comes p there Moved deed_is) core_then not_new not_blank started (enters history (event.Tick r d c) comes);
-              committer = tickings.committer setting history r d c (reaching setting r d c history comes p there) (activated setting r d c history comes p there) (acted setting r d c history comes p there) (told setting r d c history comes p there) (sent setting r d c history comes p there) p Moved refl refl (live setting r d c history comes p there) there (answers setting r d c history comes p there) deed_is (told_is setting r d c history comes p there Moved deed_is) core_then not_new not_blank started;
-              acting = acting;
-              linked = tickings.linked setting history r d c (reaching setting r d c history comes p there) (activated setting r d c history comes p there) (acted setting r d c history comes p there) (told setting r d c history comes p there) (sent setting r d c history comes p there) p Moved refl refl (live setting r d c history comes p there) there (answers setting r d c history comes p there) deed_is (told_is setting r d c history comes p there Moved deed_is) core_then not_new not_blank started;
-              left_out = tickings.left_out setting history r d c (reaching setting r d c history comes p there) (activated setting r d c history comes p there) (acted setting r d c history comes p there) (told setting r d c history comes p there) (sent setting r d c history comes p there) p Moved refl refl (live setting r d c history comes p there) there (answers setting r d c history comes p there) deed_is (told_is setting r d c history comes p there Moved deed_is) core_then not_new not_blank started;
-            };
-        closed = tickings.closed setting history r d c (reaching setting r d c history comes p there) (activated setting r d c history comes p there) (acted setting r d c history comes p there) (told setting r d c history comes p there) (sent setting r d c history comes p there) p Moved refl refl (live setting r d c history comes p there) there (answers setting r d c history comes p there) deed_is (told_is setting r d c history comes p there Moved deed_is) core_then not_new not_blank started;
-      }
+      tickings.core_turned setting history r d c (reaching setting r d c history comes p there) (activated setting r d c history comes p there) (acted setting r d c history comes p there) (told setting r d c history comes p there) (sent setting r d c history comes p there) p Moved refl refl (live setting r d c history comes p there) there (answers setting r d c history comes p there) deed_is (told_is setting r d c history comes p there Moved deed_is) core_then not_new not_blank started
+      (record {
+        quiet = subst (λ n. IsTrue (nothing_emitted setting n)) (now_is setting r d c history comes p there Moved deed_is refl) (quiet setting (event.Tick r d c ∷ history) comes.fair comes.clean);
+        still = λ x. subst (λ n. IsTrue (stays setting n x)) (now_is setting r d c history comes p there Moved deed_is refl) (still setting (event.Tick r d c ∷ history) comes.fair comes.clean x);
+        root = roots_act;
+        ordinary = ordinary_idle;
+        backups = caused;
+        move = move_caused;
+        takeover = takeover_caused;
+        path = path_put;
+        stayed = λ is. (stayed is).0;
+        messages = messages;
+        enters = enters history (event.Tick r d c) comes;
+        acting = acting;
+      })
 
   pub moved_keeps : Core setting (chronicle setting (event.Tick r d c ∷ history))
   moved_keeps = subst (Core setting) (sym (now_is setting r d c history comes p there Moved deed_is refl)) core_now

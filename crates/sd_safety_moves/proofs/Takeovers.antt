@@ -1,9 +1,9 @@
 -- A tick with which a backup root takes over keeps the core: C4, since it has rested for its second wait, so the root failed; C9, since after a commit the
 -- one that took over is then the staged root; and the rest as every tick does.
-use Rattle.std.specs.Prelude.{◌≡◌, ℕ, ◌+◌, ◌≤◌, ◌<◌, Bool, true, false, ◌&&◌, ◌||◌, not, List, [], ◌∷◌, ◌++◌, length, nat_eq, nat_le, nat_lt, Option, Some, None, is_some, IsTrue, refl, if◌then◌else◌}
+use Rattle.std.specs.Prelude.{◌≡◌, ℕ, ◌+◌, ◌≤◌, ◌<◌, Bool, true, false, ◌&&◌, ◌||◌, not, List, [], ◌∷◌, ◌++◌, nat_eq, nat_le, Option, Some, None, is_some, IsTrue, refl, if◌then◌else◌}
 use Rattle.std.specs.List.{list_any, list_all}
 use Rattle.std.proofs.Common.{arith, ◌∙◌, ap, sym, subst}
-use Rattle.std.proofs.lemmas.Bool.{and_parts, and_from, lt-ltb, eqb-true, eq-eqb, leb-true, leb-false, le-leb, false_from_ne_true, both_ways, not-true}
+use Rattle.std.proofs.lemmas.Bool.{and_parts, and_from, eqb-true, eq-eqb, leb-true, leb-false, le-leb, false_from_ne_true, both_ways, not-true}
 use Rattle.sd_num.specs.Lists.{of_some, same_number, has}
 use Rattle.sd_plan.specs.declared.Plan.{Plan}
 use Rattle.sd_plan.specs.declared.Duty.{Duty}
@@ -17,7 +17,7 @@ use Rattle.sd_msg.specs.declared.Message.{Message}
 use Rattle.sd_msg.specs.Stamps.{message_of}
 use Rattle.sd_core.specs.declared.Effect.TheVariants.{Send}
 use Rattle.sd_core.specs.Calls as calls
-use Rattle.sd_core.specs.Calls.{Deed, Nothing, Emitted, TookOver, Moved, Past}
+use Rattle.sd_core.specs.Calls.{Nothing, Emitted, TookOver, Moved, Past}
 use Rattle.sd_core.specs.Words.{deed_of, duty_now, epoch_now, stamp_now, report_at, later_entry, starts_as_root, is_commit, is_takeover, since_entry, is_acting, moves_at, takes_over_at, emits_at, effect_of, effect_of_latest}
 use Rattle.sd_core.proofs.Reached.{added}
 use Rattle.sd_sched.specs.declared.Event.{Event}
@@ -26,7 +26,7 @@ use Rattle.sd_history.specs.World.{Setting, is_up, has_commit, is_counted, joine
 use Rattle.sd_history.specs.Steps.{Answers, Step, seen_of, acts_in, tells_nothing, tells_called, flights_by, flights_to, ends_at, flight_count, flights}
 use Rattle.sd_history.specs.Chronicle.{answers_by, past_in, chronicle}
 use Rattle.sd_safety.specs.Bounds.{second_low}
-use Rattle.sd_safety.specs.Eras.{era, plan_now, is_old, is_new, is_blank, live_past, moved, on_primary, on_backup, rests_for, is_ordinary, hit, hit_otherwise, root_failed, root_lives, device_failed_now, belongs}
+use Rattle.sd_safety.specs.Eras.{era, plan_now, is_old, is_new, is_blank, live_past, moved, on_primary, on_backup, rests_for, is_ordinary, hit, hit_otherwise, root_failed, root_lives, device_failed_now}
 use Rattle.sd_safety.specs.Clauses.{is_beginning, nothing_emitted, stays, root_acts, ordinary_follows, backup_is_caused, move_is_caused, takeover_is_caused, path_stays, above_backup_root, backup_root_stays, none_sent_ahead, committer_acts, staged_root}
 use Rattle.sd_safety.specs.Invariant.{Core}
 use Rattle.sd_safety.specs.Silences.{AreSilent}
@@ -41,12 +41,11 @@ use Rattle.sd_safety.specs.Silences.{EntersSoon}
 use Rattle.sd_safety_waits.proofs.Beginning.{quiet, still, moved_late}
 use Rattle.sd_safety_waits.proofs.Long.{not_late}
 use Rattle.sd_safety_moves.proofs.Ticks as ticks
-use Rattle.sd_safety_moves.proofs.Ticks.{tick_step}
 use Rattle.sd_safety_moves.proofs.Tickings as tickings
 use Rattle.sd_safety_moves.proofs.Tickings.{shown, stays_on, vacuous}
 use Rattle.sd_safety_waits.proofs.Epochs.{IsNumbered, duty_numbered}
 use Rattle.sd_safety_moves.proofs.Movers.{timely_now, timely_then, inv, live, answers, acts_is, epoch_is, with_duty_not_blank, new_root_acts}
-use Rattle.sd_safety_moves.proofs.Happened.{HasRoots, roots_then, told, sent, reaching, activated, acted, told_is, now_is}
+use Rattle.sd_safety_moves.proofs.Happened.{HasRoots, root_up, roots_then, told, sent, reaching, activated, acted, told_is, now_is}
 use Rattle.sd_safety_moves.proofs.Happened as happened
 use Rattle.sd_safety_moves.proofs.Moves.{put_there}
 
@@ -189,13 +188,6 @@ module _ (setting : Setting) (silent : AreSilent setting) (enters : AtNext Enter
 
   -- C4: the root failed
 
-  root_up : root_failed setting steps ≡ false → is_up (seen_of steps) plan.root ≡ true
-  root_up sound =
-      implied (not (is_beginning setting steps) && belongs setting.net plan plan.root && not (root_failed setting steps)) (is_up (seen_of steps) plan.root) (core_then.census.members_up plan.root)
-      (and_from (not (is_beginning setting steps) && belongs setting.net plan plan.root) (not (root_failed setting steps))
-      (and_from (not (is_beginning setting steps)) (belongs setting.net plan plan.root) (ap not started)
-      (and_from (nat_lt plan.root (length setting.net.devices)) (is_member plan plan.root) (lt-ltb plan.root (length setting.net.devices) roots.root_within) roots.rules.root)) (ap not sound))
-
   old_backup : nat_eq d plan.backup_root ≡ true → is_old steps d ≡ true
   old_backup is =
       let same : d ≡ plan.backup_root = eqb-true d plan.backup_root is in
@@ -212,7 +204,7 @@ module _ (setting : Setting) (silent : AreSilent setting) (enters : AtNext Enter
       by_root : (f : Bool) → root_failed setting steps ≡ f → root_failed setting steps ≡ true
       by_root true failed = failed
       by_root false sound =
-          takeover_needs_failure setting steps r core_then roots.rules roots.apart roots.timed (silent.fallback history (event.Tick r d c) comes) (root_up sound)
+          takeover_needs_failure setting steps r core_then roots.rules roots.apart roots.timed (silent.fallback history (event.Tick r d c) comes) (root_up setting steps core_then started roots sound)
           (subst (λ y. is_old steps y ≡ true) same (old_backup is))
           (subst (λ y. on_backup steps y ≡ true) same (and_from (moved steps d) (not (acts_in steps d)) moved_then (ap not (acts_is setting r d c history comes p there ∙ took.acts_not))))
           (subst (λ y. second_low setting.net plan ≤ rests_for steps y r) same (backup_root_takes_over setting r d c history (timely_now setting r d c history comes p there) (old_backup is) p there takes))
@@ -340,28 +332,21 @@ module _ (setting : Setting) (silent : AreSilent setting) (enters : AtNext Enter
 
   core_now : Core setting now
   core_now =
-      record {
-        calm =
-            record {
-              quiet = subst (λ n. IsTrue (nothing_emitted setting n)) (now_is setting r d c history comes p there TookOver deed_is refl) (quiet setting (event.Tick r d c ∷ history) comes.fair comes.clean);
-              still = λ x. subst (λ n. IsTrue (stays setting n x)) (now_is setting r d c history comes p there TookOver deed_is refl) (still setting (event.Tick r d c ∷ history) comes.fair comes.clean x);
-              touched = tickings.touched setting history r d c (reaching setting r d c history comes p there) (activated setting r d c history comes p there) (acted setting r d c history comes p there) (told setting r d c history comes p there) (sent setting r d c history comes p there) p TookOver refl refl (live setting r d c history comes p there) there (answers setting r d c history comes p there) deed_is (told_is setting r d c history comes p there TookOver deed_is) core_then not_new not_blank started;
-            };
-        census = tickings.counts setting history r d c (reaching setting r d c history comes p there) (activated setting r d c history comes p there) (acted setting r d c history comes p there) (told setting r d c history comes p there) (sent setting r d c history comes p there) p TookOver refl refl (live setting r d c history comes p there) there (answers setting r d c history comes p there) deed_is (told_is setting r d c history comes p there TookOver deed_is) core_then not_new not_blank started;
-        roles = record { root = roots_act; failed_root = tickings.failed_root setting history r d c (reaching setting r d c history comes p there) (activated setting r d c history comes p there) (acted setting r d c history comes p there) (told setting r d c history comes p there) (sent setting r d c history comes p there) p TookOver refl refl (live setting r d c history comes p there) there (answers setting r d c history comes p there) deed_is (told_is setting r d c history comes p there TookOver deed_is) core_then not_new not_blank started; ordinary = ordinary_idle };
-        causes = record { backups = caused; move = move_caused; takeover = takeover_caused; path = path_put; shadow = tickings.shadow setting history r d c (reaching setting r d c history comes p there) (activated setting r d c history comes p there) (acted setting r d c history comes p there) (told setting r d c history comes p there) (sent setting r d c history comes p there) p TookOver refl refl (live setting r d c history comes p there) there (answers setting r d c history comes p there) deed_is (told_is setting r d c history comes p there TookOver deed_is) core_then not_new not_blank started stayed };
-        uncommitted = record { devices = tickings.none_new setting history r d c (reaching setting r d c history comes p there) (activated setting r d c history comes p there) (acted setting r d c history comes p there) (told setting r d c history comes p there) (sent setting r d c history comes p there) p TookOver refl refl (live setting r d c history comes p there) there (answers setting r d c history comes p there) deed_is (told_is setting r d c history comes p there TookOver deed_is) core_then not_new not_blank started; messages = messages };
-        committed =
-            record {
-              entering = tickings.entering setting history r d c (reaching setting r d c history comes p there) (activated setting r d c history comes p there) (acted setting r d c history comes p there) (told setting r d c history comes p there) (sent setting r d c history comes p there) p TookOver refl refl (live setting r d c history comes p there) there (answers setting r d c history comes p there) deed_is (told_is setting r d c history comes p there TookOver deed_is) core_then not_new not_blank started;
-              entered = tickings.entered setting history r d c (reaching setting r d c history comes p there) (activated setting r d c history comes p there) (acted setting r d c history comes p there) (told setting r d c history comes p there) (sent setting r d c history comes p there) p TookOver refl refl (live setting r d c history comes p there) there (answers setting r d c history comes p there) deed_is (told_is setting r d c history comes p there TookOver deed_is) core_then not_new not_blank started (enters history (event.Tick r d c) comes);
-              committer = tickings.committer setting history r d c (reaching setting r d c history comes p there) (activated setting r d c history comes p there) (acted setting r d c history comes p there) (told setting r d c history comes p there) (sent setting r d c history comes p there) p TookOver refl refl (live setting r d c history comes p there) there (answers setting r d c history comes p there) deed_is (told_is setting r d c history comes p there TookOver deed_is) core_then not_new not_blank started;
-              acting = acting;
-              linked = tickings.linked setting history r d c (reaching setting r d c history comes p there) (activated setting r d c history comes p there) (acted setting r d c history comes p there) (told setting r d c history comes p there) (sent setting r d c history comes p there) p TookOver refl refl (live setting r d c history comes p there) there (answers setting r d c history comes p there) deed_is (told_is setting r d c history comes p there TookOver deed_is) core_then not_new not_blank started;
-              left_out = tickings.left_out setting history r d c (reaching setting r d c history comes p there) (activated setting r d c history comes p there) (acted setting r d c history comes p there) (told setting r d c history comes p there) (sent setting r d c history comes p there) p TookOver refl refl (live setting r d c history comes p there) there (answers setting r d c history comes p there) deed_is (told_is setting r d c history comes p there TookOver deed_is) core_then not_new not_blank started;
-            };
-        closed = tickings.closed setting history r d c (reaching setting r d c history comes p there) (activated setting r d c history comes p there) (acted setting r d c history comes p there) (told setting r d c history comes p there) (sent setting r d c history comes p there) p TookOver refl refl (live setting r d c history comes p there) there (answers setting r d c history comes p there) deed_is (told_is setting r d c history comes p there TookOver deed_is) core_then not_new not_blank started;
-      }
+      tickings.core_turned setting history r d c (reaching setting r d c history comes p there) (activated setting r d c history comes p there) (acted setting r d c history comes p there) (told setting r d c history comes p there) (sent setting r d c history comes p there) p TookOver refl refl (live setting r d c history comes p there) there (answers setting r d c history comes p there) deed_is (told_is setting r d c history comes p there TookOver deed_is) core_then not_new not_blank started
+      (record {
+        quiet = subst (λ n. IsTrue (nothing_emitted setting n)) (now_is setting r d c history comes p there TookOver deed_is refl) (quiet setting (event.Tick r d c ∷ history) comes.fair comes.clean);
+        still = λ x. subst (λ n. IsTrue (stays setting n x)) (now_is setting r d c history comes p there TookOver deed_is refl) (still setting (event.Tick r d c ∷ history) comes.fair comes.clean x);
+        root = roots_act;
+        ordinary = ordinary_idle;
+        backups = caused;
+        move = move_caused;
+        takeover = takeover_caused;
+        path = path_put;
+        stayed = stayed;
+        messages = messages;
+        enters = enters history (event.Tick r d c) comes;
+        acting = acting;
+      })
 
   pub took_over_keeps : Core setting (chronicle setting (event.Tick r d c ∷ history))
   took_over_keeps = subst (Core setting) (sym (now_is setting r d c history comes p there TookOver deed_is refl)) core_now

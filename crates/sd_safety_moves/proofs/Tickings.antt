@@ -20,7 +20,7 @@ use Rattle.sd_history.specs.Lines.{follow}
 use Rattle.sd_history.proofs.Given.{some_is}
 use Rattle.sd_safety.specs.Bounds.{depth}
 use Rattle.sd_safety.specs.Eras.{plan_now, is_old, is_new, is_blank, is_past, on_primary, heard_at, root_failed}
-use Rattle.sd_safety.specs.Clauses.{is_beginning, was_touched, member_is_up, member_follows, returned_is_joined, outsider_is_past, counted_is_current, blank_is_idle, link_is_sound, failed_root_is_not_old, shadow_is_short, above_backup_root, backup_root_stays, none_is_new, member_enters, member_entered, committer_is_root, new_is_linked, left_out_is_hit, someone_untouched, leads_to_root, staged_root}
+use Rattle.sd_safety.specs.Clauses.{is_beginning, was_touched, member_is_up, member_follows, returned_is_joined, outsider_is_past, counted_is_current, blank_is_idle, link_is_sound, failed_root_is_not_old, shadow_is_short, above_backup_root, backup_root_stays, none_is_new, member_enters, member_entered, committer_is_root, new_is_linked, left_out_is_hit, someone_untouched, leads_to_root, staged_root, nothing_emitted, stays, root_acts, ordinary_follows, backup_is_caused, move_is_caused, takeover_is_caused, path_stays, none_sent_ahead, committer_acts}
 use Rattle.sd_safety.specs.Invariant.{Core, IsCounted, IsClosed, leaves_out_rightly}
 use Rattle.sd_safety.proofs.Sides.{implied, same_is_some}
 use Rattle.sd_safety.proofs.Prefix.{Passing, some_passing, any_passing}
@@ -280,3 +280,31 @@ module _ (setting : Setting) (history : List Event) (r d c : ℕ) (reaching : Li
       (ticks.other_on_primary setting (chronicle setting history) r d c reaching activated acted told sent p deed x (is_other x new) ∙ was.0)
       (ap (λ (o : Option ℕ). of_some o false (is_new now)) (parents x (is_other x new)) ∙ of_some_same (is_new now) (is_new steps) news (parent_in steps x) ∙ was.1)
       (leads x new was.2))
+
+  -- What its own turn shows, and the core with that
+
+  pub record HasTurned : Type 0 where
+    pub quiet : IsTrue (nothing_emitted setting now)
+    pub still : (x : ℕ) → IsTrue (stays setting now x)
+    pub root : IsTrue (root_acts setting now)
+    pub ordinary : (x : ℕ) → IsTrue (ordinary_follows setting now x)
+    pub backups : (x : ℕ) → IsTrue (backup_is_caused setting now x)
+    pub move : IsTrue (move_is_caused setting now)
+    pub takeover : IsTrue (takeover_is_caused setting now)
+    pub path : (x : ℕ) → IsTrue (path_stays setting now x)
+    pub stayed : backup_root_stays setting now ≡ true → backup_root_stays setting steps ≡ true
+    pub messages : IsTrue (none_sent_ahead now)
+    pub enters : EntersSoon setting (chronicle setting history) r
+    pub acting : (x : ℕ) → IsTrue (committer_acts setting now x)
+
+  pub core_turned : HasTurned → Core setting now
+  core_turned t =
+      record {
+        calm = record { quiet = t.quiet; still = t.still; touched = touched };
+        census = counts;
+        roles = record { root = t.root; failed_root = failed_root; ordinary = t.ordinary };
+        causes = record { backups = t.backups; move = t.move; takeover = t.takeover; path = t.path; shadow = shadow t.stayed };
+        uncommitted = record { devices = none_new; messages = t.messages };
+        committed = record { entering = entering; entered = entered t.enters; committer = committer; acting = t.acting; linked = linked; left_out = left_out };
+        closed = closed;
+      }

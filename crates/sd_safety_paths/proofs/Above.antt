@@ -2,7 +2,7 @@
 -- link and each device of the path.
 use Rattle.std.specs.Prelude.{◌≡◌, ℕ, ◌+◌, ◌*◌, ◌≤◌, Bool, true, false, ◌||◌, List, [], ◌∷◌, map, nat_eq, Some, refl, if◌then◌else◌}
 use Rattle.std.specs.List.{list_any}
-use Rattle.std.proofs.Common.{◌∙◌, ap, sym, subst}
+use Rattle.std.proofs.Common.{ap, sym, subst}
 use Rattle.std.proofs.lemmas.Bool.{and_from, or_left, or_right, eqb-true, eq-eqb, false_from_ne_true}
 use Rattle.sd_num.specs.Lists.{has}
 use Rattle.sd_topo.specs.declared.Thing.{Thing}

@@ -1,7 +1,7 @@
 -- In an era without a mend so far an old backup root on its primary heard at most H * D after its path broke.
-use Rattle.std.specs.Prelude.{◌≡◌, ℕ, ◌+◌, ◌*◌, ◌<◌, ◌≤◌, Bool, true, false, ◌||◌, List, [], ◌∷◌, map, max, nat_eq, Option, Some, refl, if◌then◌else◌}
+use Rattle.std.specs.Prelude.{◌≡◌, ℕ, ◌+◌, ◌*◌, ◌<◌, ◌≤◌, true, false, List, [], ◌∷◌, nat_eq, Option, Some}
 use Rattle.std.specs.List.{list_any}
-use Rattle.std.proofs.Common.{arith, ◌∙◌, ap, sym, subst, inl, inr}
+use Rattle.std.proofs.Common.{arith, ◌∙◌, ap, sym, inl, inr}
 use Rattle.std.proofs.lemmas.Bool.{eq-eqb, false_from_ne_true}
 use Rattle.sd_num.specs.Lists.{of_some}
 use Rattle.sd_topo.specs.declared.Thing.{Thing}
@@ -9,47 +9,33 @@ use Rattle.sd_topo.specs.declared.Thing.TheVariants as thing
 use Rattle.sd_plan.specs.declared.Plan.{Plan}
 use Rattle.sd_plan.specs.declared.Duty.{Duty}
 use Rattle.sd_plan.specs.Walks.{path}
-use Rattle.sd_core.specs.Words.{is_acting}
 use Rattle.sd_sched.specs.declared.Event.{Event}
 use Rattle.sd_sched.specs.Events.{reference_of}
 use Rattle.sd_history.specs.World.{Setting, fails, link_has_failed}
 use Rattle.sd_history.specs.Steps.{Step, seen_of}
-use Rattle.sd_history.specs.Chronicle.{past_in, chronicle}
+use Rattle.sd_history.specs.Chronicle.{chronicle}
 use Rattle.sd_safety.specs.Bounds.{depth, delay, tick_gap}
 use Rattle.sd_safety.specs.Eras.{era, plan_now, all_started, late, first_failure, heard_at, is_old, on_primary, path_hit}
 use Rattle.sd_safety.specs.Coming.{IsClean, Comes, AtNext}
 use Rattle.sd_safety.proofs.Prefix.{clean_before}
 use Rattle.sd_safety.proofs.Sides.{not_both}
 use Rattle.sd_safety_spans.proofs.Backs.{idle_of}
-use Rattle.sd_safety_messages.specs.Moments.{Tail, whole, behind, IsChronicle, Moment, upto, when, IsIn, IsBefore}
+use Rattle.sd_safety_messages.specs.Moments.{whole, behind, IsChronicle, Moment, upto, when, IsIn, IsBefore}
 use Rattle.sd_safety_messages.proofs.Flowing.{tail_rest}
 use Rattle.sd_safety_messages.proofs.Tails.{Order, before, same, after, ordered, tail_trans, rest_of, tail_chronicle, history_chronicle, before_is_earlier}
-use Rattle.sd_safety_timers.specs.Since.{IsTail, whole as whole_tail, beyond}
-use Rattle.sd_safety_silences.proofs.Phases.{era_grows}
+use Rattle.sd_safety_silences.proofs.Phases.{as_tail, era_grows}
 use Rattle.sd_safety_silences.proofs.Sounding.{top_of}
 use Rattle.sd_safety_waits.proofs.Waits.{Stands, old_stands}
-use Rattle.sd_safety_receipts.proofs.Hearings.{IsHeard}
+use Rattle.sd_safety_receipts.proofs.Hearings.{IsHeard, IsStarted, LastHeard, last_heard}
 use Rattle.sd_safety_receipts.proofs.Stood.{clean_of, each_of}
 use Rattle.sd_safety_behind.specs.Feeding.{mended_now, path_failed_at, PathHearsNoMore}
-use Rattle.sd_safety_behind.proofs.Failing.{FirstFailure, first_failing}
+use Rattle.sd_safety_behind.proofs.Failing.{FirstFailure, first_failing, chronicle_tail}
+use Rattle.sd_safety_behind.proofs.Late.{late_since, late_from_start}
 use Rattle.sd_safety_behind.proofs.Broken.{hit_first}
-use Rattle.sd_safety_traced.proofs.Last.{IsStarted, LastHeard, last_heard}
 use Rattle.sd_safety_traced.proofs.Unmoved.{start_early, begins_with}
 use Rattle.sd_safety_paths.proofs.Above.{traced, within, first_in, took, crossed_path}
 use Rattle.sd_safety_paths.proofs.Links.{stays_failed, unmended_back}
 use Rattle.sd_safety_paths.proofs.Senders.{sender_spared}
-
-chronicles : (setting : Setting) (older history : List Event) → IsTail older history → Tail (chronicle setting older) (chronicle setting history)
-chronicles setting older _ whole_tail = whole
-chronicles setting older _ (beyond {xs = earlier} rest) = behind (chronicles setting older earlier rest)
-
-late_by : (b : Bool) (r started : ℕ) → r ≤ (if b then max r started else r)
-late_by true r started = omega arith
-late_by false r started = omega arith
-
-started_before : (b : Bool) (r s : ℕ) → b ≡ true → s ≤ (if b then max r s else r)
-started_before true r s is = omega arith
-started_before false r s is = cc
 
 -- where the backup root was started in the era and heard nothing since, that was before all had started, and so before its path counts as broken
 pub started_first : (setting : Setting) (x : Event) (h : List Event) (e : Event) (comes : Comes setting (x ∷ h) e) (d : ℕ) → IsStarted setting (x ∷ h) d (era (chronicle setting (x ∷ h)))
@@ -60,7 +46,7 @@ started_first setting x h e comes d s =
     let early = start_early setting comes.fair d (era steps) s.event s.earlier (clean_of setting (s.event ∷ s.earlier) (x ∷ h) s.tail clean) (each_of setting (s.event ∷ s.earlier) (x ∷ h) s.tail comes.before).0 s.makes_ s.past s.there s.own (one_at_least steps) in
     let began : all_started setting (chronicle setting (s.event ∷ s.earlier)) ≡ all_started setting steps = ap (λ r. r + tick_gap setting.net) (sym (begins_with setting s.event s.earlier (x ∷ h) s.tail)) in
     let first_ : nat_eq (era steps) 1 ≡ true = eq-eqb (era steps) 1 (sym s.number ∙ early.0) in
-    let bound : all_started setting steps ≤ path_failed_at setting steps = started_before (nat_eq (era steps) 1) _ (all_started setting steps) first_ in
+    let bound : all_started setting steps ≤ path_failed_at setting steps = late_from_start (nat_eq (era steps) 1) _ (all_started setting steps) first_ in
     sum (heard_at steps d) (reference_of s.event) (all_started setting (chronicle setting (s.event ∷ s.earlier))) (all_started setting steps) (path_failed_at setting steps) s.time early.1 began bound
   where
     one_at_least : (l : List Step) → 1 ≤ era l
@@ -107,11 +93,11 @@ module _ (setting : Setting) (x : Event) (h : List Event) (e : Event) (comes : C
   before_break p here less =
       let f : FirstFailure setting things (x ∷ h) found.0 = first_failing setting things (x ∷ h) found.0 found.1 in
       let g : Moment = top_of setting f.earlier f.event in
-      let g_in : IsIn g steps = chronicles setting (f.event ∷ f.earlier) (x ∷ h) f.tail in
+      let g_in : IsIn g steps = as_tail (chronicle_tail setting (f.event ∷ f.earlier) (x ∷ h) f.tail) in
       let in_era : era (chronicle setting f.earlier) ≡ era steps = f.era in
       let grows : era (chronicle setting f.earlier) ≤ era (upto g) = era_grows (chronicle setting f.earlier) (upto g) (behind whole) in
       let far : era steps ≤ era (upto g) = omega (arith, in_era, grows) in
-      sum (when p) (when g) found.0 (late setting steps found.0) (path_failed_at setting steps) (order g g_in far (ordered steps p g here g_in)) f.at (late_by (nat_eq (era steps) 1) found.0 (all_started setting steps)) failed_at
+      sum (when p) (when g) found.0 (late setting steps found.0) (path_failed_at setting steps) (order g g_in far (ordered steps p g here g_in)) f.at (late_since (nat_eq (era steps) 1) found.0 (all_started setting steps)) failed_at
     where
       sum : (a g q l p' : ℕ) → a ≤ g → g ≡ q → q ≤ l → p' ≡ l → a ≤ p'
       sum a g q l p' one two three four = omega (arith, one, two, three, four)
@@ -134,7 +120,7 @@ module _ (setting : Setting) (x : Event) (h : List Event) (e : Event) (comes : C
     g = top_of setting f.earlier f.event
 
     g_in : IsIn g (chronicle setting (x ∷ h))
-    g_in = chronicles setting (f.event ∷ f.earlier) (x ∷ h) f.tail
+    g_in = as_tail (chronicle_tail setting (f.event ∷ f.earlier) (x ∷ h) f.tail)
 
     in_era : era (chronicle setting (x ∷ h)) ≤ era (chronicle setting f.earlier)
     in_era = let same_ = f.era in omega (arith, same_)
@@ -183,7 +169,7 @@ module _ (setting : Setting) (x : Event) (h : List Event) (e : Event) (comes : C
     by_failure : Bound
     by_failure =
         sum (heard_at steps b) (when heard.moment) (when first) (when g) found.0 (late setting steps found.0) (path_failed_at setting steps) (depth setting.net * delay setting.net) heard.time (took setting x h e comes old on heard) emitted f.at
-        (late_by (nat_eq (era steps) 1) found.0 (all_started setting steps)) failed_at
+        (late_since (nat_eq (era steps) 1) found.0 (all_started setting steps)) failed_at
       where
         sum : (a r s g q l p d : ℕ) → a ≡ r → r ≤ s + d → s ≤ g → g ≡ q → q ≤ l → p ≡ l → a ≤ p + d
         sum a r s g q l p d one two three four five six = omega (arith, one, two, three, four, five, six)

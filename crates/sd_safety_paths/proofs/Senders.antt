@@ -1,5 +1,5 @@
 -- A device that failed in the era sends and emits no message of its plan later in it.
-use Rattle.std.specs.Prelude.{◌≡◌, ℕ, zero, suc, ◌+◌, ◌≤◌, Bool, true, false, List, [], ◌∷◌, Some, refl}
+use Rattle.std.specs.Prelude.{◌≡◌, ℕ, zero, suc, ◌+◌, ◌≤◌, true, false, List, [], ◌∷◌, Some, refl}
 use Rattle.std.proofs.Common.{arith, ◌∙◌, ap, sym, subst}
 use Rattle.std.proofs.lemmas.Bool.{eq-eqb, false_from_ne_true}
 use Rattle.sd_num.specs.Lists.{same_number}
@@ -15,7 +15,7 @@ use Rattle.sd_sched.specs.declared.Event.{Event}
 use Rattle.sd_history.specs.World.{Setting, fails, is_up}
 use Rattle.sd_history.specs.Steps.{Step, Calls, seen_of}
 use Rattle.sd_history.specs.Chronicle.{past_in, chronicle}
-use Rattle.sd_safety.specs.Eras.{era, failed_now, is_among, device_failed_now, is_old}
+use Rattle.sd_safety.specs.Eras.{era, device_failed_now, is_old}
 use Rattle.sd_safety.specs.Invariant.{Invariant, AtEach}
 use Rattle.sd_safety.specs.Coming.{IsFair, IsClean, Comes}
 use Rattle.sd_safety.proofs.Prefix.{clean_before}

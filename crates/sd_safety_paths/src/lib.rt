@@ -1,10 +1,14 @@
-//! What the backup root hears on its primary after its path broke, in an era without a mend.
+//! What the backup root hears on its primary after its path broke, in an era without a mend; and what
+//! is known of an era with one.
 //!
-//! # The result (`Broken`)
+//! # The result
 //!
-//! `path_hears_no_more`: without a mend so far, an old backup root on its primary heard at most H * D
-//! after something of its path failed first (`PathHearsNoMore` of `sd_safety_behind`).
-//! `heard_unmended` says so of what it heard before the first mend of its era.
+//! | Name | In words | Module |
+//! |---|---|---|
+//! | `path_hears_no_more` | without a mend so far, an old backup root on its primary heard at most H * D after something of its path failed first (`PathHearsNoMore` of `sd_safety_behind`) | `Broken` |
+//! | `heard_unmended` | so it is of what it heard before the first mend of its era | `Broken` |
+//! | `first_mend` | from the first mend of an era on nothing fails, and what was whole stays so | `Mend` |
+//! | `no_second` | between the emission of the round that the backup root heard last and its receipt it heard no other | `Second` |
 //!
 //! # The way
 //!
@@ -13,4 +17,8 @@
 //! After the failure of one of them this is not so: a failed link stays so without a mend (`Links`),
 //! and a failed device sends nothing more of the era's plan (`Senders`). So the message was emitted no
 //! later than the failure, and took at most H hops.
+//!
+//! A device that is old has not been made anew in its era, and has entered no plan (`Unbroken`). So
+//! two emissions of one device lie Low of the period apart (`Periods`), and rounds do not overlap; and
+//! the backup root stood on its primary when it heard each (`Receipts`), and takes each round once.
 #![tactic(auto)]

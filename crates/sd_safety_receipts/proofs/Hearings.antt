@@ -1,7 +1,8 @@
--- When a device of a plan to come last heard: it accepted a message of that plan then, since it took up its duty by a receipt.
-use Rattle.std.specs.Prelude.{◌≡◌, ℕ, ◌<◌, ◌≤◌, Bool, true, false, ◌||◌, List, [], ◌∷◌, nat_eq, Option, Some, None, is_some, option_map, refl, ◌⊎◌, if◌then◌else◌}
+-- When a device of a plan that does not act last heard: it accepted a message of that plan then; or it was started in the plan's era, and heard nothing since. So a
+-- device of a plan to come heard a message of it.
+use Rattle.std.specs.Prelude.{◌≡◌, ℕ, ◌<◌, ◌≤◌, Bool, true, false, List, [], ◌∷◌, Option, Some, None, is_some, option_map, refl, ◌⊎◌, if◌then◌else◌}
 use Rattle.std.proofs.Common.{arith, ◌∙◌, ap, sym, inl, inr}
-use Rattle.std.proofs.lemmas.Bool.{or_right, or_from, eq-eqb}
+use Rattle.std.proofs.lemmas.Bool.{or_left, or_right, or_from, eq-eqb}
 use Rattle.sd_num.specs.Lists.{of_some}
 use Rattle.sd_plan.specs.declared.Duty.{Duty}
 use Rattle.sd_plan.specs.declared.Edge.{Edge}
@@ -13,7 +14,7 @@ use Rattle.sd_sched.specs.declared.Event.{Event}
 use Rattle.sd_sched.specs.declared.Event.TheVariants as event
 use Rattle.sd_sched.specs.Events.{reference_of}
 use Rattle.sd_history.specs.World.{Setting, makes}
-use Rattle.sd_history.specs.Steps.{Calls, Step, act_by}
+use Rattle.sd_history.specs.Steps.{Calls, act_by}
 use Rattle.sd_history.specs.Chronicle.{past_in, chronicle, next_step, IsHistory}
 use Rattle.sd_history.proofs.Given.{some_is}
 use Rattle.sd_safety.specs.Eras.{era, did_by, does, hears, heard_at}
@@ -21,8 +22,9 @@ use Rattle.sd_safety.proofs.Sides.{not_both}
 use Rattle.sd_safety_timers.proofs.Deeds.{by_case}
 use Rattle.sd_safety_timers.proofs.Pasts.{stays_acting}
 use Rattle.sd_safety_waits.proofs.Epochs.{era_rises}
-use Rattle.sd_safety_messages.specs.Moments.{Moment, when, IsIn, whole, behind}
+use Rattle.sd_safety_messages.specs.Moments.{Tail, whole, behind, Moment, when, IsIn}
 use Rattle.sd_safety_messages.proofs.Sending.{passes_on}
+use Rattle.sd_safety_receipts.proofs.Stood.{unless}
 use Rattle.sd_safety_receipts.proofs.Alive.{Went, made, called, alone, went, made_epoch}
 
 -- the device accepted a message of this plan at a moment, and heard nothing later
@@ -39,6 +41,21 @@ pub record IsHeard (setting : Setting) (history : List Event) (d n : ℕ) : Type
   pub over : accepted_over (deed_of past (calls.Receive link message counter)) ≡ Some edge
   pub epoch : message.epoch ≡ n
   pub time : heard_at (chronicle setting history) d ≡ when moment
+
+-- the device was started in this plan's era, and heard nothing since
+pub record IsStarted (setting : Setting) (history : List Event) (d n : ℕ) : Type 0 where
+  pub event : Event
+  pub earlier : List Event
+  pub tail : Tail (event ∷ earlier) history
+  pub makes_ : makes d event ≡ true
+  pub past : Past
+  pub there : past_in (chronicle setting (event ∷ earlier)) d ≡ Some past
+  pub own : epoch_now past ≡ n
+  pub number : era (chronicle setting earlier) ≡ n
+  pub time : heard_at (chronicle setting history) d ≡ reference_of event
+
+abbrev pub LastHeard : Setting → List Event → ℕ → ℕ → Type 0
+LastHeard setting history d n = IsHeard setting history d n ⊎ IsStarted setting history d n
 
 -- what accepts is a receipt
 pub record IsReceipt (call : Call) : Type 0 where
@@ -89,19 +106,15 @@ makes_or_calls setting (event.Start r x c clock eps) history d m call is makes_ 
 makes_or_calls setting (event.Join r x c clock eps) history d m call is makes_ = cc
 makes_or_calls setting _ history d m call is makes_ = cc
 
-unless : (b c : Bool) → (b ≡ true → c ≡ true) → c ≡ false → b ≡ false
-unless true c more none = let is = more refl in cc
-unless false c more none = refl
-
 module _ (setting : Setting) (e : Event) (history : List Event) (d n : ℕ) where
-  -- it heard nothing with the event
   heard_same : makes d e ≡ false → does hears (chronicle setting history) (next_step setting (chronicle setting history) e) d ≡ false → heard_at (chronicle setting (e ∷ history)) d ≡ heard_at (chronicle setting history) d
   heard_same none deaf =
       ap (λ b. if b then reference_of e else heard_at (chronicle setting history) d) (or_from (makes d e) (does hears (chronicle setting history) (next_step setting (chronicle setting history) e) d) none deaf)
 
-  later_on : heard_at (chronicle setting (e ∷ history)) d ≡ heard_at (chronicle setting history) d → IsHeard setting history d n → IsHeard setting (e ∷ history) d n
-  later_on same h =
-      record {
+  later_on : heard_at (chronicle setting (e ∷ history)) d ≡ heard_at (chronicle setting history) d → LastHeard setting history d n → LastHeard setting (e ∷ history) d n
+  later_on same (inl h) =
+      inl
+      (record {
         moment = h.moment;
         inside = behind h.inside;
         link = h.link;
@@ -114,7 +127,8 @@ module _ (setting : Setting) (e : Event) (history : List Event) (d n : ℕ) wher
         over = h.over;
         epoch = h.epoch;
         time = same ∙ h.time;
-      }
+      })
+  later_on same (inr s) = inr (record { event = s.event; earlier = s.earlier; tail = behind s.tail; makes_ = s.makes_; past = s.past; there = s.there; own = s.own; number = s.number; time = same ∙ s.time })
 
   module _ (past : Past) (call : Call) (acted : act_by setting (chronicle setting history) e ≡ Calls d call) (there : past_in (chronicle setting history) d ≡ Some past) where
     did_is : did_by (chronicle setting history) (act_by setting (chronicle setting history) e) d ≡ Some (record { call = call; deed = deed_of past call })
@@ -149,39 +163,61 @@ module _ (setting : Setting) (e : Event) (history : List Event) (d n : ℕ) wher
     deaf_here : accepted_over (deed_of past call) ≡ None → does hears (chronicle setting history) (next_step setting (chronicle setting history) e) d ≡ false
     deaf_here none = ap (λ (o : Option Did). of_some o false hears) did_is ∙ ap (λ (o : Option Edge). is_some o) none
 
-pub heard_in_plan : (setting : Setting) (history : List Event) → IsHistory setting history → (d : ℕ) (past : Past) → past_in (chronicle setting history) d ≡ Some past → (n : ℕ) → epoch_now past ≡ n → era (chronicle setting history) < n
-    → is_acting past ≡ false → IsHeard setting history d n
-heard_in_plan setting [] is d past there n number less idle = cc
-heard_in_plan setting (e ∷ history) is d past there n number less idle = by_made (makes d e) refl (λ q there' k number' less' idle'. heard_in_plan setting history is.0 d q there' k number' less' idle')
+pub last_heard : (setting : Setting) (history : List Event) → IsHistory setting history → (d : ℕ) (past : Past) → past_in (chronicle setting history) d ≡ Some past → (n : ℕ) → epoch_now past ≡ n → 1 ≤ n → is_acting past ≡ false
+    → LastHeard setting history d n
+last_heard setting [] is d past there n number one idle = cc
+last_heard setting (e ∷ history) is d past there n number one idle = by_made (makes d e) refl (λ q there' k number' one' idle'. last_heard setting history is.0 d q there' k number' one' idle')
   where
-    lower : era (chronicle setting history) < n
-    lower = below_ (era (chronicle setting history)) (era (chronicle setting (e ∷ history))) (era_rises (next_step setting (chronicle setting history) e) (chronicle setting history)) less
-      where
-        below_ : (a b : ℕ) → a ≤ b → b < n → a < n
-        below_ a b le lt = omega (arith, le, lt)
-
-    never : (k : ℕ) → k ≡ n → (k ≡ era (chronicle setting history)) ⊎ (k ≡ 0) → ⊥
-    never k same (inl is') = omega (arith, same, is', lower)
-    never k same (inr is') = omega (arith, same, is', lower)
+    by_number : (k : ℕ) → k ≡ n → (k ≡ era (chronicle setting history)) ⊎ (k ≡ 0) → era (chronicle setting history) ≡ n
+    by_number k same (inl is') = sym is' ∙ same
+    by_number k same (inr is') = absurd (omega (arith, same, is', one))
 
     by_call : makes d e ≡ false → (p : Past) (call : Call) → act_by setting (chronicle setting history) e ≡ Calls d call → past_in (chronicle setting history) d ≡ Some p → past ≡ after p call → (o : Option Edge) → accepted_over (deed_of p call) ≡ o
-        → ((q : Past) → past_in (chronicle setting history) d ≡ Some q → (k : ℕ) → epoch_now q ≡ k → era (chronicle setting history) < k → is_acting q ≡ false → IsHeard setting history d k) → IsHeard setting (e ∷ history) d n
-    by_call none p call acted there' same (Some edge) over rest =
-        heard_here setting e history d n p call acted there' edge over (sym (ap epoch_now same) ∙ number) (accepts_receipt p call edge over)
+        → ((q : Past) → past_in (chronicle setting history) d ≡ Some q → (k : ℕ) → epoch_now q ≡ k → 1 ≤ k → is_acting q ≡ false → LastHeard setting history d k) → LastHeard setting (e ∷ history) d n
+    by_call none p call acted there' same (Some edge) over rest = inl (heard_here setting e history d n p call acted there' edge over (sym (ap epoch_now same) ∙ number) (accepts_receipt p call edge over))
     by_call none p call acted there' same None deaf rest =
         let takes : taken_up (deed_of p call) ≡ None = takes_none p call deaf (sym (ap is_acting same) ∙ idle) in
         let number' : epoch_now p ≡ n = sym (ap (λ o. of_some (of_some (option_map Some o) (duty_now p) (λ told. told)) 0 (λ (u : Duty). u.epoch)) takes) ∙ sym (ap epoch_now same) ∙ number in
         let idle' : is_acting p ≡ false = unless (is_acting p) (is_acting (after p call)) (stays_acting p call (deed_of p call) takes) (sym (ap is_acting same) ∙ idle) in
-        later_on setting e history d n (heard_same setting e history d n none (deaf_here setting e history d n p call acted there' deaf)) (rest p there' n number' lower idle')
+        later_on setting e history d n (heard_same setting e history d n none (deaf_here setting e history d n p call acted there' deaf)) (rest p there' n number' one idle')
 
     by_went : makes d e ≡ false → Went setting e history d
-        → ((q : Past) → past_in (chronicle setting history) d ≡ Some q → (k : ℕ) → epoch_now q ≡ k → era (chronicle setting history) < k → is_acting q ≡ false → IsHeard setting history d k) → IsHeard setting (e ∷ history) d n
+        → ((q : Past) → past_in (chronicle setting history) d ≡ Some q → (k : ℕ) → epoch_now q ≡ k → 1 ≤ k → is_acting q ≡ false → LastHeard setting history d k) → LastHeard setting (e ∷ history) d n
     by_went none (made makes_) rest = absurd (not_both (makes d e) makes_ none)
     by_went none (called p call acted there' now) rest = by_call none p call acted there' (some_is (sym there ∙ now)) (accepted_over (deed_of p call)) refl rest
-    by_went none (alone same did) rest =
-        later_on setting e history d n (heard_same setting e history d n none (ap (λ (o : Option Did). of_some o false hears) did)) (rest past (sym same ∙ there) n number lower idle)
+    by_went none (alone same did) rest = later_on setting e history d n (heard_same setting e history d n none (ap (λ (o : Option Did). of_some o false hears) did)) (rest past (sym same ∙ there) n number one idle)
 
     by_made : (b : Bool) → makes d e ≡ b
-        → ((q : Past) → past_in (chronicle setting history) d ≡ Some q → (k : ℕ) → epoch_now q ≡ k → era (chronicle setting history) < k → is_acting q ≡ false → IsHeard setting history d k) → IsHeard setting (e ∷ history) d n
-    by_made true makes_ rest = absurd (never (epoch_now past) number (made_epoch setting e history d past makes_ there))
+        → ((q : Past) → past_in (chronicle setting history) d ≡ Some q → (k : ℕ) → epoch_now q ≡ k → 1 ≤ k → is_acting q ≡ false → LastHeard setting history d k) → LastHeard setting (e ∷ history) d n
+    by_made true makes_ rest =
+        inr
+        (record {
+          event = e;
+          earlier = history;
+          tail = whole;
+          makes_ = makes_;
+          past = past;
+          there = there;
+          own = number;
+          number = by_number (epoch_now past) number (made_epoch setting e history d past makes_ there);
+          time =
+              ap (λ b. if b then reference_of e else heard_at (chronicle setting history) d)
+              (or_left (makes d e) (does hears (chronicle setting history) (next_step setting (chronicle setting history) e) d) makes_);
+        })
     by_made false none rest = by_went none (went setting e history d) rest
+
+-- the plan came after the latest event's era: so it was not started in it
+pub heard_in_plan : (setting : Setting) (history : List Event) → IsHistory setting history → (d : ℕ) (past : Past) → past_in (chronicle setting history) d ≡ Some past → (n : ℕ) → epoch_now past ≡ n → era (chronicle setting history) < n
+    → is_acting past ≡ false → IsHeard setting history d n
+heard_in_plan setting history is d past there n number less idle = by (last_heard setting history is d past there n number (omega (arith, less)) idle)
+  where
+    no_later : (x : Event) (older later : List Event) → Tail (x ∷ older) later → era (chronicle setting older) ≤ era (chronicle setting later)
+    no_later x older _ whole = era_rises (next_step setting (chronicle setting older) x) (chronicle setting older)
+    no_later x older _ (behind {x = y} {xs = later} t) =
+        let one = no_later x older later t in
+        let two = era_rises (next_step setting (chronicle setting later) y) (chronicle setting later) in
+        omega (arith, one, two)
+
+    by : LastHeard setting history d n → IsHeard setting history d n
+    by (inl h) = h
+    by (inr s) = let le = no_later s.event s.earlier history s.tail in let same = s.number in absurd (omega (arith, le, same, less))

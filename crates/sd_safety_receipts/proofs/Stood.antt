@@ -38,6 +38,7 @@ use Rattle.sd_safety_waits.proofs.Beginning.{still}
 use Rattle.sd_safety_waits.proofs.Epochs.{era_rises}
 use Rattle.sd_safety_messages.specs.Moments.{Tail, whole, behind}
 use Rattle.sd_safety_messages.proofs.Tails.{tail_trans}
+use Rattle.sd_safety_windows.proofs.Leading.{stands_by}
 use Rattle.sd_safety_windows.specs.Reaching.{reach}
 use Rattle.sd_safety_windows.proofs.Eras.{era_kept, era_grows}
 use Rattle.sd_safety_windows.proofs.Reaching.{within}
@@ -52,18 +53,12 @@ use Rattle.sd_safety_receipts.proofs.Alive.{WasAlive, was_alive, IsOf, events_of
 
 -- Pasts
 
-put : (some moved_ acts : Bool) → (some && not moved_ && not acts) ≡ true → (moved_ ≡ false) × (acts ≡ false)
-put true false false h = (refl, refl)
-put true false true h = cc
-put true true acts h = cc
-put false moved_ acts h = cc
-
-put_so : (moved_ acts : Bool) → moved_ ≡ false → acts ≡ false → (not moved_ && not acts) ≡ true
+pub put_so : (moved_ acts : Bool) → moved_ ≡ false → acts ≡ false → (not moved_ && not acts) ≡ true
 put_so true acts m a = cc
 put_so false true m a = cc
 put_so false false m a = refl
 
-unless : (b c : Bool) → (b ≡ true → c ≡ true) → c ≡ false → b ≡ false
+pub unless : (b c : Bool) → (b ≡ true → c ≡ true) → c ≡ false → b ≡ false
 unless true c more none = let is = more refl in cc
 unless false c more none = refl
 
@@ -81,7 +76,7 @@ kept_by past call none =
       idle = unless (is_acting past) (is_acting (after past call)) (stays_acting past call (deed_of past call) none);
     }
 
-taken_epoch : (past : Past) (call : Call) (u : Duty) → taken_up (deed_of past call) ≡ Some u → epoch_now (after past call) ≡ u.epoch
+pub taken_epoch : (past : Past) (call : Call) (u : Duty) → taken_up (deed_of past call) ≡ Some u → epoch_now (after past call) ≡ u.epoch
 taken_epoch past call u takes = ap (λ o. of_some (of_some (option_map Some o) (duty_now past) (λ told. told)) 0 (λ (v : Duty). v.epoch)) takes
 
 -- a device that is up, with its past
@@ -181,7 +176,7 @@ module _ (setting : Setting) (fair : IsFair setting) (b n : ℕ) (positive : 1 �
         epoch_here = eqb-true (epoch_now now_past) n (sym (ap (λ o. same_number o n) (epoch_is setting (e ∷ history) b now_past up_now there_now)) ∙ sym (ap (same_number (epoch_in (chronicle setting (e ∷ history)) b)) now.number) ∙ now.old)
 
         put_here : (has_moved now_past ≡ false) × (is_acting now_past ≡ false)
-        put_here = put true (has_moved now_past) (is_acting now_past) (sym (primary_is setting (e ∷ history) b now_past up_now there_now) ∙ now.primary)
+        put_here = stands_by true (has_moved now_past) (is_acting now_past) (sym (primary_is setting (e ∷ history) b now_past up_now there_now) ∙ now.primary)
 
         stood : epoch_now then_past ≡ n → has_moved then_past ≡ false → is_acting then_past ≡ false → Stays setting b n history
         stood number unmoved idle =
@@ -357,7 +352,7 @@ next_stood setting then_ fair clean core y past up there n own less low = by (ha
         implied (is_new (chronicle setting then_) y && not (nat_eq y (staged_root setting (chronicle setting then_)))) _ (core.committed.linked y)
         (and_from (is_new (chronicle setting then_) y) (not (nat_eq y (staged_root setting (chronicle setting then_)))) new (ap not apart)) in
         let primary = (and_parts (on_primary (chronicle setting then_) y) _ (and_parts (on_primary (chronicle setting then_) y && of_some (parent_in (chronicle setting then_) y) false (is_new (chronicle setting then_))) _ linked).0).0 in
-        put true (has_moved past) (is_acting past) (sym (primary_is setting then_ y past up there) ∙ primary)
+        stands_by true (has_moved past) (is_acting past) (sym (primary_is setting then_ y past up there) ∙ primary)
 
 module _ (setting : Setting) (history : List Event) (fair : IsFair setting) (clean : IsClean setting history) (each : AtEach (Invariant setting) (chronicle setting history))
     (stays_ : backup_root_stays setting (chronicle setting history) ≡ true) (y : ℕ)

@@ -8,6 +8,7 @@
 //! | `keeps_entering` | so does one with which a device takes up the staged plan (`KeepsEntering` of `sd_safety_frame`) | `Entries` |
 //! | `stood_then` | while an old backup root is on its primary, nobody of its path has moved or acted in the plan in force, at any event so far (`StoodThen` of `sd_safety_frame`) | `Stood` |
 //! | `new_is_member` | a new device is a member of the staged plan | `Members` |
+//! | `last_heard` | a device of a plan that does not act last heard a message of that plan, or was started in its era and heard nothing since | `Hearings` |
 //! | `heard_in_plan` | a device of a plan to come last heard a message of that plan | `Hearings` |
 //! | `went` | an event made a device, called it, or left it alone | `Alive` |
 //!

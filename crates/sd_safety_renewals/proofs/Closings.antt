@@ -1,13 +1,12 @@
 -- A closing keeps the core: what the new era begins with. Its members are up, follow its plan, are sealed, and stand on their primaries, or act as root (C10); nothing failed in
 -- it yet; who is up and no member was left out, and is past; and the devices above the new backup root heard at most H * D before it, since the round that it heard last came
 -- down its path, and nobody of that path has moved in this plan.
-use Rattle.std.specs.Prelude.{◌≡◌, ℕ, ◌+◌, ◌*◌, ◌<◌, ◌≤◌, Bool, true, false, ◌&&◌, ◌||◌, not, List, [], ◌∷◌, length, map, max, nat_eq, nat_le, nat_lt, Option, Some, None, is_some, option_map, refl, if◌then◌else◌}
+use Rattle.std.specs.Prelude.{◌≡◌, ℕ, ◌+◌, ◌*◌, ◌<◌, ◌≤◌, Bool, true, false, ◌&&◌, ◌||◌, not, List, [], ◌∷◌, length, map, max, nat_eq, nat_lt, Option, Some, None, is_some, option_map, refl, if◌then◌else◌}
 use Rattle.std.specs.List.{list_any}
 use Rattle.std.proofs.Common.{arith, ◌∙◌, ap, sym, subst}
-use Rattle.std.proofs.lemmas.Bool.{and_parts, and_from, or_left, or_right, eqb-true, eq-eqb, false_from_ne_true, lt-ltb, ltb-true, le-leb}
+use Rattle.std.proofs.lemmas.Bool.{and_parts, and_from, or_left, or_right, eqb-true, eq-eqb, false_from_ne_true, lt-ltb, le-leb}
 use Rattle.sd_num.specs.Lists.{of_some, same_number, has}
 use Rattle.sd_topo.specs.Network.{greatest_delay}
-use Rattle.sd_topo.specs.declared.Thing.{Thing}
 use Rattle.sd_topo.specs.declared.Thing.TheVariants as thing
 use Rattle.sd_plan.specs.declared.Hop as declared
 use Rattle.sd_plan.specs.declared.Plan.{Plan}
@@ -19,18 +18,18 @@ use Rattle.sd_core.specs.Words.{epoch_now, has_moved, is_acting}
 use Rattle.sd_sched.specs.declared.Event.{Event}
 use Rattle.sd_sched.specs.declared.Event.TheVariants as event
 use Rattle.sd_sched.specs.Events.{joined, is_commit}
-use Rattle.sd_history.specs.World.{Setting, Seen, makes, fails, is_up, was_made, has_ever_failed, is_untouched, link_has_failed, window, has_commit, staged_epoch, is_staged_member, is_counted, joined_in_window, plan_numbered}
-use Rattle.sd_history.specs.Steps.{Answers, Step, seen_of, live_answers, acts_in, parent_in, epoch_in, has_settled}
+use Rattle.sd_history.specs.World.{Setting, Seen, makes, fails, is_up, was_made, has_ever_failed, is_untouched, link_has_failed, window, has_commit, is_staged_member, is_counted, joined_in_window, plan_numbered}
+use Rattle.sd_history.specs.Steps.{Step, seen_of, live_answers, acts_in, parent_in, epoch_in, has_settled}
 use Rattle.sd_history.specs.Chronicle.{past_in, chronicle, next_step}
 use Rattle.sd_history.proofs.Known.{up_is_known}
 use Rattle.sd_safety.specs.Bounds.{depth, delay, tick_gap}
 use Rattle.sd_safety.specs.Eras.{era, plan_now, failed_now, device_failed_now, link_failed_now, is_among, is_old, is_new, is_blank, is_past, belongs, on_primary, hears, heard_at}
-use Rattle.sd_safety.specs.Clauses.{just_closed, is_beginning, was_touched, member_is_up, member_follows, returned_is_joined, outsider_is_past, counted_is_current, blank_is_idle, link_is_sound, above_backup_root, backup_root_stays, shadow_is_short, none_is_new}
+use Rattle.sd_safety.specs.Clauses.{just_closed, is_beginning, was_touched, member_is_up, member_follows, returned_is_joined, outsider_is_past, counted_is_current, blank_is_idle, link_is_sound, above_backup_root, backup_root_stays, shadow_is_short}
 use Rattle.sd_safety.specs.Invariant.{Core, IsClosed, IsUncommitted}
 use Rattle.sd_safety.specs.Silences.{AreSilent}
-use Rattle.sd_safety.specs.Coming.{Comes, IsFair, IsClean}
+use Rattle.sd_safety.specs.Coming.{Comes, IsClean}
 use Rattle.sd_safety.specs.Kept.{KeepsSeal}
-use Rattle.sd_safety.proofs.Empty.{core_before, asks_nothing}
+use Rattle.sd_safety.proofs.Empty.{core_before}
 use Rattle.sd_safety.proofs.Facts.{IsSound, sound_now, turned}
 use Rattle.sd_safety.proofs.Opening.{none_failed, gives, false_from_not, roles_begin, backups_begin, move_begins, takeover_begins, path_begins}
 use Rattle.sd_safety.proofs.Prefix.{clean_before}
@@ -41,14 +40,14 @@ use Rattle.sd_safety_messages.specs.Traces.{Traced}
 use Rattle.sd_safety_messages.proofs.Tails.{tail_trans, tail_chronicle, history_chronicle}
 use Rattle.sd_safety_messages.proofs.Tracing.{accepted_traced}
 use Rattle.sd_history.proofs.Parts.{premises_of}
-use Rattle.sd_safety_silences.proofs.Phases.{era_grows}
+use Rattle.sd_safety_silences.proofs.Phases.{era_grows, chronicles}
 use Rattle.sd_safety_windows.specs.Standing.{HasEntered}
 use Rattle.sd_safety_windows.proofs.Reaching.{uncommitted}
 use Rattle.sd_safety_windows.proofs.Senders.{NewPast, new_past_of}
-use Rattle.sd_safety_windows.proofs.Closing.{epoch_up, commit_is_open, committed, era_is}
-use Rattle.sd_safety_windows.proofs.Committing.{staged_plan, staged_some}
+use Rattle.sd_safety_windows.proofs.Closing.{epoch_up, commit_is_open, committed, era_is, settled_epoch}
+use Rattle.sd_safety_windows.proofs.Committing.{staged_some}
 use Rattle.sd_safety_windows.proofs.Linked.{closing_begins}
-use Rattle.sd_safety_windows.proofs.Sealing.{epoch_sealed, heard_sealed}
+use Rattle.sd_safety_windows.proofs.Sealing.{heard_sealed}
 use Rattle.sd_safety_frame.specs.Frames.{IsAlikeAt}
 use Rattle.sd_safety_frame.specs.Descents.{TakesFromAbove}
 use Rattle.sd_safety_frame.proofs.Core.{committed_none}
@@ -60,7 +59,6 @@ use Rattle.sd_safety_receipts.proofs.Alive.{WasAlive, was_alive, IsOf, events_of
 use Rattle.sd_safety_receipts.proofs.Stood.{history_of, clean_of, each_of, core_of, next_stood}
 use Rattle.sd_safety_receipts.proofs.Members.{new_is_member}
 use Rattle.sd_safety_receipts.proofs.Hearings.{IsHeard, heard_in_plan}
-use Rattle.sd_safety_receipts.proofs.Entries.{next_is_not_this}
 use Rattle.sd_safety_renewals.proofs.LeavesOut.{joined_is_staged}
 
 -- The path of the next backup root, while its plan is staged (C6)
@@ -90,10 +88,6 @@ module _ {setting : Setting} (history : List Event) (e : Event) (comes : Comes s
     where
       less : (a b : ℕ) → a ≤ b → a < b + 1
       less a b le = omega (arith, le)
-
-      chronicles : (s : Setting) (then_ now : List Event) → Tail then_ now → Tail (chronicle s then_) (chronicle s now)
-      chronicles s then_ now whole = whole
-      chronicles s then_ (x ∷ now) (behind t) = behind (chronicles s then_ now t)
 
   module _ (x b : ℕ) (under : is_root (plan_numbered setting (era (chronicle setting history) + 1)) x ≡ false) (among : has (map (λ (h : declared.Hop). h.parent) (walk setting.net (plan_numbered setting (era (chronicle setting history) + 1)) b)) x ≡ true)
       (other : is_root (plan_numbered setting (era (chronicle setting history) + 1)) b ≡ false) (new : is_new (chronicle setting history) b ≡ true) where
@@ -160,10 +154,6 @@ old_is_not_past : (u o n b : Bool) → o ≡ true → not (u && not (o || n || b
 old_is_not_past true true n b old = refl
 old_is_not_past false true n b old = refl
 old_is_not_past u false n b old = cc
-
-settled_epoch : (o : Option Answers) (n : ℕ) → of_some o false (λ a. nat_eq a.epoch n && a.sealed) ≡ true → same_number (option_map (λ a. a.epoch) o) n ≡ true
-settled_epoch None n is = cc
-settled_epoch (Some a) n is = (and_parts (nat_eq a.epoch n) a.sealed is).0
 
 made_if_up : (seen : List Seen) (d : ℕ) → is_up seen d ≡ true → was_made seen d ≡ true
 made_if_up [] d is = cc

@@ -21,11 +21,8 @@ use Rattle.sd_safety_messages.proofs.Newest.{newest_in_time, only_of_distinct}
 use Rattle.sd_safety_messages.proofs.Terms.{terms_distinct, terms_spaced}
 use Rattle.sd_safety_messages.proofs.Flowing.{flows, HeardBy, each_heard}
 use Rattle.sd_safety_silences.proofs.Nexts.{counts_from_one}
+use Rattle.sd_safety_silences.proofs.Feeding.{below_top}
 use Rattle.sd_safety_rounds.specs.Rounds.{IsRound, IsOpenHop, AreOpenHops}
-
-pub below_top : (top q : Moment) → IsIn q (upto top) → when q < when top → IsIn q top.earlier
-below_top top q whole less = absurd (omega (arith, less))
-below_top top q (behind t) less = t
 
 module _ (setting : Setting) (top : Moment) (source epoch : ℕ) (start : Moment) (limit : ℕ) (r : IsRound setting top source epoch start limit) where
   delay_before : delay_holds setting (seen_of top.earlier) ≡ true

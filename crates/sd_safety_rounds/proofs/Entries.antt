@@ -1,26 +1,27 @@
--- While a round of the era's plan is on its way, nobody enters the staged plan: who enters has a message that the root emitted later, and so a period later at
--- least.
+-- While a round of the era's plan is on its way, nobody but who leads enters the staged plan: who enters has a message that the leader emitted later, and so a
+-- period later at least.
 use Rattle.std.specs.Prelude.{◌≡◌, ℕ, ◌+◌, ◌<◌, ◌≤◌, true, false, ◌&&◌, not, List, [], ◌∷◌, nat_eq, Some, is_some}
 use Rattle.std.proofs.Common.{arith, sym, ◌∙◌, ap, subst}
 use Rattle.std.proofs.lemmas.Bool.{and_parts, and_from, eqb-true, false_from_ne_true}
+use Rattle.std.proofs.Math.Nat.{le_antisymm}
 use Rattle.sd_num.specs.Lists.{of_some}
 use Rattle.sd_topo.specs.Network.{least_low}
 use Rattle.sd_msg.specs.declared.Message.{Message}
 use Rattle.sd_core.specs.Calls.{Past}
 use Rattle.sd_core.specs.Words.{after, is_acting, epoch_now}
 use Rattle.sd_sched.specs.declared.Event.{Event}
-use Rattle.sd_history.specs.World.{Setting, has_commit, staged_epoch, plan_numbered}
+use Rattle.sd_history.specs.World.{Setting, has_commit, staged_epoch}
 use Rattle.sd_history.specs.Steps.{Step, seen_of, acts_in, parent_in}
 use Rattle.sd_history.specs.Chronicle.{past_in, chronicle}
 use Rattle.sd_history.proofs.Given.{some_is}
 use Rattle.sd_history.proofs.Parts.{premises_of}
-use Rattle.sd_safety.specs.Eras.{era, plan_now, is_new, on_primary, moved, live_past, root_failed}
+use Rattle.sd_safety.specs.Eras.{era, is_new, on_primary, moved, live_past}
 use Rattle.sd_safety.specs.Clauses.{staged_root}
 use Rattle.sd_safety.specs.Invariant.{Invariant, AtEach}
 use Rattle.sd_safety.specs.Coming.{IsFair, IsClean}
 use Rattle.sd_safety.proofs.Prefix.{clean_before}
 use Rattle.sd_safety.proofs.Sides.{implied}
-use Rattle.sd_safety_messages.specs.Moments.{Tail, IsChronicle, Moment, upto, when, IsIn, Emits}
+use Rattle.sd_safety_messages.specs.Moments.{Tail, behind, IsChronicle, Moment, upto, when, IsIn, Emits}
 use Rattle.sd_safety_messages.specs.Traces.{Traced}
 use Rattle.sd_safety_messages.proofs.Tails.{Order, before as comes_before, same as are_same, after as comes_after, ordered, tail_trans, rest_of, tail_chronicle, history_chronicle, before_is_earlier}
 use Rattle.sd_safety_messages.proofs.Tracing.{accepted_traced}
@@ -39,10 +40,8 @@ use Rattle.sd_safety_receipts.proofs.Stood.{acts_is}
 use Rattle.sd_safety_entering.proofs.Stages.{Stage, stage}
 use Rattle.sd_safety_entering.proofs.Entering.{reached_from}
 use Rattle.sd_safety_entering.proofs.Hears.{idle_by}
-use Rattle.sd_safety_rounds.specs.Spans.{IsSpan}
 use Rattle.sd_safety_rounds.proofs.Places.{InEra}
-use Rattle.sd_safety_rounds.proofs.Olds.{staged_is_root}
-use Rattle.sd_safety_rounds.proofs.Sources.{kept_then, spacing, one_life, emitter}
+use Rattle.sd_safety_rounds.proofs.Leaders.{IsLeader, spacing, one_life, emitter, leader_is_staged}
 
 -- after a moment at which a device is of the plan after the era's, that is the staged one, with a commit
 pub committed_from : (setting : Setting) (history : List Event) → IsFair setting → IsClean setting history → AtEach (Invariant setting) (chronicle setting history) → (q : Moment) → IsIn q (chronicle setting history) → (d : ℕ) (past : Past)
@@ -56,23 +55,16 @@ committed_from setting (x ∷ h) fair clean each q here d past there epoch =
     subst (λ l. epoch_now past ≤ reach l) (sym is) ((within setting (st.e ∷ st.h) st.comes.clean.is).epochs d past (subst (λ l. past_in l d ≡ Some past) is there)) in
     reached_from (has_commit (seen_of (upto q))) (era (upto q)) (era steps) (era_grows (upto q) steps here) (subst (λ n. n ≤ reach (upto q)) epoch le)
 
-meet : (a b : ℕ) → a ≤ b → b ≤ a → a ≡ b
-meet a b one two = omega (arith, one, two)
-
 next_not : (a b : ℕ) → a ≡ b → a ≡ b + 1 → ⊥
 next_not a b same next = omega (arith, same, next)
 
-module _ (setting : Setting) (x : Event) (h : List Event) (e : Event) (s0 : ℕ) (span : IsSpan setting x h e s0) (kept : root_failed setting (chronicle setting (x ∷ h)) ≡ false) (first : Moment) (first_in : IsIn first (chronicle setting (x ∷ h)))
-    (late : s0 < when first) (m : Message) (emits : Emits first (plan_now setting (chronicle setting (x ∷ h))).root m) (old : m.epoch ≡ era (chronicle setting (x ∷ h)))
-    (calm : has_commit (seen_of first.earlier) ≡ true → era first.earlier ≡ era (chronicle setting (x ∷ h)) → ⊥) where
+module _ (setting : Setting) (x : Event) (h : List Event) (e : Event) (s0 a : ℕ) (l : IsLeader setting x h e s0 a) (first : Moment) (first_in : IsIn first (chronicle setting (x ∷ h))) (late : s0 < when first) (m : Message) (emits : Emits first a m)
+    (old : m.epoch ≡ era (chronicle setting (x ∷ h))) (calm : has_commit (seen_of first.earlier) ≡ true → era first.earlier ≡ era (chronicle setting (x ∷ h)) → ⊥) where
   abbrev steps : List Step
   steps = chronicle setting (x ∷ h)
 
-  abbrev root : ℕ
-  root = (plan_now setting (chronicle setting (x ∷ h))).root
-
   clean : IsClean setting (x ∷ h)
-  clean = clean_before setting e (x ∷ h) span.comes.clean
+  clean = clean_before setting e (x ∷ h) l.span.comes.clean
 
   steps_is : IsChronicle setting (chronicle setting (x ∷ h))
   steps_is = history_chronicle setting (x ∷ h) clean.is
@@ -88,21 +80,21 @@ module _ (setting : Setting) (x : Event) (h : List Event) (e : Event) (s0 : ℕ)
       number = sym (sends_own two.sends.past two.sends.call n two.sends.effect).1 ∙ next
 
       far : (has_commit (seen_of (upto p)) ≡ true) × (era steps ≤ era (upto p))
-      far = committed_from setting (x ∷ h) span.comes.fair clean span.comes.before p p_in y (after two.sends.past two.sends.call) there number
+      far = committed_from setting (x ∷ h) l.span.comes.fair clean l.span.comes.before p p_in y (after two.sends.past two.sends.call) there number
 
       by_order : Order first p → when first + least_low setting.net setting.net.params.period ≤ when p
       by_order (comes_before t) =
           let goes : when first ≤ when p = before_is_earlier setting first p (tail_chronicle setting p_in steps_is) t in
-          let by_root : y ≡ root = emitter setting x h e s0 span kept p p_in (omega (arith, late, goes)) y n two in
-          let two' : Emits p root n = subst (λ z. Emits p z n) by_root two in
-          let life = one_life setting x h e s0 span kept first p late p_in in
-          spacing setting x h e s0 span kept first p first_in p_in t root m n emits two' life (sym (rounds_apart first p root m n emits two' t life).0)
+          let by_leader : y ≡ a = emitter setting x h e s0 a l p p_in (omega (arith, late, goes)) y n two in
+          let two' : Emits p a n = subst (λ z. Emits p z n) by_leader two in
+          let life = one_life setting x h e s0 a l first p late p_in in
+          spacing setting x h e s0 a l first p first_in p_in t a m n emits two' life (sym (rounds_apart first p a m n emits two' t life).0)
       by_order (are_same equal) =
           let times : when first ≡ when p = ap when_first equal in
-          let by_root : y ≡ root = emitter setting x h e s0 span kept p p_in (omega (arith, late, times)) y n two in
+          let by_leader : y ≡ a = emitter setting x h e s0 a l p p_in (omega (arith, late, times)) y n two in
           let s = emits.sends in
-          let here : past_in (upto first) root ≡ Some (after s.past s.call) = past_after_call first root s.call s.past s.act s.there in
-          let there' : past_in (upto first) root ≡ Some (after two.sends.past two.sends.call) = subst (λ l. past_in l root ≡ Some (after two.sends.past two.sends.call)) (sym equal) (subst (λ z. past_in (upto p) z ≡ Some (after two.sends.past two.sends.call)) by_root there) in
+          let here : past_in (upto first) a ≡ Some (after s.past s.call) = past_after_call first a s.call s.past s.act s.there in
+          let there' : past_in (upto first) a ≡ Some (after two.sends.past two.sends.call) = subst (λ older. past_in older a ≡ Some (after two.sends.past two.sends.call)) (sym equal) (subst (λ z. past_in (upto p) z ≡ Some (after two.sends.past two.sends.call)) by_leader there) in
           absurd (next_not (epoch_now (after s.past s.call)) (era steps) (sym (sends_own s.past s.call m s.effect).1 ∙ old) (ap epoch_now (some_is (sym here ∙ there')) ∙ number))
         where
           when_first : List Step → ℕ
@@ -113,12 +105,12 @@ module _ (setting : Setting) (x : Event) (h : List Event) (e : Event) (s0 : ℕ)
           let two_ : era first.earlier ≤ era steps = era_grows first.earlier steps (rest_of first_in) in
           let least = far.1 in
           let had : has_commit (seen_of first.earlier) ≡ true = commit_stays setting (upto p) first.earlier t (tail_chronicle setting (rest_of first_in) steps_is) (omega (arith, two_, least)) far.0 in
-          absurd (calm had (meet (era first.earlier) (era steps) two_ (omega (arith, one, least))))
+          absurd (calm had (le_antisymm two_ (omega (arith, one, least))))
 
-  -- so before that no device but the root is new
-  pub none_enters : (q : Moment) → IsIn q (chronicle setting (x ∷ h)) → when q < when first + least_low setting.net setting.net.params.period → (k : InEra setting (chronicle setting (x ∷ h)) q) → (y : ℕ) → (y ≡ (plan_now setting (chronicle setting (x ∷ h))).root → ⊥)
+  -- so before that no device but the leader is new
+  pub none_enters : (q : Moment) → IsIn q (chronicle setting (x ∷ h)) → s0 < when q → when q < when first + least_low setting.net setting.net.params.period → (k : InEra setting (chronicle setting (x ∷ h)) q) → (y : ℕ) → (y ≡ a → ⊥)
       → is_new (chronicle setting (k.x ∷ k.h)) y ≡ false
-  none_enters q q_in soon k y other = false_from_ne_true (is_new older y) never
+  none_enters q q_in since soon k y other = false_from_ne_true (is_new older y) never
     where
       older : List Step
       older = chronicle setting (k.x ∷ k.h)
@@ -133,8 +125,9 @@ module _ (setting : Setting) (x : Event) (h : List Event) (e : Event) (s0 : ℕ)
       never new =
           let own : NewPast older y = new_past_of setting (k.x ∷ k.h) y new in
           let commit : has_commit (seen_of older) ≡ true = reached (has_commit (seen_of older)) (era older) (epoch_within setting (k.x ∷ k.h) k_clean.is y (staged_epoch (seen_of older)) new) in
-          let is_root : staged_root setting older ≡ root = staged_is_root setting k.x k.h k.e k.comes k.late (kept_then setting x h e s0 span kept q k) commit ∙ ap (λ n. (plan_numbered setting n).root) k.same in
-          let apart : nat_eq y (staged_root setting older) ≡ false = false_from_ne_true (nat_eq y (staged_root setting older)) (λ same. other (eqb-true y (staged_root setting older) same ∙ is_root)) in
+          let leads : staged_root setting older ≡ a =
+          subst (λ (p : Moment). has_commit (seen_of p.earlier) ≡ true → staged_root setting p.earlier ≡ a) k.is (leader_is_staged setting x h e s0 a l q (behind q_in) since) commit in
+          let apart : nat_eq y (staged_root setting older) ≡ false = false_from_ne_true (nat_eq y (staged_root setting older)) (λ same. other (eqb-true y (staged_root setting older) same ∙ leads)) in
           let inv : Invariant setting older = now setting k.x k.h k.e k.comes in
           let linked = implied (is_new older y && not (nat_eq y (staged_root setting older))) _ (inv.core.committed.linked y) (and_from (is_new older y) (not (nat_eq y (staged_root setting older))) new (ap not apart)) in
           let primary = (and_parts (on_primary older y) _ (and_parts (on_primary older y && of_some (parent_in older y) false (is_new older)) _ linked).0).0 in

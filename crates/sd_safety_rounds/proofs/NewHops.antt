@@ -2,6 +2,7 @@
 use Rattle.std.specs.Prelude.{◌≡◌, ℕ, ◌+◌, ◌<◌, ◌≤◌, true, false, List, [], ◌∷◌, length, refl, ◌⊎◌}
 use Rattle.std.proofs.Common.{arith, sym, ap, subst, inr}
 use Rattle.std.proofs.lemmas.Bool.{eqb-true, eq-eqb}
+use Rattle.std.proofs.Math.Nat.{le_antisymm}
 use Rattle.sd_topo.specs.declared.Thing.TheVariants as thing
 use Rattle.sd_plan.specs.declared.Hop.{Hop}
 use Rattle.sd_plan.specs.declared.Plan.{Plan}
@@ -54,10 +55,7 @@ module _ (setting : Setting) (history : List Event) (e : Event) (comes : Comes s
   committed_at older t u =
       let one : era first.earlier ≤ era older = era_grows first.earlier older t in
       let two : era older ≤ era steps = era_grows older steps u in
-      (commit_stays setting first.earlier older t (tail_chronicle setting u is_chronicle) (omega (arith, two, same)) commit, meet (era older) (era steps) two (omega (arith, one, same)))
-    where
-      meet : (a b : ℕ) → a ≤ b → b ≤ a → a ≡ b
-      meet a b one two = omega (arith, one, two)
+      (commit_stays setting first.earlier older t (tail_chronicle setting u is_chronicle) (omega (arith, two, same)) commit, le_antisymm two (omega (arith, one, same)))
 
   pub committed_now : has_commit (seen_of (chronicle setting history)) ≡ true
   committed_now = (committed_at steps (rest_of here) whole).0

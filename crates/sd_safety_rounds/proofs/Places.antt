@@ -1,16 +1,18 @@
 -- A moment of a span is an event that comes with the invariant: of the era, or of the window before it, after its commit.
-use Rattle.std.specs.Prelude.{◌≡◌, ℕ, ◌+◌, ◌<◌, Bool, true, false, List, [], ◌∷◌, nat_eq, refl, ◌⊎◌}
+use Rattle.std.specs.Prelude.{◌≡◌, ℕ, ◌+◌, ◌<◌, Bool, true, false, List, [], ◌∷◌, nat_eq, Some, refl, ◌⊎◌}
 use Rattle.std.proofs.Common.{arith, sym, ◌∙◌, ap, subst, inl, inr}
 use Rattle.std.proofs.lemmas.Bool.{eqb-true}
+use Rattle.sd_core.specs.Calls.{Past}
 use Rattle.sd_sched.specs.declared.Event.{Event}
 use Rattle.sd_sched.specs.Events.{reference_of}
-use Rattle.sd_history.specs.World.{Setting, has_commit}
+use Rattle.sd_history.specs.World.{Setting, is_up, has_commit, link_has_failed}
 use Rattle.sd_history.specs.Steps.{Step, seen_of}
-use Rattle.sd_history.specs.Chronicle.{chronicle}
+use Rattle.sd_history.specs.Chronicle.{past_in, chronicle}
 use Rattle.sd_safety.specs.Eras.{era, beginning}
 use Rattle.sd_safety.specs.Coming.{Comes}
 use Rattle.sd_safety.proofs.Sides.{not_both}
 use Rattle.sd_safety_messages.specs.Moments.{Tail, Moment, when, IsIn}
+use Rattle.sd_safety_messages.specs.Rounds.{IsReady}
 use Rattle.sd_safety_messages.proofs.Flowing.{tail_rest}
 use Rattle.sd_safety_waits.proofs.Standing.{Early}
 use Rattle.sd_safety_silences.proofs.Phases as phases
@@ -103,3 +105,16 @@ module _ (setting : Setting) (x : Event) (h : List Event) (e : Event) (s0 : ℕ)
             commit = subst (λ (p : Moment). has_commit (seen_of p.earlier) ≡ true) st.is commit;
             same = subst (λ (p : Moment). era p.earlier + 1 ≡ era steps) st.is same;
           })
+
+  -- where the moment is known to be of the era
+  pub of_era : (q : Moment) → IsIn q (chronicle setting (e ∷ x ∷ h)) → s0 < when q → era q.earlier ≡ era (chronicle setting (x ∷ h)) → InEra setting (chronicle setting (x ∷ h)) q
+  of_era q here after same = in_this q here after same (nat_eq (era steps) 1) refl
+
+-- what is told of the event of such a moment, of the moment
+module _ (setting : Setting) (steps : List Step) (q : Moment) (k : InEra setting steps q) (y link : ℕ) where
+  pub whole_then : link_has_failed (seen_of (chronicle setting (k.x ∷ k.h))) link ≡ false → is_up (seen_of (chronicle setting (k.x ∷ k.h))) y ≡ true → (link_has_failed (seen_of q.earlier) link ≡ false) × (is_up (seen_of q.earlier) y ≡ true)
+  whole_then fine up = subst (λ (p : Moment). (link_has_failed (seen_of p.earlier) link ≡ false) × (is_up (seen_of p.earlier) y ≡ true)) (sym k.is) (fine, up)
+
+  pub ready_then : ((past : Past) → past_in (chronicle setting (k.x ∷ k.h)) y ≡ Some past → IsReady past (era (chronicle setting (k.x ∷ k.h))) link) → (past : Past) → past_in q.earlier y ≡ Some past → IsReady past (era steps) link
+  ready_then ready =
+      subst (λ (p : Moment). (past : Past) → past_in p.earlier y ≡ Some past → IsReady past (era steps) link) (sym k.is) (λ past there. subst (λ n. IsReady past n link) k.same (ready past there))

@@ -1,9 +1,9 @@
--- Over a span in which the root did not fail, an old device to which an open way leads and which heard nothing later than s0 has its next event by
--- s0 + A + n * D: of K + 1 rounds one is clean. One of the era's plan comes along the old way; and by one of the staged plan the device would be new.
+-- Over a span of a leader, an old device to which an open way leads and which heard nothing later than s0 has its next event by s0 + A + n * D: of K + 1 rounds
+-- one is clean. One of the era's plan comes along the old way; and by one of the staged plan the device would be new.
 use Rattle.std.specs.Prelude.{◌≡◌, ℕ, zero, suc, ◌+◌, ◌*◌, ◌<◌, ◌≤◌, true, false, List, ◌∷◌, length, ◌⊎◌}
 use Rattle.std.proofs.Common.{arith, sym, ◌∙◌, subst, inl, inr}
 use Rattle.std.proofs.lemmas.Bool.{cases_lt}
-use Rattle.std.proofs.Math.Nat.{mul-le-mul_right}
+use Rattle.std.proofs.Math.Nat.{mul-le-mul_right, le_trans}
 use Rattle.sd_topo.specs.Network.{greatest_delay}
 use Rattle.sd_plan.specs.declared.End.{End}
 use Rattle.sd_plan.specs.Plans.{is_member, is_root}
@@ -13,23 +13,23 @@ use Rattle.sd_check_root.specs.Timing.{round_gap}
 use Rattle.sd_sched.specs.declared.Event.{Event}
 use Rattle.sd_sched.specs.Events.{reference_of}
 use Rattle.sd_history.specs.World.{Setting, has_commit, epoch_in_force, staged_epoch, window_is_open}
-use Rattle.sd_history.specs.Steps.{Step, seen_of, epoch_in}
+use Rattle.sd_history.specs.Steps.{Step, seen_of}
 use Rattle.sd_history.specs.Chronicle.{chronicle}
 use Rattle.sd_history.proofs.Among.{Among}
 use Rattle.sd_history.proofs.Parts.{AllHold, premises_of}
 use Rattle.sd_safety.specs.Bounds.{depth, delay, rounds_gap}
-use Rattle.sd_safety.specs.Eras.{era, plan_now, is_old, is_new, root_failed, heard_at}
+use Rattle.sd_safety.specs.Eras.{era, is_old, heard_at}
 use Rattle.sd_safety.specs.Coming.{IsClean}
 use Rattle.sd_safety.proofs.Prefix.{clean_before}
-use Rattle.sd_safety.proofs.Sides.{same_is_some}
-use Rattle.sd_safety_messages.specs.Moments.{behind, IsChronicle, Moment, upto, when, IsIn, Emits}
+use Rattle.sd_safety_messages.specs.Moments.{whole, behind, IsChronicle, Moment, upto, when, IsIn, Emits}
 use Rattle.sd_safety_messages.specs.Rounds.{is_spoiled, Hears}
 use Rattle.sd_safety_messages.proofs.Tails.{tail_chronicle, history_chronicle, before_is_earlier}
 use Rattle.sd_safety_messages.proofs.Cleans.{Clean, one_is_clean}
 use Rattle.sd_safety_messages.proofs.Flowing.{HeardBy}
-use Rattle.sd_safety_timers.proofs.Marks.{some_is}
 use Rattle.sd_safety_silences.specs.Feeds.{IsFed}
+use Rattle.sd_safety_silences.proofs.Feeding.{below_top}
 use Rattle.sd_safety_silences.proofs.Hearing.{fed_heard}
+use Rattle.sd_safety_silences.proofs.States.{not_old_and_new}
 use Rattle.sd_safety_silences.proofs.Supply.{start, IsRound as IsSent, round_is}
 use Rattle.sd_safety_silences.proofs.Rounds.{Sent, first_sent, each_sent}
 use Rattle.sd_safety_silences.proofs.Sounding.{top_of}
@@ -38,11 +38,10 @@ use Rattle.sd_safety_terms.proofs.Terms.{IsTermed, termed}
 use Rattle.sd_safety_entering.proofs.States as states
 use Rattle.sd_safety_entering.proofs.Entering.{hearer_new}
 use Rattle.sd_safety_rounds.specs.Rounds.{IsRound, AreOpenHops}
-use Rattle.sd_safety_rounds.specs.Spans.{IsSpan}
-use Rattle.sd_safety_rounds.proofs.Along.{below_top, heard_along}
+use Rattle.sd_safety_rounds.proofs.Along.{heard_along}
 use Rattle.sd_safety_rounds.proofs.Places.{InEra, InWindow, place}
-use Rattle.sd_safety_rounds.proofs.Sources.{root_source, spacing, rule, newest, root_epoch, staged_is}
-use Rattle.sd_safety_rounds.proofs.Hops.{IsOldRound, since_first}
+use Rattle.sd_safety_rounds.proofs.Leaders.{IsLeader, source, spacing, rule, newest, lead_epoch, leader_is_staged}
+use Rattle.sd_safety_rounds.proofs.Hops.{IsOldRoundOf, since_first}
 use Rattle.sd_safety_rounds.proofs.NewHops.{committed_now, new_current, NewWay, new_way}
 
 -- sums
@@ -52,49 +51,39 @@ round_by s0 i k p m w le less = let part : suc i * p ≤ (k + 1) * p = mul-le-mu
 first_by : (s0 k p m w : ℕ) → s0 + (k + 1) * p + m < w → s0 + suc zero * p < w
 first_by s0 k p m w less = let all : s0 + suc zero * p + m < w = round_by s0 zero k p m w (omega arith) less in omega (arith, all)
 
--- no device is old and new
-pub not_old_and_new : (steps : List Step) (d : ℕ) → is_old steps d ≡ true → is_new steps d ≡ true → ⊥
-not_old_and_new steps d old new = apart (era steps) (some_is (sym (same_is_some (epoch_in steps d) (era steps) old) ∙ same_is_some (epoch_in steps d) (era steps + 1) new))
-  where
-    apart : (n : ℕ) → n ≡ n + 1 → ⊥
-    apart n same = omega (arith, same)
+-- an old device that heard nothing later than s0, and is after a commit a member of the staged plan other than its root
+pub record IsSilent (setting : Setting) (x : Event) (h : List Event) (s0 d : ℕ) : Type 0 where
+  pub old : is_old (chronicle setting (x ∷ h)) d ≡ true
+  pub heard : heard_at (chronicle setting (x ∷ h)) d ≤ s0
+  pub staged : has_commit (seen_of (chronicle setting (x ∷ h))) ≡ true
+      → (d < length setting.net.devices) × (is_member (staged_plan setting (chronicle setting (x ∷ h))) d ≡ true) × (is_root (staged_plan setting (chronicle setting (x ∷ h))) d ≡ false)
 
-module _ (setting : Setting) (x : Event) (h : List Event) (e : Event) (s0 : ℕ) (span : IsSpan setting x h e s0) (kept : root_failed setting (chronicle setting (x ∷ h)) ≡ false) where
+module _ (setting : Setting) (x : Event) (h : List Event) (e : Event) (s0 a : ℕ) (l : IsLeader setting x h e s0 a) where
   abbrev steps : List Step
   steps = chronicle setting (x ∷ h)
-
-  abbrev root : ℕ
-  root = (plan_now setting (chronicle setting (x ∷ h))).root
 
   abbrev top : Moment
   top = top_of setting (x ∷ h) e
 
-  -- an old device that heard nothing later than s0, and is after a commit a member of the staged plan other than its root
-  pub record IsSilent (d : ℕ) : Type 0 where
-    pub old : is_old (chronicle setting (x ∷ h)) d ≡ true
-    pub heard : heard_at (chronicle setting (x ∷ h)) d ≤ s0
-    pub staged : has_commit (seen_of (chronicle setting (x ∷ h))) ≡ true
-        → (d < length setting.net.devices) × (is_member (staged_plan setting (chronicle setting (x ∷ h))) d ≡ true) × (is_root (staged_plan setting (chronicle setting (x ∷ h))) d ≡ false)
-
-  -- a way from the root to it, open to each round of the era's plan
+  -- a way from the leader to it, open to each round of the era's plan
   pub record OldWay (d n : ℕ) : Type 0 where
     pub way : List End
     pub last : End
     pub among : Among last way
     pub device : last.device ≡ d
     pub short : length way ≤ n
-    pub hops : (first : Moment) → IsOldRound setting x h s0 first → (limit : ℕ) → limit ≤ when first + 2 * (setting.net.params.depth + 1) * greatest_delay setting.net
-        → AreOpenHops setting (top_of setting (x ∷ h) e) (era (chronicle setting (x ∷ h))) first limit (plan_now setting (chronicle setting (x ∷ h))).root (plan_now setting (chronicle setting (x ∷ h))).root way
+    pub hops : (first : Moment) → IsOldRoundOf setting x h s0 a first → (limit : ℕ) → limit ≤ when first + 2 * (setting.net.params.depth + 1) * greatest_delay setting.net
+        → AreOpenHops setting (top_of setting (x ∷ h) e) (era (chronicle setting (x ∷ h))) first limit a a way
 
   clean : IsClean setting (x ∷ h)
-  clean = clean_before setting e (x ∷ h) span.comes.clean
+  clean = clean_before setting e (x ∷ h) l.span.comes.clean
 
   all_chronicle : IsChronicle setting (chronicle setting (e ∷ x ∷ h))
-  all_chronicle = history_chronicle setting (e ∷ x ∷ h) span.comes.clean.is
+  all_chronicle = history_chronicle setting (e ∷ x ∷ h) l.span.comes.clean.is
 
-  module _ (d n : ℕ) (silent : IsSilent d) (old_way : OldWay d n) (least : depth setting.net ≤ n) (most : n ≤ 2 * (setting.net.params.depth + 1)) where
+  module _ (d n : ℕ) (silent : IsSilent setting x h s0 d) (old_way : OldWay d n) (least : depth setting.net ≤ n) (most : n ≤ 2 * (setting.net.params.depth + 1)) where
     -- one clean round, with a limit before the event
-    module _ (first : Moment) (here : IsIn first (chronicle setting (x ∷ h))) (late : s0 < when first) (m : Message) (emits : Emits first (plan_now setting (chronicle setting (x ∷ h))).root m)
+    module _ (first : Moment) (here : IsIn first (chronicle setting (x ∷ h))) (late : s0 < when first) (m : Message) (emits : Emits first a m)
         (fresh : is_spoiled (seen_of (chronicle setting (e ∷ x ∷ h))) m.stamp.term m.stamp.round ≡ false) (before : when first + n * greatest_delay setting.net < reference_of e) where
       abbrev limit : ℕ
       limit = when first + n * greatest_delay setting.net
@@ -104,17 +93,17 @@ module _ (setting : Setting) (x : Event) (h : List Event) (e : Event) (s0 : ℕ)
 
       round_of : (epoch : ℕ) → m.epoch ≡ epoch
           → ((q : Moment) → IsIn q (chronicle setting (x ∷ h)) → IsIn first (upto q) → (epoch ≡ epoch_in_force (seen_of q.earlier)) ⊎ (epoch ≡ staged_epoch (seen_of q.earlier)) × (window_is_open (seen_of q.earlier) ≡ true))
-          → IsRound setting top root epoch first limit
+          → IsRound setting top a epoch first limit
       round_of epoch epoch_is current =
-          let premises : AllHold setting (seen_of (chronicle setting (e ∷ x ∷ h))) = premises_of setting (seen_of (chronicle setting (e ∷ x ∷ h))) span.comes.clean.premises in
-          let terms : IsTermed setting steps = termed setting (x ∷ h) span.comes.fair clean span.comes.before in
+          let premises : AllHold setting (seen_of (chronicle setting (e ∷ x ∷ h))) = premises_of setting (seen_of (chronicle setting (e ∷ x ∷ h))) l.span.comes.clean.premises in
+          let terms : IsTermed setting steps = termed setting (x ∷ h) l.span.comes.fair clean l.span.comes.before in
           record {
             chronicle_ = all_chronicle;
             delay = premises.delay;
             renew = premises.renew;
             life = terms.life;
-            spacing = spacing setting x h e s0 span kept;
-            rule = rule setting x h e s0 span kept;
+            spacing = spacing setting x h e s0 a l;
+            rule = rule setting x h e s0 a l;
             here = here;
             message = m;
             emits = emits;
@@ -122,7 +111,7 @@ module _ (setting : Setting) (x : Event) (h : List Event) (e : Event) (s0 : ℕ)
             clean = fresh;
             before = before;
             soon = soon;
-            newest = λ q q_in y n' two own. newest setting x h e s0 span kept first here late m emits q q_in y n' two;
+            newest = λ q q_in y n' two own. newest setting x h e s0 a l first here late m emits q q_in y n' two;
             current = λ q q_in started by. current q q_in started;
           }
 
@@ -143,7 +132,7 @@ module _ (setting : Setting) (x : Event) (h : List Event) (e : Event) (s0 : ℕ)
 
       in_force : (q : Moment) → IsIn q (chronicle setting (x ∷ h)) → IsIn first (upto q)
           → (era (chronicle setting (x ∷ h)) ≡ epoch_in_force (seen_of q.earlier)) ⊎ (era (chronicle setting (x ∷ h)) ≡ staged_epoch (seen_of q.earlier)) × (window_is_open (seen_of q.earlier) ≡ true)
-      in_force q q_in started = by (place setting x h e s0 span q (behind q_in) (since_first setting x h e s0 span kept first late q (behind q_in) started))
+      in_force q q_in started = by (place setting x h e s0 l.span q (behind q_in) (since_first setting x h e s0 l.span first late q (behind q_in) started))
         where
           by : InEra setting (chronicle setting (x ∷ h)) q ⊎ InWindow setting (chronicle setting (x ∷ h)) q → (era steps ≡ epoch_in_force (seen_of q.earlier)) ⊎ (era steps ≡ staged_epoch (seen_of q.earlier)) × (window_is_open (seen_of q.earlier) ≡ true)
           by (inl k) = inl (subst (λ (p : Moment). era steps ≡ epoch_in_force (seen_of p.earlier)) (sym k.is) (sym k.same))
@@ -157,10 +146,10 @@ module _ (setting : Setting) (x : Event) (h : List Event) (e : Event) (s0 : ℕ)
       unfolding round_of
       by_old epoch calm =
           let w = old_way in
-          let round : IsOldRound setting x h s0 first = record { here = here; late = late; message = m; emits = emits; epoch = epoch; calm = calm } in
+          let round : IsOldRoundOf setting x h s0 a first = record { here = here; late = late; message = m; emits = emits; epoch = epoch; calm = calm } in
           let part : length w.way * greatest_delay setting.net ≤ n * greatest_delay setting.net = mul-le-mul_right (greatest_delay setting.net) w.short in
           let by : HeardBy (upto top) m.stamp (era steps) first (when first + length w.way * greatest_delay setting.net) w.last.device =
-          heard_along setting top root (era steps) first limit (round_of (era steps) epoch in_force) w.way w.last w.among (omega (arith, part)) (w.hops first round limit soon) in
+          heard_along setting top a (era steps) first limit (round_of (era steps) epoch in_force) w.way w.last w.among (omega (arith, part)) (w.hops first round limit soon) in
           let after_ : s0 < heard_at steps d = fed_heard setting top s0 (era steps) d all_chronicle (heard_in_time (era steps) (length w.way) w.last w.short w.device by) in
           let heard = silent.heard in
           absurd (omega (arith, after_, heard))
@@ -168,23 +157,20 @@ module _ (setting : Setting) (x : Event) (h : List Event) (e : Event) (s0 : ℕ)
       by_new : m.epoch ≡ era (chronicle setting (x ∷ h)) + 1 → era first.earlier ≡ era (chronicle setting (x ∷ h)) → has_commit (seen_of first.earlier) ≡ true → ⊥
       unfolding round_of
       by_new epoch same commit =
-          let now : has_commit (seen_of steps) ≡ true = committed_now setting (x ∷ h) e span.comes first here same commit in
+          let now : has_commit (seen_of steps) ≡ true = committed_now setting (x ∷ h) e l.span.comes first here same commit in
           let member = silent.staged now in
-          let w : NewWay setting (x ∷ h) e span.comes first here same commit limit d = new_way setting (x ∷ h) e span.comes first here same commit limit d member.0 member.1 member.2 in
-          let by_root : root ≡ (staged_plan setting steps).root = sym (staged_is setting x h e s0 span kept now) ∙ states.root_is setting (x ∷ h) e span.comes now in
-          let hops : AreOpenHops setting top (era steps + 1) first limit root root w.way = subst (λ z. AreOpenHops setting top (era steps + 1) first limit z z w.way) (sym by_root) w.hops in
-          let short : length w.way ≤ n = trans_le (length w.way) (depth setting.net) n w.short least in
+          let w : NewWay setting (x ∷ h) e l.span.comes first here same commit limit d = new_way setting (x ∷ h) e l.span.comes first here same commit limit d member.0 member.1 member.2 in
+          let by_root : a ≡ (staged_plan setting steps).root = sym (leader_is_staged setting x h e s0 a l top whole (omega (arith, late, before)) now) ∙ states.root_is setting (x ∷ h) e l.span.comes now in
+          let hops : AreOpenHops setting top (era steps + 1) first limit a a w.way = subst (λ z. AreOpenHops setting top (era steps + 1) first limit z z w.way) (sym by_root) w.hops in
+          let short : length w.way ≤ n = le_trans w.short least in
           let part : length w.way * greatest_delay setting.net ≤ n * greatest_delay setting.net = mul-le-mul_right (greatest_delay setting.net) short in
           let by : HeardBy (upto top) m.stamp (era steps + 1) first (when first + length w.way * greatest_delay setting.net) w.last.device =
-          heard_along setting top root (era steps + 1) first limit (round_of (era steps + 1) epoch (new_current setting (x ∷ h) e span.comes first here same commit)) w.way w.last w.among (omega (arith, part)) hops in
+          heard_along setting top a (era steps + 1) first limit (round_of (era steps + 1) epoch (new_current setting (x ∷ h) e l.span.comes first here same commit)) w.way w.last w.among (omega (arith, part)) hops in
           let fed : IsFed top s0 (era steps + 1) d = heard_in_time (era steps + 1) (length w.way) w.last short w.device by in
-          not_old_and_new steps d silent.old (hearer_new setting (x ∷ h) span.comes.fair clean span.comes.before fed.moment fed.is_in fed.stamp d fed.link fed.hears)
-        where
-          trans_le : (a b c : ℕ) → a ≤ b → b ≤ c → a ≤ c
-          trans_le a b c one two = omega (arith, one, two)
+          not_old_and_new steps d silent.old (hearer_new setting (x ∷ h) l.span.comes.fair clean l.span.comes.before fed.moment fed.is_in fed.stamp d fed.link fed.hears)
 
       never : ⊥
-      never = by (root_epoch setting x h e s0 span kept first here late m emits)
+      never = by (lead_epoch setting x h e s0 a l first here late m emits)
         where
           by : ((m.epoch ≡ era steps) × (has_commit (seen_of first.earlier) ≡ true → era first.earlier ≡ era steps → ⊥)) ⊎ ((m.epoch ≡ era steps + 1) × (era first.earlier ≡ era steps) × (has_commit (seen_of first.earlier) ≡ true)) → ⊥
           by (inl old) = by_old old.0 old.1
@@ -192,23 +178,23 @@ module _ (setting : Setting) (x : Event) (h : List Event) (e : Event) (s0 : ℕ)
 
     too_late : s0 + rounds_gap setting.net + n * greatest_delay setting.net < reference_of e → ⊥
     too_late less =
-        let src = root_source setting x h e s0 span kept in
-        let apart = spacing setting x h e s0 span kept in
-        let rule_ = rule setting x h e s0 span kept in
+        let src = source setting x h e s0 a l in
+        let apart = spacing setting x h e s0 a l in
+        let rule_ = rule setting x h e s0 a l in
         let gap = round_gap setting.net in
         let last = n * greatest_delay setting.net in
-        let premises : AllHold setting (seen_of (chronicle setting (e ∷ x ∷ h))) = premises_of setting (seen_of (chronicle setting (e ∷ x ∷ h))) span.comes.clean.premises in
-        let one = first_sent setting top root s0 src apart rule_ (first_by s0 setting.net.params.loss gap last (reference_of e) less) in
+        let premises : AllHold setting (seen_of (chronicle setting (e ∷ x ∷ h))) = premises_of setting (seen_of (chronicle setting (e ∷ x ∷ h))) l.span.comes.clean.premises in
+        let one = first_sent setting top a s0 src apart rule_ (first_by s0 setting.net.params.loss gap last (reference_of e) less) in
         let fresh : Clean setting (seen_of (upto top)) one.0.stamp.term one.0.stamp.round = one_is_clean setting (seen_of (upto top)) one.0.stamp.term one.0.stamp.round premises.loss in
         let i = fresh.place in
         let all : s0 + suc i * gap + last < reference_of e = round_by s0 i setting.net.params.loss gap last (reference_of e) fresh.within less in
         let less_i : s0 + suc i * gap < reference_of e = omega (arith, all) in
-        let r : IsSent setting top root s0 src i = round_is setting top root s0 src i less_i in
-        let s : Sent setting top root s0 src apart rule_ one.0.stamp.term one.0.stamp.round i = each_sent setting top root s0 src apart rule_ one.0 one.1 i less_i in
+        let r : IsSent setting top a s0 src i = round_is setting top a s0 src i less_i in
+        let s : Sent setting top a s0 src apart rule_ one.0.stamp.term one.0.stamp.round i = each_sent setting top a s0 src apart rule_ one.0 one.1 i less_i in
         let by = r.by in
         let after = r.is.after in
         let since = r.late in
-        never (start setting top root s0 src i) r.is.is_in (omega (arith, after, since)) s.message s.emits
+        never (start setting top a s0 src i) r.is.is_in (omega (arith, after, since)) s.message s.emits
         (subst (λ (t : Stamp). is_spoiled (seen_of (upto top)) t.term t.round ≡ false) (sym s.carries) fresh.clean) (omega (arith, by, all))
 
     pub silent_by : reference_of e ≤ s0 + rounds_gap setting.net + n * delay setting.net

@@ -10,8 +10,8 @@ use Rattle.sd_plan.specs.declared.Duty.{Duty}
 use Rattle.sd_plan.specs.declared.Plan.{Plan}
 use Rattle.sd_plan.specs.Plans.{is_member, is_root, is_backup_root}
 use Rattle.sd_msg.specs.declared.Message.{Message}
-use Rattle.sd_core.specs.Calls.{Call, Tick, Past}
-use Rattle.sd_core.specs.Words.{deed_of, after, is_acting, epoch_now}
+use Rattle.sd_core.specs.Calls.{Tick, Past}
+use Rattle.sd_core.specs.Words.{after, is_acting, epoch_now}
 use Rattle.sd_sched.specs.declared.Event.{Event}
 use Rattle.sd_sched.specs.declared.Event.TheVariants as event
 use Rattle.sd_sched.specs.Events.{reference_of, ticked, is_stage, is_commit}
@@ -28,7 +28,7 @@ use Rattle.sd_safety.specs.Invariant.{Invariant}
 use Rattle.sd_safety.specs.Coming.{Comes}
 use Rattle.sd_safety.proofs.Sides.{implied, not_both}
 use Rattle.sd_safety.proofs.Staying.{old_is_member}
-use Rattle.sd_safety_messages.specs.Moments.{Tail, whole, behind, IsChronicle, Moment, upto, when, IsIn, Emits, is_emission}
+use Rattle.sd_safety_messages.specs.Moments.{Tail, whole, behind, IsChronicle, Moment, upto, when, IsIn, Emits}
 use Rattle.sd_safety_messages.specs.Rounds.{IsUnbroken, AreApart}
 use Rattle.sd_safety_messages.proofs.Tails.{Order, before as comes_before, same as are_same, after as comes_after, ordered, tail_chronicle, history_chronicle, before_is_earlier}
 use Rattle.sd_safety_messages.proofs.Flowing.{tail_rest}
@@ -37,7 +37,6 @@ use Rattle.sd_safety_messages.proofs.Terms.{stamp_is, stamp_here}
 use Rattle.sd_safety_messages.proofs.Overlap.{IsApart, apart_by_rule}
 use Rattle.sd_safety_messages.proofs.Consecutive.{emission_acts, past_after_call, rounds_apart}
 use Rattle.sd_safety_timers.specs.Times.{AreTimed, ticks_device}
-use Rattle.sd_safety_timers.proofs.Deeds.{by_case}
 use Rattle.sd_safety_timers.proofs.Pasts.{acting_has_duty}
 use Rattle.sd_safety_timers.proofs.Histories.{before}
 use Rattle.sd_safety_waits.proofs.Then.{Live, stands_by}
@@ -45,7 +44,7 @@ use Rattle.sd_safety_silences.specs.Phases.{IsPhase, IsLed}
 use Rattle.sd_safety_waits.proofs.Standing.{now, times, sound, steps_timed}
 use Rattle.sd_safety_silences.proofs.Phases.{era_grows, open_at, Following, following, Known, known}
 use Rattle.sd_safety_silences.proofs.Rounds.{unbroken}
-use Rattle.sd_safety_silences.proofs.Spacing.{timed_to, emissions_are_apart}
+use Rattle.sd_safety_silences.proofs.Spacing.{timed_to, emission_counts, emissions_are_apart}
 use Rattle.sd_safety_silences.proofs.Sounding.{top_of, kept_then}
 use Rattle.sd_safety_silences.proofs.States.{none_new}
 use Rattle.sd_safety_silences.proofs.Sourced.{root_source}
@@ -85,23 +84,7 @@ tick_is : (d : ℕ) (e : Event) → same_number (ticked e) d ≡ true → (c : �
 tick_is d (event.Tick r k c) h = (c, ap (λ z. event.Tick r z c) (eqb-true k d h))
 tick_is d _ h = cc
 
-emits_by_tick : (past : Past) (call : Call) → is_emission (deed_of past call) ≡ true → (c : ℕ) × (call ≡ Tick c)
-emits_by_tick past call is =
-    by_case past (λ k deed. is_emission deed ≡ true → (c : ℕ) × (k ≡ Tick c))
-    (record {
-      emitted = λ c e h. (c, refl);
-      took = λ c e t h. (c, refl);
-      moved = λ c e t m h. cc;
-      still = λ c e t m h. cc;
-      entered = λ link message c duty edge h. cc;
-      accepted = λ link message c edge h. cc;
-      committed = λ c duty a h. cc;
-      recommitted = λ c duty a h. cc;
-      nothing = λ k n h. cc;
-    })
-    call is
-
-up_after_by : (m f up : Bool) → f ≡ false → up ≡ true → of_some (if m then Some true else if f then Some false else None) up (λ told. told) ≡ true
+pub up_after_by : (m f up : Bool) → f ≡ false → up ≡ true → of_some (if m then Some true else if f then Some false else None) up (λ told. told) ≡ true
 up_after_by true f up none is = refl
 up_after_by false false up none is = is
 up_after_by false true up none is = cc
@@ -109,8 +92,8 @@ up_after_by false true up none is = cc
 pub emitter_up : (setting : Setting) (p : Moment) (y : ℕ) (m : Message) → IsChronicle setting (upto p) → AreTimed setting (upto p) → Emits p y m → is_up (seen_of (upto p)) y ≡ true
 emitter_up setting p y m is timed_ emits =
     let s = emits.sends in
-    let call = emits_by_tick s.past s.call emits.emission in
-    let ticks : ticks_device p.step.act y ≡ true = ap (λ act. ticks_device act y) (s.act ∙ ap (Calls y) call.1) ∙ ap (λ b. b && true) (eq-eqb y y refl) in
+    let call = emission_counts s.past s.call emits.emission in
+    let ticks : ticks_device p.step.act y ≡ true = ap (λ act. ticks_device act y) (s.act ∙ ap (Calls y) call.2) ∙ ap (λ b. b && true) (eq-eqb y y refl) in
     let tick = tick_is y p.step.seen.event (timed_.1.fits.ticks_it y ∙ ticks) in
     let up : is_up (seen_of p.earlier) y ≡ true =
     true_from_ne_false (is_up (seen_of p.earlier) y)

@@ -3,6 +3,7 @@
 use Rattle.std.specs.Prelude.{◌≡◌, ℕ, ◌+◌, ◌*◌, ◌<◌, ◌≤◌, Bool, true, false, ◌||◌, max, List, [], ◌∷◌, ◌⊎◌, if◌then◌else◌}
 use Rattle.std.proofs.Common.{arith, sym, ◌∙◌, ap, subst, inl, inr}
 use Rattle.std.proofs.lemmas.Bool.{cases_lt, false_from_ne_true}
+use Rattle.std.proofs.Math.Nat.{le-max_left, le-max_right}
 use Rattle.sd_num.specs.Lists.{same_number}
 use Rattle.sd_topo.specs.declared.Thing.TheVariants as thing
 use Rattle.sd_plan.specs.Walks.{path}
@@ -125,24 +126,18 @@ lately_by setting (x ∷ z ∷ h) e comes first_era calm d lives old primary pat
     let steps : List Step = chronicle setting (x ∷ z ∷ h) in
     let s0 : ℕ = max (heard_at steps d) (all_started setting steps) in
     let kept : root_failed setting steps ≡ false = not_failed_root setting steps lives in
-    let phase : IsPhase setting (x ∷ z ∷ h) e s0 = first_phase setting x (z ∷ h) e comes s0 (started_of (heard_at steps d) (all_started setting steps)) first_era calm in
+    let phase : IsPhase setting (x ∷ z ∷ h) e s0 = first_phase setting x (z ∷ h) e comes s0 (le-max_right (heard_at steps d) (all_started setting steps)) first_era calm in
     let phase' : IsPhase setting (x ∷ z ∷ h) e (all_started setting steps) = first_phase setting x (z ∷ h) e comes (all_started setting steps) (omega arith) first_era calm in
     let led : IsLed setting steps (all_started setting steps) =
     first_led setting x (z ∷ h) e (all_started setting steps) phase' kept first_era
     (λ p here y m emits. emission_late setting comes.fair p y m emits (x ∷ z ∷ h) (clean setting x (z ∷ h) e comes) here) in
     let led' : IsLed setting steps s0 =
     record { life = led.life; newest = λ p here late m emits q q_in y n emits' epoch_is. led.newest p here (less (heard_at steps d) (all_started setting steps) (when p) late) m emits q q_in y n emits' epoch_is } in
-    let by : reference_of x ≤ s0 + rounds_gap setting.net + depth setting.net * delay setting.net = lately_or_before setting z h x e s0 phase kept led' d old primary path_ (later_of (heard_at steps d) (all_started setting steps)) in
+    let by : reference_of x ≤ s0 + rounds_gap setting.net + depth setting.net * delay setting.net = lately_or_before setting z h x e s0 phase kept led' d old primary path_ (le-max_left (heard_at steps d) (all_started setting steps)) in
     let s : Stands setting steps d = old_stands setting (x ∷ z ∷ h) d old in
     let began : beginning (seen_of steps) ≤ heard_at steps d = heard_late setting x (z ∷ h) e comes d s.past s.there in
     (by, began)
   where
-    started_of : (a b : ℕ) → b ≤ max a b
-    started_of a b = omega arith
-
-    later_of : (a b : ℕ) → a ≤ max a b
-    later_of a b = omega arith
-
     less : (a b c : ℕ) → max a b < c → b < c
     less a b c lt = omega (arith, lt)
 

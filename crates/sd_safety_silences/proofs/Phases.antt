@@ -24,6 +24,7 @@ use Rattle.sd_safety.specs.Invariant.{Invariant, AtEach}
 use Rattle.sd_safety.specs.Coming.{IsFair, IsClean, Comes}
 use Rattle.sd_safety.proofs.Prefix.{clean_before}
 use Rattle.sd_safety.proofs.Sides.{not_both}
+use Rattle.sd_safety_timers.specs.Since.{IsTail, whole as whole_tail, beyond}
 use Rattle.sd_safety_messages.specs.Moments.{Tail, whole, behind, Moment, upto, when, IsIn}
 use Rattle.sd_safety_messages.proofs.Flowing.{tail_rest}
 use Rattle.sd_safety_silences.specs.Phases.{IsPhase}
@@ -75,7 +76,7 @@ failed_on x older _ (behind {x = s} {xs = earlier} t) le h =
 pub fewer : (x : Thing) (older steps : List Step) → Tail older steps → era steps ≤ era older → is_among (failed_now steps) x ≡ false → is_among (failed_now older) x ≡ false
 fewer x older steps t le none = false_from_ne_true (is_among (failed_now older) x) (λ is. not_both (is_among (failed_now steps) x) (failed_on x older steps t le is) none)
 
-touched_less : (p q : Thing → Bool) (xs : List Thing) → ((x : Thing) → q x ≡ false → p x ≡ false) → list_any q xs ≡ false → list_any p xs ≡ false
+pub touched_less : (p q : Thing → Bool) (xs : List Thing) → ((x : Thing) → q x ≡ false → p x ≡ false) → list_any q xs ≡ false → list_any p xs ≡ false
 touched_less p q [] less none = refl
 touched_less p q (x ∷ xs) less none = let parts = or_parts (q x) (list_any q xs) none in or_from (p x) (list_any p xs) (less x parts.0) (touched_less p q xs less parts.1)
 
@@ -100,21 +101,21 @@ pub clear_then : (setting : Setting) (older steps : List Step) (y : ℕ) (hop : 
     → IsClear setting.net (plan_now setting older) (failed_now older) y hop
 clear_then setting older steps y hop t same clear =
     subst (λ n. IsClear setting.net (plan_numbered setting n) (failed_now older) y hop) (sym same)
-    (record {
-      primary = clear.primary;
-      other = clear.other;
-      known = clear.known;
-      member = clear.member;
-      self = fewer (thing.Device y) older steps t le clear.self;
-      path_ = touched_less (is_among (failed_now older)) (is_among (failed_now steps)) (path setting.net (plan_now setting steps) y) (λ x none. fewer x older steps t le none) clear.path_;
-      link = fewer (thing.Link hop.link) older steps t le clear.link;
-      parent = fewer (thing.Device hop.parent) older steps t le clear.parent;
-      within = clear.within;
-      present = clear.present;
-    })
+    (clear_more setting.net (plan_now setting steps) (failed_now steps) (failed_now older) y hop (λ x none. fewer x older steps t le none) clear)
   where
     le : era steps ≤ era older
     le = omega (arith, same)
+
+-- Tails
+
+-- the two words for what is left of a list
+pub as_tail : {A : Type 0} {xs ys : List A} → IsTail xs ys → Tail xs ys
+as_tail whole_tail = whole
+as_tail (beyond rest) = behind (as_tail rest)
+
+pub chronicles : (setting : Setting) (older history : List Event) → Tail older history → Tail (chronicle setting older) (chronicle setting history)
+chronicles setting older _ whole = whole
+chronicles setting older _ (behind {xs = later} t) = behind (chronicles setting older later t)
 
 -- Stages
 

@@ -86,4 +86,4 @@ module _ (setting : Setting) (x : Event) (h : List Event) (e : Event) (s0 : ℕ)
         whole_at : (q : Moment) (k : Known setting steps q) → (link_has_failed (seen_of q.earlier) hop.link ≡ false) × (is_up (seen_of q.earlier) y ≡ true)
         whole_at q k =
             subst (λ (p : Moment). (link_has_failed (seen_of p.earlier) hop.link ≡ false) × (is_up (seen_of p.earlier) y ≡ true)) (sym k.is)
-            (clear_link setting k.x k.h k.e k.comes k.late k.calm (kept_then q k) y hop (clear_at q k), clear_up setting k.x k.h k.e k.comes k.late k.calm (kept_then q k) y hop (clear_at q k))
+            (clear_link setting k.x k.h k.e k.comes k.late y hop (clear_at q k), clear_up setting k.x k.h k.e k.comes k.late y hop (clear_at q k))

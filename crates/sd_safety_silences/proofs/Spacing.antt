@@ -4,7 +4,7 @@ use Rattle.std.proofs.Common.{arith, sym, ◌∙◌, ap, subst}
 use Rattle.std.proofs.lemmas.Bool.{eq-eqb}
 use Rattle.sd_num.specs.Numbers.{low}
 use Rattle.sd_topo.specs.Network.{rates_of, least_low}
-use Rattle.sd_core.specs.Calls.{Call, Deed, Entered, Committed, Recommitted, Accepted, Moved, TookOver, Emitted, Nothing, Past}
+use Rattle.sd_core.specs.Calls.{Call, Tick, Deed, Entered, Committed, Recommitted, Accepted, Moved, TookOver, Emitted, Nothing, Past}
 use Rattle.sd_core.specs.Words.{deed_of, after, is_acting, emits}
 use Rattle.sd_sched.specs.declared.Event.{Event}
 use Rattle.sd_sched.specs.Events.{device_of}
@@ -56,13 +56,13 @@ emits_by past call acts emission = go (deed_of past call) refl emission
     go Moved is h = cc
     go Nothing is h = cc
 
--- an emission has a counter
-emission_counts : (past : Past) (call : Call) → is_emission (deed_of past call) ≡ true → (c : ℕ) × (emits (did_by past call) ≡ Some c)
+-- an emission has a counter, that of its tick
+pub emission_counts : (past : Past) (call : Call) → is_emission (deed_of past call) ≡ true → (c : ℕ) × (emits (did_by past call) ≡ Some c) × (call ≡ Tick c)
 emission_counts past call is =
-    by_case past (λ k deed. is_emission deed ≡ true → (c : ℕ) × (emits (record { call = k; deed = deed }) ≡ Some c))
+    by_case past (λ k deed. is_emission deed ≡ true → (c : ℕ) × (emits (record { call = k; deed = deed }) ≡ Some c) × (k ≡ Tick c))
     (record {
-      emitted = λ c e h. (c, refl);
-      took = λ c e t h. (c, refl);
+      emitted = λ c e h. (c, refl, refl);
+      took = λ c e t h. (c, refl, refl);
       moved = λ c e t m h. cc;
       still = λ c e t m h. cc;
       entered = λ link message c duty edge h. cc;

@@ -2,6 +2,7 @@
 use Rattle.std.specs.Prelude.{◌≡◌, ℕ, ◌+◌, ◌-◌, ◌*◌, ◌<◌, ◌≤◌, true, false, not, max, List, [], ◌∷◌}
 use Rattle.std.proofs.Common.{arith}
 use Rattle.std.proofs.lemmas.Bool.{and_parts, not-true}
+use Rattle.std.proofs.Math.Nat.{le-max_left, le-max_right}
 use Rattle.sd_check_root.specs.Timing.{round_gap}
 use Rattle.sd_sched.specs.Events.{reference_of}
 use Rattle.sd_history.specs.World.{Setting, is_up}
@@ -26,12 +27,6 @@ first_sum r h r0 q p a b by began gap = omega (arith, by, began, gap)
 pub second_sum : (r h s a b : ℕ) → r ≤ max h s + a + b → s < h → r - h ≤ a + b
 second_sum r h s a b by late = omega (arith, by, late)
 
-later_of : (a b : ℕ) → a ≤ max a b
-later_of a b = omega arith
-
-started_of : (a b : ℕ) → b ≤ max a b
-started_of a b = omega arith
-
 pub not_failed_root : (setting : Setting) (steps : List Step) → root_lives setting steps ≡ true → root_failed setting steps ≡ false
 not_failed_root setting steps lives = not-true (root_failed setting steps) (and_parts (is_up (seen_of steps) (plan_now setting steps).root) (not (root_failed setting steps)) lives).1
 
@@ -41,7 +36,7 @@ whole_path_in_phase setting (x ∷ h) e d phase led quiet lives old primary path
     let steps : List Step = chronicle setting (x ∷ h) in
     let kept : root_failed setting steps ≡ false = not_failed_root setting steps lives in
     let by : reference_of e ≤ max (heard_at steps d) (all_started setting steps) + rounds_gap setting.net + depth setting.net * delay setting.net =
-    path_heard setting x h e (max (heard_at steps d) (all_started setting steps)) phase kept led quiet d lives old primary path_ (later_of (heard_at steps d) (all_started setting steps)) in
+    path_heard setting x h e (max (heard_at steps d) (all_started setting steps)) phase kept led quiet d lives old primary path_ (le-max_left (heard_at steps d) (all_started setting steps)) in
     let s : Stands setting steps d = old_stands setting (x ∷ h) d old in
     let began : beginning (seen_of steps) ≤ heard_at steps d = heard_late setting x h e phase.comes d s.past s.there in
     let sound_ : IsSound setting.net (plan_now setting steps) = sound setting x h e phase.comes in (
@@ -55,7 +50,7 @@ whole_path_first setting [] e comes quiet first_era calm d lives leads old prima
 whole_path_first setting (x ∷ h) e comes quiet first_era calm d lives leads old primary path_ =
     let steps : List Step = chronicle setting (x ∷ h) in
     let phase : IsPhase setting (x ∷ h) e (max (heard_at steps d) (all_started setting steps)) =
-    first_phase setting x h e comes (max (heard_at steps d) (all_started setting steps)) (started_of (heard_at steps d) (all_started setting steps)) first_era calm in
+    first_phase setting x h e comes (max (heard_at steps d) (all_started setting steps)) (le-max_right (heard_at steps d) (all_started setting steps)) first_era calm in
     let phase' : IsPhase setting (x ∷ h) e (all_started setting steps) = first_phase setting x h e comes (all_started setting steps) (omega arith) first_era calm in
     let led : IsLed setting steps (all_started setting steps) =
     first_led setting x h e (all_started setting steps) phase' (not_failed_root setting steps lives) first_era

@@ -3,6 +3,7 @@
 use Rattle.std.specs.Prelude.{◌≡◌, ℕ, ◌+◌, ◌<◌, ◌≤◌, Bool, true, false, ◌&&◌, ◌||◌, not, List, [], ◌∷◌, nat_eq, is_some, refl, if◌then◌else◌}
 use Rattle.std.proofs.Common.{arith, sym, ◌∙◌, ap, subst}
 use Rattle.std.proofs.lemmas.Bool.{and_parts, and_from, eqb-true, false_from_ne_true}
+use Rattle.std.proofs.Math.Nat.{lt_of_lt_of_le}
 use Rattle.sd_num.specs.Lists.{of_some, same_number}
 use Rattle.sd_sched.specs.declared.Event.{Event}
 use Rattle.sd_sched.specs.Events.{reference_of}
@@ -98,9 +99,6 @@ same_within : (older steps : List Step) (q : Moment) → era steps ≡ era older
 same_within older steps q same (in_era is) = in_era (is ∙ sym same)
 same_within older steps q same (in_window is commit) = in_window (is ∙ sym same) commit
 
-late_by : (s0 w r : ℕ) → s0 < w → w ≤ r → s0 < r
-late_by s0 w r less le = omega (arith, less, le)
-
 pub idle_of : (steps : List Step) (d : ℕ) → on_primary steps d ≡ true → acts_in steps d ≡ false
 idle_of steps d on = idle_by (is_some (live_past steps d)) (moved steps d) (acts_in steps d) on
 
@@ -111,7 +109,7 @@ primary_within setting [] e comes d s0 old on heard q here late = cc
 primary_within setting (x ∷ h) e comes d s0 old on heard q whole late = in_era refl
 primary_within setting (x ∷ h) e comes d s0 old on heard q (behind t) late =
     let last : when q ≤ reference_of x = no_later setting q (chronicle setting (x ∷ h)) (history_chronicle setting (x ∷ h) comes.clean.is.0) t in
-    let less : s0 < reference_of x = late_by s0 (when q) (reference_of x) late last in
+    let less : s0 < reference_of x = lt_of_lt_of_le late last in
     let w : Was setting (chronicle setting h) (chronicle setting (x ∷ h)) d on_primary = was_primary setting x h e comes d s0 less heard on in
     let heard' : heard_at (chronicle setting h) d ≤ s0 = heard_then setting x h e comes d s0 less heard in
     by (next_step setting (chronicle setting h) x).seen.closed refl w heard' (λ old'. primary_within setting h x (comes_before setting x h e comes) d s0 old' w.on heard' q t late)
@@ -142,7 +140,7 @@ backup_within setting (x ∷ h) e comes d s0 old on heard put q whole late = (re
     old_up steps d is = epoch_up steps d (era steps) is
 backup_within setting (x ∷ h) e comes d s0 old on heard put q (behind t) late =
     let last : when q ≤ reference_of x = no_later setting q (chronicle setting (x ∷ h)) (history_chronicle setting (x ∷ h) comes.clean.is.0) t in
-    let less : s0 < reference_of x = late_by s0 (when q) (reference_of x) late last in
+    let less : s0 < reference_of x = lt_of_lt_of_le late last in
     let w : Was setting (chronicle setting h) (chronicle setting (x ∷ h)) d on_backup = was_backup setting x h e comes d s0 less heard put on in
     by (next_step setting (chronicle setting h) x).seen.closed refl w
     (λ old'. backup_within setting h x (comes_before setting x h e comes) d s0 old' w.on (heard_then setting x h e comes d s0 less heard) (moved_then setting x h e comes d s0 less put) q t late)

@@ -1,6 +1,6 @@
 -- The way over the fallback of the backup root, which C7 says is whole, is open to each round, where that has been on its backup since.
-use Rattle.std.specs.Prelude.{◌≡◌, ℕ, ◌+◌, ◌*◌, ◌<◌, ◌≤◌, Bool, true, false, ◌&&◌, not, List, ◌∷◌, nat_eq, Some, IfSome, refl, ◌⊎◌}
-use Rattle.std.proofs.Common.{arith, sym, ◌∙◌, ap, subst, inl, inr}
+use Rattle.std.specs.Prelude.{◌≡◌, ℕ, ◌+◌, ◌*◌, ◌<◌, ◌≤◌, Bool, true, false, ◌&&◌, not, List, ◌∷◌, nat_eq, Some, IfSome, refl}
+use Rattle.std.proofs.Common.{arith, sym, ◌∙◌, ap, subst}
 use Rattle.std.proofs.lemmas.Bool.{and_from, or_left, or_right, eqb-true, eq-eqb, not-true}
 use Rattle.sd_num.specs.Lists.{has}
 use Rattle.sd_topo.specs.declared.Thing.{Thing}
@@ -39,8 +39,8 @@ use Rattle.sd_safety_silences.proofs.Sounding.{top_of}
 use Rattle.sd_safety_silences.proofs.Fallen.{things_fine, on_fallback, link_of_fallback, ready_back, fallback_hop}
 use Rattle.sd_safety_rounds.specs.Rounds.{IsOpenHop, AreOpenHops}
 use Rattle.sd_safety_rounds.specs.Spans.{IsSpan}
-use Rattle.sd_safety_rounds.proofs.Places.{InEra, InWindow, place}
-use Rattle.sd_safety_rounds.proofs.Hops.{IsOldRound, since_first, lasts}
+use Rattle.sd_safety_rounds.proofs.Places.{InEra, of_era}
+use Rattle.sd_safety_rounds.proofs.Hops.{IsOldRound, since_first, hop_lasts}
 use Rattle.sd_safety_spans.proofs.Thirteen.{walk_open}
 
 -- where the event fails nothing of the fallback of an old backup root that has been on its backup since
@@ -87,20 +87,12 @@ module _ (setting : Setting) (x : Event) (h : List Event) (e : Event) (s0 : ℕ)
     right : (is_member plan hop.parent ≡ true) × (is_present plan hop.link ≡ true)
     right = fallback_hop setting.net plan b hop (fine.rules.hops b fine.fits.backup_root) is_hop
 
-    -- the moment is of the era
-    of_era : (q : Moment) → IsIn q (chronicle setting (e ∷ x ∷ h)) → s0 < when q → InEra setting (chronicle setting (x ∷ h)) q
-    of_era q here after = by (place setting x h e s0 span q here after)
-      where
-        next_not : (a c : ℕ) → a + 1 ≡ c → a ≡ c → ⊥
-        next_not a c next same = omega (arith, next, same)
-
-        by : InEra setting (chronicle setting (x ∷ h)) q ⊎ InWindow setting (chronicle setting (x ∷ h)) q → InEra setting (chronicle setting (x ∷ h)) q
-        by (inl k) = k
-        by (inr k) = absurd (next_not (era (chronicle setting k.h)) (era steps) k.same (sym (ap (λ (p : Moment). era p.earlier) k.is) ∙ (then_ q here after).0))
+    era_of : (q : Moment) → IsIn q (chronicle setting (e ∷ x ∷ h)) → s0 < when q → InEra setting (chronicle setting (x ∷ h)) q
+    era_of q here after = of_era setting x h e s0 span q here after (then_ q here after).0
 
     ready_at : (q : Moment) → IsIn q (chronicle setting (e ∷ x ∷ h)) → s0 < when q → (past : Past) → past_in q.earlier b ≡ Some past → IsReady past (era (chronicle setting (x ∷ h))) hop.link
     ready_at q here after past there =
-        let k : InEra setting steps q = of_era q here after in
+        let k : InEra setting steps q = era_of q here after in
         let facts = then_ q here after in
         let older : List Step = chronicle setting (k.x ∷ k.h) in
         let same : q.earlier ≡ older = ap (λ (p : Moment). p.earlier) k.is in
@@ -113,7 +105,7 @@ module _ (setting : Setting) (x : Event) (h : List Event) (e : Event) (s0 : ℕ)
 
     link_at : (q : Moment) → IsIn q (chronicle setting (e ∷ x ∷ h)) → s0 < when q → link_has_failed (seen_of q.earlier) hop.link ≡ false
     link_at q here after =
-        let k : InEra setting steps q = of_era q here after in
+        let k : InEra setting steps q = era_of q here after in
         let older : List Step = chronicle setting (k.x ∷ k.h) in
         let same = k.same in
         let there : Invariant setting older = now setting k.x k.h k.e k.comes in
@@ -131,13 +123,9 @@ module _ (setting : Setting) (x : Event) (h : List Event) (e : Event) (s0 : ℕ)
           alone = λ c is. alone setting.net plan fine.fits fine.rules hop.parent hop.link b c follows is;
           known = (within.1, fine.fits.backup_root);
           apart = λ same. not_both (nat_eq b plan.root) (eq-eqb b plan.root same) fine.apart;
-          whole = λ q q_in started by. let after = since_first setting x h e s0 span kept first_ round.late q (behind q_in) started in (link_at q (behind q_in) after, (then_ q (behind q_in) after).3);
-          ready = λ q q_in since by. ready_at q (behind q_in) (since_first setting x h e s0 span kept first_ round.late q (behind q_in) (behind since));
-          lasts = λ q q_in since. let after = since_first setting x h e s0 span kept first_ round.late q q_in (behind since) in (
-            lasts setting x h e s0 span kept failed more spares (thing.Device hop.parent) parent_fine q q_in after,
-            lasts setting x h e s0 span kept failed more spares (thing.Device b) self q q_in after,
-            lasts setting x h e s0 span kept failed more spares (thing.Link hop.link) hop_fine q q_in after,
-          );
+          whole = λ q q_in started by. let after = since_first setting x h e s0 span first_ round.late q (behind q_in) started in (link_at q (behind q_in) after, (then_ q (behind q_in) after).3);
+          ready = λ q q_in since by. ready_at q (behind q_in) (since_first setting x h e s0 span first_ round.late q (behind q_in) (behind since));
+          lasts = λ q q_in since. hop_lasts setting x h e s0 span failed more spares b hop parent_fine self hop_fine q q_in (since_first setting x h e s0 span first_ round.late q q_in (behind since));
         }
 
     -- the way over the fallback, and on to other ends

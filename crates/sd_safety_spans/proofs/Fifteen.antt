@@ -28,7 +28,7 @@ use Rattle.sd_safety_silences.proofs.Fallen.{falls, the_hop}
 use Rattle.sd_safety_windows.proofs.Committing.{staged_plan}
 use Rattle.sd_safety_entering.proofs.States as states
 use Rattle.sd_safety_rounds.specs.Spans.{IsSpan}
-use Rattle.sd_safety_rounds.proofs.Sources.{staged_is}
+use Rattle.sd_safety_rounds.proofs.Sources.{root_leads, staged_is}
 use Rattle.sd_safety_rounds.proofs.Silent.{IsSilent, silent_by}
 use Rattle.sd_safety_spans.proofs.Backs.{backup_within}
 use Rattle.sd_safety_spans.proofs.Fallback.{fallback_open}
@@ -64,7 +64,7 @@ module _ (setting : Setting) (x : Event) (h : List Event) (e : Event) (s0 : ℕ)
   then_ : (q : Moment) → IsIn q (chronicle setting (e ∷ x ∷ h)) → s0 < when q → (era q.earlier ≡ era steps) × (is_old q.earlier b ≡ true) × (on_backup q.earlier b ≡ true) × (is_up (seen_of q.earlier) b ≡ true)
   then_ q here after = backup_within setting (x ∷ h) e span.comes b s0 old on heard put q here after
 
-  silent : IsSilent setting x h e s0 span kept (plan_now setting (chronicle setting (x ∷ h))).backup_root
+  silent : IsSilent setting x h s0 (plan_now setting (chronicle setting (x ∷ h))).backup_root
   silent =
       record {
         old = old;
@@ -87,7 +87,7 @@ module _ (setting : Setting) (x : Event) (h : List Event) (e : Event) (s0 : ℕ)
   fallback_by hop is_hop =
       let hs = walk setting.net plan hop.parent in
       let ends : List End = end_at b hop ∷ [] in
-      silent_by setting x h e s0 span kept b (depth setting.net + 1) silent
+      silent_by setting x h e s0 plan.root (root_leads setting x h e s0 span kept) b (depth setting.net + 1) silent
       (record {
         way = way_of hop.parent hs ends;
         last = end_at b hop;

@@ -2,6 +2,7 @@
 use Rattle.std.specs.Prelude.{◌≡◌, ℕ, ◌+◌, ◌-◌, ◌*◌, ◌<◌, ◌≤◌, Bool, true, false, not, max, List, [], ◌∷◌, refl, ◌⊎◌}
 use Rattle.std.proofs.Common.{arith, subst, inl, inr}
 use Rattle.std.proofs.lemmas.Bool.{and_parts, cases_lt, not-true, false_from_ne_true}
+use Rattle.std.proofs.Math.Nat.{le-max_left, le-max_right}
 use Rattle.sd_topo.specs.declared.Thing.{Thing}
 use Rattle.sd_topo.specs.declared.Thing.TheVariants as thing
 use Rattle.sd_topo.specs.Network.{greatest_delay, greatest_up, least_low}
@@ -102,12 +103,6 @@ lately setting x h e comes s0 d started kept old on path_ heard = go (cases_lt s
     go (inr le) = within (reference_of x) s0 (rounds_gap setting.net) (depth setting.net * delay setting.net) le
     go (inl late) = by_closed late (next_step setting (chronicle setting h) x).seen.closed refl (was_primary setting x h e comes d s0 late heard on) (heard_then setting x h e comes d s0 late heard)
 
-later_of : (a b : ℕ) → a ≤ max a b
-later_of a b = omega arith
-
-started_of : (a b : ℕ) → b ≤ max a b
-started_of a b = omega arith
-
 after_receipt : (r l h s q a b : ℕ) → r ≤ l + q → l ≤ max h s + a + b → s < h → r - h ≤ a + b + q
 after_receipt r l h s q a b gap by late = omega (arith, gap, by, late)
 
@@ -122,7 +117,7 @@ whole_path_hears setting (x ∷ h) e comes d lives leads old primary path_ =
     let s : Stands setting steps d = old_stands setting (x ∷ h) d old in
     let gap : reference_of e ≤ reference_of x + tick_gap net = next_event setting x h e comes d own.up own.member in
     let by : reference_of x ≤ max (heard_at steps d) (all_started setting steps) + rounds_gap net + depth net * delay net =
-    lately setting x h e comes (max (heard_at steps d) (all_started setting steps)) d (started_of (heard_at steps d) (all_started setting steps)) kept old primary path_ (later_of (heard_at steps d) (all_started setting steps)) in
+    lately setting x h e comes (max (heard_at steps d) (all_started setting steps)) d (le-max_right (heard_at steps d) (all_started setting steps)) kept old primary path_ (le-max_left (heard_at steps d) (all_started setting steps)) in
     let began : beginning (seen_of steps) ≤ heard_at steps d = heard_late setting x h e comes d s.past s.there in
     let rule : IsApart net = apart_by_rule net (plan_now setting steps) (sound setting x h e comes).accepted.timing in (
       always_sum (reference_of e) (reference_of x) (heard_at steps d) (beginning (seen_of steps)) (tick_gap net) (greatest_up net net.params.period) (round_gap net) (rounds_gap net) (depth net * delay net) (least_low net net.params.period)

@@ -2,6 +2,7 @@
 use Rattle.std.specs.Prelude.{◌≡◌, ℕ, ◌+◌, ◌*◌, ◌<◌, ◌≤◌, Bool, true, false, ◌&&◌, not, max, List, [], ◌∷◌, refl, ◌⊎◌}
 use Rattle.std.proofs.Common.{arith, ap, subst, inl, inr}
 use Rattle.std.proofs.lemmas.Bool.{and_parts, and_from, cases_lt, not-true}
+use Rattle.std.proofs.Math.Nat.{le-max_right}
 use Rattle.sd_num.specs.Lists.{has}
 use Rattle.sd_topo.specs.declared.Thing.TheVariants as thing
 use Rattle.sd_topo.specs.Network.{greatest_delay, greatest_up, least_low}
@@ -127,9 +128,6 @@ heard_of h m s = omega arith
 moved_of : (h m s : ℕ) → m ≤ max (max h m) s
 moved_of h m s = omega arith
 
-started_of : (a s : ℕ) → s ≤ max a s
-started_of a s = omega arith
-
 first_of : (r h m : ℕ) → r ≤ h → r ≤ max h m
 first_of r h m le = omega (arith, le)
 
@@ -148,7 +146,7 @@ fallback_hears setting (x ∷ h) e comes lives leads old on =
     let s : Stands setting steps b = old_stands setting (x ∷ h) b old in
     let gap : reference_of e ≤ reference_of x + tick_gap net = next_event setting x h e comes b own.up own.member in
     let by : reference_of x ≤ max (max hb mb) rs + rounds_gap net + (depth net + 1) * delay net =
-    rests_lately setting x h e comes (max (max hb mb) rs) (started_of (max hb mb) rs) kept old on (heard_of hb mb rs) (moved_of hb mb rs) in
+    rests_lately setting x h e comes (max (max hb mb) rs) (le-max_right (max hb mb) rs) kept old on (heard_of hb mb rs) (moved_of hb mb rs) in
     let began : beginning (seen_of steps) ≤ max hb mb = first_of (beginning (seen_of steps)) hb mb (heard_late setting x h e comes b s.past s.there) in
     let rule : IsApart net = apart_by_rule net (plan_now setting steps) (sound setting x h e comes).accepted.timing in
     always_sum (reference_of e) (reference_of x) (max hb mb) (beginning (seen_of steps)) (tick_gap net) (greatest_up net net.params.period) (round_gap net) (rounds_gap net) ((depth net + 1) * delay net) (least_low net net.params.period)

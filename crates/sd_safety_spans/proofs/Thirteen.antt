@@ -1,8 +1,7 @@
 -- 13 in all eras, before and after a commit.
 use Rattle.std.specs.Prelude.{◌≡◌, ℕ, ◌+◌, ◌*◌, ◌<◌, ◌≤◌, Bool, true, false, ◌&&◌, ◌||◌, not, List, [], ◌∷◌, length, Option, is_some, refl}
 use Rattle.std.proofs.Common.{arith, sym, ◌∙◌, ap, subst}
-use Rattle.std.specs.List.{list_any}
-use Rattle.std.proofs.lemmas.Bool.{or_parts, or_from, eqb-true, false_from_ne_true}
+use Rattle.std.proofs.lemmas.Bool.{eqb-true, false_from_ne_true}
 use Rattle.sd_num.specs.Lists.{same_number}
 use Rattle.sd_topo.specs.declared.Thing.{Thing}
 use Rattle.sd_topo.specs.declared.Thing.TheVariants as thing
@@ -29,7 +28,9 @@ use Rattle.sd_safety_messages.specs.Moments.{Moment, when}
 use Rattle.sd_safety_timers.proofs.Marks.{some_is}
 use Rattle.sd_safety_waits.proofs.Waits.{Stands, old_stands}
 use Rattle.sd_safety_waits.proofs.Standing.{now, sound, Early, lives}
+use Rattle.sd_safety_silences.proofs.States.{not_old_and_new}
 use Rattle.sd_safety_silences.proofs.Walking.{Walks, end_at, way_of, way_length, begins, walk_length}
+use Rattle.sd_safety_silences.proofs.Phases.{touched_less}
 use Rattle.sd_safety_silences.proofs.Paths.{IsClear, clear_walk, path_misses_cut}
 use Rattle.sd_safety_silences.proofs.Sounding.{top_of, map_walks}
 use Rattle.sd_safety_windows.proofs.Committing.{staged_plan}
@@ -39,18 +40,13 @@ use Rattle.sd_safety_rounds.specs.Rounds.{AreOpenHops}
 use Rattle.sd_safety_rounds.specs.Spans.{IsSpan}
 use Rattle.sd_safety_rounds.proofs.Hops.{IsOldRound, old_hop}
 use Rattle.sd_safety_rounds.proofs.NewHops.{open_ways}
-use Rattle.sd_safety_rounds.proofs.Sources.{staged_is}
-use Rattle.sd_safety_rounds.proofs.Silent.{IsSilent, silent_by, not_old_and_new}
+use Rattle.sd_safety_rounds.proofs.Sources.{root_leads, staged_is}
+use Rattle.sd_safety_rounds.proofs.Silent.{IsSilent, silent_by}
 use Rattle.sd_safety_spans.proofs.Staged.{is_staged}
 
 -- a device is no root where the root acts and it does not
 pub not_root : (steps : List Step) (plan : Plan) (d : ℕ) → acts_in steps plan.root ≡ true → acts_in steps d ≡ false → is_root plan d ≡ false
 not_root steps plan d acts idle = false_from_ne_true (is_root plan d) (λ is. not_both (acts_in steps d) (subst (λ z. acts_in steps z ≡ true) (eqb-true plan.root d is) acts) idle)
-
--- what fewer touch than touch nothing
-touched_less : (p q : Thing → Bool) (xs : List Thing) → ((x : Thing) → q x ≡ false → p x ≡ false) → list_any q xs ≡ false → list_any p xs ≡ false
-touched_less p q [] less none = refl
-touched_less p q (x ∷ xs) less none = let parts = or_parts (q x) (list_any q xs) none in or_from (p x) (list_any p xs) (less x parts.0) (touched_less p q xs less parts.1)
 
 -- an old member did not fail in the era
 spared_by : (m f up joined blank new : Bool) → (not (m && f && up) || (joined && (blank || new))) ≡ true → m ≡ true → up ≡ true → (blank ≡ true → ⊥) → (new ≡ true → ⊥) → f ≡ false
@@ -143,7 +139,7 @@ module _ (setting : Setting) (x : Event) (h : List Event) (e : Event) (s0 : ℕ)
       unhit : hit setting (chronicle setting (x ∷ h)) d ≡ false
       unhit = path_misses_cut plan setting.net (failed_now steps) d (touched_less (is_among (failed_now steps)) (is_among failed) (path setting.net plan d) more path_)
 
-      silent : IsSilent setting x h e s0 span kept d
+      silent : IsSilent setting x h s0 d
       silent =
           record {
             old = old;
@@ -167,7 +163,7 @@ module _ (setting : Setting) (x : Event) (h : List Event) (e : Event) (s0 : ℕ)
       by : (hs : List Hop) → length hs ≤ setting.net.params.depth → Walks plan (IsClear setting.net plan failed) d hs → is_root plan (end_of d hs) ≡ true → reference_of e ≤ s0 + rounds_gap setting.net + depth setting.net * delay setting.net
       by [] short clear' reach' = absurd (not_both (is_root plan d) reach' other)
       by (hop ∷ hs) short clear' reach' =
-          silent_by setting x h e s0 span kept d (depth setting.net) silent
+          silent_by setting x h e s0 plan.root (root_leads setting x h e s0 span kept) d (depth setting.net) silent
           (record {
             way = way_of d (hop ∷ hs) [];
             last = end_at d hop;

@@ -1,45 +1,36 @@
 -- The move of the backup root in an era with a mend, with an event: it comes at most its first wait and a tick after it heard, and at least Low of that wait. So it does not
 -- move once its path is whole again, and after a stray it moves well after the root failed, if that did.
-use Rattle.std.specs.Prelude.{◌≡◌, ℕ, ◌+◌, ◌*◌, ◌-◌, ◌<◌, ◌≤◌, Bool, true, false, ◌&&◌, not, List, [], ◌∷◌, length, max, nat_eq, Option, Some, None, refl, ◌⊎◌, if◌then◌else◌}
-use Rattle.std.proofs.Common.{arith, ◌∙◌, ap, sym, subst, inl, inr}
-use Rattle.std.proofs.lemmas.Bool.{and_parts, and_from, eq-eqb, not-true, cases_lt, false_from_ne_true}
+use Rattle.std.specs.Prelude.{◌≡◌, ℕ, ◌+◌, ◌*◌, ◌-◌, ◌<◌, ◌≤◌, Bool, true, false, ◌&&◌, not, List, [], ◌∷◌, max, nat_eq, Option, Some, refl, if◌then◌else◌}
+use Rattle.std.proofs.Common.{arith, ap}
+use Rattle.std.proofs.lemmas.Bool.{and_parts, eq-eqb, not-true, false_from_ne_true}
 use Rattle.sd_num.specs.Lists.{of_some}
-use Rattle.sd_topo.specs.declared.Thing.{Thing}
 use Rattle.sd_topo.specs.declared.Thing.TheVariants as thing
 use Rattle.sd_plan.specs.declared.Plan.{Plan}
 use Rattle.sd_plan.specs.Plans.{is_member, is_root, is_backup_root}
-use Rattle.sd_plan.specs.Walks.{path}
 use Rattle.sd_check_root.specs.Timing.{round_gap}
 use Rattle.sd_sched.specs.declared.Event.{Event}
 use Rattle.sd_sched.specs.Events.{reference_of}
 use Rattle.sd_history.proofs.Among.{first as at_first}
-use Rattle.sd_history.specs.World.{Setting, Seen, plan_numbered}
+use Rattle.sd_history.specs.World.{Setting}
 use Rattle.sd_history.specs.Steps.{Step, seen_of}
 use Rattle.sd_history.specs.Chronicle.{chronicle, next_step}
-use Rattle.sd_safety.specs.Bounds.{losses, depth, delay, tick_gap, rounds_gap, first_low, first_up, second_low, second_up, wait_low, IsTimedBy}
-use Rattle.sd_safety.specs.Eras.{era, plan_now, failed_now, is_among, touches, first_failure, beginning, all_started, late, heard_at, moved_at, silent_for, is_old, is_ordinary, moved, on_primary, hit, path_hit, root_failed}
+use Rattle.sd_safety.specs.Bounds.{losses, depth, delay, tick_gap, first_low, first_up, second_low, second_up, wait_low, IsTimedBy}
+use Rattle.sd_safety.specs.Eras.{era, plan_now, first_failure, beginning, all_started, late, heard_at, is_old, is_ordinary, moved, on_primary, hit, path_hit, root_failed}
 use Rattle.sd_safety.specs.Silences.{root_failed_at}
-use Rattle.sd_safety.specs.Invariant.{Invariant}
-use Rattle.sd_safety.specs.Coming.{IsClean, Comes, AtNext}
+use Rattle.sd_safety.specs.Coming.{Comes}
 use Rattle.sd_safety.proofs.Facts.{IsSound}
-use Rattle.sd_safety.proofs.Prefix.{clean_before}
-use Rattle.sd_safety.proofs.Sides.{implied, not_both}
-use Rattle.sd_safety_messages.specs.Moments.{whole, behind, when}
+use Rattle.sd_safety.proofs.Sides.{not_both}
+use Rattle.sd_safety_messages.specs.Moments.{when}
 use Rattle.sd_safety_waits.proofs.Waits.{Stands, old_stands}
-use Rattle.sd_safety_waits.proofs.Standing.{now, sound, steps_timed, heard_late}
+use Rattle.sd_safety_waits.proofs.Standing.{sound, heard_late}
 use Rattle.sd_safety_silences.proofs.Walking.{over}
-use Rattle.sd_safety_behind.specs.Feeding.{mended_now, path_failed_at, MendedMoves}
+use Rattle.sd_safety_behind.specs.Feeding.{mended_now, path_failed_at}
 use Rattle.sd_safety_behind.proofs.Failing.{some_failed}
 use Rattle.sd_safety_behind.proofs.Moved.{silence_now, not_root}
 use Rattle.sd_safety_behind.proofs.Sealing.{seals_soon}
-use Rattle.sd_safety_behind.proofs.Going.{WasMoved, kept, goes, step_back}
-use Rattle.sd_safety_behind.proofs.Broken.{first_at, first_hits, hit_first, first_is_now, late_stays}
-use Rattle.sd_safety_spans.proofs.Backs.{comes_before, old_then}
-use Rattle.sd_safety_spans.proofs.Lately.{same_era}
+use Rattle.sd_safety_spans.proofs.Backs.{comes_before}
 use Rattle.sd_safety_paths.proofs.Broken.{path_hears_no_more}
-use Rattle.sd_safety_feeds.proofs.Since.{none_closed}
-use Rattle.sd_safety_strays.proofs.Mend.{mended_on, IsStill, still_on}
-use Rattle.sd_safety_strays.proofs.Strays.{IsFed, Hearing, early, stray, fed, hearing, first_same, broke_same}
+use Rattle.sd_safety_strays.proofs.Strays.{IsFed}
 use Rattle.sd_safety_strays.proofs.Ways.{comes_down}
 use Rattle.sd_safety_strays.proofs.Waited.{moves_late}
 
@@ -70,9 +61,6 @@ module _ (setting : Setting) (x : Event) (y : Event) (ys : List Event) (e : Even
     (old_next : is_old (chronicle setting (x ∷ y ∷ ys)) (plan_now setting (chronicle setting (y ∷ ys))).backup_root ≡ true) (put : moved (chronicle setting (x ∷ y ∷ ys)) (plan_now setting (chronicle setting (y ∷ ys))).backup_root ≡ true) where
   abbrev older : List Step
   older = chronicle setting (y ∷ ys)
-
-  abbrev steps : List Step
-  steps = chronicle setting (x ∷ y ∷ ys)
 
   abbrev plan : Plan
   plan = plan_now setting (chronicle setting (y ∷ ys))

@@ -1,8 +1,8 @@
 -- 14 (iii), what the backup root heard: where its path has been whole since a receipt, each device behind it that is not hit hears soon.
-use Rattle.std.specs.Prelude.{◌≡◌, ℕ, ◌+◌, ◌*◌, ◌<◌, ◌≤◌, Bool, true, false, ◌&&◌, not, List, [], ◌∷◌, length, max, refl, ◌⊎◌}
-use Rattle.std.proofs.Common.{arith, ◌∙◌, ap, sym, subst, inl, inr}
+use Rattle.std.specs.Prelude.{◌≡◌, ℕ, ◌+◌, ◌*◌, ◌<◌, ◌≤◌, true, false, ◌&&◌, not, List, [], ◌∷◌, length, max, ◌⊎◌}
+use Rattle.std.proofs.Common.{arith, ap, inl, inr}
 use Rattle.std.proofs.lemmas.Bool.{and_parts, not-true, cases_lt}
-use Rattle.sd_plan.specs.declared.Hop.{Hop}
+use Rattle.std.proofs.Math.Nat.{le-max_right}
 use Rattle.sd_plan.specs.Plans.{is_member, is_backup_root}
 use Rattle.sd_plan.specs.Walks.{walk, on_walk}
 use Rattle.sd_sched.specs.declared.Event.{Event}
@@ -37,9 +37,6 @@ receipt_of hd m s = omega arith
 
 heard_of : (hd m s : ℕ) → hd ≤ max (max hd m) s
 heard_of hd m s = omega arith
-
-started_of : (a s : ℕ) → s ≤ max a s
-started_of a s = omega arith
 
 weaker : (hb g k f q : ℕ) → hb ≤ g + k → hb ≤ g + k + f + q
 weaker hb g k f q le = omega (arith, le)
@@ -84,10 +81,10 @@ module _ (setting : Setting) (x : Event) (h : List Event) (e : Event) (comes : C
       early_sum (reference_of e) (beginning (seen_of steps)) (tick_gap setting.net) (heard_at steps d) soon (rounds_gap setting.net + 2 * depth setting.net * delay setting.net) le began
   by_age (inl late) =
       fed_sum (reference_of e) (heard_at steps d) (when f.moment) (beginning (seen_of steps)) (tick_gap setting.net) soon (rounds_gap setting.net) (2 * depth setting.net * delay setting.net)
-      (comes_down setting x h e comes old on f s0 (receipt_of (heard_at steps d) (when f.moment) (all_started setting steps)) (started_of (max (heard_at steps d) (when f.moment)) (all_started setting steps)) late d st.old st.primary
+      (comes_down setting x h e comes old on f s0 (receipt_of (heard_at steps d) (when f.moment) (all_started setting steps)) (le-max_right (max (heard_at steps d) (when f.moment)) (all_started setting steps)) late d st.old st.primary
       (ap (λ c. c && is_ordinary (plan_now setting steps) d) st.missed) (heard_of (heard_at steps d) (when f.moment) (all_started setting steps)) (cut_off (plan_now setting steps) (walk setting.net (plan_now setting steps) d))
       (map_walks (plan_now setting steps) _ _
-      (λ y hop clear. cut_lasting setting x h e comes old on f s0 (receipt_of (heard_at steps d) (when f.moment) (all_started setting steps)) (started_of (max (heard_at steps d) (when f.moment)) (all_started setting steps)) late y hop clear)
+      (λ y hop clear. cut_lasting setting x h e comes old on f s0 (receipt_of (heard_at steps d) (when f.moment) (all_started setting steps)) (le-max_right (max (heard_at steps d) (when f.moment)) (all_started setting steps)) late y hop clear)
       (cut_off (plan_now setting steps) (walk setting.net (plan_now setting steps) d)) d cut.clear) cut.ends
       (shorter (length (cut_off (plan_now setting steps) (walk setting.net (plan_now setting steps) d))) (length (walk setting.net (plan_now setting steps) d)) (depth setting.net) cut.short (walk_length setting.net (plan_now setting steps) d)))
       f.time began

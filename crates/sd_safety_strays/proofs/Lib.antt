@@ -1,9 +1,4 @@
 -- What the backup root hears, and when it moves, in an era with a mend.
-pub mod Mend
-pub mod Unbroken
-pub mod Periods
-pub mod Receipts
-pub mod Second
 pub mod Strays
 pub mod Since
 pub mod Ways

@@ -1,46 +1,34 @@
 -- 14 (iii), when the backup root moved in an era with a mend: not long after its path broke, or after a stray, which came after the root failed, if it did. Once its
 -- path is whole again it does not move. By induction on the history, as in Broken.
-use Rattle.std.specs.Prelude.{◌≡◌, ℕ, ◌+◌, ◌*◌, ◌-◌, ◌<◌, ◌≤◌, Bool, true, false, ◌&&◌, not, List, [], ◌∷◌, length, max, nat_eq, Option, Some, None, refl, ◌⊎◌, if◌then◌else◌}
+use Rattle.std.specs.Prelude.{◌≡◌, ℕ, ◌+◌, ◌*◌, ◌-◌, ◌≤◌, Bool, true, false, ◌&&◌, List, [], ◌∷◌, nat_eq, Option, Some, None, refl, ◌⊎◌}
 use Rattle.std.proofs.Common.{arith, ◌∙◌, ap, sym, subst, inl, inr}
-use Rattle.std.proofs.lemmas.Bool.{and_parts, and_from, eq-eqb, not-true, cases_lt, false_from_ne_true}
+use Rattle.std.proofs.lemmas.Bool.{and_from}
 use Rattle.sd_num.specs.Lists.{of_some}
 use Rattle.sd_topo.specs.declared.Thing.{Thing}
 use Rattle.sd_topo.specs.declared.Thing.TheVariants as thing
-use Rattle.sd_plan.specs.declared.Plan.{Plan}
-use Rattle.sd_plan.specs.Plans.{is_member, is_root, is_backup_root}
 use Rattle.sd_plan.specs.Walks.{path}
-use Rattle.sd_check_root.specs.Timing.{round_gap}
 use Rattle.sd_sched.specs.declared.Event.{Event}
 use Rattle.sd_sched.specs.Events.{reference_of}
-use Rattle.sd_history.proofs.Among.{first as at_first}
-use Rattle.sd_history.specs.World.{Setting, Seen, plan_numbered}
+use Rattle.sd_history.specs.World.{Setting, plan_numbered}
 use Rattle.sd_history.specs.Steps.{Step, seen_of}
 use Rattle.sd_history.specs.Chronicle.{chronicle, next_step}
-use Rattle.sd_safety.specs.Bounds.{losses, depth, delay, tick_gap, rounds_gap, first_low, first_up, second_low, second_up, wait_low, IsTimedBy}
-use Rattle.sd_safety.specs.Eras.{era, plan_now, failed_now, is_among, touches, first_failure, beginning, all_started, late, heard_at, moved_at, silent_for, is_old, is_ordinary, moved, on_primary, hit, path_hit, root_failed}
+use Rattle.sd_safety.specs.Bounds.{depth, delay, tick_gap, first_up}
+use Rattle.sd_safety.specs.Eras.{era, plan_now, failed_now, is_among, touches, first_failure, all_started, late, heard_at, moved_at, is_old, moved, on_primary, path_hit, root_failed}
 use Rattle.sd_safety.specs.Silences.{root_failed_at}
-use Rattle.sd_safety.specs.Invariant.{Invariant}
-use Rattle.sd_safety.specs.Coming.{IsClean, Comes, AtNext}
-use Rattle.sd_safety.proofs.Facts.{IsSound}
+use Rattle.sd_safety.specs.Coming.{Comes, AtNext}
 use Rattle.sd_safety.proofs.Prefix.{clean_before}
-use Rattle.sd_safety.proofs.Sides.{implied, not_both}
-use Rattle.sd_safety_messages.specs.Moments.{whole, behind, when}
-use Rattle.sd_safety_waits.proofs.Waits.{Stands, old_stands}
-use Rattle.sd_safety_waits.proofs.Standing.{now, sound, steps_timed, heard_late}
-use Rattle.sd_safety_silences.proofs.Walking.{over}
+use Rattle.sd_safety.proofs.Sides.{implied}
+use Rattle.sd_safety_messages.specs.Moments.{whole, behind}
+use Rattle.sd_safety_waits.proofs.Standing.{steps_timed}
 use Rattle.sd_safety_behind.specs.Feeding.{mended_now, path_failed_at, MendedMoves}
-use Rattle.sd_safety_behind.proofs.Failing.{some_failed}
-use Rattle.sd_safety_behind.proofs.Moved.{silence_now, not_root}
-use Rattle.sd_safety_behind.proofs.Sealing.{seals_soon}
+use Rattle.sd_safety_behind.proofs.Late.{late_since}
 use Rattle.sd_safety_behind.proofs.Going.{WasMoved, kept, goes, step_back}
 use Rattle.sd_safety_behind.proofs.Broken.{first_at, first_hits, hit_first, first_is_now, late_stays}
 use Rattle.sd_safety_spans.proofs.Backs.{comes_before, old_then}
 use Rattle.sd_safety_spans.proofs.Lately.{same_era}
-use Rattle.sd_safety_paths.proofs.Broken.{path_hears_no_more}
 use Rattle.sd_safety_feeds.proofs.Since.{none_closed}
-use Rattle.sd_safety_strays.proofs.Mend.{mended_on, IsStill, still_on}
-use Rattle.sd_safety_strays.proofs.Strays.{IsFed, Hearing, early, stray, fed, hearing, first_same, broke_same}
-use Rattle.sd_safety_strays.proofs.Ways.{comes_down}
+use Rattle.sd_safety_paths.proofs.Mend.{mended_on, IsStill, still_on}
+use Rattle.sd_safety_strays.proofs.Strays.{Hearing, early, stray, fed, hearing, first_same}
 use Rattle.sd_safety_strays.proofs.Goes.{first_sum, short, never, without, root_before}
 
 stray_sum : (r hb g k f q : ℕ) → r - hb ≤ f + q → hb ≤ g + k + f + q → r ≤ g + k + 2 * (f + q)
@@ -51,10 +39,6 @@ now_sum r g k f q le = omega (arith, le)
 
 grows_sum : (m m' g g' k f q : ℕ) → m ≡ m' → m' ≤ g' + k + f + q → g' ≤ g → m ≤ g + k + f + q
 grows_sum m m' g g' k f q same le more = omega (arith, same, le, more)
-
-late_since : (b : Bool) (r c : ℕ) → r ≤ (if b then max r c else r)
-late_since true r c = omega arith
-late_since false r c = omega arith
 
 -- when it moved
 pub data Moving (setting : Setting) (steps : List Step) : Type 0 where

@@ -1,9 +1,10 @@
 -- Since the receipt from which on its path has been whole, an old backup root on its primary has had it so: the time later than that lies in the era, nothing fails
 -- in it, the root did not fail, each link of the path is whole, and each device of it stands on its primary.
-use Rattle.std.specs.Prelude.{◌≡◌, ℕ, ◌<◌, ◌≤◌, Bool, true, false, ◌&&◌, ◌||◌, List, [], ◌∷◌, map, nat_eq, None, Some, refl}
+use Rattle.std.specs.Prelude.{◌≡◌, ℕ, ◌<◌, ◌≤◌, Bool, true, false, ◌||◌, List, [], ◌∷◌, map, nat_eq, None, Some, refl}
 use Rattle.std.specs.List.{list_any}
 use Rattle.std.proofs.Common.{arith, ◌∙◌, ap, sym, subst}
 use Rattle.std.proofs.lemmas.Bool.{and_from, or_left, or_right, or_parts, eq-eqb, false_from_ne_true}
+use Rattle.std.proofs.Math.Nat.{le_antisymm}
 use Rattle.sd_num.specs.Lists.{has}
 use Rattle.sd_topo.specs.Network.{Network}
 use Rattle.sd_topo.specs.declared.Thing.{Thing}
@@ -16,17 +17,16 @@ use Rattle.sd_core.specs.Calls.{Past}
 use Rattle.sd_core.specs.Words.{epoch_now, has_moved, is_acting}
 use Rattle.sd_sched.specs.declared.Event.{Event}
 use Rattle.sd_history.specs.Things.{failure_of}
-use Rattle.sd_history.specs.World.{Setting, fails, is_thing, link_has_failed, plan_numbered}
+use Rattle.sd_history.specs.World.{Setting, fails, is_thing, link_has_failed}
 use Rattle.sd_history.specs.Steps.{Step, seen_of}
 use Rattle.sd_history.specs.Chronicle.{past_in, chronicle}
-use Rattle.sd_history.proofs.Among.{Among}
 use Rattle.sd_safety.specs.Eras.{era, plan_now, all_started, failed_now, is_among, device_failed_now, root_failed, is_old, on_primary}
 use Rattle.sd_safety.specs.Coming.{IsClean, Comes}
 use Rattle.sd_safety.proofs.CutPaths.{root_on_path}
 use Rattle.sd_safety.proofs.Facts.{IsSound}
 use Rattle.sd_safety.proofs.Prefix.{clean_before, any_passing}
 use Rattle.sd_safety.proofs.Sides.{not_both}
-use Rattle.sd_safety_messages.specs.Moments.{Tail, whole, behind, IsChronicle, Moment, upto, when, IsIn, IsBefore}
+use Rattle.sd_safety_messages.specs.Moments.{Tail, whole, behind, IsChronicle, Moment, when, IsIn, IsBefore}
 use Rattle.sd_safety_messages.proofs.Flowing.{tail_rest}
 use Rattle.sd_safety_messages.proofs.Tails.{rest_of, history_chronicle, earlier_is_before}
 use Rattle.sd_safety_waits.proofs.Standing.{sound}
@@ -37,13 +37,11 @@ use Rattle.sd_safety_receipts.proofs.Stood.{stood_then}
 use Rattle.sd_safety_entering.proofs.Stages.{Stage, stage}
 use Rattle.sd_safety_entering.proofs.Ways.{nothing_touches}
 use Rattle.sd_safety_rounds.specs.Spans.{in_era, IsSpan}
-use Rattle.sd_safety_rounds.proofs.Places.{InEra}
 use Rattle.sd_safety_behind.specs.Feeding.{mended_now}
 use Rattle.sd_safety_behind.proofs.Mends.{fails_nothing}
 use Rattle.sd_safety_behind.proofs.Moved.{not_root}
-use Rattle.sd_safety_strays.proofs.Mend.{mended_on, IsStill, still_on, whole_on}
+use Rattle.sd_safety_paths.proofs.Mend.{mended_on, IsStill, still_on, whole_on}
 use Rattle.sd_safety_strays.proofs.Strays.{is_broken, IsFed}
-use Rattle.sd_safety_strays.proofs.Unbroken.{meet}
 
 -- a hop of the path: as the plan has it, of a device on the path, and with nothing of it broken
 pub record IsPathHop (net : Network) (plan : Plan) (on_path : ℕ → Bool) (bad : Thing → Bool) (y : ℕ) (hop : Hop) : Type 0 where
@@ -123,7 +121,7 @@ module _ (setting : Setting) (x : Event) (h : List Event) (e : Event) (comes : C
           let le : era q.earlier ≤ era steps = era_grows q.earlier steps (tail_rest here) in
           let grows : era fed.moment.earlier ≤ era q.earlier = era_grows fed.moment.earlier q.earlier from_then in
           let a = fed.in_era in
-          meet (era q.earlier) (era steps) le (omega (arith, grows, a))
+          le_antisymm le (omega (arith, grows, a))
 
       pub none_fails : (y : Thing) → fails y q.step.seen.event ≡ false
       none_fails y =

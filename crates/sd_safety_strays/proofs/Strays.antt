@@ -1,9 +1,9 @@
 -- What the backup root heard on its primary after its path broke, in an era with a mend: nothing more; or at most one round that was emitted before the mend, a
 -- stray; or a round that was emitted after it, and its path has been whole since.
-use Rattle.std.specs.Prelude.{◌≡◌, ℕ, zero, suc, ◌+◌, ◌*◌, ◌-◌, ◌<◌, ◌≤◌, Bool, true, false, List, [], ◌∷◌, length, max, nat_eq, Option, Some, None, refl, ◌⊎◌, if◌then◌else◌}
+use Rattle.std.specs.Prelude.{◌≡◌, ℕ, zero, suc, ◌+◌, ◌*◌, ◌-◌, ◌<◌, ◌≤◌, Bool, true, false, List, [], ◌∷◌, length, max, nat_eq, Option, Some, refl, ◌⊎◌, if◌then◌else◌}
 use Rattle.std.specs.List.{list_any}
 use Rattle.std.proofs.Common.{arith, ◌∙◌, ap, sym, subst, inl, inr}
-use Rattle.std.proofs.lemmas.Bool.{cases_lt, false_from_ne_true}
+use Rattle.std.proofs.lemmas.Bool.{cases_lt}
 use Rattle.sd_num.specs.Lists.{of_some}
 use Rattle.sd_topo.specs.declared.Thing.{Thing}
 use Rattle.sd_topo.specs.declared.Thing.TheVariants as thing
@@ -11,14 +11,13 @@ use Rattle.sd_plan.specs.Walks.{path}
 use Rattle.sd_plan.specs.declared.Duty.{Duty}
 use Rattle.sd_sched.specs.declared.Event.{Event}
 use Rattle.sd_sched.specs.Events.{reference_of}
-use Rattle.sd_history.specs.World.{Setting, Seen, link_has_failed, latest_reference, plan_numbered}
+use Rattle.sd_history.specs.World.{Setting, link_has_failed, latest_reference, plan_numbered}
 use Rattle.sd_history.specs.Steps.{Step, seen_of}
 use Rattle.sd_history.specs.Chronicle.{chronicle}
 use Rattle.sd_safety.specs.Bounds.{depth, delay, tick_gap, first_up}
 use Rattle.sd_safety.specs.Eras.{era, plan_now, failed_now, is_among, touches, device_failed_now, beginning, all_started, late, first_failure, heard_at, silent_for, is_old, on_primary, path_hit}
 use Rattle.sd_safety.specs.Coming.{IsClean, Comes}
 use Rattle.sd_safety.proofs.Prefix.{clean_before}
-use Rattle.sd_safety.proofs.Sides.{not_both}
 use Rattle.sd_safety_messages.specs.Moments.{Tail, whole, behind, IsChronicle, Moment, upto, when, IsIn, IsBefore}
 use Rattle.sd_safety_messages.specs.Traces.{Trace}
 use Rattle.sd_safety_messages.proofs.Flowing.{tail_rest}
@@ -29,21 +28,20 @@ use Rattle.sd_safety_waits.proofs.Waits.{Stands, old_stands}
 use Rattle.sd_safety_silences.proofs.Phases.{era_grows}
 use Rattle.sd_safety_silences.proofs.Spacing.{timed_to}
 use Rattle.sd_safety_silences.proofs.Sounding.{top_of}
-use Rattle.sd_safety_receipts.proofs.Hearings.{IsHeard}
+use Rattle.sd_safety_receipts.proofs.Hearings.{IsHeard, LastHeard, last_heard}
 use Rattle.sd_safety_behind.specs.Feeding.{mended_now, path_failed_at}
 use Rattle.sd_safety_behind.proofs.Failing.{FirstFailure, first_failing}
 use Rattle.sd_safety_behind.proofs.Going.{no_later}
 use Rattle.sd_safety_behind.proofs.Moved.{silence_now}
 use Rattle.sd_safety_behind.proofs.Sealing.{seals_soon}
 use Rattle.sd_safety_spans.proofs.Backs.{idle_of}
-use Rattle.sd_safety_traced.proofs.Last.{IsStarted, LastHeard, last_heard}
 use Rattle.sd_safety_paths.proofs.Above.{traced, within, first_in, took, crossed_path}
 use Rattle.sd_safety_paths.proofs.Broken.{started_first, heard_unmended, before_break}
 use Rattle.sd_safety_paths.proofs.Links.{unmended_back}
 use Rattle.sd_safety_paths.proofs.Senders.{sender_unfailed}
-use Rattle.sd_safety_strays.proofs.Mend.{mended_on, IsStill, still_on, whole_on, FirstMend, first_mend}
-use Rattle.sd_safety_strays.proofs.Receipts.{StoodBefore, stood_before}
-use Rattle.sd_safety_strays.proofs.Second.{no_second}
+use Rattle.sd_safety_paths.proofs.Mend.{mended_on, IsStill, still_on, whole_on, FirstMend, first_mend}
+use Rattle.sd_safety_paths.proofs.Receipts.{StoodBefore, stood_before}
+use Rattle.sd_safety_paths.proofs.Second.{no_second}
 
 -- what is broken before an event: a link that is failed, and a device that failed in the era
 abbrev pub is_broken : List Step → Thing → Bool

@@ -5,28 +5,26 @@ use Rattle.std.proofs.lemmas.Bool.{both_ways}
 use Rattle.sd_num.specs.Numbers.{low}
 use Rattle.sd_topo.specs.Network.{Network, rates_of, least_low}
 use Rattle.sd_plan.specs.declared.Plan.{Plan}
-use Rattle.sd_plan.specs.declared.Duty.{Duty}
 use Rattle.sd_plan.specs.Duties.{duty_of}
 use Rattle.sd_plan.specs.Plans.{is_member, is_root, is_backup_root}
-use Rattle.sd_core.specs.Calls as calls
-use Rattle.sd_core.specs.Calls.{Call, Past}
-use Rattle.sd_core.specs.Words.{after, deed_of, has_moved, wait_to_move}
+use Rattle.sd_core.specs.Calls.{Call}
+use Rattle.sd_core.specs.Words.{after, has_moved, wait_to_move}
 use Rattle.sd_sched.specs.declared.Event.{Event}
 use Rattle.sd_sched.specs.Events.{reference_of}
-use Rattle.sd_history.specs.World.{Setting, makes, is_up}
-use Rattle.sd_history.specs.Steps.{Calls, Step, seen_of, acts_in, act_by}
+use Rattle.sd_history.specs.World.{Setting, makes}
+use Rattle.sd_history.specs.Steps.{Calls, Step, acts_in, act_by}
 use Rattle.sd_history.specs.Chronicle.{past_in, chronicle, next_step}
 use Rattle.sd_history.proofs.Given.{some_is}
 use Rattle.sd_safety.specs.Bounds.{first_low}
 use Rattle.sd_safety.specs.Eras.{era, plan_now, heard_at, is_old, moved, on_primary, live_past}
 use Rattle.sd_safety.specs.Coming.{Comes}
 use Rattle.sd_safety_timers.specs.Times.{AreTimed, heard_in}
-use Rattle.sd_safety_timers.proofs.Early.{IsTick, Waited, move_waited, move_not_early}
+use Rattle.sd_safety_timers.proofs.Early.{IsTick, move_waited, move_not_early}
 use Rattle.sd_safety_timers.proofs.Turns.{IsMove, is_move, backup_by_move}
 use Rattle.sd_safety_timers.proofs.Widest.{least_is_low, rate_is_low}
 use Rattle.sd_safety_waits.proofs.Same.{heard_is}
 use Rattle.sd_safety_waits.proofs.Waits.{Stands, old_stands}
-use Rattle.sd_safety_waits.proofs.Standing.{sound, steps_timed}
+use Rattle.sd_safety_waits.proofs.Standing.{steps_timed}
 use Rattle.sd_safety_silences.proofs.Making.{not_made}
 use Rattle.sd_safety_receipts.proofs.Alive.{Went, made, called, alone, went}
 use Rattle.sd_safety_spans.proofs.Backs.{unmoved_by}

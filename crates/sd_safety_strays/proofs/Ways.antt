@@ -1,21 +1,21 @@
 -- So each round of the root comes down the path to the backup root, and on down the cut walk to a device behind it.
-use Rattle.std.specs.Prelude.{◌≡◌, ℕ, ◌+◌, ◌*◌, ◌<◌, ◌≤◌, Bool, true, false, ◌&&◌, List, [], ◌∷◌, length, Option, Some, refl, ◌⊎◌}
-use Rattle.std.proofs.Common.{arith, ◌∙◌, ap, sym, subst, inl, inr}
+use Rattle.std.specs.Prelude.{◌≡◌, ℕ, ◌+◌, ◌*◌, ◌<◌, ◌≤◌, true, false, ◌&&◌, List, [], ◌∷◌, length, Option, Some, refl}
+use Rattle.std.proofs.Common.{arith, ◌∙◌, ap, sym, subst}
 use Rattle.std.proofs.lemmas.Bool.{eqb-true, eq-eqb}
 use Rattle.sd_topo.specs.Network.{greatest_delay}
+use Rattle.sd_topo.specs.declared.Thing.{Thing}
 use Rattle.sd_topo.specs.declared.Thing.TheVariants as thing
 use Rattle.sd_num.specs.Lists.{of_some}
 use Rattle.sd_plan.specs.declared.Duty.{Duty}
 use Rattle.sd_plan.specs.declared.End.{End}
 use Rattle.sd_plan.specs.declared.Hop.{Hop}
 use Rattle.sd_plan.specs.declared.Plan.{Plan}
-use Rattle.sd_plan.specs.Plans.{IsHop, is_member, is_root, primary_of}
-use Rattle.sd_plan.specs.Duties.{follows_over}
+use Rattle.sd_plan.specs.Plans.{is_member, is_root, primary_of}
 use Rattle.sd_plan.specs.Walks.{walk, end_of}
 use Rattle.sd_core.specs.Calls.{Past}
 use Rattle.sd_sched.specs.declared.Event.{Event}
 use Rattle.sd_sched.specs.Events.{reference_of}
-use Rattle.sd_history.specs.World.{Setting, is_thing, is_up, has_commit, link_has_failed, plan_numbered}
+use Rattle.sd_history.specs.World.{Setting, is_thing, fails, is_up, plan_numbered}
 use Rattle.sd_history.specs.Steps.{Step, seen_of, acts_in}
 use Rattle.sd_history.specs.Chronicle.{past_in, chronicle}
 use Rattle.sd_history.proofs.Among.{Among}
@@ -26,33 +26,30 @@ use Rattle.sd_safety.specs.Eras.{era, plan_now, all_started, failed_now, is_amon
 use Rattle.sd_safety.proofs.Facts.{IsSound}
 use Rattle.sd_safety.proofs.Sides.{implied, not_both}
 use Rattle.sd_safety.specs.Coming.{Comes}
-use Rattle.sd_safety_messages.specs.Moments.{behind, Moment, upto, when, IsIn}
+use Rattle.sd_safety_messages.specs.Moments.{Moment, when, IsIn}
 use Rattle.sd_safety_messages.specs.Rounds.{IsReady}
-use Rattle.sd_safety_messages.proofs.Ends.{primary_follows}
 use Rattle.sd_safety_waits.proofs.Waits.{Stands, old_stands}
-use Rattle.sd_safety_waits.proofs.Standing.{Early, sound, is_up_then}
+use Rattle.sd_safety_waits.proofs.Standing.{sound, is_up_then}
 use Rattle.sd_safety_silences.proofs.Phases.{fewer}
-use Rattle.sd_safety_silences.proofs.States.{ready_of}
-use Rattle.sd_safety_silences.proofs.Links.{alone}
+use Rattle.sd_safety_silences.proofs.States.{ready_of, old_unless_new}
 use Rattle.sd_safety_silences.proofs.Sounding.{top_of, map_walks}
 use Rattle.sd_safety_silences.proofs.Walking.{Walks, end_at, way_of, way_length, way_keeps, begins, walk_length}
 use Rattle.sd_safety_windows.proofs.Committing.{staged_plan}
 use Rattle.sd_safety_entering.proofs.States as states
-use Rattle.sd_safety_rounds.specs.Rounds.{IsOpenHop, AreOpenHops}
+use Rattle.sd_safety_rounds.specs.Rounds.{AreOpenHops}
 use Rattle.sd_safety_rounds.specs.Spans.{IsSpan}
-use Rattle.sd_safety_rounds.proofs.Entries.{none_enters}
-use Rattle.sd_safety_rounds.proofs.Hops.{IsOldRound, since_first}
+use Rattle.sd_safety_rounds.proofs.Hops.{IsOldRound, IsLasting, lasting_hop}
 use Rattle.sd_safety_rounds.proofs.NewHops.{open_ways}
-use Rattle.sd_safety_rounds.proofs.Olds as olds
-use Rattle.sd_safety_rounds.proofs.Places.{InEra, InWindow, place}
+use Rattle.sd_safety_rounds.proofs.Places.{InEra, of_era, ready_then}
+use Rattle.sd_safety_rounds.proofs.Leaders.{IsLeader}
 use Rattle.sd_safety_rounds.proofs.Silent.{IsSilent, silent_by}
-use Rattle.sd_safety_rounds.proofs.Sources.{kept_then, rule, staged_is}
+use Rattle.sd_safety_rounds.proofs.Sources.{root_leads, staged_is}
 use Rattle.sd_safety_behind.proofs.Mends.{fails_nothing}
 use Rattle.sd_safety_spans.proofs.Backs.{idle_of}
 use Rattle.sd_safety_spans.proofs.Staged.{is_staged}
 use Rattle.sd_safety_spans.proofs.Thirteen.{not_root, IsSpared, spared, acts}
 use Rattle.sd_safety_feeds.proofs.Cuts.{IsCutClear}
-use Rattle.sd_safety_feeds.proofs.Ready.{cut_then, cut_up, cut_link, cut_ready}
+use Rattle.sd_safety_feeds.proofs.Ready.{cut_lasting as lasting_cut}
 use Rattle.sd_safety_strays.proofs.Strays.{is_broken, IsFed}
 use Rattle.sd_safety_strays.proofs.Since.{IsPathHop, other, unfailed, kept, mended_since, era_at, none_fails, link_at, span, on_path, stands_on, whole_walk}
 
@@ -80,66 +77,18 @@ module _ (setting : Setting) (x : Event) (h : List Event) (e : Event) (comes : C
   span_ : IsSpan setting x h e s0
   span_ = span setting x h e comes old on fed s0 since (λ first. started)
 
+  leads : IsLeader setting x h e s0 (plan_now setting (chronicle setting (x ∷ h))).root
+  leads = root_leads setting x h e s0 span_ kept_
+
   -- a moment since is of the era
-  of_era : (q : Moment) → IsIn q (chronicle setting (e ∷ x ∷ h)) → s0 < when q → InEra setting (chronicle setting (x ∷ h)) q
-  of_era q here after = by (place setting x h e s0 span_ q here after)
-    where
-      next_not : (a c : ℕ) → a + 1 ≡ c → a ≡ c → ⊥
-      next_not a c next same = omega (arith, next, same)
+  era_of : (q : Moment) → IsIn q (chronicle setting (e ∷ x ∷ h)) → s0 < when q → InEra setting (chronicle setting (x ∷ h)) q
+  era_of q here after = of_era setting x h e s0 span_ q here after (era_at setting x h e comes old on fed s0 since q here after)
 
-      by : InEra setting (chronicle setting (x ∷ h)) q ⊎ InWindow setting (chronicle setting (x ∷ h)) q → InEra setting (chronicle setting (x ∷ h)) q
-      by (inl k) = k
-      by (inr k) = absurd (next_not (era (chronicle setting k.h)) (era steps) k.same (sym (ap (λ (p : Moment). era p.earlier) k.is) ∙ era_at setting x h e comes old on fed s0 since q here after))
+  spares : (y : Thing) → is_among (failed_now (chronicle setting (x ∷ h))) y ≡ false → fails y e ≡ false
+  spares y none = ap (λ o. is_thing o y) (fails_nothing setting e (x ∷ h) comes.clean (mended_since setting x h e comes old on fed))
 
-  -- a hop over which each round of the plan comes since
-  pub record IsLasting (y : ℕ) (hop : Hop) : Type 0 where
-    pub primary : primary_of (plan_now setting (chronicle setting (x ∷ h))) y ≡ Some hop
-    pub other : is_root (plan_now setting (chronicle setting (x ∷ h))) y ≡ false
-    pub known : y < length setting.net.devices
-    pub within : IsHop setting.net hop
-    pub up : (q : Moment) → (k : InEra setting (chronicle setting (x ∷ h)) q) → is_up (seen_of (chronicle setting (k.x ∷ k.h))) y ≡ true
-    pub link : (q : Moment) → IsIn q (chronicle setting (e ∷ x ∷ h)) → s0 < when q → (k : InEra setting (chronicle setting (x ∷ h)) q) → link_has_failed (seen_of (chronicle setting (k.x ∷ k.h))) hop.link ≡ false
-    pub ready : (q : Moment) → (k : InEra setting (chronicle setting (x ∷ h)) q) → is_new (chronicle setting (k.x ∷ k.h)) y ≡ false → (past : Past) → past_in (chronicle setting (k.x ∷ k.h)) y ≡ Some past
-        → IsReady past (era (chronicle setting (k.x ∷ k.h))) hop.link
-
-  module _ (y : ℕ) (hop : Hop) (l : IsLasting y hop) where
-    whole_at : (q : Moment) → IsIn q (chronicle setting (e ∷ x ∷ h)) → s0 < when q → (link_has_failed (seen_of q.earlier) hop.link ≡ false) × (is_up (seen_of q.earlier) y ≡ true)
-    whole_at q here after =
-        let k : InEra setting steps q = of_era q here after in
-        subst (λ (p : Moment). (link_has_failed (seen_of p.earlier) hop.link ≡ false) × (is_up (seen_of p.earlier) y ≡ true)) (sym k.is) (l.link q here after k, l.up q k)
-
-    ready_at : (q : Moment) → IsIn q (chronicle setting (e ∷ x ∷ h)) → s0 < when q → ((k : InEra setting (chronicle setting (x ∷ h)) q) → is_new (chronicle setting (k.x ∷ k.h)) y ≡ false) → (past : Past) → past_in q.earlier y ≡ Some past
-        → IsReady past (era (chronicle setting (x ∷ h))) hop.link
-    ready_at q here after not_new =
-        let k : InEra setting steps q = of_era q here after in
-        subst (λ (p : Moment). (past : Past) → past_in p.earlier y ≡ Some past → IsReady past (era steps) hop.link) (sym k.is)
-        (λ past there. subst (λ n. IsReady past n hop.link) k.same (l.ready q k (not_new k) past there))
-
-    lasting_hop : (first : Moment) → IsOldRound setting x h s0 first → (limit : ℕ) → limit ≤ when first + 2 * (setting.net.params.depth + 1) * greatest_delay setting.net
-        → IsOpenHop setting (top_of setting (x ∷ h) e) (era (chronicle setting (x ∷ h))) first limit (plan_now setting (chronicle setting (x ∷ h))).root hop.parent (end_at y hop)
-    lasting_hop first round limit soon =
-        let follows : follows_over plan hop.parent hop.link y ≡ true = primary_follows plan y hop.parent hop.link hop l.primary refl refl in
-        record {
-          follows = follows;
-          alone = λ c is. alone setting.net plan fine.fits fine.rules hop.parent hop.link y c follows is;
-          known = (l.within.1, l.known);
-          apart = other_;
-          whole = λ q q_in from by. whole_at q (behind q_in) (since_first setting x h e s0 span_ kept_ first round.late q (behind q_in) from);
-          ready = λ q q_in from by. ready_at q (behind q_in) (since_first setting x h e s0 span_ kept_ first round.late q (behind q_in) (behind from)) (not_new q q_in by);
-          lasts = λ q q_in from. let after = since_first setting x h e s0 span_ kept_ first round.late q q_in (behind from) in (
-            none_fails setting x h e comes old on fed s0 since q q_in after (thing.Device hop.parent),
-            none_fails setting x h e comes old on fed s0 since q q_in after (thing.Device y),
-            none_fails setting x h e comes old on fed s0 since q q_in after (thing.Link hop.link),
-          );
-        }
-      where
-        other_ : y ≡ plan.root → ⊥
-        other_ same = not_both (is_root plan y) (eq-eqb plan.root y (sym same)) l.other
-
-        not_new : (q : Moment) → IsIn q (chronicle setting (x ∷ h)) → when q ≤ limit → (k : InEra setting (chronicle setting (x ∷ h)) q) → is_new (chronicle setting (k.x ∷ k.h)) y ≡ false
-        not_new q q_in by k =
-            let less = rule setting x h e s0 span_ kept_ in
-            none_enters setting x h e s0 span_ kept_ first round.here round.late round.message round.emits round.epoch round.calm q q_in (omega (arith, by, soon, less)) k y other_
+  no_root : (y : ℕ) → is_root (plan_now setting (chronicle setting (x ∷ h))) y ≡ false → y ≡ (plan_now setting (chronicle setting (x ∷ h))).root → ⊥
+  no_root y low same = not_both (is_root plan y) (eq-eqb plan.root y (sym same)) low
 
   -- a hop of the path of the backup root
   module _ (y : ℕ) (hop : Hop) (p : IsPathHop setting.net (plan_now setting (chronicle setting (x ∷ h))) (on_path setting x h e comes old on fed) (is_broken fed.moment.earlier) y hop) (q : Moment) (k : InEra setting (chronicle setting (x ∷ h)) q) where
@@ -157,39 +106,36 @@ module _ (setting : Setting) (x : Event) (h : List Event) (e : Event) (comes : C
 
     path_ready : is_new (chronicle setting (k.x ∷ k.h)) y ≡ false → (past : Past) → past_in (chronicle setting (k.x ∷ k.h)) y ≡ Some past → IsReady past (era (chronicle setting (k.x ∷ k.h))) hop.link
     path_ready not_new past there =
-        let old_y : is_old older y ≡ true = olds.old_of setting k.x k.h k.e k.comes k.late (kept_then setting x h e s0 span_ kept_ q k) y member_then self_then path_up not_new in
+        let old_y : is_old older y ≡ true = old_unless_new setting k.x k.h k.e k.comes y member_then self_then path_up not_new in
         let s : Stands setting older y = old_stands setting (k.x ∷ k.h) y old_y in
         let put = stands_on setting x h e comes old on fed y p.on_it p.clear.other older k.part s.past s.there (ap (λ (o : Option Duty). of_some o 0 (λ u. u.epoch)) s.duty ∙ k.same) in
         subst (λ z. IsReady z (era older) hop.link) (some_is (sym s.there ∙ there))
         (ready_of setting.net (plan_now setting older) (era older) y hop s.past s.duty put.0 put.1 (subst (λ n. primary_of (plan_numbered setting n) y ≡ Some hop) (sym k.same) p.clear.primary))
 
-  path_lasting : (y : ℕ) (hop : Hop) → IsPathHop setting.net (plan_now setting (chronicle setting (x ∷ h))) (on_path setting x h e comes old on fed) (is_broken fed.moment.earlier) y hop → IsLasting y hop
+  path_lasting : (y : ℕ) (hop : Hop) → IsPathHop setting.net (plan_now setting (chronicle setting (x ∷ h))) (on_path setting x h e comes old on fed) (is_broken fed.moment.earlier) y hop
+      → IsLasting setting x h e s0 (plan_now setting (chronicle setting (x ∷ h))).root y hop
   path_lasting y hop p =
       record {
         primary = p.clear.primary;
-        other = p.clear.other;
+        other = no_root y p.clear.other;
         known = p.clear.known;
         within = p.clear.within;
-        up = λ q k. path_up y hop p q k;
-        link = λ q here after k. subst (λ (r : Moment). link_has_failed (seen_of r.earlier) hop.link ≡ false) k.is (link_at setting x h e comes old on fed s0 since q here after hop.link p.link);
-        ready = λ q k not_new past there. path_ready y hop p q k not_new past there;
+        whole = λ q here after. (
+          link_at setting x h e comes old on fed s0 since q here after hop.link p.link,
+          subst (λ (r : Moment). is_up (seen_of r.earlier) y ≡ true) (sym (era_of q here after).is) (path_up y hop p q (era_of q here after)),
+        );
+        ready = λ q here after not_new. let k : InEra setting steps q = era_of q here after in ready_then setting steps q k y hop.link (path_ready y hop p q k (not_new k));
+        lasts = λ q here after. (
+          none_fails setting x h e comes old on fed s0 since q here after (thing.Device hop.parent),
+          none_fails setting x h e comes old on fed s0 since q here after (thing.Device y),
+          none_fails setting x h e comes old on fed s0 since q here after (thing.Link hop.link),
+        );
       }
 
   -- a hop of a cut walk of which nothing failed
-  pub cut_lasting : (y : ℕ) (hop : Hop) → IsCutClear setting.net (plan_now setting (chronicle setting (x ∷ h))) (failed_now (chronicle setting (x ∷ h))) y hop → IsLasting y hop
+  pub cut_lasting : (y : ℕ) (hop : Hop) → IsCutClear setting.net (plan_now setting (chronicle setting (x ∷ h))) (failed_now (chronicle setting (x ∷ h))) y hop → IsLasting setting x h e s0 (plan_now setting (chronicle setting (x ∷ h))).root y hop
   cut_lasting y hop clear =
-      record {
-        primary = clear.primary;
-        other = clear.other;
-        known = clear.known;
-        within = clear.within;
-        up = λ q k. cut_up setting k.x k.h k.e k.comes k.late y hop (clear_at q k);
-        link = λ q here after k. cut_link setting k.x k.h k.e k.comes k.late y hop (clear_at q k);
-        ready = λ q k not_new past there. cut_ready setting k.x k.h k.e k.comes k.late y hop (clear_at q k) not_new past there;
-      }
-    where
-      clear_at : (q : Moment) (k : InEra setting (chronicle setting (x ∷ h)) q) → IsCutClear setting.net (plan_now setting (chronicle setting (k.x ∷ k.h))) (failed_now (chronicle setting (k.x ∷ k.h))) y hop
-      clear_at q k = cut_then setting (chronicle setting (k.x ∷ k.h)) steps y hop k.part k.same clear
+      lasting_cut setting x h e s0 span_ (λ q here after. era_at setting x h e comes old on fed s0 since q here after) (failed_now steps) (λ z none. none) spares plan.root y hop clear (no_root y clear.other)
 
   -- The device
 
@@ -204,7 +150,7 @@ module _ (setting : Setting) (x : Event) (h : List Event) (e : Event) (comes : C
     own : IsSpared setting (chronicle setting (x ∷ h)) d
     own = spared setting x h e comes d old_d
 
-    silent : IsSilent setting x h e s0 span_ kept_ d
+    silent : IsSilent setting x h s0 d
     silent =
         record {
           old = old_d;
@@ -214,19 +160,19 @@ module _ (setting : Setting) (x : Event) (h : List Event) (e : Event) (comes : C
             is_staged setting x h e comes late d commit own.up own.member unhit,
             not_root steps (staged_plan setting steps) d
                 (subst (λ z. acts_in steps z ≡ true) (sym (staged_is setting x h e s0 span_ kept_ commit) ∙ states.root_is setting (x ∷ h) e comes commit)
-                (acts setting x h e s0 span_ kept_ late (failed_now steps) (λ y none. none) (λ y none. ap (λ o. is_thing o y) (fails_nothing setting e (x ∷ h) comes.clean (mended_since setting x h e comes old on fed))))) (idle_of steps d on_d),
+                (acts setting x h e s0 span_ kept_ late (failed_now steps) (λ y none. none) spares)) (idle_of steps d on_d),
           );
         }
 
-    way_open : (hs : List Hop) → Walks plan IsLasting d hs → end_of d hs ≡ b → (first : Moment) → IsOldRound setting x h s0 first → (limit : ℕ) → limit ≤ when first + 2 * (setting.net.params.depth + 1) * greatest_delay setting.net
+    way_open : (hs : List Hop) → Walks plan (IsLasting setting x h e s0 (plan_now setting (chronicle setting (x ∷ h))).root) d hs → end_of d hs ≡ b → (first : Moment) → IsOldRound setting x h s0 first → (limit : ℕ) → limit ≤ when first + 2 * (setting.net.params.depth + 1) * greatest_delay setting.net
         → AreOpenHops setting (top_of setting (x ∷ h) e) (era (chronicle setting (x ∷ h))) first limit plan.root plan.root (way_of b (walk setting.net plan b) (way_of d hs []))
     way_open hs cut ends first round limit soon =
         let down : AreOpenHops setting top (era steps) first limit plan.root b (way_of d hs []) =
         subst (λ z. AreOpenHops setting top (era steps) first limit plan.root z (way_of d hs [])) ends
-        (open_ways setting top plan (era steps) first limit plan.root d hs [] (map_walks plan _ _ (λ z hop l. lasting_hop z hop l first round limit soon) hs d cut) tt) in
+        (open_ways setting top plan (era steps) first limit plan.root d hs [] (map_walks plan _ _ (λ z hop l. lasting_hop setting x h e s0 plan.root leads z hop l first round limit soon) hs d cut) tt) in
         subst (λ z. AreOpenHops setting top (era steps) first limit plan.root z (way_of b (walk setting.net plan b) (way_of d hs []))) (sym (eqb-true plan.root (end_of b (walk setting.net plan b)) reach))
         (open_ways setting top plan (era steps) first limit plan.root b (walk setting.net plan b) (way_of d hs [])
-        (map_walks plan _ _ (λ z hop p. lasting_hop z hop (path_lasting z hop p) first round limit soon) (walk setting.net plan b) b (whole_walk setting x h e comes old on fed self_b)) down)
+        (map_walks plan _ _ (λ z hop p. lasting_hop setting x h e s0 plan.root leads z hop (path_lasting z hop p) first round limit soon) (walk setting.net plan b) b (whole_walk setting x h e comes old on fed self_b)) down)
 
     -- the way ends at the device
     record Ends (hs : List Hop) : Type 0 where
@@ -257,10 +203,10 @@ module _ (setting : Setting) (x : Event) (h : List Event) (e : Event) (comes : C
     most : (n : ℕ) → 2 * n ≤ 2 * (n + 1)
     most n = omega arith
 
-    pub comes_down : (hs : List Hop) → Walks plan IsLasting d hs → end_of d hs ≡ b → length hs ≤ depth setting.net → reference_of e ≤ s0 + rounds_gap setting.net + 2 * depth setting.net * delay setting.net
+    pub comes_down : (hs : List Hop) → Walks plan (IsLasting setting x h e s0 (plan_now setting (chronicle setting (x ∷ h))).root) d hs → end_of d hs ≡ b → length hs ≤ depth setting.net → reference_of e ≤ s0 + rounds_gap setting.net + 2 * depth setting.net * delay setting.net
     comes_down hs cut ends short =
         let at : Ends hs = ends_at_it hs ends in
-        silent_by setting x h e s0 span_ kept_ d (2 * depth setting.net) silent
+        silent_by setting x h e s0 plan.root leads d (2 * depth setting.net) silent
         (record {
           way = way_of b (walk setting.net plan b) (way_of d hs []);
           last = at.last;

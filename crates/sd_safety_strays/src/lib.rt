@@ -10,12 +10,11 @@
 //! # The way
 //!
 //! - Nothing fails from the first mend of the era until it closes, so what failed, and when, stays
-//!   (`Mend`).
+//!   (`Mend` of `sd_safety_paths`).
 //! - A round that was heard before the mend was emitted no later than the path broke, by
 //!   `sd_safety_paths`. One that was emitted before the mend and heard after it is a stray. Its receipt
 //!   comes at most a first wait and a tick after the receipt before it, and that came before the mend:
-//!   rounds do not overlap, and the backup root takes each round once (`Second`, from `Periods` and
-//!   `Unbroken`).
+//!   rounds do not overlap, and the backup root takes each round once (`no_second` there).
 //! - A round that was emitted after the mend crossed each link of the path while it was whole, and from
 //!   devices that did not fail. So the path has been whole since (`Strays`), and each round of the root
 //!   comes down it, and down the cut walk to a device behind the backup root (`Since`, `Ways`).

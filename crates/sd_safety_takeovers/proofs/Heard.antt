@@ -29,14 +29,15 @@ use Rattle.sd_safety_messages.specs.Rounds.{is_spoiled}
 use Rattle.sd_safety_messages.proofs.Tails.{tail_chronicle, before_is_earlier, tail_trans}
 use Rattle.sd_safety_messages.proofs.Flowing.{HeardBy}
 use Rattle.sd_safety_waits.proofs.Standing.{sound}
+use Rattle.sd_safety_silences.proofs.Feeding.{below_top}
 use Rattle.sd_safety_silences.proofs.Hearing.{heard_from}
 use Rattle.sd_safety_silences.proofs.Sounding.{top_of}
 use Rattle.sd_safety_silences.proofs.Walking.{Walks, end_at, way_of, way_length, begins, walk_length}
 use Rattle.sd_safety_rounds.specs.Rounds.{IsRound}
-use Rattle.sd_safety_rounds.proofs.Along.{below_top, heard_along}
+use Rattle.sd_safety_rounds.proofs.Along.{heard_along}
+use Rattle.sd_safety_behind.proofs.Silent.{behind_parts}
 use Rattle.sd_safety_spans.proofs.Thirteen.{IsSpared, spared}
 use Rattle.sd_safety_feeds.proofs.Cuts.{IsCutClear, cut_off, CutWalk, cut_walk_of}
-use Rattle.sd_safety_feeds.proofs.Fed.{behind_parts}
 use Rattle.sd_safety_takeovers.proofs.Acted.{does_is}
 use Rattle.sd_safety_takeovers.proofs.Places.{took, all_chronicle, stood}
 use Rattle.sd_safety_takeovers.proofs.Source.{spacing, rule, terms, emits_in_era, newest}

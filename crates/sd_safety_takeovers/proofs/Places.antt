@@ -18,12 +18,12 @@ use Rattle.sd_safety_messages.proofs.Tails.{history_chronicle, step_time, earlie
 use Rattle.sd_safety_messages.proofs.Flowing.{tail_rest}
 use Rattle.sd_safety_waits.proofs.Waits.{Stands, old_stands}
 use Rattle.sd_safety_waits.proofs.Standing.{now, Early}
+use Rattle.sd_safety_silences.proofs.States.{not_old_and_new}
 use Rattle.sd_safety_silences.proofs.Phases.{Known}
 use Rattle.sd_safety_silences.proofs.First.{commit_stays}
 use Rattle.sd_safety_silences.proofs.Sounding.{top_of}
 use Rattle.sd_safety_terms.proofs.Actors.{IsActor, actor_is_new}
 use Rattle.sd_safety_entering.proofs.Stages.{Stage, stage}
-use Rattle.sd_safety_rounds.proofs.Silent.{not_old_and_new}
 use Rattle.sd_safety_takeovers.proofs.Since.{StoodSo, HasTakenOver, has_moved_on, taken_over}
 
 -- who has moved did so when members could no longer start

@@ -49,8 +49,8 @@ use Rattle.sd_safety_messages.proofs.Latest.{Emitted, traced_emission}
 use Rattle.sd_safety_messages.proofs.Tracing.{accepted_traced}
 use Rattle.sd_safety_silences.proofs.Late.{emission_late}
 use Rattle.sd_safety_windows.specs.Standing.{HasStanding}
-use Rattle.sd_safety_windows.proofs.Acting.{ActsOld, who_acts, acting_is_up, not_new}
-use Rattle.sd_safety_windows.proofs.Closing.{epoch_up}
+use Rattle.sd_safety_windows.proofs.Acting.{ActsOld, who_acts, acting_is_up, not_new, no_blank}
+use Rattle.sd_safety_windows.proofs.Closing.{epoch_up, settled_epoch}
 use Rattle.sd_safety_windows.proofs.Committing.{staged_some}
 use Rattle.sd_safety_windows.proofs.Closing.{commit_is_open}
 use Rattle.sd_safety_windows.proofs.Eras.{era_kept, era_grows}
@@ -106,10 +106,6 @@ ordinary_parts true false false all = (refl, refl)
 ordinary_parts true false true all = cc
 ordinary_parts true true backup all = cc
 ordinary_parts false root backup all = cc
-
-settled_epoch : (o : Option Answers) (n : ℕ) → of_some o false (λ a. nat_eq a.epoch n && a.sealed) ≡ true → same_number (option_map (λ a. a.epoch) o) n ≡ true
-settled_epoch None n is = cc
-settled_epoch (Some a) n is = (and_parts (nat_eq a.epoch n) a.sealed is).0
 
 past_parts : (u o n b : Bool) → (u && not (o || n || b)) ≡ true → (u ≡ true) × (o ≡ false) × (n ≡ false) × (b ≡ false)
 past_parts true false false false is = (refl, refl, refl, refl)
@@ -335,12 +331,6 @@ pub record IsActor (setting : Setting) (steps : List Step) (a : ℕ) : Type 0 wh
   pub there : past_in steps a ≡ Some past
   pub acts : is_acting past ≡ true
 
-no_blank : (blank parent acts : Bool) → (not blank || (not parent && not acts)) ≡ true → acts ≡ true → blank ≡ false
-no_blank true true acts idle is = cc
-no_blank true false true idle is = cc
-no_blank true false false idle is = cc
-no_blank false parent acts idle is = refl
-
 module _ (setting : Setting) (history : List Event) (fair : IsFair setting) (clean : IsClean setting history) (each : AtEach (Invariant setting) (chronicle setting history)) where
   abbrev steps : List Step
   steps = chronicle setting history
@@ -453,10 +443,6 @@ module _ (setting : Setting) (history : List Event) (fair : IsFair setting) (cle
   -- One that moved, does not act, and is a backup root by its duty is the old backup root
   module _ (x : ℕ) (p : Past) (up : is_up (seen_of (chronicle setting history)) x ≡ true) (there : past_in (chronicle setting history) x ≡ Some p) (idle : is_acting p ≡ false) (put : has_moved p ≡ true)
       (role_ : is_backup_root_now p ≡ true) where
-    acting_if : (b acts : Bool) → (if b then acts else not acts) ≡ true → b ≡ true → acts ≡ true
-    acting_if true acts is b = is
-    acting_if false acts is b = cc
-
     unmoved_by : (some moved_ acts : Bool) → (some && not moved_ && not acts) ≡ true → moved_ ≡ false
     unmoved_by true false acts is = refl
     unmoved_by true true acts is = cc
@@ -475,7 +461,7 @@ module _ (setting : Setting) (history : List Event) (fair : IsFair setting) (cle
         by : (b : Bool) → nat_eq x (staged_root setting (chronicle setting history)) ≡ b → ⊥
         by true is =
             let clause = implied (has_commit (seen_of steps) && is_counted setting (seen_of steps) x) _ (core_now.committed.acting x) (and_from (has_commit (seen_of steps)) (is_counted setting (seen_of steps) x) commit (current_by x up new)) in
-            not_both (is_acting p) (sym (acts_is setting history x p up there) ∙ acting_if (nat_eq x (staged_root setting steps)) (acts_in steps x) clause is) idle
+            not_both (is_acting p) (sym (acts_is setting history x p up there) ∙ acts_if (nat_eq x (staged_root setting steps)) (acts_in steps x) clause is) idle
         by false apart =
             let linked = implied (is_new steps x && not (nat_eq x (staged_root setting steps))) _ (core_now.committed.linked x) (and_from (is_new steps x) (not (nat_eq x (staged_root setting steps))) new (ap not apart)) in
             let primary = (and_parts (on_primary steps x) _ (and_parts (on_primary steps x && of_some (parent_in steps x) false (is_new steps)) _ linked).0).0 in

@@ -80,7 +80,7 @@ committed_cases past u =
       nothing = λ call n is. cc;
     }
 
-committed_is : (past : Past) (call : Call) (u : Duty) → deed_of past call ≡ Committed u → (c : ℕ) × (call ≡ calls.Commit c)
+pub committed_is : (past : Past) (call : Call) (u : Duty) → deed_of past call ≡ Committed u → (c : ℕ) × (call ≡ calls.Commit c)
 committed_is past call u is = by_case past (λ c deed. deed ≡ Committed u → (k : ℕ) × (c ≡ calls.Commit k)) (committed_cases past u) call is
 
 -- How who acts came to act

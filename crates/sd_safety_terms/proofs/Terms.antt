@@ -1,8 +1,8 @@
 -- Terms (9): each is of one acting life, over all eras so far; who acts has the newest; and whoever acts next has one that is as new, so that a takeover begins a newer one. By induction
 -- on the history, from who acts.
-use Rattle.std.specs.Prelude.{◌≡◌, ℕ, zero, suc, ◌+◌, ◌<◌, ◌≤◌, Bool, true, false, ◌&&◌, ◌||◌, not, List, [], ◌∷◌, length, nat_eq, Option, Some, None, is_some, option_map, refl, ◌⊎◌, if◌then◌else◌}
+use Rattle.std.specs.Prelude.{◌≡◌, ℕ, suc, ◌+◌, ◌<◌, ◌≤◌, Bool, true, false, List, [], ◌∷◌, length, nat_eq, Some, None, refl, ◌⊎◌, if◌then◌else◌}
 use Rattle.std.proofs.Common.{arith, ◌∙◌, ap, sym, subst, inl, inr}
-use Rattle.std.proofs.lemmas.Bool.{and_parts, and_from, cases_lt, eqb-true, eq-eqb, false_from_ne_true, leb-true}
+use Rattle.std.proofs.lemmas.Bool.{and_parts, cases_lt, eqb-true, eq-eqb, leb-true}
 use Rattle.sd_num.specs.Lists.{of_some, same_number}
 use Rattle.sd_topo.specs.declared.Thing.TheVariants as thing
 use Rattle.sd_plan.specs.declared.Duty.{Duty}
@@ -11,61 +11,55 @@ use Rattle.sd_msg.specs.declared.Stamp.{Stamp}
 use Rattle.sd_msg.specs.declared.Message.{Message}
 use Rattle.sd_msg.specs.Stamps.{stamp}
 use Rattle.sd_core.specs.Calls as calls
-use Rattle.sd_core.specs.Calls.{Call, Deed, Entered, Committed, Recommitted, Accepted, Moved, TookOver, Emitted as DidEmit, Nothing, Did, Past}
-use Rattle.sd_core.specs.Words.{after, deed_of, taken_up, accepted_over, duty_now, epoch_now, is_acting, has_moved, is_backup_root_now, stamp_now}
+use Rattle.sd_core.specs.Calls.{Call, Deed, Entered, Committed, Recommitted, Accepted, Moved, TookOver, Emitted as DidEmit, Nothing, Past}
+use Rattle.sd_core.specs.Words.{after, deed_of, taken_up, accepted_over, epoch_now, is_acting, stamp_now}
 use Rattle.sd_sched.specs.declared.Event.{Event}
 use Rattle.sd_sched.specs.declared.Event.TheVariants as event
-use Rattle.sd_history.specs.World.{Setting, makes, fails, is_up, has_commit, latest_reference, staged_epoch}
-use Rattle.sd_history.specs.Steps.{Act, Makes, Calls, Asks, Passes, Step, seen_of, act_by, epoch_in}
+use Rattle.sd_history.specs.World.{Setting, makes, fails, is_up, has_commit, latest_reference}
+use Rattle.sd_history.specs.Steps.{Calls, Step, seen_of, act_by, epoch_in}
 use Rattle.sd_topo.specs.Network.{rates_of}
 use Rattle.sd_history.specs.Chronicle.{new_past, past_in, chronicle, next_step}
 use Rattle.sd_history.specs.Premises.{delay_holds, renew_holds}
 use Rattle.sd_history.proofs.Given.{some_is, takes_given}
 use Rattle.sd_history.proofs.Known.{up_case}
-use Rattle.sd_history.proofs.Parts.{AllHold, premises_of}
-use Rattle.sd_safety.specs.Eras.{era, plan_now, is_old, is_new, all_started, did_by}
+use Rattle.sd_history.proofs.Parts.{premises_of}
+use Rattle.sd_safety.specs.Eras.{era, plan_now, is_old, is_new, all_started}
 use Rattle.sd_safety.specs.Clauses.{is_beginning, staged_root}
-use Rattle.sd_safety.specs.Invariant.{Core, Invariant, AtEach}
+use Rattle.sd_safety.specs.Invariant.{Invariant, AtEach}
 use Rattle.sd_safety.specs.Coming.{IsFair, IsClean, Comes}
 use Rattle.sd_safety.proofs.Closings.{start_closes_none}
 use Rattle.sd_safety.proofs.Prefix.{clean_before}
-use Rattle.sd_safety.proofs.Sides.{implied, not_both}
-use Rattle.sd_safety_timers.specs.Times.{AreTimed}
+use Rattle.sd_safety.proofs.Sides.{not_both}
 use Rattle.sd_safety_timers.proofs.Histories.{timed}
-use Rattle.sd_safety_timers.proofs.Deeds.{Cases, by_case}
-use Rattle.sd_safety_timers.proofs.Pasts.{Takes, takeover_from_backup, acting_has_duty}
-use Rattle.sd_safety_timers.proofs.Turns.{BeganToAct, by_takeover, by_commit, began_to_act, IsTakeover, is_takeover}
+use Rattle.sd_safety_timers.proofs.Pasts.{acting_has_duty}
 use Rattle.sd_safety_waits.proofs.Long.{timely_of}
 use Rattle.sd_safety_waits.proofs.Epochs.{era_rises, duty_numbered}
-use Rattle.sd_safety_messages.specs.Moments.{Tail, whole, behind, IsChronicle, Moment, upto, when, IsIn, IsBefore, Sends, Emits}
-use Rattle.sd_safety_messages.specs.Rounds.{IsOneLife, IsUnbroken}
-use Rattle.sd_safety_messages.specs.Stamping.{EntersNot, enters, remakes, GoesOn, stays, calls as goes_on, IsUpTo, StampFrom, unset, sent, committed}
-use Rattle.sd_safety_messages.proofs.Tails.{tail_trans, tail_length, tail_chronicle, history_chronicle, no_later}
-use Rattle.sd_safety_messages.proofs.Acting.{Acting, acts_on, with_deed}
+use Rattle.sd_safety_messages.specs.Moments.{whole, behind, IsChronicle, Moment, when, IsIn, IsBefore, Emits}
+use Rattle.sd_safety_messages.specs.Rounds.{IsOneLife}
+use Rattle.sd_safety_messages.specs.Stamping.{EntersNot, enters, remakes, stays, calls as goes_on, IsUpTo, StampFrom, unset, sent, committed}
+use Rattle.sd_safety_messages.proofs.Tails.{tail_length, history_chronicle, no_later}
+use Rattle.sd_safety_messages.proofs.Acting.{acts_on, with_deed}
 use Rattle.sd_safety_messages.proofs.Rising.{stamps_rise}
 use Rattle.sd_safety_messages.proofs.Origins.{stamp_from}
 use Rattle.sd_safety_messages.proofs.Latest.{Emitted, traced_emission, never_committed}
 use Rattle.sd_safety_messages.proofs.Tracing.{accepted_traced, sends_traced}
 use Rattle.sd_safety_messages.proofs.Sending.{sends_own, passes_on}
 use Rattle.sd_safety_messages.proofs.Consecutive.{emission_acts, past_after_call}
-use Rattle.sd_safety_messages.proofs.Receipts.{device_is, call_is}
-use Rattle.sd_safety_silences.proofs.Phases.{era_grows as eras_grow}
+use Rattle.sd_safety_messages.proofs.Receipts.{device_is}
 use Rattle.sd_safety_silences.proofs.First.{emitter_up, commit_stays}
 use Rattle.sd_safety_silences.proofs.Late.{emission_late}
-use Rattle.sd_safety_silences.proofs.Sourced.{entered_still}
 use Rattle.sd_safety_windows.specs.Reaching.{reach, reach_of}
 use Rattle.sd_safety_windows.proofs.Eras.{era_kept, era_grows, plan_kept}
 use Rattle.sd_safety_windows.proofs.Reaching.{within}
 use Rattle.sd_safety_windows.proofs.News.{reached}
-use Rattle.sd_safety_windows.proofs.Committing.{ActingPast, acting_past, up_and_past}
-use Rattle.sd_safety_windows.proofs.Given.{makes_named}
+use Rattle.sd_safety_windows.proofs.Given.{remakes_none}
 use Rattle.sd_safety_frame.proofs.Timely.{begins_before}
 use Rattle.sd_safety_moves.proofs.Ahead.{IsAhead, always_ahead}
 use Rattle.sd_safety_moves.proofs.Started.{now_is, starts_by}
-use Rattle.sd_safety_receipts.proofs.Alive.{Went, made, called, alone, went, made_epoch}
+use Rattle.sd_safety_receipts.proofs.Alive.{Went, made, called, alone, went}
 use Rattle.sd_safety_receipts.proofs.Hearings.{IsReceipt, accepts_receipt, makes_or_calls}
-use Rattle.sd_safety_receipts.proofs.Stood.{core_of, epoch_is}
-use Rattle.sd_safety_terms.proofs.Actors.{IsActor, actor_is_current, one_actor, actor_is_new, committed_actor, mover_old, mover_backup}
+use Rattle.sd_safety_receipts.proofs.Stood.{epoch_is}
+use Rattle.sd_safety_terms.proofs.Actors.{IsActor, actor_is_current, one_actor, actor_is_new, committed_actor}
 use Rattle.sd_safety_terms.proofs.Came.{WentOn, TakesOver, From, started, went_on, took_over, new_number, old_number, taken_number, kept_number, from}
 
 -- since the moment the device was neither made anew nor entered a plan by a receipt
@@ -103,15 +97,6 @@ unstamped setting steps d past is delay renew there none = by (stamp_from steps 
         let e : Emitted steps m.stamp m.epoch = traced_emission setting steps m.stamp m.epoch p d inside (sends_traced setting steps is delay p d m inside sends) in
         absurd (none e.moment e.is_in e.device e.message e.emits)
     by (committed p inside before counter duty was act deed) = absurd (never_committed setting steps p d counter before duty is renew inside act was deed)
-
-pub remakes_none : (setting : Setting) (steps : List Step) (e : Event) (a : ℕ) → makes a e ≡ false → remakes a (act_by setting steps e) ≡ false
-remakes_none setting steps e a none = by (act_by setting steps e) refl
-  where
-    by : (act : Act) → act_by setting steps e ≡ act → remakes a act ≡ false
-    by (Makes m making) is = false_from_ne_true (nat_eq m a) (λ same. not_both (makes a e) (ap (λ x. makes x e) (sym (eqb-true m a same)) ∙ makes_named setting steps e m making is) none)
-    by (Calls m call) is = refl
-    by (Asks m counter) is = refl
-    by Passes is = refl
 
 -- before a start nothing is emitted
 start_emits_none : (setting : Setting) (e : Event) (history : List Event) → IsFair setting → IsClean setting (e ∷ history) → AtEach (Invariant setting) (chronicle setting history) → (x : ℕ) → makes x e ≡ true → (past : Past) → past_in (chronicle setting (e ∷ history)) x ≡ Some past

@@ -1,6 +1,7 @@
 -- What the root emits of its era's plan it emits no later than it fails first in the era.
-use Rattle.std.specs.Prelude.{◌≡◌, ℕ, ◌≤◌, Bool, true, false, ◌||◌, List, [], ◌∷◌, max, nat_eq, Option, Some, refl, if◌then◌else◌}
+use Rattle.std.specs.Prelude.{◌≡◌, ℕ, ◌≤◌, Bool, true, false, ◌||◌, List, [], ◌∷◌, nat_eq, Option, Some, refl}
 use Rattle.std.proofs.Common.{arith, ◌∙◌, ap, sym, subst}
+use Rattle.std.proofs.Math.Nat.{le_antisymm}
 use Rattle.sd_num.specs.Lists.{of_some}
 use Rattle.sd_topo.specs.declared.Thing.TheVariants as thing
 use Rattle.sd_msg.specs.declared.Message.{Message}
@@ -15,29 +16,18 @@ use Rattle.sd_safety.specs.Invariant.{Invariant, AtEach}
 use Rattle.sd_safety.specs.Silences.{root_failed_at}
 use Rattle.sd_safety.specs.Coming.{IsFair, IsClean}
 use Rattle.sd_safety.proofs.Sides.{not_both}
-use Rattle.sd_safety_messages.specs.Moments.{Tail, whole, behind, IsChronicle, Moment, upto, when, IsIn, IsBefore, Emits}
+use Rattle.sd_safety_messages.specs.Moments.{whole, behind, IsChronicle, Moment, upto, when, IsIn, IsBefore, Emits}
 use Rattle.sd_safety_messages.proofs.Tails.{Order, before, same, after, ordered, rest_of, tail_chronicle, history_chronicle, before_is_earlier}
 use Rattle.sd_safety_messages.proofs.Opening.{sending_fails_not}
 use Rattle.sd_safety_messages.proofs.Sending.{sends_own}
-use Rattle.sd_safety_timers.specs.Since.{IsTail, whole as whole_tail, beyond}
-use Rattle.sd_safety_silences.proofs.Phases.{era_grows, fails_among, failed_on}
+use Rattle.sd_safety_silences.proofs.Phases.{as_tail, era_grows, fails_among, failed_on}
 use Rattle.sd_safety_silences.proofs.Sourced.{emission_keeps}
 use Rattle.sd_safety_silences.proofs.Sounding.{top_of}
 use Rattle.sd_safety_windows.proofs.Senders.{called_is_up}
-use Rattle.sd_safety_behind.proofs.Failing.{FirstFailure, first_failing, some_failed}
+use Rattle.sd_safety_behind.proofs.Failing.{FirstFailure, first_failing, some_failed, chronicle_tail}
+use Rattle.sd_safety_behind.proofs.Late.{late_since}
 use Rattle.sd_safety_entering.proofs.Stages.{Stage, stage}
 use Rattle.sd_safety_traced.proofs.Roots.{root_acts_old}
-
-chronicles : (setting : Setting) (older history : List Event) → IsTail older history → Tail (chronicle setting older) (chronicle setting history)
-chronicles setting older _ whole_tail = whole
-chronicles setting older _ (beyond {xs = earlier} rest) = behind (chronicles setting older earlier rest)
-
-meet : (a b : ℕ) → a ≤ b → b ≤ a → a ≡ b
-meet a b one two = omega (arith, one, two)
-
-late_by : (b : Bool) (r started : ℕ) → r ≤ (if b then max r started else r)
-late_by true r started = omega arith
-late_by false r started = omega arith
 
 pub emits_before : (setting : Setting) (x : Event) (h : List Event) → IsFair setting → IsClean setting (x ∷ h) → AtEach (Invariant setting) (chronicle setting (x ∷ h)) → root_failed setting (chronicle setting (x ∷ h)) ≡ true
     → (p : Moment) → IsIn p (chronicle setting (x ∷ h)) → (m : Message) → Emits p (plan_now setting (chronicle setting (x ∷ h))).root m → m.epoch ≡ era (chronicle setting (x ∷ h)) → when p ≤ root_failed_at setting (chronicle setting (x ∷ h))
@@ -66,7 +56,7 @@ emits_before setting x h fair clean each failed p here m emits own = by (first_f
         g = top_of setting f.earlier f.event
 
         g_in : IsIn g (chronicle setting (x ∷ h))
-        g_in = chronicles setting (f.event ∷ f.earlier) (x ∷ h) f.tail
+        g_in = as_tail (chronicle_tail setting (f.event ∷ f.earlier) (x ∷ h) f.tail)
 
         fails_root : fails (thing.Device root) f.event ≡ true
         fails_root = one_fails (fails (thing.Device root) f.event) f.fails
@@ -83,7 +73,7 @@ emits_before setting x h fair clean each failed p here m emits own = by (first_f
             let mid : era (upto g) ≤ era p.earlier = era_grows (upto g) p.earlier t in
             let high : era p.earlier ≤ era steps = era_grows p.earlier steps (rest_of here) in
             let eras = f.era in
-            let here_era : era p.earlier ≡ era steps = meet (era p.earlier) (era steps) high (omega (arith, low, mid, eras)) in
+            let here_era : era p.earlier ≡ era steps = le_antisymm high (omega (arith, low, mid, eras)) in
             let number : era older ≡ era steps = sym (ap era earlier_is) ∙ here_era in
             let up : is_up (seen_of older) root ≡ true = (called_is_up setting older root s.call st.e st.comes.clean.is.1 (sym (ap (λ (q : Moment). q.step.act) st.is) ∙ s.act)).up in
             let there : past_in older root ≡ Some s.past = subst (λ l. past_in l root ≡ Some s.past) earlier_is s.there in
@@ -108,7 +98,7 @@ emits_before setting x h fair clean each failed p here m emits own = by (first_f
         at_failure le =
             let at = f.at in
             let value : of_some (first_failure (thing.Device root ∷ []) (seen_of steps)) 0 (λ reference. reference) ≡ found.0 = ap (λ (o : Option ℕ). of_some o 0 (λ reference. reference)) found.1 in
-            let lower : found.0 ≤ late setting steps found.0 = late_by (nat_eq (era steps) 1) found.0 (all_started setting steps) in
+            let lower : found.0 ≤ late setting steps found.0 = late_since (nat_eq (era steps) 1) found.0 (all_started setting steps) in
             subst (λ r. when p ≤ late setting steps r) (sym value) (trans_le (when p) (when g) found.0 (late setting steps found.0) le at lower)
           where
             trans_le : (a b c d : ℕ) → a ≤ b → b ≡ c → c ≤ d → a ≤ d

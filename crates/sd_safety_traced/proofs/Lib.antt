@@ -1,5 +1,4 @@
 -- What the backup root heard last, traced to the root.
-pub mod Last
 pub mod Down
 pub mod Roots
 pub mod Fails

@@ -1,5 +1,5 @@
 -- Where the root failed, a backup root on its primary heard at most H * D after that: over its path, or at its start.
-use Rattle.std.specs.Prelude.{◌≡◌, ℕ, ◌+◌, ◌*◌, ◌≤◌, Bool, true, false, max, List, [], ◌∷◌, nat_eq, nat_le, Option, Some, refl, if◌then◌else◌}
+use Rattle.std.specs.Prelude.{◌≡◌, ℕ, ◌+◌, ◌*◌, ◌≤◌, true, false, List, [], ◌∷◌, nat_eq, nat_le, Option, Some, refl, if◌then◌else◌}
 use Rattle.std.proofs.Common.{arith, ◌∙◌, ap, sym, subst, inl, inr}
 use Rattle.std.proofs.lemmas.Bool.{and_parts, and_from, eqb-true, eq-eqb, leb-true, false_from_ne_true}
 use Rattle.sd_num.specs.Lists.{of_some}
@@ -27,14 +27,15 @@ use Rattle.sd_safety.proofs.Closings.{start_closes_none}
 use Rattle.sd_safety.proofs.Facts.{IsSound, sound_now}
 use Rattle.sd_safety.proofs.Prefix.{clean_before}
 use Rattle.sd_safety.proofs.Sides.{not_both}
+use Rattle.sd_safety_behind.proofs.Late.{late_from_start}
 use Rattle.sd_safety_spans.proofs.Backs.{idle_of}
 use Rattle.sd_safety_messages.specs.Moments.{Tail, whole, behind}
 use Rattle.sd_safety_messages.proofs.Tails.{tail_trans}
 use Rattle.sd_safety_waits.proofs.Waits.{Stands, old_stands}
 use Rattle.sd_safety_windows.proofs.Eras.{era_kept}
 use Rattle.sd_safety_moves.proofs.Started.{now_is, starts_by}
+use Rattle.sd_safety_receipts.proofs.Hearings.{IsStarted, LastHeard, last_heard}
 use Rattle.sd_safety_receipts.proofs.Stood.{stood_then, clean_of, each_of}
-use Rattle.sd_safety_traced.proofs.Last.{IsStarted, LastHeard, last_heard}
 use Rattle.sd_safety_traced.proofs.Primaries.{heard_by_failure}
 
 -- the beginning stays
@@ -44,10 +45,6 @@ begins_with setting x older (e ∷ y ∷ history) (behind t) = begins_with setti
 begins_with setting x older (e ∷ []) (behind t) = elim t [ ]
 
 -- in the first era the root counts as failed no earlier than all have started
-started_before : (b : Bool) (r s : ℕ) → b ≡ true → s ≤ (if b then max r s else r)
-started_before true r s is = omega arith
-started_before false r s is = cc
-
 -- who was started was so in the first era, before all had started
 pub start_early : (setting : Setting) (fair : IsFair setting) (d n : ℕ) (f : Event) (earlier : List Event) → IsClean setting (f ∷ earlier) → AtEach (Invariant setting) (chronicle setting earlier) → makes d f ≡ true → (past : Past)
     → past_in (chronicle setting (f ∷ earlier)) d ≡ Some past → epoch_now past ≡ n → 1 ≤ n → (era (chronicle setting earlier) ≡ 1) × (reference_of f ≤ all_started setting (chronicle setting (f ∷ earlier)))
@@ -74,7 +71,7 @@ started_by setting x h e comes s =
     let early = start_early setting comes.fair b (era steps) s.event s.earlier (clean_of setting (s.event ∷ s.earlier) (x ∷ h) s.tail clean) (each_of setting (s.event ∷ s.earlier) (x ∷ h) s.tail comes.before).0 s.makes_ s.past s.there s.own (one_at_least steps) in
     let began : all_started setting (chronicle setting (s.event ∷ s.earlier)) ≡ all_started setting steps = ap (λ r. r + tick_gap setting.net) (sym (begins_with setting s.event s.earlier (x ∷ h) s.tail)) in
     let first : nat_eq (era steps) 1 ≡ true = eq-eqb (era steps) 1 (sym s.number ∙ early.0) in
-    let bound : all_started setting steps ≤ root_failed_at setting steps = started_before (nat_eq (era steps) 1) _ (all_started setting steps) first in
+    let bound : all_started setting steps ≤ root_failed_at setting steps = late_from_start (nat_eq (era steps) 1) _ (all_started setting steps) first in
     sum (heard_at steps b) (reference_of s.event) (all_started setting (chronicle setting (s.event ∷ s.earlier))) (all_started setting steps) (root_failed_at setting steps) ((depth setting.net + 1) * delay setting.net) s.time early.1 began bound
   where
     one_at_least : (l : List Step) → 1 ≤ era l

@@ -30,7 +30,7 @@ use Rattle.sd_safety_messages.proofs.Parents.{Leads, ends_lead}
 use Rattle.sd_safety.specs.Eras.{is_new, live_past, moved}
 use Rattle.sd_safety.proofs.Parents.{live_is}
 use Rattle.sd_safety_timers.proofs.Deeds.{by_case}
-use Rattle.sd_safety_windows.proofs.Leading.{IsLinked}
+use Rattle.sd_safety_windows.proofs.Leading.{IsLinked, stands_by}
 
 -- Over a link a device has one parent.
 
@@ -134,12 +134,6 @@ on_by true true acts a b c = cc
 on_by true false true a b c = cc
 on_by false moved_ acts a b c = cc
 
-off_by : (some moved_ acts : Bool) → (some && not moved_ && not acts) ≡ true → (moved_ ≡ false) × (acts ≡ false)
-off_by true false false on = (refl, refl)
-off_by true false true on = cc
-off_by true true acts on = cc
-off_by false moved_ acts on = cc
-
 module _ (setting : Setting) (history : List Event) (x : ℕ) (past : Past) (live : live_past (chronicle setting history) x ≡ Some past) where
   answers : live_answers (chronicle setting history) x ≡ Some (answers_by past)
   answers = live_is setting history x ∙ ap (option_map answers_by) live
@@ -157,7 +151,7 @@ module _ (setting : Setting) (history : List Event) (x : ℕ) (past : Past) (liv
 
   pub stands_of : IsLinked (chronicle setting history) x → (has_moved past ≡ false) × (is_acting past ≡ false)
   stands_of of =
-      let put = off_by (is_some (live_past (chronicle setting history) x)) (moved (chronicle setting history) x) (acts_in (chronicle setting history) x) of.primary in
+      let put = stands_by (is_some (live_past (chronicle setting history) x)) (moved (chronicle setting history) x) (acts_in (chronicle setting history) x) of.primary in
       (sym (ap (λ p. of_some p false has_moved) live) ∙ put.0, sym (ap (λ o. of_some o false (λ a. a.acts)) answers) ∙ put.1)
 
   pub parent_of : (of : IsLinked (chronicle setting history) x) → parent_now past ≡ Some of.parent

@@ -39,7 +39,7 @@ over_hop : (net : Network) (x : ℕ) (o : Option Hop) (z : ℕ) → option_map (
 over_hop net x None z same = cc
 over_hop net x (Some hop) z same = record { hop = hop; is = refl; leads = some_is same }
 
-stands_by : (some moved_ acts : Bool) → (some && not moved_ && not acts) ≡ true → (moved_ ≡ false) × (acts ≡ false)
+pub stands_by : (some moved_ acts : Bool) → (some && not moved_ && not acts) ≡ true → (moved_ ≡ false) × (acts ≡ false)
 stands_by true false false on = (refl, refl)
 stands_by true false true on = cc
 stands_by true true acts on = cc

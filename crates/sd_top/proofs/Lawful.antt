@@ -25,6 +25,7 @@ use Rattle.sd_work.specs.Works.{IsOutcome, reading, status_for}
 use Rattle.sd_top.specs.Schedules.{SoloCompletes, solo_work}
 use Rattle.sd_top.specs.Twoways.{TwowayCompletes}
 use Rattle.sd_exchanges.specs.Twoways.{twoway_work}
+use Rattle.sd_case.proofs.Lawful.{case_completes}
 use Rattle.sd_schedules.proofs.Lawful.{order_completes, replay_completes}
 use Rattle.sd_twoway.proofs.Covering.{none_is_honest}
 use Rattle.sd_top.proofs.Migrating.{migration_law}
@@ -99,6 +100,7 @@ laws =
       drill_completes = drill_completes;
       replay_completes = replay_completes;
       order_completes = order_completes;
+      case_completes = case_completes;
       migration_law = migration_law;
       reports_contain = reports_contain;
       none_is_honest = none_is_honest;

@@ -36,7 +36,7 @@ use Rattle.sd_top.specs.Twoways.{IsTwoway}
 use Rattle.sd_top.specs.Versions.{MigrationLaw}
 use Rattle.sd_top.specs.Words.{Command, File, OfTopology, OfPlan, OfAbsent, OfExchanges, files_of, name_of, plans_and_schedule}
 use Rattle.sd_top.proofs.Staying.{plans_stay, schedule_stays}
-use Rattle.sd_top.specs.Words.Command.{Solo, Plan as PlanOf, Check, Renew, Replay, Migrate, Order, Twoway, Drill}
+use Rattle.sd_top.specs.Words.Command.{Solo, Plan as PlanOf, Check, Renew, Replay, Case, Migrate, Order, Twoway, Drill}
 
 -- what comes after a file that says the same
 after_carried : {X : Type 0} (before after : Result X Refusal) (Then Later : X → May) (bytes : List ℕ) (status : Status) → before ≡ after → ((x : X) → Then x bytes status → Later x bytes status) → After before Then bytes status
@@ -185,6 +185,7 @@ module _ (topology : List ℕ) (before after : Texts) (net : Network) (v w : ℕ
       let same : name ≡ topology = cc in
       let rest : others ≡ plans_and_schedule plans schedule = cc in
       schedule_stays_over IsReplay (before name) (after name) (λ ps s. replay_with_version v w net (before name) (after name) (reads_at name same) (rereads_at name same) ps s bytes status) plans schedule others rest apart written
+  answers_stay (Some (Case number fabric)) others files apart written = cc
   answers_stay (Some (Migrate name)) others files apart written =
       let same : name ≡ topology = cc in
       migration_stays v w net (before name) (after name) (reads_at name same) (rereads_at name same) bytes status written

@@ -19,13 +19,14 @@ use Rattle.sd_files.specs.declared.Status.{Status}
 use Rattle.sd_files.specs.declared.ended.Refusal.{Refusal}
 use Rattle.sd_work.specs.Works.{IsOutcome}
 use Rattle.sd_exchanges.specs.Twoways.{twoway_work}
+use Rattle.sd_case.proofs.Lawful.{one_case}
 use Rattle.sd_schedules.proofs.Lawful.{one_order, one_replay}
 use Rattle.sd_top.specs.Checks.{IsJudged, verdict_status, verdict_text}
 use Rattle.sd_top.specs.Drills.{IsDrilled}
 use Rattle.sd_top.specs.Migration.{IsMigrated}
 use Rattle.sd_top.specs.Plannings.{IsPlanning, first_root, nothing, planned_text, renewed_root}
 use Rattle.sd_top.specs.Unique.{HasOneAnswer}
-use Rattle.sd_top.specs.Words.Command.{Solo, Plan as PlanOf, Check, Renew, Replay, Migrate, Order, Twoway, Drill}
+use Rattle.sd_top.specs.Words.Command.{Solo, Plan as PlanOf, Check, Renew, Replay, Case, Migrate, Order, Twoway, Drill}
 
 -- at most one status, and bytes that are alike
 abbrev IsOne : (List ℕ → List ℕ → Type 0) → May → Type 0
@@ -82,6 +83,7 @@ one_answer (Some (Renew topology plan absent)) texts bytes other status also is 
     )
     bytes other status also is too
 one_answer (Some (Replay topology plans schedule)) texts bytes other status also is too = one_replay (texts topology) (map texts plans) (texts schedule) bytes other status also is too
+one_answer (Some (Case number fabric)) texts bytes other status also is too = one_case number fabric.leaves fabric.spines bytes other status also is too
 one_answer (Some (Migrate topology)) texts bytes other status also is too =
     after_one (λ b o. network_of (tree_of b) ≡ network_of (tree_of o)) (λ b o same. ap (λ (l : List ℕ). network_of (tree_of l)) same) (topology_of (texts topology)) IsMigrated migrated_one bytes other status also is too
 one_answer (Some (Order topology plans schedule)) texts bytes other status also is too = one_order (texts topology) (map texts plans) (texts schedule) bytes other status also is too

@@ -1,4 +1,5 @@
 -- What holds of the answers themselves, whatever a run does.
+use Rattle.sd_case.specs.Laws.{CaseCompletes}
 use Rattle.sd_schedules.specs.Promises.{Completes}
 use Rattle.sd_schedules.specs.Replays.{IsOrder, IsReplay}
 use Rattle.sd_solo.specs.Promises.{ReportsContain}
@@ -26,6 +27,7 @@ pub record Laws : Type 0 where
   -- and those of a schedule with Done, or with Broken where it shows some trouble
   pub replay_completes : Completes IsReplay
   pub order_completes : Completes IsOrder
+  pub case_completes : CaseCompletes
   -- a topology that is written again with version 2 changes no answer
   pub migration_law : MigrationLaw
   -- whatever the events that one device alone accepts, an honest report has its reference time inside

@@ -8,6 +8,7 @@ use Rattle.sd_files.specs.Statuses.{stop_of}
 use Rattle.sd_files.specs.Texts.{Texts, texts_of}
 use Rattle.sd_files.specs.declared.Status.{Status}
 use Rattle.sd_files.specs.declared.Status.TheVariants.{Done, PlanRefused, Usage, InputRefused, Broken}
+use Rattle.sd_case.specs.Cases.{IsCase}
 use Rattle.sd_top.specs.Checks.{IsCheck}
 use Rattle.sd_top.specs.Drills.{IsDrill}
 use Rattle.sd_top.specs.Migration.{IsMigration}
@@ -19,7 +20,7 @@ use Rattle.sd_top.specs.Replays.{RunsTruly}
 use Rattle.sd_top.specs.Schedules.{IsSolo, ReportsTruly, solo_work}
 use Rattle.sd_top.specs.Twoways.{BoundsTruly, IsTwoway, refused_over}
 use Rattle.sd_top.specs.Words.{Command, command_of}
-use Rattle.sd_top.specs.Words.Command.{Solo, Plan as PlanOf, Check, Renew, Replay, Migrate, Order, Twoway, Drill}
+use Rattle.sd_top.specs.Words.Command.{Solo, Plan as PlanOf, Check, Renew, Replay, Case, Migrate, Order, Twoway, Drill}
 
 -- what is promised of a command
 pub record Task : Type 1 where
@@ -54,7 +55,7 @@ over_schedule work topology plans schedule =
 
 abbrev pub IsUsage : May
 IsUsage bytes status =
-    (bytes ≡ codes "usage: sundial solo SCHEDULE | plan TOPOLOGY | check TOPOLOGY PLAN | renew TOPOLOGY PLAN ABSENT | replay TOPOLOGY PLAN.. SCHEDULE | migrate TOPOLOGY | order TOPOLOGY PLAN.. SCHEDULE | twoway TOPOLOGY EXCHANGES | drill TOPOLOGY PLAN BASE HOLD\n") × (status ≡ Usage)
+    (bytes ≡ codes "usage: sundial solo SCHEDULE | plan TOPOLOGY | check TOPOLOGY PLAN | renew TOPOLOGY PLAN ABSENT | replay TOPOLOGY PLAN.. SCHEDULE | case NUMBER LEAVES SPINES | migrate TOPOLOGY | order TOPOLOGY PLAN.. SCHEDULE | twoway TOPOLOGY EXCHANGES | drill TOPOLOGY PLAN BASE HOLD\n") × (status ≡ Usage)
 
 -- each command, and words that are none
 abbrev pub task_of : Option Command → Task
@@ -64,6 +65,7 @@ task_of (Some (PlanOf topology)) = once (Done ∷ PlanRefused ∷ InputRefused �
 task_of (Some (Check topology plan)) = once (Done ∷ PlanRefused ∷ InputRefused ∷ []) (λ texts. IsCheck (texts topology) (texts plan))
 task_of (Some (Renew topology plan absent)) = once (Done ∷ PlanRefused ∷ InputRefused ∷ []) (λ texts. IsRenewal (texts topology) (texts plan) (texts absent))
 task_of (Some (Replay topology plans schedule)) = over_schedule replay_work topology plans schedule
+task_of (Some (Case number fabric)) = once (Done ∷ PlanRefused ∷ Broken ∷ []) (λ texts. IsCase number fabric.leaves fabric.spines)
 task_of (Some (Migrate topology)) = once (Done ∷ InputRefused ∷ []) (λ texts. IsMigration (texts topology))
 task_of (Some (Order topology plans schedule)) = over_schedule order_work topology plans schedule
 task_of (Some (Twoway topology exchanges)) =

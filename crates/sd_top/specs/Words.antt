@@ -1,10 +1,11 @@
 -- What the words of the command mean.
-use Rattle.std.specs.Prelude.{ℕ, ◌^◌, ◌&&◌, ◌||◌, Bool, List, [], ◌∷◌, ◌++◌, length, map, Option, None, Some, Result, Ok, Err, codes, nat_le, if◌then◌else◌}
+use Rattle.std.specs.Prelude.{ℕ, ◌-◌, ◌^◌, ◌&&◌, ◌||◌, Bool, List, [], ◌∷◌, ◌++◌, length, map, Option, None, Some, Result, Ok, Err, codes, nat_le, if◌then◌else◌}
 use Rattle.std.specs.Str.{bytes_eq}
 use Rattle.sd_num.specs.Decimals.{number}
 use Rattle.sd_num.specs.Lists.{of_some}
 use Rattle.sd_num.specs.declared.NumFault.{NumFault}
 use Rattle.sd_drill.specs.declared.Budget.{Budget}
+use Rattle.sd_case.specs.declared.Fabric.{Fabric}
 
 -- a command, with the names of its files and its numbers
 pub data Command : Type 0 where
@@ -13,6 +14,7 @@ pub data Command : Type 0 where
   Check : (topology plan : List ℕ) → Command
   Renew : (topology plan absent : List ℕ) → Command
   Replay : (topology : List ℕ) (plans : List (List ℕ)) (schedule : List ℕ) → Command
+  Case : (number : ℕ) (fabric : Fabric) → Command
   Migrate : (topology : List ℕ) → Command
   Order : (topology : List ℕ) (plans : List (List ℕ)) (schedule : List ℕ) → Command
   Twoway : (topology exchanges : List ℕ) → Command
@@ -42,9 +44,20 @@ if_within low high (Err why) = None
 abbrev pub number_from : ℕ → ℕ → List ℕ → Option ℕ
 number_from low high word = if_within low high (number word)
 
--- the command of a word with the names of three files
-abbrev pub with_three_files : List ℕ → List ℕ → List ℕ → List ℕ → Option Command
-with_three_files word first second third = if bytes_eq word (codes "renew") then Some (Renew first second third) else None
+-- the sizes of the words for leaves and spines
+abbrev pub fabric_of : List ℕ → List ℕ → Option Fabric
+fabric_of leaves spines = of_some (number_from 2 256 leaves) None (λ l. of_some (number_from 3 32 spines) None (λ s. Some (record { leaves = l; spines = s })))
+
+-- the case of the words for its number and its sizes
+abbrev pub case_of : List ℕ → List ℕ → List ℕ → Option Command
+case_of number leaves spines = of_some (number_from 0 (2 ^ 64 - 1) number) None (λ n. of_some (fabric_of leaves spines) None (λ fabric. Some (Case n fabric)))
+
+-- the command of a word with three words behind it
+abbrev pub with_three : List ℕ → List ℕ → List ℕ → List ℕ → Option Command
+with_three word first second third =
+    if bytes_eq word (codes "renew") then Some (Renew first second third)
+    else if bytes_eq word (codes "case") then case_of first second third
+    else None
 
 -- the budget of the words for its base and its hold, each up to the limit of a budget
 abbrev pub budget_of : List ℕ → List ℕ → Option Budget
@@ -61,7 +74,7 @@ abbrev pub with_fixed : List ℕ → List (List ℕ) → Option Command
 with_fixed word [] = None
 with_fixed word (file ∷ []) = with_one_file word file
 with_fixed word (first ∷ second ∷ []) = with_two_files word first second
-with_fixed word (first ∷ second ∷ third ∷ []) = with_three_files word first second third
+with_fixed word (first ∷ second ∷ third ∷ []) = with_three word first second third
 with_fixed word (first ∷ second ∷ third ∷ fourth ∷ []) = with_budget word first second third fourth
 with_fixed word (first ∷ second ∷ third ∷ fourth ∷ fifth ∷ others) = None
 
@@ -122,6 +135,7 @@ files_of (Some (Plan topology)) = OfTopology topology ∷ []
 files_of (Some (Check topology plan)) = OfTopology topology ∷ OfPlan plan ∷ []
 files_of (Some (Renew topology plan absent)) = OfTopology topology ∷ OfPlan plan ∷ OfAbsent absent ∷ []
 files_of (Some (Replay topology plans schedule)) = OfTopology topology ∷ plans_and_schedule plans schedule
+files_of (Some (Case number fabric)) = []
 files_of (Some (Migrate topology)) = OfTopology topology ∷ []
 files_of (Some (Order topology plans schedule)) = OfTopology topology ∷ plans_and_schedule plans schedule
 files_of (Some (Twoway topology exchanges)) = OfTopology topology ∷ OfExchanges exchanges ∷ []

@@ -23,6 +23,7 @@ use crate::renew::renew;
 use crate::solo::replay_solo;
 use crate::twoway::twoway;
 use crate::words::{Command, command_of};
+use sd_case::case;
 use sd_files::{Status, Stop, write_answer};
 use sd_outside::{Shelf, Sink};
 use sd_schedules::{order, replay};
@@ -104,6 +105,10 @@ fn perform<S: Shelf, O: Sink>(
             write_answer(alloc, &made, out)
         }
         Some(Command::Replay { files }) => replay(alloc, shelf, files, out),
+        Some(Command::Case { number, fabric }) => {
+            let made = case(alloc, number, fabric);
+            write_answer(alloc, &made, out)
+        }
         Some(Command::Migrate { topology }) => {
             let made = migrate(alloc, shelf, topology);
             write_answer(alloc, &made, out)
@@ -153,7 +158,7 @@ fn usage<O: Sink>(out: &mut O) -> Result<Status, Stop>
     ensures sink { result ≡ Err Stop.Sink → Rose (O.faults out.old) (O.faults out.new) }
 {
     match out.write(
-        b"usage: sundial solo SCHEDULE | plan TOPOLOGY | check TOPOLOGY PLAN | renew TOPOLOGY PLAN ABSENT | replay TOPOLOGY PLAN.. SCHEDULE | migrate TOPOLOGY | order TOPOLOGY PLAN.. SCHEDULE | twoway TOPOLOGY EXCHANGES | drill TOPOLOGY PLAN BASE HOLD\n",
+        b"usage: sundial solo SCHEDULE | plan TOPOLOGY | check TOPOLOGY PLAN | renew TOPOLOGY PLAN ABSENT | replay TOPOLOGY PLAN.. SCHEDULE | case NUMBER LEAVES SPINES | migrate TOPOLOGY | order TOPOLOGY PLAN.. SCHEDULE | twoway TOPOLOGY EXCHANGES | drill TOPOLOGY PLAN BASE HOLD\n",
     ) {
         Ok(()) => Ok(Status::Usage),
         Err(_) => Err(Stop::Sink),

@@ -1,9 +1,11 @@
 //! What the words of the command mean.
 ghost use Rattle.std.specs.Prelude.{◌≡◌, ◌≤◌, ◌&&◌, ◌^◌, map, option_map, string_bytes, IfSome};
+ghost use Rattle.sd_case.specs.Sizes.{IsWithin};
 ghost use Rattle.sd_drill.specs.Bounds.{IsBudget};
 ghost use Rattle.sd_top.specs.Parsed.{IsGranted, named};
 ghost use Rattle.sd_top.specs.Words as meaning;
 
+use sd_case::Fabric;
 use sd_drill::Budget;
 use sd_num::read_u64;
 use sd_schedules::Files;
@@ -28,6 +30,10 @@ pub(crate) enum Command<'w> {
     },
     Replay {
         files: Files<'w>,
+    },
+    Case {
+        number: u64,
+        fabric: Fabric,
     },
     Migrate {
         topology: &'w str,
@@ -98,14 +104,38 @@ fn number_from(word: &str, low: u64, high: u64) -> Option<u64>
     }
 }
 
-/// The command of a word with the names of three files.
-fn with_three_files<'w>(
+/// The sizes of the words for leaves and spines.
+fn fabric_of(leaves: &str, spines: &str) -> Option<Fabric>
+    ensures is { result ≡ meaning.fabric_of leaves.now spines.now }
+    ensures limits { IfSome result IsWithin }
+{
+    let leaves = number_from(leaves, 2, 256)?;
+    let spines = number_from(spines, 3, 32)?;
+    Some(Fabric {
+        leaves: leaves as u32,
+        spines: spines as u32,
+    })
+}
+
+/// The case of the words for its number and its sizes.
+fn case_of<'w>(number: &str, leaves: &str, spines: &str) -> Option<Command<'w>>
+    ensures is { option_map named result ≡ meaning.case_of number.now leaves.now spines.now }
+    ensures granted { IfSome result IsGranted }
+{
+    let number = number_from(number, 0, u64::MAX)?;
+    let fabric = fabric_of(leaves, spines)?;
+    Some(Command::Case { number, fabric })
+}
+
+/// The command of a word with three words behind it.
+fn with_three<'w>(
     word: &str,
     first: &'w str,
     second: &'w str,
     third: &'w str,
 ) -> Option<Command<'w>>
-    ensures { option_map named result ≡ meaning.with_three_files word.now first.now second.now third.now }
+    ensures is { option_map named result ≡ meaning.with_three word.now first.now second.now third.now }
+    ensures granted { IfSome result IsGranted }
 {
     if word == "renew" {
         Some(Command::Renew {
@@ -113,6 +143,8 @@ fn with_three_files<'w>(
             plan: second,
             absent: third,
         })
+    } else if word == "case" {
+        case_of(first, second, third)
     } else {
         None
     }
@@ -159,7 +191,7 @@ fn with_fixed<'w>(word: &str, others: &'w [String]) -> Option<Command<'w>>
         [file] => with_one_file(word, file.as_str()),
         [first, second] => with_two_files(word, first.as_str(), second.as_str()),
         [first, second, third] => {
-            with_three_files(word, first.as_str(), second.as_str(), third.as_str())
+            with_three(word, first.as_str(), second.as_str(), third.as_str())
         }
         [first, second, third, fourth] => with_budget(
             word,

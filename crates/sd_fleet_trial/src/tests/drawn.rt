@@ -1,9 +1,6 @@
 //! Lines drawn by lot, most of which can happen after a history.
 
-use super::history::{Plain, Subject};
-use super::numbers::Numbers;
-use super::turns::Turn;
-use super::windows::Stage;
+use sd_fleet_plain::{Numbers, Plain, Stage, Subject, Turn};
 use sd_topo::Thing;
 use std::alloc::{AllocError, Global};
 
@@ -84,9 +81,20 @@ fn any_message(numbers: &mut Numbers, plain: &Plain<'_>) -> u64 {
     numbers.below((plain.sent.len() as u64).saturating_add(2))
 }
 
+/// One of the messages that may still come, with its receiver.
+fn coming(numbers: &mut Numbers, plain: &Plain<'_>) -> Option<(u64, u32)> {
+    let mut chosen = None;
+    for sent in &plain.sent {
+        if !plain.is_spent(sent, 0) && (chosen.is_none() || numbers.once_in(2)) {
+            chosen = Some((sent.flight.number, sent.flight.receiver));
+        }
+    }
+    chosen
+}
+
 /// A message that may still come, mostly to its receiver. Where there is none, a device ticks.
 fn receive(numbers: &mut Numbers, plain: &Plain<'_>) -> Draft {
-    match plain.coming(numbers) {
+    match coming(numbers, plain) {
         Some((number, receiver)) => {
             let device = mostly(numbers, plain, Some(receiver));
             drafted("recv", Named::Receipt(device, number))
@@ -103,7 +111,7 @@ fn receive_any(numbers: &mut Numbers, plain: &Plain<'_>) -> Draft {
 
 fn lose(numbers: &mut Numbers, plain: &Plain<'_>) -> Draft {
     let any = any_message(numbers, plain);
-    let number = match plain.coming(numbers) {
+    let number = match coming(numbers, plain) {
         Some((number, _)) if numbers.once_in(2) => number,
         _ => any,
     };

@@ -1,7 +1,7 @@
 //! How often each kind of thing came in all histories.
 
-use super::history::Deed;
 use sd_fleet::{ApplyFault, Outcome};
+use sd_fleet_plain::Deed;
 
 /// The words of lines, in the order of their counts.
 const WORDS: [&str; 14] = [

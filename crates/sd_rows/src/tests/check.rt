@@ -1,7 +1,7 @@
 //! `check`: verdicts on plans, and texts that are refused.
 
 use super::texts::*;
-use super::{run_words, shelf_of};
+use sd_rows_kit::{run_words, shelf_of};
 use sd_top::Status;
 use std::process::Abort;
 use std::test::Fail;
@@ -22,9 +22,9 @@ fn assert_check(
         let texts = [("topology", topology), ("plan", plan)];
         let mut shelf = shelf_of(alloc, &texts, piece, &[])?;
         let words = ["check", "topology", "plan"];
-        let (answer, out) = run_words(alloc, &words, &mut shelf, Vec::new(alloc))?;
-        assert_eq!(rt; std::str::from_utf8(out.bytes()), Ok(output));
-        assert_eq!(rt; answer, status, "{output:?} in pieces of {piece}");
+        let ran = run_words(alloc, &words, &mut shelf, &[])?;
+        assert_eq!(rt; std::str::from_utf8(ran.out.bytes()), Ok(output));
+        assert_eq!(rt; ran.status, status, "{output:?} in pieces of {piece}");
     }
     Ok(())
 }
@@ -221,9 +221,9 @@ fn the_topology_is_judged_before_the_plan_is_sought(rt: HostRuntime) -> Result<(
     let alloc = rt.alloc();
     let mut shelf = shelf_of(alloc, &[("topology", b"")], 8192, &[])?;
     let words = ["check", "topology", "elsewhere"];
-    let (answer, out) = run_words(alloc, &words, &mut shelf, Vec::new(alloc))?;
+    let ran = run_words(alloc, &words, &mut shelf, &[])?;
     let output = "input topology Missing version 0\n";
-    assert_eq!(rt; std::str::from_utf8(out.bytes()), Ok(output));
-    assert_eq!(rt; answer, Status::InputRefused);
+    assert_eq!(rt; std::str::from_utf8(ran.out.bytes()), Ok(output));
+    assert_eq!(rt; ran.status, Status::InputRefused);
     Ok(())
 }

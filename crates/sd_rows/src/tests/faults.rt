@@ -2,8 +2,8 @@
 ghost use Rattle.std.specs.Prelude.{◌≡◌, false, IfOk};
 
 use super::texts::*;
-use super::{run_words, shelf_of};
 use sd_outside::MemShelf;
+use sd_rows_kit::{run_words, shelf_of};
 use sd_top::Status;
 use std::alloc::Global;
 use std::test::Fail;
@@ -28,18 +28,17 @@ fn fabric_shelf(alloc: Global, failing: &[u64]) -> Result<MemShelf, Fail>
             r#"{"absent_devices":["l3"],"absent_links":[]}"#.as_bytes(),
         ),
     ];
-    shelf_of(alloc, &texts, 8192, failing)
+    Ok(shelf_of(alloc, &texts, 8192, failing)?)
 }
 
 #[test]
 fn one_write_is_all(rt: HostRuntime) -> Result<(), Fail> {
     let alloc = rt.alloc();
     for (words, _, output) in &RUNS {
-        let failing = Vec::from_slice(alloc, &[(2, 0)])?;
         let mut shelf = fabric_shelf(alloc, &[])?;
-        let (status, out) = run_words(alloc, words, &mut shelf, failing)?;
-        assert_eq!(rt; status, Status::Done);
-        assert_eq!(rt; std::str::from_utf8(out.bytes()), Ok(*output));
+        let ran = run_words(alloc, words, &mut shelf, &[(2, 0)])?;
+        assert_eq!(rt; ran.status, Status::Done);
+        assert_eq!(rt; std::str::from_utf8(ran.out.bytes()), Ok(*output));
     }
     Ok(())
 }
@@ -50,15 +49,15 @@ fn nothing_is_written_where_a_call_of_the_shelf_fails(rt: HostRuntime) -> Result
     for (words, calls, output) in &RUNS {
         for call in 1..=*calls {
             let mut shelf = fabric_shelf(alloc, &[call])?;
-            let (status, out) = run_words(alloc, words, &mut shelf, Vec::new(alloc))?;
-            assert_eq!(rt; status, Status::ShelfFault, "call {call}");
-            assert_eq!(rt; out.bytes(), b"".as_slice(), "call {call}");
+            let ran = run_words(alloc, words, &mut shelf, &[])?;
+            assert_eq!(rt; ran.status, Status::ShelfFault, "call {call}");
+            assert_eq!(rt; ran.out.bytes(), b"".as_slice(), "call {call}");
         }
         // no further call is made
         let mut shelf = fabric_shelf(alloc, &[*calls + 1])?;
-        let (status, out) = run_words(alloc, words, &mut shelf, Vec::new(alloc))?;
-        assert_eq!(rt; status, Status::Done);
-        assert_eq!(rt; std::str::from_utf8(out.bytes()), Ok(*output));
+        let ran = run_words(alloc, words, &mut shelf, &[])?;
+        assert_eq!(rt; ran.status, Status::Done);
+        assert_eq!(rt; std::str::from_utf8(ran.out.bytes()), Ok(*output));
     }
     Ok(())
 }
@@ -68,15 +67,14 @@ fn a_front_is_written_where_the_write_fails(rt: HostRuntime) -> Result<(), Fail>
     let alloc = rt.alloc();
     for (words, _, output) in &RUNS {
         for kept in [0, 7, 16] {
-            let failing = Vec::from_slice(alloc, &[(1, kept)])?;
             let mut shelf = fabric_shelf(alloc, &[])?;
-            let (status, out) = run_words(alloc, words, &mut shelf, failing)?;
-            assert_eq!(rt; status, Status::SinkFault, "{kept}");
+            let ran = run_words(alloc, words, &mut shelf, &[(1, kept)])?;
+            assert_eq!(rt; ran.status, Status::SinkFault, "{kept}");
             let front = output
                 .as_bytes()
                 .get(..kept)
                 .ok_or("the output is shorter")?;
-            assert_eq!(rt; out.bytes(), front, "{kept}");
+            assert_eq!(rt; ran.out.bytes(), front, "{kept}");
         }
     }
     Ok(())

@@ -1,7 +1,8 @@
 //! `migrate`: what it writes for topologies of both versions, and how it refuses.
 ghost use Rattle.std.specs.Prelude.{◌≤◌};
 
-use super::{run_words, shelf_with};
+use super::shelf_with;
+use sd_rows_kit::run_words;
 use sd_top::Status;
 use std::alloc::{AllocError, Global};
 use std::process::Abort;
@@ -57,9 +58,9 @@ fn assert_migrates(
 {
     let alloc = rt.alloc();
     let mut shelf = shelf_with(alloc, topology, piece, &[])?;
-    let (answer, out) = run_words(alloc, &["migrate", "file"], &mut shelf, Vec::new(alloc))?;
-    assert_eq!(rt; std::str::from_utf8(out.bytes()), Ok(output));
-    assert_eq!(rt; answer, status, "{output:?} in pieces of {piece}");
+    let ran = run_words(alloc, &["migrate", "file"], &mut shelf, &[])?;
+    assert_eq!(rt; std::str::from_utf8(ran.out.bytes()), Ok(output));
+    assert_eq!(rt; ran.status, status, "{output:?} in pieces of {piece}");
     Ok(())
 }
 
@@ -274,9 +275,9 @@ fn nothing_is_written_where_the_shelf_fails(rt: HostRuntime) -> Result<(), Fail>
     for call in 1..=4u64 {
         let mut shelf = shelf_with(alloc, TRIANGLE.as_bytes(), 400, &[call])?;
         let words = ["migrate", "file"];
-        let (status, out) = run_words(alloc, &words, &mut shelf, Vec::new(alloc))?;
-        assert_eq!(rt; status, Status::ShelfFault, "call {call}");
-        assert_eq!(rt; out.bytes(), b"".as_slice(), "call {call}");
+        let ran = run_words(alloc, &words, &mut shelf, &[])?;
+        assert_eq!(rt; ran.status, Status::ShelfFault, "call {call}");
+        assert_eq!(rt; ran.out.bytes(), b"".as_slice(), "call {call}");
     }
     Ok(())
 }
@@ -285,11 +286,10 @@ fn nothing_is_written_where_the_shelf_fails(rt: HostRuntime) -> Result<(), Fail>
 fn a_front_of_the_text_is_written_where_the_sink_fails(rt: HostRuntime) -> Result<(), Fail> {
     let alloc = rt.alloc();
     for (kept, output) in [(0, ""), (9, "depth = 2")] {
-        let failing = Vec::from_slice(alloc, &[(1, kept)])?;
         let mut shelf = shelf_with(alloc, TRIANGLE.as_bytes(), 4096, &[])?;
-        let (status, out) = run_words(alloc, &["migrate", "file"], &mut shelf, failing)?;
-        assert_eq!(rt; status, Status::SinkFault, "{kept}");
-        assert_eq!(rt; out.bytes(), output.as_bytes(), "{kept}");
+        let ran = run_words(alloc, &["migrate", "file"], &mut shelf, &[(1, kept)])?;
+        assert_eq!(rt; ran.status, Status::SinkFault, "{kept}");
+        assert_eq!(rt; ran.out.bytes(), output.as_bytes(), "{kept}");
     }
     Ok(())
 }

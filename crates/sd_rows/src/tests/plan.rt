@@ -1,7 +1,7 @@
 //! `plan` and `renew`: greedy plans, and texts that are refused.
 
 use super::texts::*;
-use super::{run_words, shelf_of};
+use sd_rows_kit::{run_words, shelf_of};
 use sd_top::Status;
 use std::alloc::Global;
 use std::process::Abort;
@@ -21,9 +21,9 @@ fn assert_plan(
     let alloc = rt.alloc();
     let mut shelf = shelf_of(alloc, &[("topology", topology)], 4096, &[])?;
     let words = ["plan", "topology"];
-    let (answer, out) = run_words(alloc, &words, &mut shelf, Vec::new(alloc))?;
-    assert_eq!(rt; std::str::from_utf8(out.bytes()), Ok(output));
-    assert_eq!(rt; answer, status, "{output:?}");
+    let ran = run_words(alloc, &words, &mut shelf, &[])?;
+    assert_eq!(rt; std::str::from_utf8(ran.out.bytes()), Ok(output));
+    assert_eq!(rt; ran.status, status, "{output:?}");
     Ok(())
 }
 
@@ -44,9 +44,9 @@ fn assert_renewal(
         ];
         let mut shelf = shelf_of(alloc, &texts, piece, &[])?;
         let words = ["renew", "topology", "plan", "absent"];
-        let (answer, out) = run_words(alloc, &words, &mut shelf, Vec::new(alloc))?;
-        assert_eq!(rt; std::str::from_utf8(out.bytes()), Ok(output));
-        assert_eq!(rt; answer, status, "{output:?} in pieces of {piece}");
+        let ran = run_words(alloc, &words, &mut shelf, &[])?;
+        assert_eq!(rt; std::str::from_utf8(ran.out.bytes()), Ok(output));
+        assert_eq!(rt; ran.status, status, "{output:?} in pieces of {piece}");
     }
     Ok(())
 }

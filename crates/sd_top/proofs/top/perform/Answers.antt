@@ -3,7 +3,7 @@ use Rattle.std.specs.Prelude.{IsTrue}
 use Rattle.sd_files.proofs.Loading.{told_always}
 use Rattle.sd_top.specs.Parsed.{named}
 use Rattle.sd_top.specs.Words.{OfTopology, OfPlan, OfAbsent, command_of, files_of}
-use Rattle.sd_top.specs.Words.Command.{Solo, Plan, Check, Renew, Replay, Migrate, Order, Twoway, Drill}
+use Rattle.sd_top.specs.Words.Command.{Solo, Plan, Check, Renew, Replay, Case, Migrate, Order, Twoway, Drill}
 use Rattle.sd_top.specs.declared.words.Command.{Command as Parsed}
 use Rattle.sd_top.proofs.Performing.{meets_told, meets_once, near_told, near_nothing}
 use Rattle.sd_top.proofs.Serving.{serves_first, serves_second, serves_third, serves_topology, serves_plans, serves_schedule}
@@ -59,6 +59,12 @@ returns-in-Some-Replay-clause-outcome g c = meets_told _ _ (Some (Replay c.in-So
 
 pub returns-in-Some-Replay-clause-near : goal.returns-in-Some-Replay-clause-near
 returns-in-Some-Replay-clause-near g c = λ refused. near_told _ _ (Some (Replay c.in-Some-Replay.files.topology.now (map string_bytes c.in-Some-Replay.files.plans.now) c.in-Some-Replay.files.schedule.now)) _ (ap (λ (x : Parsed). Some (named x)) (sym c.in-Some-Replay.field-0-is) ∙ c.in-Some-Replay.ensures.is) (c.replay.ensures.near refused)
+
+pub returns-in-Some-Case-clause-outcome : goal.returns-in-Some-Case-clause-outcome
+returns-in-Some-Case-clause-outcome g c = meets_once _ _ (Some (Case c.in-Some-Case.number c.in-Some-Case.fabric)) c.case-made.result _ _ _ (ap (λ (x : Parsed). Some (named x)) (sym c.in-Some-Case.field-0-is) ∙ c.in-Some-Case.ensures.is) refl (told_always _ c.case-made.ensures.makes) c.write_answer-in-Some-Case.ensures.writes
+
+pub returns-in-Some-Case-clause-near : goal.returns-in-Some-Case-clause-near
+returns-in-Some-Case-clause-near g c = λ refused. near_nothing _ _ (Some (Case c.in-Some-Case.number c.in-Some-Case.fabric)) _ (ap (λ (x : Parsed). Some (named x)) (sym c.in-Some-Case.field-0-is) ∙ c.in-Some-Case.ensures.is) (λ texts. refl)
 
 pub returns-in-Some-Migrate-clause-outcome : goal.returns-in-Some-Migrate-clause-outcome
 returns-in-Some-Migrate-clause-outcome g c = meets_once _ _ (Some (Migrate c.in-Some-Migrate.topology.now)) c.migrate-made.result _ _ _ (ap (λ (x : Parsed). Some (named x)) (sym c.in-Some-Migrate.field-0-is) ∙ c.in-Some-Migrate.ensures.is) refl c.migrate-made.ensures.makes c.write_answer-in-Some-Migrate.ensures.writes

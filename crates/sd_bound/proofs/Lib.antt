@@ -1,0 +1,2 @@
+-- The bound from its two halves.
+pub mod Composing

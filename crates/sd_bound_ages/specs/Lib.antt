@@ -1,0 +1,2 @@
+-- How long devices are silent at most.
+pub mod Sums

@@ -1,0 +1,2 @@
+-- Chains from a device that acts.
+pub mod Chains

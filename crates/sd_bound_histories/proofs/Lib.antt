@@ -1,0 +1,5 @@
+-- Histories without a stage.
+pub mod Plain
+pub mod Lives
+pub mod Failures
+pub mod Standing

@@ -1,0 +1,2 @@
+-- Runs in which nothing fails any more.
+pub mod Settled

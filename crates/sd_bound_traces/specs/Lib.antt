@@ -1,0 +1,2 @@
+-- Ways that stand.
+pub mod Led

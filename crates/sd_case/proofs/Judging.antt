@@ -1,0 +1,96 @@
+-- The plans of a case are judged, and lead to what comes after them.
+use Rattle.std.specs.Prelude.{◌≡◌, ℕ, List, [], ◌∷◌, reverse, Result, Ok, Err}
+use Rattle.std.proofs.Common.{ap, ◌∙◌, subst}
+use Rattle.std.proofs.lemmas.List.{reverse-reverse}
+use Rattle.sd_topo.specs.Network.{Network}
+use Rattle.sd_plan.specs.declared.Absent.{Absent}
+use Rattle.sd_plan.specs.declared.Plan.{Plan}
+use Rattle.sd_checker.specs.declared.Breach.{Breach}
+use Rattle.sd_checker.specs.declared.Verdict.{Verdict}
+use Rattle.sd_checker.specs.declared.Verdict.TheVariants.{Accepted, Refused}
+use Rattle.sd_planner.specs.Planning.{IsPlanned}
+use Rattle.sd_planner.specs.declared.Planned.{Planned}
+use Rattle.sd_planner.specs.declared.Planned.TheVariants as planned
+use Rattle.sd_sched.specs.declared.Event.{Event}
+use Rattle.sd_history.specs.Chronicle.{chronicle}
+use Rattle.sd_gen_fabric.specs.Fabrics.{first_absent, second_absent}
+use Rattle.sd_gen.specs.Drafts.{history_of, schedule}
+use Rattle.sd_replay.specs.Tallies.{tally_of}
+use Rattle.sd_files.specs.Answering.{May}
+use Rattle.sd_files.specs.Reasons.{refusal_line}
+use Rattle.sd_files.specs.Writes.{Makes}
+use Rattle.sd_files.specs.declared.Status.{Status}
+use Rattle.sd_files.specs.declared.Status.TheVariants.{InputRefused}
+use Rattle.sd_files.specs.declared.ended.Answer.{Answer}
+use Rattle.sd_files.specs.declared.ended.Ended.{Ended}
+use Rattle.sd_files.specs.declared.ended.Ended.TheVariants as ended
+use Rattle.sd_planfiles.specs.Early.{made_of}
+use Rattle.sd_planfiles.specs.PlanFiles.{AfterVerdict, Nothing}
+use Rattle.sd_planfiles.specs.declared.early.Early.{Early}
+use Rattle.sd_case.specs.Cases.{AfterBoth, AfterGreedy, IsCaseOver, IsTallied, case_tally, over}
+use Rattle.sd_case.specs.Planned.{AreMade, IsMade}
+
+-- what was made may be written also where more may be
+pub makes_more : (Writes More : May) (made : Result Answer Ended) → ((bytes : List ℕ) (status : Status) → Writes bytes status → More bytes status) → Makes Writes made → Makes More made
+makes_more Writes More (Ok answer) more makes = more answer.text.items answer.status makes
+makes_more Writes More (Err (ended.Refused why)) more makes = more (refusal_line why) InputRefused makes
+makes_more Writes More (Err ended.Shelf) more makes = tt
+makes_more Writes More (Err ended.Memory) more makes = tt
+
+verdict_more : (net : Network) (place : ℕ) (verdict : Verdict) (Then More : May) (bytes : List ℕ) (status : Status) → (Then bytes status → More bytes status) → AfterVerdict net place verdict Then bytes status
+    → AfterVerdict net place verdict More bytes status
+verdict_more net place Accepted Then More bytes status more written = more written
+verdict_more net place (Refused breach) Then More bytes status more written = written
+
+module _ (net : Network) where
+  greedy_more : (place root : ℕ) (absent : Absent) (Then More : Plan → May) (bytes : List ℕ) (status : Status) → ((plan : Plan) → Then plan bytes status → More plan bytes status)
+      → AfterGreedy net place root absent Then bytes status → AfterGreedy net place root absent More bytes status
+  greedy_more place root absent Then More bytes status more (plan, greedy, fits, (verdict, says, written)) =
+      (plan, greedy, fits, (verdict, says, verdict_more net place verdict (Then plan) (More plan) bytes status (more plan) written))
+
+  -- a plan that was made leads to what comes after it
+  goes_on : (place root : ℕ) (absent : Absent) (Then : Plan → May) (plan : Plan) (bytes : List ℕ) (status : Status) → IsMade net root absent plan → Then plan bytes status → AfterGreedy net place root absent Then bytes status
+  goes_on place root absent Then plan bytes status made written = (plan, made.greedy, made.fits, (Accepted, made.accepted, written))
+
+  -- the line of a plan that the checker refuses
+  pub plan_refused : (place root : ℕ) (absent : Absent) (what : Planned) (plan : Plan) (breach : Breach) (early : Early) → IsPlanned net root absent what → what ≡ planned.NoPlan plan breach
+      → Makes (AfterVerdict net place (Refused breach) (λ bytes status. ⊥)) (made_of early) → Makes (AfterGreedy net place root absent Nothing) (made_of early)
+  plan_refused place root absent what plan breach early is same =
+      let (greedy, fits, says) = subst (IsPlanned net root absent) same is in
+      makes_more (AfterVerdict net place (Refused breach) (λ bytes status. ⊥)) (AfterGreedy net place root absent Nothing) (made_of early) (λ bytes status written. (plan, greedy, fits, (Refused breach, says, written)))
+
+  -- the line of the first plan, or of the second behind the first
+  pub first_refused : (early : Early) → Makes (AfterGreedy net 1 0 first_absent Nothing) (made_of early) → Makes (AfterBoth net Nothing) (made_of early)
+  first_refused early =
+      makes_more (AfterGreedy net 1 0 first_absent Nothing) (AfterBoth net Nothing) (made_of early) (λ bytes status.
+      greedy_more 1 0 first_absent Nothing (λ first. AfterGreedy net 2 1 second_absent (λ second. Nothing (first ∷ second ∷ []))) bytes status (λ plan none. absurd none))
+
+  pub second_refused : (first : Plan) (early : Early) → IsMade net 0 first_absent first → Makes (AfterGreedy net 2 1 second_absent Nothing) (made_of early) → Makes (AfterBoth net Nothing) (made_of early)
+  second_refused first early made =
+      makes_more (AfterGreedy net 2 1 second_absent Nothing) (AfterBoth net Nothing) (made_of early) (λ bytes status written.
+      goes_on 1 0 first_absent (λ one. AfterGreedy net 2 1 second_absent (λ second. Nothing (one ∷ second ∷ []))) first bytes status made
+      (greedy_more 2 1 second_absent Nothing (λ second. Nothing (first ∷ second ∷ [])) bytes status (λ plan none. absurd none) written))
+
+  -- a case whose plans are not both accepted ends before its schedule
+  pub case_early : (number : ℕ) (early : Early) → Makes (AfterBoth net Nothing) (made_of early) → Makes (IsCaseOver net number) (made_of early)
+  case_early number early =
+      makes_more (AfterBoth net Nothing) (IsCaseOver net number) (made_of early) (λ bytes status.
+      greedy_more 1 0 first_absent (λ first. AfterGreedy net 2 1 second_absent (λ second. Nothing (first ∷ second ∷ [])))
+      (λ first. AfterGreedy net 2 1 second_absent (λ second. IsTallied (case_tally (over net (first ∷ second ∷ [])) number))) bytes status (λ first.
+      greedy_more 2 1 second_absent (λ second. Nothing (first ∷ second ∷ [])) (λ second. IsTallied (case_tally (over net (first ∷ second ∷ [])) number)) bytes status (λ second none. absurd none)))
+
+  recorded : (number : ℕ) (plans : List Plan) (events : List Event) → events ≡ schedule (over net plans) number → reverse events ≡ history_of (over net plans) number
+  unfolding schedule
+  recorded number plans events is = ap reverse is ∙ reverse-reverse (history_of (over net plans) number)
+
+  -- the tally of its schedule over both plans
+  pub case_told : (number : ℕ) (plans : List Plan) (events : List Event) (made : Result Answer Ended) → AreMade net plans → events ≡ schedule (over net plans) number
+      → Makes (IsTallied (tally_of (over net plans) (chronicle (over net plans) (reverse events)))) made → Makes (IsCaseOver net number) made
+  case_told number plans events made both is =
+      makes_more (IsTallied (tally_of (over net plans) (chronicle (over net plans) (reverse events)))) (IsCaseOver net number) made (λ bytes status written.
+      let told : IsTallied (case_tally (over net plans) number) bytes status =
+      subst (λ (es : List Event). IsTallied (tally_of (over net plans) (chronicle (over net plans) es)) bytes status) (recorded number plans events is) written in
+      let of_both : IsTallied (case_tally (over net (both.first ∷ both.second ∷ [])) number) bytes status =
+      subst (λ (ps : List Plan). IsTallied (case_tally (over net ps) number) bytes status) both.are told in
+      goes_on 1 0 first_absent (λ first. AfterGreedy net 2 1 second_absent (λ second. IsTallied (case_tally (over net (first ∷ second ∷ [])) number))) both.first bytes status both.first_made
+      (goes_on 2 1 second_absent (λ second. IsTallied (case_tally (over net (both.first ∷ second ∷ [])) number)) both.second bytes status both.second_made of_both))

@@ -1,0 +1,14 @@
+use Rattle.std.proofs.Common.{sym, subst}
+use Rattle.sd_topo.specs.Topologies.{network}
+use Rattle.sd_files.specs.Writes.{Makes}
+use Rattle.sd_case.specs.Cases.{IsCaseOver}
+use Rattle.sd_case.proofs.Judging.{case_early, case_told}
+use Rattle.sd_case.proofs.case_over.Goals as goal
+
+pub returns-in-Ok-clause-makes : goal.returns-in-Ok-clause-makes
+returns-in-Ok-clause-makes c =
+    case_told (network c.args.topo) c.args.number c.in-Ok.prepared.plans c.in-Ok.prepared.events c.replay_prepared.result c.in-Ok.ensures.made c.in-Ok.ensures.events c.replay_prepared.ensures.makes
+
+pub returns-in-Err-clause-makes : goal.returns-in-Err-clause-makes
+returns-in-Err-clause-makes c =
+    subst (Makes (IsCaseOver (network c.args.topo) c.args.number)) (sym c.made.ensures) (case_early (network c.args.topo) c.args.number c.in-Err.early c.in-Err.ensures.makes)

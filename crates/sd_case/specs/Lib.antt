@@ -1,0 +1,5 @@
+pub mod Sizes
+pub mod Cases
+pub mod Laws
+pub mod Planned
+pub mod Going

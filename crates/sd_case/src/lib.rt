@@ -1,0 +1,63 @@
+//! The command `case` behind its words: a network of leaves and spines is made from its sizes and
+//! planned twice, and a schedule over it, made from a number, is replayed event by event.
+//!
+//! While it works it keeps the events of the schedule, which the replay needs one after the other,
+//! and none of the lines that a replay of them would print: the tally counts these.
+#![tactic(auto)]
+
+ghost use Rattle.std.specs.Prelude.{◌≡◌, ◌≤◌, ◌∷◌, [], IsTrue, IfErr, IfOk, length};
+ghost use Rattle.sd_topo.specs.Topologies as topologies;
+ghost use Rattle.sd_files.specs.Statuses.{is_among};
+ghost use Rattle.sd_files.specs.Writes.{Makes};
+ghost use Rattle.sd_case.specs.Cases.{IsCase, IsCaseOver};
+ghost use Rattle.sd_case.specs.Sizes.{IsWithin};
+
+mod network;
+mod plans;
+mod prepared;
+mod replayed;
+mod tally;
+
+use network::fabric_topology;
+use prepared::prepare;
+use replayed::replay_prepared;
+use sd_files::{Answer, Ended, Status};
+use sd_topo::Topology;
+use std::alloc::Global;
+
+/// The sizes of a network of leaves and spines.
+#[derive(Clone, Copy, Debug, PartialEq, Eq)]
+pub struct Fabric {
+    /// 2 to 256.
+    pub leaves: u32,
+    /// 3 to 32.
+    pub spines: u32,
+}
+
+/// Makes the case of a number over a network of leaves and spines, and replays it.
+///
+/// The answer is the line `case` with what its tally counts, with the status `Done`, or `Broken`
+/// where a premise broke or an alarm was due; or it is the line of the first greedy plan that the
+/// checker refuses. The only error is want of memory.
+pub fn case(alloc: Global, number: u64, fabric: Fabric) -> Result<Answer, Ended>
+    requires { IsWithin fabric }
+    ensures makes { Makes (IsCase number fabric.leaves fabric.spines) result }
+    ensures gives { IfOk result (λ answer. IsTrue (is_among (Status.Done ∷ Status.PlanRefused ∷ Status.Broken ∷ []) answer.status)) }
+    ensures only { IfErr result (λ why. why ≡ Ended.Memory) }
+{
+    let topo = fabric_topology(alloc, fabric)?;
+    case_over(alloc, topo, number)
+}
+
+/// The same over a topology, which is handed on to the replay and so dropped in one place here.
+fn case_over(alloc: Global, topo: Topology, number: u64) -> Result<Answer, Ended>
+    requires { 2 ≤ length (topologies.network topo).devices }
+    ensures makes { Makes (IsCaseOver (topologies.network topo) number) result }
+    ensures gives { IfOk result (λ answer. IsTrue (is_among (Status.Done ∷ Status.PlanRefused ∷ Status.Broken ∷ []) answer.status)) }
+    ensures only { IfErr result (λ why. why ≡ Ended.Memory) }
+{
+    match prepare(alloc, &topo, number) {
+        Ok(prepared) => replay_prepared(alloc, topo, prepared),
+        Err(early) => early.made(),
+    }
+}

@@ -1,0 +1,3 @@
+//! Plans as texts, over small networks.
+mod printing;
+mod reading;

@@ -1,0 +1,2 @@
+-- Lists of accepted plans, one after another.
+pub mod Longer
