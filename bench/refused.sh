@@ -155,3 +155,4 @@ row "plan: fabric" plan fabric
 row "check: fabric accepted" check fabric greedy
 row "replay: triangle" replay triangle first asked
 row "replay: renewal" replay triangle first second renewed
+row "case: two leaves" case 1 2 3

@@ -1,4 +1,4 @@
-//! The headline of the commands: what is promised of all bytes that `replay` and `order` may
+//! The headline of the commands: what is promised of all bytes that `replay`, `order` and `case` may
 //! write. No function here has a body: this crate has the promises (`Promised`) and their proofs
-//! (`Kept`), by the sentences of `sd_headlines`.
+//! (`Kept`, and `Cases` of `case`), by the sentences of `sd_headlines`.
 #![tactic(auto)]
