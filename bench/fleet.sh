@@ -5,7 +5,7 @@
 # crates/sd_fleet_load/out/sd_fleet_load_tests.
 #
 # Three tests of it, each of which makes the network of 8 spines and 4088 leaves and starts all devices: the first does
-# nothing more, the others go through 8 rounds and through 80, of 12,286 events each: ticks, and receipts of messages.
+# nothing more, the others go through 80 rounds and through 800, of 12,286 events each: ticks, and receipts of messages.
 # The aim: at most a microsecond an event, and the same peak memory for the last two.
 set -eu
 program=$(realpath "$1")
@@ -18,10 +18,10 @@ peak() {
     /usr/bin/time -f %M "$program" "$1" 2>&1 >"$folder/answer" | tail -n 1
 }
 
-declare -A rounds=([eight]=8 [eighty]=80)
+declare -A rounds=([eighty]=80 [eight_hundred]=800)
 measure start 0 "" tests::all_devices_start
 starting=$least
-for name in eight eighty; do
+for name in eighty eight_hundred; do
     measure "$name" 0 "" "tests::${name}_rounds"
     events=$((12286 * rounds[$name]))
     awk -v least="$least" -v starting="$starting" -v events="$events" -v peak="$(peak "tests::${name}_rounds")" \

@@ -1,6 +1,6 @@
 -- What is listed for a device, by how it recovers.
 use Rattle.std.specs.Prelude.{◌≡◌, ℕ, ◌+◌, ◌<◌, ◌≤◌, true, false, List, [], ◌∷◌, ◌++◌, length, Option, Some, None}
-use Rattle.std.proofs.Common.{arith, get_or, sym, ◌∙◌, subst, inl, inr}
+use Rattle.std.proofs.Common.{arith, get_or, ap, sym, ◌∙◌, subst, inl, inr}
 use Rattle.std.proofs.lemmas.Bool.{both_ways, cases_lt}
 use Rattle.std.proofs.lemmas.List.{get_or_append_left, get_or_push, length_push}
 use Rattle.sd_topo.specs.Network.{Network}
@@ -13,7 +13,7 @@ use Rattle.sd_recovery.specs.Walks.{IsWalk}
 use Rattle.sd_recovery.specs.declared.reach.Reach.{Reach}
 use Rattle.sd_recovery.specs.declared.recovery.Recovery.{Recovery}
 use Rattle.sd_drill.specs.Bounds.{bound_at}
-use Rattle.sd_drill.specs.Drill.{IsWorst}
+use Rattle.sd_drill.specs.Drill.{IsWorst, root_halves, source}
 use Rattle.sd_drill.specs.Times.{IsBoundOf}
 use Rattle.sd_drill.specs.declared.Budget.{Budget}
 use Rattle.sd_drill.specs.declared.times.Times.{Times}
@@ -52,9 +52,9 @@ module _ (net : Network) (plan : Plan) (f : DomainId) (d : ℕ) where
         long = reach.long;
         is_long = walks.long;
         short_enough = walks.within;
-        oldest = bound.oldest;
-        is_oldest = bound.is_oldest;
-        sum = bound.sum;
+        oldest = bound.is_growth.oldest;
+        is_oldest = bound.is_growth.is_oldest;
+        sum = bound.sum ∙ ap (λ (growth : ℕ). source net plan times.budget + root_halves net plan + reach.far + growth) bound.is_growth.grown;
       }
 
 pub bound_is : (xs : List (Option ℕ)) (k : ℕ) → k < length xs → bound_at xs k ≡ get_or xs k None

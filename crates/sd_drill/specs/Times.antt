@@ -1,5 +1,5 @@
 -- What the bounds of all domains share, and a drill that is ready.
-use Rattle.std.specs.Prelude.{◌≡◌, ℕ, ◌+◌, ◌^◌, ◌≤◌}
+use Rattle.std.specs.Prelude.{◌≡◌, ℕ, ◌+◌, ◌^◌, ◌≤◌, List, length, slice_index_or, Option, Some, None}
 use Rattle.sd_topo.specs.Network.{Network, rates_of}
 use Rattle.sd_plan.specs.declared.Plan.{Plan}
 use Rattle.sd_check_root.specs.Timing.{silence}
@@ -9,6 +9,8 @@ use Rattle.sd_ages.specs.Ages.{IsOldest, ageing}
 use Rattle.sd_recovery.specs.declared.reach.Reach.{Reach}
 use Rattle.sd_drill.specs.Drill.{root_halves, settling, quiet, source}
 use Rattle.sd_drill.specs.declared.drill.Drill.{Drill}
+use Rattle.sd_drill.specs.declared.growths.Growth.{Growth}
+use Rattle.sd_drill.specs.declared.growths.Growths.{Growths}
 use Rattle.sd_drill.specs.declared.times.Times.{Times}
 
 -- the times of a plan, and how great they are
@@ -20,14 +22,35 @@ pub record AreTimes (net : Network) (plan : Plan) (times : Times) : Type 0 where
   pub settling_bound : times.settling ≤ 2 ^ 84
   pub silence_bound : times.silence ≤ 2 ^ 80
 
+-- how much the estimate of a device has grown that comes to hear again over walks of n hops at most
+pub record IsGrowth (net : Network) (plan : Plan) (d n growth : ℕ) : Type 0 where
+  pub oldest : ℕ
+  pub is_oldest : IsOldest (rates_of net d) (quiet net plan n) oldest
+  pub grown : growth ≡ ageing (rates_of net d) oldest
+  pub bound : growth ≤ 2 ^ 98
+
 -- the bound of a device that comes to hear again, by what its walks reach
 pub record IsBoundOf (net : Network) (plan : Plan) (times : Times) (d : ℕ) (reach : Reach) (w : ℕ) : Type 0 where
-  pub oldest : ℕ
-  pub is_oldest : IsOldest (rates_of net d) (quiet net plan reach.long) oldest
-  pub sum : w ≡ source net plan times.budget + root_halves net plan + reach.far + ageing (rates_of net d) oldest
+  pub growth : ℕ
+  pub is_growth : IsGrowth net plan d reach.long growth
+  pub sum : w ≡ source net plan times.budget + root_halves net plan + reach.far + growth
+
+-- what is known of a device's growth, if anything is
+abbrev pub IsKnown : Network → Plan → ℕ → Option Growth → Type 0
+IsKnown net plan d None = Unit {0}
+IsKnown net plan d (Some known) = IsGrowth net plan d known.long known.growth
+
+abbrev pub known_at : List (Option Growth) → ℕ → Option Growth
+known_at known d = slice_index_or known d None
+
+-- there is an entry for each device, and what is known is right
+pub record AreGrowths (net : Network) (plan : Plan) (growths : Growths) : Type 0 where
+  pub size : length growths.known.items ≡ length net.devices
+  pub each : (d : ℕ) → IsKnown net plan d (known_at growths.known.items d)
 
 -- a drill of this plan, with room for each of its devices
 pub record IsDrillOf (net : Network) (plan : Plan) (drill : Drill) : Type 0 where
   pub times : AreTimes net plan drill.times
+  pub growths : AreGrowths net plan drill.growths
   pub impact : HasImpactRoom net drill.impact
   pub recoveries : HasRecoveryRoom net drill.recoveries

@@ -1,44 +1,73 @@
 //! A plan under drill: one domain after another.
-ghost use Rattle.std.specs.Prelude.{◌≡◌, ◌<◌, length, IfOk};
+ghost use Rattle.std.specs.Prelude.{◌≡◌, ◌≤◌, ◌<◌, ◌+◌, length, IfOk};
 ghost use Rattle.sd_drill.specs.Bounds.{AreBounds, IsBudget};
 ghost use Rattle.sd_drill.specs.Drill.{IsListed};
-ghost use Rattle.sd_drill.specs.Times.{AreTimes};
+ghost use Rattle.sd_drill.specs.Times.{AreGrowths, AreTimes, IsBoundOf};
 ghost use Rattle.sd_hit.specs.Outages.{net_of, plan_of};
 ghost use Rattle.sd_check_loop.specs.Loops.{HasNoCycle};
 ghost use Rattle.sd_recovery.specs.Searches.{AreRecoveries, HasRoom};
 
 use crate::Budget;
 use crate::bounds::WorstList;
+use crate::growths::Growths;
 use crate::times::Times;
 use sd_domain::DomainId;
 use sd_hit::{Impact, Outage};
 use sd_num::NoMemory;
 use sd_plan::Indexed;
-use sd_recovery::Recoveries;
+use sd_recovery::{Reach, Recoveries};
 use std::alloc::Global;
 
-/// A plan and a budget under drill: what the bounds of all domains share, and room for what one
-/// domain does, which serves one after another.
+/// A plan and a budget under drill: what the bounds of all domains share, what those of most domains
+/// share, and room for what one domain does, which serves one after another.
 #[derive(Drop)]
 pub struct Drill {
     times: Times,
+    growths: Growths,
     impact: Impact,
     recoveries: Recoveries,
 }
 
-/// The bound of a device, if it has one.
-fn bound_of(times: Times, outage: &Outage<'_>, recoveries: &Recoveries, d: u32) -> Option<u128>
+/// The bound of a device that comes to hear again over walks that reach so far.
+fn bound_over(
+    times: Times,
+    growths: &mut Growths,
+    outage: &Outage<'_>,
+    d: u32,
+    reach: Reach,
+) -> u128
     requires times { AreTimes (net_of outage.now) (plan_of outage.now) times }
+    requires growths { AreGrowths (net_of outage.now) (plan_of outage.now) growths.old }
+    requires device { d < length (net_of outage.now).devices }
+    requires reach { reach.long ≤ (net_of outage.now).params.depth + 1 }
+    ensures bound { IsBoundOf (net_of outage.now) (plan_of outage.now) times d reach result }
+    ensures growths { AreGrowths (net_of outage.now) (plan_of outage.now) growths.new }
+{
+    let growth = growths.of(times, outage.planned, d, reach.long);
+    times.sent + u128::from(reach.far) + growth
+}
+
+/// The bound of a device, if it has one.
+fn bound_of(
+    times: Times,
+    growths: &mut Growths,
+    outage: &Outage<'_>,
+    recoveries: &Recoveries,
+    d: u32,
+) -> Option<u128>
+    requires times { AreTimes (net_of outage.now) (plan_of outage.now) times }
+    requires growths { AreGrowths (net_of outage.now) (plan_of outage.now) growths.old }
     requires found { AreRecoveries (net_of outage.now) (plan_of outage.now) outage.now.domain recoveries.now }
     requires device { d < length (net_of outage.now).devices }
-    ensures { IsListed (net_of outage.now) (plan_of outage.now) times.budget outage.now.domain d result }
+    ensures bound { IsListed (net_of outage.now) (plan_of outage.now) times.budget outage.now.domain d result }
+    ensures growths { AreGrowths (net_of outage.now) (plan_of outage.now) growths.new }
 {
     let recovery = recoveries.of(outage, d);
     if !recovery.fed {
         return None;
     }
     match recovery.reach {
-        Some(reach) => Some(times.bound(outage.planned, d, reach)),
+        Some(reach) => Some(bound_over(times, growths, outage, d, reach)),
         None => None,
     }
 }
@@ -47,19 +76,22 @@ fn bound_of(times: Times, outage: &Outage<'_>, recoveries: &Recoveries, d: u32) 
 fn all_bounds(
     alloc: Global,
     times: Times,
+    growths: &mut Growths,
     outage: &Outage<'_>,
     recoveries: &Recoveries,
 ) -> Result<WorstList, NoMemory>
     requires times { AreTimes (net_of outage.now) (plan_of outage.now) times }
+    requires growths { AreGrowths (net_of outage.now) (plan_of outage.now) growths.old }
     requires found { AreRecoveries (net_of outage.now) (plan_of outage.now) outage.now.domain recoveries.now }
-    ensures { IfOk result (AreBounds (net_of outage.now) (plan_of outage.now) times.budget outage.now.domain) }
+    ensures bounds { IfOk result (AreBounds (net_of outage.now) (plan_of outage.now) times.budget outage.now.domain) }
+    ensures growths { AreGrowths (net_of outage.now) (plan_of outage.now) growths.new }
 {
     let devices = outage.planned.topo.devices();
     let Ok(mut bounds) = Vec::with_capacity(alloc, devices as usize) else {
         return Err(NoMemory);
     };
     for d in 0..devices {
-        bounds.push_reserved(bound_of(times, outage, recoveries, d));
+        bounds.push_reserved(bound_of(times, growths, outage, recoveries, d));
     }
     Ok(WorstList::from_vec(bounds))
 }
@@ -68,17 +100,20 @@ fn all_bounds(
 fn bounds_under(
     alloc: Global,
     times: Times,
+    growths: &mut Growths,
     outage: &Outage<'_>,
     recoveries: &mut Recoveries,
 ) -> Result<WorstList, NoMemory>
     requires times { AreTimes (net_of outage.now) (plan_of outage.now) times }
+    requires growths { AreGrowths (net_of outage.now) (plan_of outage.now) growths.old }
     requires acyclic { HasNoCycle (net_of outage.now) (plan_of outage.now) outage.now.domain }
     requires room { HasRoom (net_of outage.now) recoveries.old }
     ensures bounds { IfOk result (AreBounds (net_of outage.now) (plan_of outage.now) times.budget outage.now.domain) }
+    ensures growths { AreGrowths (net_of outage.now) (plan_of outage.now) growths.new }
     ensures room { HasRoom (net_of outage.now) recoveries.new }
 {
     recoveries.find(outage)?;
-    all_bounds(alloc, times, outage, recoveries)
+    all_bounds(alloc, times, growths, outage, recoveries)
 }
 
 impl Drill {
@@ -94,10 +129,12 @@ impl Drill {
         ensures { IfOk result (λ drill. IsDrillOf (network planned.entry.topo.now) planned.entry.plan.now drill × (drill.times.budget ≡ budget)) }
     {
         let times = Times::new(planned, budget);
+        let growths = Growths::new(alloc, planned.topo)?;
         let impact = Impact::new(alloc, planned.topo)?;
         let recoveries = Recoveries::new(alloc, planned.topo)?;
         Ok(Drill {
             times,
+            growths,
             impact,
             recoveries,
         })
@@ -120,6 +157,12 @@ impl Drill {
     {
         self.impact.strike(alloc, planned, domain)?;
         let outage = self.impact.outage(planned, domain);
-        bounds_under(alloc, self.times, &outage, &mut self.recoveries)
+        bounds_under(
+            alloc,
+            self.times,
+            &mut self.growths,
+            &outage,
+            &mut self.recoveries,
+        )
     }
 }

@@ -10,6 +10,7 @@ ghost use Rattle.sd_topo.specs.Topologies.{network};
 
 mod bounds;
 mod drill;
+mod growths;
 mod roots;
 mod times;
 

@@ -3,7 +3,7 @@ ghost use Rattle.std.specs.Prelude.{◌≡◌, ◌≤◌, ◌<◌, ◌+◌, ◌*
 ghost use Rattle.sd_ages.specs.Ages as ages;
 ghost use Rattle.sd_drill.specs.Bounds.{IsBudget};
 ghost use Rattle.sd_drill.specs.Drill as words;
-ghost use Rattle.sd_drill.specs.Times.{AreTimes, IsBoundOf};
+ghost use Rattle.sd_drill.specs.Times.{AreTimes, IsGrowth};
 ghost use Rattle.sd_plan.specs.Plans.{Fits};
 ghost use Rattle.sd_topo.specs.Network.{rates_of};
 ghost use Rattle.sd_topo.specs.Topologies.{network};
@@ -13,7 +13,6 @@ use crate::roots::root_halves;
 use sd_ages::{ageing, oldest};
 use sd_check_root::{greatest_up, silence_and_tick};
 use sd_plan::{Indexed, Plan};
-use sd_recovery::Reach;
 use sd_topo::Topology;
 
 /// The times of a plan and a budget, in ps.
@@ -72,15 +71,15 @@ impl Times {
         }
     }
 
-    /// The bound of a device that comes to hear again over walks that reach so far.
-    pub(crate) fn bound(self, planned: Indexed<'_>, d: u32, reach: Reach) -> u128
+    /// By how much the estimate of a device has grown once it hears again, over walks of so many hops.
+    pub(crate) fn growth(self, planned: Indexed<'_>, d: u32, long: u32) -> u128
         requires times { AreTimes (network planned.topo.now) planned.plan.now self }
         requires device { d < length (network planned.topo.now).devices }
-        requires reach { reach.long ≤ (network planned.topo.now).params.depth + 1 }
-        ensures { IsBoundOf (network planned.entry.topo.now) planned.entry.plan.now self d reach result }
+        requires long { long ≤ (network planned.topo.now).params.depth + 1 }
+        ensures { IsGrowth (network planned.entry.topo.now) planned.entry.plan.now d long result }
     {
-        let quiet = self.settling + 2 * self.silence * (u128::from(reach.long) + 1);
+        let quiet = self.settling + 2 * self.silence * (u128::from(long) + 1);
         let rates = planned.topo.rates(d);
-        self.sent + u128::from(reach.far) + ageing(rates, oldest(rates, quiet))
+        ageing(rates, oldest(rates, quiet))
     }
 }

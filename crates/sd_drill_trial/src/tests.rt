@@ -1,5 +1,6 @@
 //! The drill beside a plain slow program, under each domain of the accepted plans among some that are
 //! made by counting.
+ghost use Rattle.std.specs.Prelude.{IfOk};
 ghost use Rattle.sd_checker.specs.Verdicts.{IsAccepted};
 ghost use Rattle.sd_plan.specs.Plans.{Fits};
 ghost use Rattle.sd_topo.specs.Topologies.{network};
@@ -7,13 +8,15 @@ ghost use Rattle.sd_topo.specs.Topologies.{network};
 mod slow;
 
 use sd_checker::{Verdict, check};
-use sd_drill::{Budget, worst};
-use sd_plain::{Plain, counted_case, has_domain, plan_text_of, topology_text_of};
+use sd_drill::{Budget, WorstList, worst};
+use sd_num::NoMemory;
+use sd_plain::{Domain, Plain, Setup, counted_case, has_domain, plan_text_of, topology_text_of};
 use sd_plan::Plan;
 use sd_plantext::read_plan;
 use sd_topo::Topology;
 use sd_topotext::read_topology;
 use slow::bounds_of;
+use std::alloc::Global;
 use std::process::Abort;
 use std::test::Fail;
 
@@ -37,9 +40,54 @@ impl Tally {
             *count = count.saturating_add(1);
         }
     }
+
+    /// Whether there was enough of each.
+    fn is_ample(&self) -> bool {
+        self.plans >= 36 && self.domains >= 479 && self.bound >= 2084 && self.unbound >= 239
+    }
+}
+
+/// The bounds under a domain, by the drill. They promise nothing here: they are compared.
+fn drilled(
+    rt: &(impl Abort + AllocGlobal),
+    planned: (&Topology, &Plan),
+    f: &Domain,
+    budget: Budget,
+) -> Result<WorstList, NoMemory>
+    requires fits { Fits (network planned.0.now) planned.1.now }
+    requires accepted { IsAccepted (network planned.0.now) planned.1.now }
+{
+    assert!(rt; has_domain(planned.0, f.id));
+    assert!(rt; budget.base <= 1 << 60 && budget.hold <= 1 << 60);
+    worst(rt.alloc(), planned.0, planned.1, f.id, budget)
+}
+
+/// Both say the same of each device under a domain.
+fn assert_bounds(rt: &impl Abort, f: &Domain, bounds: &[Option<u128>], slow: &[Option<u128>]) {
+    assert_eq!(rt; bounds, slow, "{:?}", f.id);
 }
 
 /// Both say the same of each device under each domain.
+fn assert_domains(
+    rt: &(impl Abort + AllocGlobal),
+    planned: (&Topology, &Plan),
+    plain: &Plain<'_>,
+    budget: Budget,
+    tally: &mut Tally,
+) -> Result<(), Fail>
+    requires fits { Fits (network planned.0.now) planned.1.now }
+    requires accepted { IsAccepted (network planned.0.now) planned.1.now }
+{
+    for f in &plain.domains {
+        let bounds = drilled(rt, planned, f, budget)?;
+        let slow = bounds_of(plain, budget, f)?;
+        assert_bounds(rt, f, bounds.as_slice(), slow.as_slice());
+        tally.add(slow.as_slice());
+    }
+    Ok(())
+}
+
+/// The same, where the slow program's view of the plan is made.
 fn assert_drilled(
     rt: &(impl Abort + AllocGlobal),
     topo: &Topology,
@@ -50,17 +98,8 @@ fn assert_drilled(
     requires fits { Fits (network topo.now) plan.now }
     requires accepted { IsAccepted (network topo.now) plan.now }
 {
-    let alloc = rt.alloc();
-    let plain = Plain::of(alloc, topo, plan)?;
-    assert!(rt; budget.base <= 1 << 60 && budget.hold <= 1 << 60);
-    for f in &plain.domains {
-        assert!(rt; has_domain(topo, f.id));
-        let bounds = worst(alloc, topo, plan, f.id, budget)?;
-        let slow = bounds_of(&plain, budget, f)?;
-        assert_eq!(rt; bounds.as_slice(), slow.as_slice(), "{:?}", f.id);
-        tally.add(slow.as_slice());
-    }
-    Ok(())
+    let plain = Plain::of(rt.alloc(), topo, plan)?;
+    assert_domains(rt, (topo, plan), &plain, budget, tally)
 }
 
 /// The same of a plan, where it is accepted.
@@ -82,25 +121,42 @@ fn assert_plan(
     }
 }
 
+/// The topology of a case, by its text.
+fn topology_of(alloc: Global, setup: &Setup) -> Result<Topology, Fail> {
+    let text = topology_text_of(alloc, setup)?;
+    Ok(read_topology(alloc, text.as_bytes())?)
+}
+
+/// The plan of a case, by its text.
+fn plan_of(alloc: Global, topo: &Topology, setup: &Setup) -> Result<Plan, Fail>
+    ensures { IfOk result (Fits (network topo.now)) }
+{
+    let text = plan_text_of(alloc, setup)?;
+    Ok(read_plan(alloc, topo, text.as_bytes())?)
+}
+
+/// The same of a case that is made by counting.
+fn assert_counted(
+    rt: &(impl Abort + AllocGlobal),
+    case: u32,
+    tally: &mut Tally,
+) -> Result<(), Fail> {
+    let setup = counted_case(rt.alloc(), case)?;
+    let topo = topology_of(rt.alloc(), &setup)?;
+    let plan = plan_of(rt.alloc(), &topo, &setup)?;
+    let budget = Budget {
+        base: 800_000,
+        hold: u64::from(case) << 26,
+    };
+    assert_plan(rt, &topo, &plan, budget, tally)
+}
+
 #[test]
 fn bounds_are_those_of_all_walks(rt: HostRuntime) -> Result<(), Fail> {
-    let alloc = rt.alloc();
     let mut tally = Tally::default();
     for case in 0..300 {
-        let setup = counted_case(alloc, case)?;
-        let topology = topology_text_of(alloc, &setup)?;
-        let text = plan_text_of(alloc, &setup)?;
-        let topo = read_topology(alloc, topology.as_bytes())?;
-        let plan = read_plan(alloc, &topo, text.as_bytes())?;
-        let budget = Budget {
-            base: 800_000,
-            hold: u64::from(case) << 26,
-        };
-        assert_plan(&rt, &topo, &plan, budget, &mut tally)?;
+        assert_counted(&rt, case, &mut tally)?;
     }
-    assert!(rt; tally.plans >= 36, "{tally:?}");
-    assert!(rt; tally.domains >= 479, "{tally:?}");
-    assert!(rt; tally.bound >= 2084, "{tally:?}");
-    assert!(rt; tally.unbound >= 239, "{tally:?}");
+    assert!(rt; tally.is_ample(), "{tally:?}");
     Ok(())
 }

@@ -31,7 +31,7 @@ line_is net f bounds d kind name None words is =
 line_is net f bounds d kind name (Some w) words is =
     sym (ap (λ (b : Option ℕ). text_of (bound_words net f d b)) is ∙ ap (λ (ws : List (List ℕ)). text_of (codes "bound" ∷ ws ++ device_name net d ∷ decimal w ∷ [])) words)
 
--- the line of a domain behind its front
-pub behind_front : (kind name device : List ℕ) (o : Option ℕ) → line_behind (front_of kind name) device o ≡ line_of kind name device o
-behind_front kind name device None = simp append_assoc
-behind_front kind name device (Some w) = simp append_assoc
+-- the line of a domain behind its fronts
+pub behind_fronts : (kind name device : List ℕ) (o : Option ℕ) → line_behind (front_of (codes "bound") kind name) (front_of (codes "nobound") kind name) device o ≡ line_of kind name device o
+behind_fronts kind name device None = simp append_assoc
+behind_fronts kind name device (Some w) = simp append_assoc

@@ -8,14 +8,14 @@ abbrev pub line_of : List ℕ → List ℕ → List ℕ → Option ℕ → List 
 line_of kind name device (Some w) = text_of (codes "bound" ∷ kind ∷ name ∷ device ∷ decimal w ∷ [])
 line_of kind name device None = text_of (codes "nobound" ∷ kind ∷ name ∷ device ∷ [])
 
--- a domain as it stands in its lines
-abbrev pub front_of : List ℕ → List ℕ → List ℕ
-front_of kind name = 32 ∷ kind ++ 32 ∷ name ++ 32 ∷ []
+-- what begins the lines of a domain, from their first word on
+abbrev pub front_of : List ℕ → List ℕ → List ℕ → List ℕ
+front_of word kind name = word ++ 32 ∷ kind ++ 32 ∷ name ++ 32 ∷ []
 
--- a line by the front of its domain
-abbrev pub line_behind : List ℕ → List ℕ → Option ℕ → List ℕ
-line_behind front device (Some w) = codes "bound" ++ front ++ device ++ 32 ∷ decimal w ++ 10 ∷ []
-line_behind front device None = codes "nobound" ++ front ++ device ++ 10 ∷ []
+-- a line by the fronts of its domain, for a device with a bound and for one with none
+abbrev pub line_behind : List ℕ → List ℕ → List ℕ → Option ℕ → List ℕ
+line_behind bound_front nobound_front device (Some w) = bound_front ++ device ++ 32 ∷ decimal w ++ 10 ∷ []
+line_behind bound_front nobound_front device None = nobound_front ++ device ++ 10 ∷ []
 
 -- the names fit into a line
 abbrev pub IsShort : Named → Type 0

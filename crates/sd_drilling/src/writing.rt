@@ -179,8 +179,8 @@ fn write_done<O: Sink>(room: &mut Room, planned: Indexed<'_>, out: &mut O) -> Re
     let topo = planned.topo;
     let domains = topo.domains() + topo.devices() + topo.links();
     let members = room.members.as_slice().len();
-    print_done(&mut room.page.front, domains, members);
-    match send(out, room.page.front.printed()) {
+    print_done(&mut room.page.bound_front, domains, members);
+    match send(out, room.page.bound_front.printed()) {
         Ok(()) => Ok(Status::Done),
         Err(stop) => Err(stop),
     }

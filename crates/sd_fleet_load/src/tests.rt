@@ -50,16 +50,16 @@ fn all_devices_start(rt: HostRuntime) -> Result<(), Fail> {
     drive(&rt, &mut fleet, 0)
 }
 
-/// Some 100,000 events.
-#[test]
-fn eight_rounds(rt: HostRuntime) -> Result<(), Fail> {
-    let mut fleet = fleet_of(rt.alloc())?;
-    drive(&rt, &mut fleet, 8)
-}
-
 /// Some million events.
 #[test]
 fn eighty_rounds(rt: HostRuntime) -> Result<(), Fail> {
     let mut fleet = fleet_of(rt.alloc())?;
     drive(&rt, &mut fleet, 80)
+}
+
+/// Some ten million events.
+#[test]
+fn eight_hundred_rounds(rt: HostRuntime) -> Result<(), Fail> {
+    let mut fleet = fleet_of(rt.alloc())?;
+    drive(&rt, &mut fleet, 800)
 }

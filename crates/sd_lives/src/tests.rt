@@ -15,6 +15,7 @@ use sd_msg::{Message, Stamp};
 use sd_num::{Bounds, Rates};
 use sd_plan::{Duty, Edge, Role};
 use std::alloc::AllocError;
+use std::process::Abort;
 use still::Still;
 
 const RATES: Rates = Rates {
@@ -140,6 +141,31 @@ fn a_backup_root_hears_moves_takes_over_and_is_committed(rt: HostRuntime) {
     }
 }
 
+/// How a device stands to its plans.
+#[derive(Clone, Copy, Debug, PartialEq, Eq)]
+struct Member {
+    parent: Option<u32>,
+    epoch: u32,
+    given: bool,
+    sealed: bool,
+}
+
+impl Member {
+    fn of(driven: &Driven<Device>) -> Member {
+        Member {
+            parent: driven.node.parent(),
+            epoch: driven.node.epoch(),
+            given: driven.node.is_given(),
+            sealed: driven.node.is_sealed(),
+        }
+    }
+}
+
+/// A call that may be made sends this.
+fn assert_called(rt: &impl Abort, driven: &mut Driven<Device>, call: &Call, effect: Effect) {
+    assert_eq!(rt; driven.call(call), Some(effect), "{call:?}");
+}
+
 #[test]
 fn a_newcomer_enters_seals_moves_and_commits(rt: HostRuntime) {
     let follower = duty(2, Role::Ordinary, edge(0, 1), edge(1, 2));
@@ -233,11 +259,14 @@ fn a_newcomer_enters_seals_moves_and_commits(rt: HostRuntime) {
             false,
         ),
     ] {
-        assert_eq!(rt; driven.call(&call), Some(effect), "{call:?}");
-        assert_eq!(rt; driven.node.parent(), parent, "{call:?}");
-        assert_eq!(rt; driven.node.epoch(), epoch, "{call:?}");
-        assert_eq!(rt; driven.node.is_given(), given, "{call:?}");
-        assert_eq!(rt; driven.node.is_sealed(), sealed, "{call:?}");
+        assert_called(&rt, &mut driven, &call, effect);
+        let due = Member {
+            parent,
+            epoch,
+            given,
+            sealed,
+        };
+        assert_eq!(rt; Member::of(&driven), due, "{call:?}");
     }
 }
 

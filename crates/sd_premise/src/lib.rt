@@ -2,6 +2,8 @@
 //! holds while none of them is broken. docs/PREMISES.md says what each asks of a fabric.
 #![tactic(auto)]
 
+mod ground;
+mod monitors;
 mod premises;
 mod sets;
 

@@ -16,6 +16,8 @@ ghost use Rattle.sd_premise.specs.Worlds.{world_after};
 #[cfg(test)]
 mod tests;
 
+use crate::ground::Ground;
+use crate::monitors::Monitors;
 use crate::sets::{NONE_BROKEN, newly_broken};
 use sd_history::BrokenSet;
 use sd_num::NoMemory;
@@ -90,27 +92,20 @@ impl Premises {
         ensures stands { IfOk result (λ premises. (setting : Setting)
             → setting.net ≡ network topo.now → setting.plans ≡ plans.now → StandsFor premises setting []) }
     {
-        let members = Members::new(alloc, topo, plans)?;
-        let links = PresentLinks::new(alloc, topo, plans)?;
-        let world = World::new(alloc, topo.devices(), topo.links())?;
-        let drift = DriftMonitor::new(alloc, topo)?;
-        let tick = TickMonitor::new(alloc, topo, &members)?;
-        let loss = Rounds::new(alloc, topo)?;
-        let domain = DomainMonitor::new(alloc, topo)?;
-        let renew = RenewalMonitor::new(alloc, topo)?;
-        let topology = topo.copy(alloc)?;
+        let ground = Ground::new(alloc, topo, plans)?;
+        let monitors = Monitors::new(alloc, topo, &ground.members)?;
         Ok(Premises {
-            topology,
-            members,
-            links,
-            world,
+            topology: ground.topology,
+            members: ground.members,
+            links: ground.links,
+            world: ground.world,
             start: StartMonitor::new(),
-            drift,
+            drift: monitors.drift,
             delay: DelayMonitor::new(),
-            tick,
-            loss,
-            domain,
-            renew,
+            tick: monitors.tick,
+            loss: monitors.loss,
+            domain: monitors.domain,
+            renew: monitors.renew,
             broken: NONE_BROKEN,
         })
     }

@@ -11,7 +11,7 @@ use Rattle.sd_history.specs.Steps.{Step}
 use Rattle.sd_history.specs.Refusals.{refusal, causes}
 use Rattle.sd_fleet.specs.Standing as fleets
 use Rattle.sd_replay.specs.declared.faults.ReplayFault.{ReplayFault}
-use Rattle.sd_replay.specs.declared.faults.ReplayFault.TheVariants.{Apply, Memory}
+use Rattle.sd_replay.specs.declared.faults.ReplayFault.TheVariants.{Apply}
 use Rattle.sd_replay.specs.FleetFaults.{of_fleet}
 use Rattle.sd_replay.specs.Replaying.{IsFault}
 

@@ -12,6 +12,7 @@ mod onlooker;
 mod plans;
 mod replay;
 mod sights;
+mod watched;
 
 pub use faults::ReplayFault;
 pub use plans::PlanList;

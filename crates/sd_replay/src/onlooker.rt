@@ -52,8 +52,8 @@ impl Onlooker {
         ensures stands { IfOk result (λ onlooker. (setting : Setting)
             → setting.net ≡ network topo.now → setting.plans ≡ plans.now → Onlooks onlooker setting []) }
     {
-        let premises = Premises::new(alloc, topo, plans)?;
         let stances = Stances::new(alloc, topo.devices())?;
+        let premises = Premises::new(alloc, topo, plans)?;
         Ok(Onlooker {
             premises,
             stances,

@@ -18,6 +18,7 @@ ghost use Rattle.sd_replay.specs.Standing.{HasRun, Onlooks, room_of};
 
 use crate::journal::Journal;
 use crate::onlooker::Onlooker;
+use crate::watched::Watched;
 use crate::{PlanList, ReplayFault, Tally};
 use sd_core::Node;
 use sd_fleet::Fleet;
@@ -61,12 +62,11 @@ impl<N: Node, V: Observer> Replay<N, V> {
         ensures stands { IfOk result (λ replay. (setting : Setting)
             → setting.net ≡ network topo → setting.plans ≡ plans → StandsFor N.Node V.Observer replay setting []) }
     {
-        let fleet = Fleet::new(alloc, &topo, plans.as_slice())?;
-        let onlooker = Onlooker::new(alloc, &topo, plans.as_slice())?;
         let journal = Journal::new(alloc, topo)?;
+        let watched = Watched::new(alloc, &journal.topology, plans)?;
         Ok(Replay {
-            fleet,
-            onlooker,
+            fleet: watched.fleet,
+            onlooker: watched.onlooker,
             journal,
             observer,
         })

@@ -1,10 +1,18 @@
 //! The checker beside a plain slow program, on networks and plans made by counting and by hand.
+ghost use Rattle.std.specs.Prelude.{IfOk};
+ghost use Rattle.sd_plan.specs.Plans.{Fits};
+ghost use Rattle.sd_topo.specs.Topologies.{network};
+
 mod cycles;
 mod single;
 mod worked;
 
 use sd_checker::{Verdict, accepted_line, check, refused_line};
-use sd_plain::{Plain, Said, Setup, counted_case, plan_text_of, said_by, topology_text_of};
+use sd_num::NoMemory;
+use sd_plain::{
+    Change, Plain, Said, Setup, Shape, counted_case, plan_text_of, said_by, topology_text_of,
+};
+use sd_plan::Plan;
 use sd_plantext::read_plan;
 use sd_topo::Topology;
 use sd_topotext::read_topology;
@@ -40,6 +48,18 @@ impl Tally {
         };
         *count = count.saturating_add(1);
     }
+
+    /// Whether each kind came often enough.
+    fn is_ample(&self) -> bool {
+        self.accepted >= 128
+            && self.structure >= 423
+            && self.ancestor >= 35
+            && self.timing >= 158
+            && self.root >= 116
+            && self.loops >= 68
+            && self.domain >= 36
+            && self.reach >= 36
+    }
 }
 
 /// What is said of a case.
@@ -61,54 +81,108 @@ fn line_of(alloc: Global, topo: &Topology, verdict: &Verdict) -> Result<String, 
     }
 }
 
+/// The topology of a case, by its text.
+fn topology_of(alloc: Global, setup: &Setup) -> Result<Topology, Fail> {
+    let text = topology_text_of(alloc, setup)?;
+    Ok(read_topology(alloc, text.as_bytes())?)
+}
+
+/// The plan of a case, by its text.
+fn plan_of(alloc: Global, topo: &Topology, setup: &Setup) -> Result<Plan, Fail>
+    ensures { IfOk result (Fits (network topo.now)) }
+{
+    let text = plan_text_of(alloc, setup)?;
+    Ok(read_plan(alloc, topo, text.as_bytes())?)
+}
+
+/// What the checker says of a plan. The verdict promises nothing here: it is compared.
+fn verdict_of(alloc: Global, topo: &Topology, plan: &Plan) -> Result<Verdict, NoMemory>
+    requires { Fits (network topo.now) plan.now }
+{
+    check(alloc, topo, plan)
+}
+
+/// What the slow program says of a plan.
+fn slowly(alloc: Global, topo: &Topology, plan: &Plan) -> Result<Said, AllocError> {
+    let plain = Plain::of(alloc, topo, plan)?;
+    plain.judged()
+}
+
+/// The verdict, beside what the slow program says.
+fn beside(
+    alloc: Global,
+    topo: &Topology,
+    verdict: &Verdict,
+    slow: Said,
+) -> Result<Judged, AllocError> {
+    Ok(Judged {
+        line: line_of(alloc, topo, verdict)?,
+        said: said_by(alloc, verdict)?,
+        slow,
+    })
+}
+
+/// Has the checker and the slow program judge a plan.
+fn judge_plan(alloc: Global, topo: &Topology, plan: &Plan) -> Result<Judged, Fail>
+    requires { Fits (network topo.now) plan.now }
+{
+    let slow = slowly(alloc, topo, plan)?;
+    let verdict = verdict_of(alloc, topo, plan)?;
+    Ok(beside(alloc, topo, &verdict, slow)?)
+}
+
 /// Has the checker and the slow program judge the texts of a case.
 fn judge(alloc: Global, setup: &Setup) -> Result<Judged, Fail> {
-    let topology = topology_text_of(alloc, setup)?;
-    let text = plan_text_of(alloc, setup)?;
-    let topo = read_topology(alloc, topology.as_bytes())?;
-    let plan = read_plan(alloc, &topo, text.as_bytes())?;
-    let verdict = check(alloc, &topo, &plan)?;
-    let plain = Plain::of(alloc, &topo, &plan)?;
-    Ok(Judged {
-        line: line_of(alloc, &topo, &verdict)?,
-        said: said_by(alloc, &verdict)?,
-        slow: plain.judged()?,
-    })
+    let topo = topology_of(alloc, setup)?;
+    let plan = plan_of(alloc, &topo, setup)?;
+    judge_plan(alloc, &topo, &plan)
+}
+
+/// Both say the same of a case that is made by counting.
+fn assert_counted(
+    rt: &(impl Abort + AllocGlobal),
+    case: u32,
+    tally: &mut Tally,
+) -> Result<(), Fail> {
+    let setup = counted_case(rt.alloc(), case)?;
+    let judged = judge(rt.alloc(), &setup)?;
+    assert_eq!(rt; judged.said, judged.slow, "case {case}");
+    tally.add(&judged.said);
+    Ok(())
 }
 
 #[test]
 fn counted_cases_agree(rt: HostRuntime) -> Result<(), Fail> {
-    let alloc = rt.alloc();
     let mut tally = Tally::default();
     for case in 0..1000 {
-        let setup = counted_case(alloc, case)?;
-        let judged = judge(alloc, &setup)?;
-        assert_eq!(rt; judged.said, judged.slow, "case {case}");
-        tally.add(&judged.said);
+        assert_counted(&rt, case, &mut tally)?;
     }
-    assert!(rt; tally.accepted >= 128, "{tally:?}");
-    assert!(rt; tally.structure >= 423, "{tally:?}");
-    assert!(rt; tally.ancestor >= 35, "{tally:?}");
-    assert!(rt; tally.timing >= 158, "{tally:?}");
-    assert!(rt; tally.root >= 116, "{tally:?}");
-    assert!(rt; tally.loops >= 68, "{tally:?}");
-    assert!(rt; tally.domain >= 36, "{tally:?}");
-    assert!(rt; tally.reach >= 36, "{tally:?}");
+    assert!(rt; tally.is_ample(), "{tally:?}");
     Ok(())
 }
 
-/// One case by hand: the checker's line ends as is due, and the slow program says the same.
-fn assert_worked(rt: &(impl Abort + AllocGlobal), case: &Worked) -> Result<(), Fail> {
-    let alloc = rt.alloc();
-    let (shape, changes, line) = *case;
+/// A case by hand.
+fn setup_of(alloc: Global, shape: Shape, changes: &[Change]) -> Result<Setup, AllocError> {
     let mut setup = Setup::of(alloc, shape)?;
     for change in changes {
         setup.change(*change)?;
     }
-    let judged = judge(alloc, &setup)?;
+    Ok(setup)
+}
+
+/// The checker's line ends as is due, and the slow program says the same.
+fn assert_judged(rt: &impl Abort, judged: &Judged, line: &str) {
     let said = judged.line.trim_end();
     assert!(rt; said.ends_with(line), "{line} and not {said}");
     assert_eq!(rt; judged.said, judged.slow, "{line}");
+}
+
+/// One case by hand.
+fn assert_worked(rt: &(impl Abort + AllocGlobal), case: &Worked) -> Result<(), Fail> {
+    let (shape, changes, line) = *case;
+    let setup = setup_of(rt.alloc(), shape, changes)?;
+    let judged = judge(rt.alloc(), &setup)?;
+    assert_judged(rt, &judged, line);
     Ok(())
 }
 

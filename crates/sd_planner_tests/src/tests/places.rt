@@ -3,11 +3,11 @@ ghost use Rattle.std.specs.Prelude.{IfOk};
 ghost use Rattle.sd_topo.specs.Topologies.{network};
 ghost use Rattle.sd_place.specs.Usable.{IsAbsentOf};
 
+use super::topology_of;
 use sd_examples::FABRIC;
 use sd_place::{Neighbour, Placed, Present, backup_root_of, place};
 use sd_plan::{Absent, DeviceList};
 use sd_topo::Topology;
-use sd_topotext::read_topology;
 use std::alloc::Global;
 use std::process::Abort;
 use std::test::Fail;
@@ -18,7 +18,7 @@ const SIDES: &str =
     "version = 2\nppm = 200\ngrain = 1000\nperiod = 100000000\ntick = 10000000\nloss = 1\ndepth = 8\nroots = [\"r\", \"b\"]\n[[device]]\nname = \"r\"\nside = \"root\"\n[[device]]\nname = \"b\"\nside = \"root\"\n[[device]]\nname = \"w\"\nside = \"root\"\n[[device]]\nname = \"x\"\nside = \"root\"\n[[device]]\nname = \"u\"\nside = \"root\"\n[[device]]\nname = \"y\"\nside = \"backup\"\n[[device]]\nname = \"z\"\nside = \"backup\"\n[[device]]\nname = \"far\"\nside = \"root\"\n[[device]]\nname = \"off\"\nside = \"root\"\n[[link]]\nname = \"rx\"\nends = [\"r\", \"x\"]\nmin = 400000\nmax = 1000000\n[[link]]\nname = \"xw\"\nends = [\"x\", \"w\"]\nmin = 400000\nmax = 1000000\n[[link]]\nname = \"wb\"\nends = [\"w\", \"b\"]\nmin = 400000\nmax = 1000000\n[[link]]\nname = \"xb\"\nends = [\"x\", \"b\"]\nmin = 400000\nmax = 1000000\n[[link]]\nname = \"zu\"\nends = [\"z\", \"u\"]\nmin = 400000\nmax = 1000000\n[[link]]\nname = \"yu\"\nends = [\"y\", \"u\"]\nmin = 400000\nmax = 1000000\n[[link]]\nname = \"by\"\nends = [\"b\", \"y\"]\nmin = 400000\nmax = 1000000\n[[link]]\nname = \"by2\"\nends = [\"y\", \"b\"]\nmin = 400000\nmax = 1000000\n[[link]]\nname = \"yz\"\nends = [\"y\", \"z\"]\nmin = 400000\nmax = 1000000\n[[link]]\nname = \"ry\"\nends = [\"r\", \"y\"]\nmin = 400000\nmax = 1000000\n[[link]]\nname = \"pair\"\nends = [\"far\", \"off\"]\nmin = 400000\nmax = 1000000\n";
 
 /// Nothing is absent.
-fn all_there(alloc: Global, topo: &Topology) -> Absent
+pub(super) fn all_there(alloc: Global, topo: &Topology) -> Absent
     ensures { IsAbsentOf (network topo.now) result }
 {
     let _ = topo.devices();
@@ -67,27 +67,27 @@ fn over(device: u32, link: u32) -> Neighbour {
     Neighbour { device, link }
 }
 
-#[test]
-fn the_fabric(rt: HostRuntime) -> Result<(), Fail> {
-    let topo = read_topology(rt.alloc(), FABRIC.as_bytes())?;
-    let absent = all_there(rt.alloc(), &topo);
-    let present = Present::new(rt.alloc(), &topo, &absent)?;
-    assert_eq!(rt; backup_root_of(&present, 0), 1);
-    let order = order_of(&rt, &present, 0)?;
+fn assert_fabric(rt: &(impl Abort + AllocGlobal), present: &Present) -> Result<(), Fail> {
+    assert_eq!(rt; backup_root_of(present, 0), 1);
+    let order = order_of(rt, present, 0)?;
     assert_eq!(rt; order.as_str(), " 0/0 2/1<0:0 3/1<0:1 4/1<0:2 1/2<2:3");
     Ok(())
 }
 
 #[test]
-fn both_sides_and_what_is_left(rt: HostRuntime) -> Result<(), Fail> {
-    let topo = read_topology(rt.alloc(), SIDES.as_bytes())?;
-    assert!(rt; topo.devices() == 9);
+fn the_fabric(rt: HostRuntime) -> Result<(), Fail> {
+    let topo = topology_of(rt.alloc(), FABRIC)?;
     let absent = all_there(rt.alloc(), &topo);
     let present = Present::new(rt.alloc(), &topo, &absent)?;
+    assert_fabric(&rt, &present)
+}
+
+fn assert_sides(rt: &(impl Abort + AllocGlobal), present: &Present) -> Result<(), Fail> {
+    assert!(rt; present.topo.devices() == 9);
     assert!(rt; present.takes_part(1));
     let of_b = [over(2, 2), over(3, 3), over(5, 6), over(5, 7)];
     assert_eq!(rt; present.neighbours_of(1), of_b.as_slice());
-    let order = order_of(&rt, &present, 0)?;
+    let order = order_of(rt, present, 0)?;
     assert_eq!(rt;
         order.as_str(),
         " 0/0 3/1<0:0 2/2<3:1 1/2<3:3 5/3<1:6 6/4<5:8 4/4<5:5"
@@ -96,19 +96,33 @@ fn both_sides_and_what_is_left(rt: HostRuntime) -> Result<(), Fail> {
 }
 
 #[test]
-fn what_is_absent(rt: HostRuntime) -> Result<(), Fail> {
-    let topo = read_topology(rt.alloc(), SIDES.as_bytes())?;
-    let no_root = all_but(&rt, &topo, 0)?;
-    let without_root = Present::new(rt.alloc(), &topo, &no_root)?;
-    assert_eq!(rt; order_of(&rt, &without_root, 0)?.as_str(), "");
-    assert_eq!(rt; backup_root_of(&without_root, 0), 1);
-    let no_backup_root = all_but(&rt, &topo, 1)?;
-    let without_backup_root = Present::new(rt.alloc(), &topo, &no_backup_root)?;
-    assert_eq!(rt; backup_root_of(&without_backup_root, 0), 0);
-    let order = order_of(&rt, &without_backup_root, 0)?;
-    assert_eq!(rt;
-        order.as_str(),
-        " 0/0 3/1<0:0 2/2<3:1 5/1<0:9 4/2<5:5 6/2<5:8"
-    );
+fn both_sides_and_what_is_left(rt: HostRuntime) -> Result<(), Fail> {
+    let topo = topology_of(rt.alloc(), SIDES)?;
+    let absent = all_there(rt.alloc(), &topo);
+    let present = Present::new(rt.alloc(), &topo, &absent)?;
+    assert_sides(&rt, &present)
+}
+
+/// The backup root and the order where one device is absent.
+fn assert_without(
+    rt: &(impl Abort + AllocGlobal),
+    topo: &Topology,
+    absent: u32,
+    due: (u32, &str),
+) -> Result<(), Fail> {
+    let (backup_root, wanted) = due;
+    let absent = all_but(rt, topo, absent)?;
+    let present = Present::new(rt.alloc(), topo, &absent)?;
+    assert_eq!(rt; backup_root_of(&present, 0), backup_root);
+    let order = order_of(rt, &present, 0)?;
+    assert_eq!(rt; order.as_str(), wanted);
     Ok(())
+}
+
+#[test]
+fn what_is_absent(rt: HostRuntime) -> Result<(), Fail> {
+    let topo = topology_of(rt.alloc(), SIDES)?;
+    assert_without(&rt, &topo, 0, (1, ""))?;
+    let without_backup_root = " 0/0 3/1<0:0 2/2<3:1 5/1<0:9 4/2<5:5 6/2<5:8";
+    assert_without(&rt, &topo, 1, (0, without_backup_root))
 }

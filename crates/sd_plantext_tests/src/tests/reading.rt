@@ -1,20 +1,16 @@
 //! Texts with their faults, and good texts with what they say.
+use super::topology_of;
 use sd_examples::TRIANGLE;
-use sd_plan::{Hop, Plan, PlanRow};
+use sd_plan::{Absent, Hop, Plan, PlanRow};
 use sd_plantext::{PlanFault, PlanKey, PlanPlace, read_absent, read_plan};
 use sd_topo::Topology;
-use sd_topotext::read_topology;
 use std::alloc::{AllocError, Global};
+use std::process::Abort;
 use std::test::Fail;
 
 /// A plan of the triangle.
 const PLAN: &str =
     "{\"version\":1,\"root\":\"r\",\"backup_root\":\"b\",\"wait_first\":1345000000,\"wait_second\":1345000001,\"wait\":6730000000,\"absent_devices\":[],\"absent_links\":[],\"rows\":[{\"device\":\"b\",\"parent\":\"r\",\"link\":\"rb\",\"backup\":\"x\",\"backup_link\":\"bx\"},{\"device\":\"x\",\"parent\":\"r\",\"link\":\"rx\",\"backup\":\"b\",\"backup_link\":\"bx\"}]}";
-
-/// The triangle.
-fn triangle(alloc: Global) -> Result<Topology, Fail> {
-    Ok(read_topology(alloc, TRIANGLE.as_bytes())?)
-}
 
 /// Why a plan text is refused, or nothing.
 fn reason(alloc: Global, topo: &Topology, bytes: &[u8]) -> Result<String, AllocError> {
@@ -168,15 +164,40 @@ static REFUSED: [(&str, &str, &str); 40] = [
     ("\"rows\":[", "\"rows\":[[", "the text is no JSON"),
 ];
 
-#[test]
-fn faults(rt: HostRuntime) -> Result<(), Fail> {
-    let topo = triangle(rt.alloc())?;
+/// The text is refused for this reason, or for none.
+fn assert_reason(
+    rt: &(impl Abort + AllocGlobal),
+    topo: &Topology,
+    text: &[u8],
+    want: &str,
+) -> Result<(), Fail> {
+    let said = reason(rt.alloc(), topo, text)?;
+    assert_eq!(rt; said.as_str(), want);
+    Ok(())
+}
+
+/// The same of the plan's text in which one part is replaced.
+fn assert_changed(
+    rt: &(impl Abort + AllocGlobal),
+    topo: &Topology,
+    change: (&str, &str),
+    want: &str,
+) -> Result<(), Fail> {
+    let text = PLAN.replacen(rt.alloc(), change.0, change.1, 1)?;
+    assert_reason(rt, topo, text.as_bytes(), want)
+}
+
+fn assert_refused(rt: &(impl Abort + AllocGlobal), topo: &Topology) -> Result<(), Fail> {
     for (from, to, want) in &REFUSED {
-        let text = PLAN.replacen(rt.alloc(), *from, *to, 1)?;
-        let said = reason(rt.alloc(), &topo, text.as_bytes())?;
-        assert_eq!(rt; said.as_str(), *want);
+        assert_changed(rt, topo, (*from, *to), *want)?;
     }
     Ok(())
+}
+
+#[test]
+fn faults(rt: HostRuntime) -> Result<(), Fail> {
+    let topo = topology_of(rt.alloc(), TRIANGLE)?;
+    assert_refused(&rt, &topo)
 }
 
 /// 200 arrays in one another.
@@ -190,74 +211,101 @@ fn deep(alloc: Global) -> Result<String, AllocError> {
     Ok(text)
 }
 
+fn assert_no_plans(
+    rt: &(impl Abort + AllocGlobal),
+    topo: &Topology,
+    deep: &[u8],
+) -> Result<(), Fail> {
+    assert_reason(rt, topo, b"[]", "of the wrong kind: plan 0")?;
+    assert_reason(rt, topo, deep, "the text is no JSON")?;
+    assert_reason(rt, topo, &PLAN.as_bytes()[..40], "the text is no JSON")?;
+    assert_reason(rt, topo, &[255], "the text is no JSON")?;
+    assert_reason(rt, topo, b"{}", "missing: version 0")
+}
+
 #[test]
 fn texts_that_are_no_plans(rt: HostRuntime) -> Result<(), Fail> {
-    let topo = triangle(rt.alloc())?;
+    let topo = topology_of(rt.alloc(), TRIANGLE)?;
     let deep = deep(rt.alloc())?;
-    let bytes = [
-        ("[]".as_bytes(), "of the wrong kind: plan 0"),
-        (deep.as_bytes(), "the text is no JSON"),
-        (&PLAN.as_bytes()[..40], "the text is no JSON"),
-        (&[255], "the text is no JSON"),
-        ("{}".as_bytes(), "missing: version 0"),
-    ];
-    for (bytes, want) in bytes {
-        let said = reason(rt.alloc(), &topo, bytes)?;
-        assert_eq!(rt; said.as_str(), want);
-    }
-    Ok(())
+    assert_no_plans(&rt, &topo, deep.as_bytes())
 }
 
 /// A plan of the triangle, without x and the link bx.
-fn smaller(alloc: Global, topo: &Topology) -> Result<Plan, Fail> {
-    let text =
-        "{\"version\":1,\"root\":\"r\",\"backup_root\":\"b\",\"wait_first\":1,\"wait_second\":2,\"wait\":3,\"absent_devices\":[\"x\",\"b\"],\"absent_links\":[\"bx\",\"rx\",\"rb\"],\"rows\":[{\"device\":\"b\",\"parent\":\"r\",\"link\":\"rb\"}]}";
-    Ok(read_plan(alloc, topo, text.as_bytes())?)
+const SMALLER: &str =
+    "{\"version\":1,\"root\":\"r\",\"backup_root\":\"b\",\"wait_first\":1,\"wait_second\":2,\"wait\":3,\"absent_devices\":[\"x\",\"b\"],\"absent_links\":[\"bx\",\"rx\",\"rb\"],\"rows\":[{\"device\":\"b\",\"parent\":\"r\",\"link\":\"rb\"}]}";
+
+/// The plan of a text of the triangle. It promises nothing, so that no proof looks into the text.
+fn plan_of(alloc: Global, text: &str) -> Result<Plan, Fail> {
+    let topo = topology_of(alloc, TRIANGLE)?;
+    Ok(read_plan(alloc, &topo, text.as_bytes())?)
 }
 
-#[test]
-fn plans(rt: HostRuntime) -> Result<(), Fail> {
-    let topo = triangle(rt.alloc())?;
-    let plan = read_plan(rt.alloc(), &topo, PLAN.as_bytes())?;
+fn assert_plan(rt: &impl Abort, plan: &Plan) {
     assert_eq!(rt; (plan.root, plan.backup_root), (0, 1));
     assert_eq!(rt; plan.wait_first, 1_345_000_000);
     assert_eq!(rt; plan.wait_second, 1_345_000_001);
     assert_eq!(rt; plan.wait, 6_730_000_000);
+}
+
+fn assert_rows(rt: &impl Abort, rows: &[Option<PlanRow>]) {
     let primary = Hop { parent: 0, link: 1 };
     let backup = Some(Hop { parent: 1, link: 2 });
     let row = Some(PlanRow { primary, backup });
-    assert_eq!(rt; plan.rows.as_slice().len(), 3);
-    assert_eq!(rt; plan.rows.as_slice().first(), Some(&None));
-    assert_eq!(rt; plan.rows.as_slice().last(), Some(&row));
+    assert_eq!(rt; rows.len(), 3);
+    assert_eq!(rt; rows.first(), Some(&None));
+    assert_eq!(rt; rows.last(), Some(&row));
+}
+
+#[test]
+fn plans(rt: HostRuntime) -> Result<(), Fail> {
+    let plan = plan_of(rt.alloc(), PLAN)?;
+    assert_plan(&rt, &plan);
+    assert_rows(&rt, plan.rows.as_slice());
     Ok(())
+}
+
+fn assert_lists(rt: &impl Abort, plan: &Plan) {
+    assert_eq!(rt; plan.absent.devices.as_slice(), [1, 2].as_slice());
+    assert_eq!(rt; plan.absent.links.as_slice(), [0, 1, 2].as_slice());
+    assert_eq!(rt; plan.rows.as_slice().get(2), Some(&None));
 }
 
 #[test]
 fn lists_in_order(rt: HostRuntime) -> Result<(), Fail> {
-    let topo = triangle(rt.alloc())?;
-    let plan = smaller(rt.alloc(), &topo)?;
-    assert_eq!(rt; plan.absent.devices.as_slice(), [1, 2].as_slice());
-    assert_eq!(rt; plan.absent.links.as_slice(), [0, 1, 2].as_slice());
-    assert_eq!(rt; plan.rows.as_slice().get(2), Some(&None));
+    let plan = plan_of(rt.alloc(), SMALLER)?;
+    assert_lists(&rt, &plan);
+    Ok(())
+}
+
+/// What is left out by a text. It promises nothing, so that no proof looks into the text.
+fn absent_of(alloc: Global, topo: &Topology, text: &str) -> Result<Absent, PlanFault> {
+    read_absent(alloc, topo, text.as_bytes())
+}
+
+fn assert_absent_faults(rt: &(impl Abort + AllocGlobal), topo: &Topology) {
+    let place = |key| PlanPlace { key, entry: 0 };
+    let refused = absent_of(rt.alloc(), topo, "0").err();
+    assert_eq!(rt; refused, Some(PlanFault::WrongKind(place(PlanKey::Absent))));
+    let refused = absent_of(rt.alloc(), topo, "{}").err();
+    assert_eq!(rt;
+        refused,
+        Some(PlanFault::Missing(place(PlanKey::AbsentDevices)))
+    );
+}
+
+fn assert_absent(rt: &(impl Abort + AllocGlobal), topo: &Topology) -> Result<(), Fail> {
+    let text = "{\"absent_links\":[\"bx\",\"rb\"],\"absent_devices\":[\"x\"]}";
+    let absent = absent_of(rt.alloc(), topo, text)?;
+    assert_eq!(rt; absent.devices.as_slice(), [2].as_slice());
+    assert_eq!(rt; absent.links.as_slice(), [0, 2].as_slice());
     Ok(())
 }
 
 #[test]
 fn what_is_left_out(rt: HostRuntime) -> Result<(), Fail> {
-    let topo = triangle(rt.alloc())?;
-    let place = |key| PlanPlace { key, entry: 0 };
-    let refused = read_absent(rt.alloc(), &topo, "0".as_bytes()).err();
-    assert_eq!(rt; refused, Some(PlanFault::WrongKind(place(PlanKey::Absent))));
-    let refused = read_absent(rt.alloc(), &topo, "{}".as_bytes()).err();
-    assert_eq!(rt;
-        refused,
-        Some(PlanFault::Missing(place(PlanKey::AbsentDevices)))
-    );
-    let text = "{\"absent_links\":[\"bx\",\"rb\"],\"absent_devices\":[\"x\"]}";
-    let absent = read_absent(rt.alloc(), &topo, text.as_bytes())?;
-    assert_eq!(rt; absent.devices.as_slice(), [2].as_slice());
-    assert_eq!(rt; absent.links.as_slice(), [0, 2].as_slice());
-    Ok(())
+    let topo = topology_of(rt.alloc(), TRIANGLE)?;
+    assert_absent_faults(&rt, &topo);
+    assert_absent(&rt, &topo)
 }
 
 #[test]

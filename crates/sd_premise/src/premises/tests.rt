@@ -208,6 +208,23 @@ fn begun(rt: &impl AllocGlobal) -> Result<Premises, Fail> {
 
 /// These premises break with the event at this place, none with another, and no other is broken at
 /// the end.
+fn assert_breaks(
+    rt: &(impl AllocGlobal + Abort),
+    premises: &mut Premises,
+    events: &[Seen<'_>],
+    due: (usize, BrokenSet),
+) -> Result<(), Fail> {
+    let (at, wanted) = due;
+    for (i, seen) in events.iter().enumerate() {
+        let breaks = watch(rt.alloc(), premises, seen)?;
+        let expected = if i == at { wanted } else { NONE_BROKEN };
+        assert_eq!(rt; breaks, expected, "{i}");
+    }
+    assert_eq!(rt; premises.broken(), wanted);
+    Ok(())
+}
+
+/// The same of events from the beginning on.
 fn check(
     rt: &(impl AllocGlobal + Abort),
     events: &[Seen<'_>],
@@ -215,13 +232,7 @@ fn check(
     wanted: BrokenSet,
 ) -> Result<(), Fail> {
     let mut premises = begun(rt)?;
-    for (i, seen) in events.iter().enumerate() {
-        let breaks = watch(rt.alloc(), &mut premises, seen)?;
-        let expected = if i == at { wanted } else { NONE_BROKEN };
-        assert_eq!(rt; breaks, expected, "{i}");
-    }
-    assert_eq!(rt; premises.broken(), wanted);
-    Ok(())
+    assert_breaks(rt, &mut premises, events, (at, wanted))
 }
 
 #[test]
@@ -387,19 +398,39 @@ fn prepared() -> [Seen<'static>; 11] {
     ]
 }
 
-/// Whether a renewal that goes on so breaks its premise with the last event, and nothing before.
+/// Watches some events.
+fn watch_all(alloc: Global, premises: &mut Premises, events: &[Seen<'_>]) -> Result<(), NoMemory> {
+    for seen in events {
+        let _: BrokenSet = watch(alloc, premises, seen)?;
+    }
+    Ok(())
+}
+
+/// Whether the premise of renewals is kept with the last of these events. It is with those before.
+fn goes_on(
+    rt: &(impl AllocGlobal + Abort),
+    premises: &mut Premises,
+    events: &[Seen<'_>],
+) -> Result<bool, Fail> {
+    let [before @ .., last] = events else {
+        return Ok(true);
+    };
+    watch_all(rt.alloc(), premises, before)?;
+    assert!(rt; !premises.broken().renew);
+    let _: BrokenSet = watch(rt.alloc(), premises, last)?;
+    Ok(!premises.broken().renew)
+}
+
+/// Whether a renewal that goes on so keeps its premise with the last event. It does before.
 fn renews(rt: &(impl AllocGlobal + Abort), given: usize, then: &[Seen<'_>]) -> Result<bool, Fail> {
     let mut premises = begun(rt)?;
-    for seen in prepared().iter().take(given) {
-        let _: BrokenSet = watch(rt.alloc(), &mut premises, seen)?;
-    }
-    let mut before = NONE_BROKEN;
-    for seen in then {
-        before = premises.broken();
-        let _: BrokenSet = watch(rt.alloc(), &mut premises, seen)?;
-    }
-    assert!(rt; !before.renew);
-    Ok(!premises.broken().renew)
+    let prepared = prepared();
+    watch_all(
+        rt.alloc(),
+        &mut premises,
+        prepared.get(..given).unwrap_or(&[]),
+    )?;
+    goes_on(rt, &mut premises, then)
 }
 
 #[test]

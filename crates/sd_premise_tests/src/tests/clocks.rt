@@ -2,13 +2,14 @@
 ghost use Rattle.std.specs.Prelude.{◌≡◌, ◌<◌, ◌^◌, length};
 ghost use Rattle.sd_topo.specs.Topologies.{network};
 
+use super::topology_of;
 use sd_examples::TRIANGLE;
 use sd_msg::{Flight, Message, Stamp};
 use sd_premise_clocks::{DelayMonitor, DriftMonitor, Members, Seen, StartMonitor, TickMonitor};
 use sd_sched::Event;
 use sd_topo::Topology;
-use sd_topotext::read_topology;
 use sd_world::World;
+use std::process::Abort;
 use std::test::Fail;
 
 /// What is seen of an event that receives and sends nothing.
@@ -103,39 +104,63 @@ fn keeps(rt: &impl AllocGlobal, topo: &Topology, reference: u64, counter: u64) -
     Ok(first && reads(&mut monitor, topo, reference, counter))
 }
 
+fn assert_at_the_bound(rt: &(impl Abort + AllocGlobal), topo: &Topology) -> Result<(), Fail> {
+    assert!(rt; topo.devices() == 3);
+    assert!(rt; keeps(rt, topo, 50_011_000, 50_000_000)?);
+    assert!(rt; !keeps(rt, topo, 50_011_001, 50_000_000)?);
+    assert!(rt; keeps(rt, topo, 49_989_000, 50_000_000)?);
+    assert!(rt; !keeps(rt, topo, 49_988_999, 50_000_000)?);
+    Ok(())
+}
+
 #[test]
 fn drift_at_the_bound(rt: HostRuntime) -> Result<(), Fail> {
-    let topo = read_topology(rt.alloc(), TRIANGLE.as_bytes())?;
+    let topo = topology_of(rt.alloc(), TRIANGLE)?;
+    assert_at_the_bound(&rt, &topo)
+}
+
+fn assert_outer_pair(rt: &impl Abort, monitor: &mut DriftMonitor, topo: &Topology)
+    requires { length monitor.old.lives ≡ length (network topo.now).devices }
+{
     assert!(rt; topo.devices() == 3);
-    assert!(rt; keeps(&rt, &topo, 50_011_000, 50_000_000)?);
-    assert!(rt; !keeps(&rt, &topo, 50_011_001, 50_000_000)?);
-    assert!(rt; keeps(&rt, &topo, 49_989_000, 50_000_000)?);
-    assert!(rt; !keeps(&rt, &topo, 49_988_999, 50_000_000)?);
+    assert!(rt; starts(monitor, topo, 0));
+    assert!(rt; reads(monitor, topo, 1_001_200, 1_000_000));
+    assert!(rt; !reads(monitor, topo, 2_002_400, 2_000_000));
+}
+
+fn assert_outer_pair_of(rt: &(impl Abort + AllocGlobal), topo: &Topology) -> Result<(), Fail> {
+    let mut monitor = DriftMonitor::new(rt.alloc(), topo)?;
+    assert_outer_pair(rt, &mut monitor, topo);
     Ok(())
 }
 
 #[test]
 fn drift_of_the_outer_pair(rt: HostRuntime) -> Result<(), Fail> {
-    let topo = read_topology(rt.alloc(), TRIANGLE.as_bytes())?;
+    let topo = topology_of(rt.alloc(), TRIANGLE)?;
+    assert_outer_pair_of(&rt, &topo)
+}
+
+fn assert_two_lives(rt: &impl Abort, monitor: &mut DriftMonitor, topo: &Topology)
+    requires { length monitor.old.lives ≡ length (network topo.now).devices }
+{
     assert!(rt; topo.devices() == 3);
-    let mut monitor = DriftMonitor::new(rt.alloc(), &topo)?;
-    assert!(rt; starts(&mut monitor, &topo, 0));
-    assert!(rt; reads(&mut monitor, &topo, 1_001_200, 1_000_000));
-    assert!(rt; !reads(&mut monitor, &topo, 2_002_400, 2_000_000));
+    assert!(rt; starts(monitor, topo, 0));
+    assert!(rt; reads(monitor, topo, 1_001_200, 1_000_000));
+    assert!(rt; joins(monitor, topo, 9_000_000));
+    assert!(rt; reads(monitor, topo, 10_001_200, 1_000_000));
+    assert!(rt; !reads(monitor, topo, 11_002_400, 2_000_000));
+}
+
+fn assert_two_lives_of(rt: &(impl Abort + AllocGlobal), topo: &Topology) -> Result<(), Fail> {
+    let mut monitor = DriftMonitor::new(rt.alloc(), topo)?;
+    assert_two_lives(rt, &mut monitor, topo);
     Ok(())
 }
 
 #[test]
 fn drift_is_judged_within_one_life(rt: HostRuntime) -> Result<(), Fail> {
-    let topo = read_topology(rt.alloc(), TRIANGLE.as_bytes())?;
-    assert!(rt; topo.devices() == 3);
-    let mut monitor = DriftMonitor::new(rt.alloc(), &topo)?;
-    assert!(rt; starts(&mut monitor, &topo, 0));
-    assert!(rt; reads(&mut monitor, &topo, 1_001_200, 1_000_000));
-    assert!(rt; joins(&mut monitor, &topo, 9_000_000));
-    assert!(rt; reads(&mut monitor, &topo, 10_001_200, 1_000_000));
-    assert!(rt; !reads(&mut monitor, &topo, 11_002_400, 2_000_000));
-    Ok(())
+    let topo = topology_of(rt.alloc(), TRIANGLE)?;
+    assert_two_lives_of(&rt, &topo)
 }
 
 /// Two devices, and a link with its own bounds for each direction.
@@ -198,18 +223,29 @@ fn comes_in_time(topo: &Topology, receiver: u32, reference: u64) -> bool
     monitor.observe(topo, &seen)
 }
 
+/// Messages from the first end to the second.
+fn assert_forwards(rt: &impl Abort, topo: &Topology) {
+    assert!(rt; topo.links() == 1);
+    assert!(rt; comes_in_time(topo, 1, 401_000));
+    assert!(rt; comes_in_time(topo, 1, 1_001_000));
+    assert!(rt; !comes_in_time(topo, 1, 400_999));
+    assert!(rt; !comes_in_time(topo, 1, 1_001_001));
+}
+
+/// Messages from the second end to the first.
+fn assert_backwards(rt: &impl Abort, topo: &Topology) {
+    assert!(rt; topo.links() == 1);
+    assert!(rt; comes_in_time(topo, 0, 8000));
+    assert!(rt; comes_in_time(topo, 0, 10_000));
+    assert!(rt; !comes_in_time(topo, 0, 7999));
+    assert!(rt; !comes_in_time(topo, 0, 10_001));
+}
+
 #[test]
 fn messages_at_both_bounds_of_their_direction(rt: HostRuntime) -> Result<(), Fail> {
-    let topo = read_topology(rt.alloc(), TWO_WAYS.as_bytes())?;
-    assert!(rt; topo.links() == 1);
-    assert!(rt; comes_in_time(&topo, 1, 401_000));
-    assert!(rt; comes_in_time(&topo, 1, 1_001_000));
-    assert!(rt; !comes_in_time(&topo, 1, 400_999));
-    assert!(rt; !comes_in_time(&topo, 1, 1_001_001));
-    assert!(rt; comes_in_time(&topo, 0, 8000));
-    assert!(rt; comes_in_time(&topo, 0, 10_000));
-    assert!(rt; !comes_in_time(&topo, 0, 7999));
-    assert!(rt; !comes_in_time(&topo, 0, 10_001));
+    let topo = topology_of(rt.alloc(), TWO_WAYS)?;
+    assert_forwards(&rt, &topo);
+    assert_backwards(&rt, &topo);
     Ok(())
 }
 
@@ -230,20 +266,46 @@ fn waits(monitor: &mut TickMonitor, members: &Members, world: &World, reference:
     monitor.observe(members, world, &seen)
 }
 
+/// Both see a moment, at which the premise on ticks holds or not.
+fn assert_waits(
+    rt: &impl Abort,
+    monitor: &mut TickMonitor,
+    members: &Members,
+    world: &mut World,
+    due: (u64, bool),
+)
+    requires { length world.old.devices ≡ length monitor.old.owed }
+    ensures { length world.new.devices ≡ length monitor.new.owed }
+{
+    let (reference, holds) = due;
+    assert!(rt; world.events() < 100);
+    pass(world, reference);
+    assert_eq!(rt;
+        waits(monitor, members, world, reference),
+        holds,
+        "{reference}"
+    );
+}
+
+/// No member starts, and all are late then.
+fn assert_late(rt: &impl Abort, monitor: &mut TickMonitor, members: &Members, world: &mut World)
+    requires { length world.old.devices ≡ length monitor.old.owed }
+{
+    assert_waits(rt, monitor, members, world, (5, true));
+    assert_waits(rt, monitor, members, world, (90_000_005, true));
+    assert_waits(rt, monitor, members, world, (90_000_006, false));
+}
+
+fn assert_late_in(rt: &(impl Abort + AllocGlobal), topo: &Topology) -> Result<(), Fail> {
+    let members = Members::new(rt.alloc(), topo, &[])?;
+    let mut world = World::new(rt.alloc(), topo.devices(), topo.links())?;
+    let mut monitor = TickMonitor::new(rt.alloc(), topo, &members)?;
+    assert_late(rt, &mut monitor, &members, &mut world);
+    Ok(())
+}
+
 #[test]
 fn members_that_never_start_are_late(rt: HostRuntime) -> Result<(), Fail> {
-    let topo = read_topology(rt.alloc(), TRIANGLE.as_bytes())?;
-    let members = Members::new(rt.alloc(), &topo, &[])?;
-    let mut world = World::new(rt.alloc(), topo.devices(), topo.links())?;
-    let mut monitor = TickMonitor::new(rt.alloc(), &topo, &members)?;
-    assert!(rt; world.events() < 100);
-    pass(&mut world, 5);
-    assert!(rt; waits(&mut monitor, &members, &world, 5));
-    assert!(rt; world.events() < 100);
-    pass(&mut world, 90_000_005);
-    assert!(rt; waits(&mut monitor, &members, &world, 90_000_005));
-    assert!(rt; world.events() < 100);
-    pass(&mut world, 90_000_006);
-    assert!(rt; !waits(&mut monitor, &members, &world, 90_000_006));
-    Ok(())
+    let topo = topology_of(rt.alloc(), TRIANGLE)?;
+    assert_late_in(&rt, &topo)
 }

@@ -1,12 +1,12 @@
 //! Short schedules at each boundary of the premise of loss. Up to two consecutive rounds of one
 //! term may be spoiled, and each flight is due 10 after it is sent.
 
+use super::topology_of;
 use sd_msg::{Flight, Message, Stamp};
 use sd_num::NoMemory;
 use sd_premise_rounds::Rounds;
 use sd_sched::Event;
 use sd_topo::{Thing, Topology};
-use sd_topotext::read_topology;
 use std::alloc::Global;
 use std::process::Abort;
 use std::test::Fail;
@@ -129,12 +129,21 @@ fn held(alloc: Global, topo: &Topology, steps: &[Step]) -> Result<usize, NoMemor
 /// The steps, and at how many of them the premise holds.
 type Row<'a> = (&'a [Step], usize);
 
-fn check(rt: &(impl AllocGlobal + Abort), rows: &[Row<'_>]) -> Result<(), Fail> {
-    let topo = read_topology(rt.alloc(), NETWORK.as_bytes())?;
+fn assert_rows(
+    rt: &(impl AllocGlobal + Abort),
+    topo: &Topology,
+    rows: &[Row<'_>],
+) -> Result<(), Fail> {
     for (steps, wanted) in rows {
-        assert_eq!(rt; held(rt.alloc(), &topo, steps)?, *wanted, "{steps:?}");
+        let held = held(rt.alloc(), topo, steps)?;
+        assert_eq!(rt; held, *wanted, "{steps:?}");
     }
     Ok(())
+}
+
+fn check(rt: &(impl AllocGlobal + Abort), rows: &[Row<'_>]) -> Result<(), Fail> {
+    let topo = topology_of(rt.alloc(), NETWORK)?;
+    assert_rows(rt, &topo, rows)
 }
 
 #[test]

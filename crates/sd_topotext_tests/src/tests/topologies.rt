@@ -2,6 +2,7 @@
 use sd_topo::{Side, Topology};
 use sd_topotext::{Key, Kind, read_topology, topology_text};
 use std::alloc::{AllocError, Global};
+use std::process::Abort;
 use std::test::Fail;
 
 /// The numbers of a triangle, as version 1.
@@ -23,13 +24,9 @@ const RB: &str = "[[link]]\nname = \"rb\"\nends = [\"r\", \"b\"]\nmin = 400000\n
 
 const BX: &str = "[[link]]\nname = \"bx\"\nends = [\"b\", \"x\"]\nmin = 400000\nmax = 1000000\n";
 
-/// The pieces one after another.
+/// The pieces one after another. It promises nothing, so that no proof looks into the text.
 fn joined(alloc: Global, pieces: &[&str]) -> Result<String, AllocError> {
-    let mut text = String::new(alloc);
-    for piece in pieces {
-        text.push_str(piece)?;
-    }
-    Ok(text)
+    pieces.concat(alloc)
 }
 
 /// Why a text is refused, or nothing.
@@ -239,21 +236,25 @@ static REFUSED: [([&str; 6], &str); 35] = [
     ),
 ];
 
+/// A text is refused for this reason.
+fn assert_reason(rt: &(impl Abort + AllocGlobal), bytes: &[u8], want: &str) -> Result<(), Fail> {
+    let said = reason(rt.alloc(), bytes)?;
+    assert_eq!(rt; said.as_str(), want);
+    Ok(())
+}
+
 #[test]
 fn faults(rt: HostRuntime) -> Result<(), Fail> {
     for (pieces, want) in &REFUSED {
         let text = joined(rt.alloc(), pieces)?;
-        let said = reason(rt.alloc(), text.as_bytes())?;
-        assert_eq!(rt; said.as_str(), *want);
+        assert_reason(&rt, text.as_bytes(), *want)?;
     }
     Ok(())
 }
 
 #[test]
 fn bytes_that_are_no_text(rt: HostRuntime) -> Result<(), Fail> {
-    let said = reason(rt.alloc(), &[255])?;
-    assert_eq!(rt; said.as_str(), "the text is no TOML");
-    Ok(())
+    assert_reason(&rt, &[255], "the text is no TOML")
 }
 
 /// A text, a piece so many times, and an end.
@@ -261,27 +262,20 @@ fn repeated(
     alloc: Global,
     start: &str,
     piece: &str,
-    times: u32,
+    times: usize,
     end: &str,
 ) -> Result<String, AllocError> {
-    let mut text = String::from_str(alloc, start)?;
-    for _ in 0..times {
-        text.push_str(piece)?;
-    }
-    text.push_str(end)?;
-    Ok(text)
+    let middle = piece.repeat(alloc, times)?;
+    joined(alloc, &[start, middle.as_str(), end])
 }
 
 #[test]
 fn deep_and_long(rt: HostRuntime) -> Result<(), Fail> {
     let deep = repeated(rt.alloc(), "version = ", "[", 200, "")?;
-    let said = reason(rt.alloc(), deep.as_bytes())?;
-    assert_eq!(rt; said.as_str(), "the text is no TOML");
+    assert_reason(&rt, deep.as_bytes(), "the text is no TOML")?;
     let start = joined(rt.alloc(), &[TOP, ROOTS, "[[device]]\nname = \""])?;
     let long = repeated(rt.alloc(), start.as_str(), "n", 65, "\"\n")?;
-    let said = reason(rt.alloc(), long.as_bytes())?;
-    assert_eq!(rt; said.as_str(), "out of range: device.name 1");
-    Ok(())
+    assert_reason(&rt, long.as_bytes(), "out of range: device.name 1")
 }
 
 /// A text with so many devices.
@@ -298,38 +292,54 @@ fn crowd(alloc: Global, devices: u32) -> Result<String, AllocError> {
 fn devices_at_the_limit(rt: HostRuntime) -> Result<(), Fail> {
     for (devices, want) in [(4096, ""), (4097, "too many: device")] {
         let text = crowd(rt.alloc(), devices)?;
-        let said = reason(rt.alloc(), text.as_bytes())?;
-        assert_eq!(rt; said.as_str(), want);
+        assert_reason(&rt, text.as_bytes(), want)?;
     }
     Ok(())
 }
 
-/// A triangle of version 2 with an own oscillator, an own way back and a domain.
-fn triangle(alloc: Global) -> Result<Topology, Fail> {
+/// The text of a triangle of version 2 with an own oscillator, an own way back and a domain.
+fn triangle_text(alloc: Global) -> Result<String, AllocError> {
     let own = "ppm = 100\ngrain = 1500\nside = \"backup\"\n";
     let back = "back_min = 300000\nback_max = 600000\n";
     let domain = "[[domain]]\nname = \"tray\"\ndevices = [\"x\", \"b\"]\nlinks = [\"bx\"]\n";
-    let text = joined(alloc, &[TOP_TWO, ROOTS, R, B, X, own, RB, BX, back, domain])?;
+    joined(alloc, &[TOP_TWO, ROOTS, R, B, X, own, RB, BX, back, domain])
+}
+
+/// The triangle of that text.
+fn triangle(alloc: Global) -> Result<Topology, Fail> {
+    let text = triangle_text(alloc)?;
     Ok(read_topology(alloc, text.as_bytes())?)
 }
 
-#[test]
-fn devices(rt: HostRuntime) -> Result<(), Fail> {
-    let topo = triangle(rt.alloc())?.copy(rt.alloc())?;
+/// A copy of the triangle.
+fn copied(alloc: Global) -> Result<Topology, Fail> {
+    let topo = triangle(alloc)?;
+    Ok(topo.copy(alloc)?)
+}
+
+fn assert_params(rt: &impl Abort, topo: &Topology) {
     assert_eq!(rt; topo.version(), 2);
     assert_eq!(rt; topo.params().tick, 90_000_000);
+    assert_eq!(rt; topo.roots(), [0, 1].as_slice());
+}
+
+fn assert_devices(rt: &impl Abort, topo: &Topology) {
     assert_eq!(rt; topo.devices(), 3);
     assert_eq!(rt; topo.device_name(2), "x");
     assert_eq!(rt; topo.side(2), Side::Backup);
     assert_eq!(rt; topo.rates(2).ppm, 100);
     assert_eq!(rt; topo.number_of("x"), Some(2));
-    assert_eq!(rt; topo.roots(), [0, 1].as_slice());
-    Ok(())
 }
 
 #[test]
-fn links(rt: HostRuntime) -> Result<(), Fail> {
-    let topo = triangle(rt.alloc())?.copy(rt.alloc())?;
+fn devices(rt: HostRuntime) -> Result<(), Fail> {
+    let topo = copied(rt.alloc())?;
+    assert_params(&rt, &topo);
+    assert_devices(&rt, &topo);
+    Ok(())
+}
+
+fn assert_links(rt: &impl Abort, topo: &Topology) {
     assert_eq!(rt; topo.links(), 2);
     assert_eq!(rt; topo.link_name(1), "bx");
     assert_eq!(rt; topo.link_number("bx"), Some(1));
@@ -338,16 +348,26 @@ fn links(rt: HostRuntime) -> Result<(), Fail> {
     assert_eq!(rt; topo.delay(1, 1).max, 600_000);
     assert_eq!(rt; topo.bounds(1, 1).mid, 450_000);
     assert_eq!(rt; topo.greatest_delay(), 1_000_000);
-    Ok(())
 }
 
 #[test]
-fn domains(rt: HostRuntime) -> Result<(), Fail> {
-    let topo = triangle(rt.alloc())?.copy(rt.alloc())?;
+fn links(rt: HostRuntime) -> Result<(), Fail> {
+    let topo = copied(rt.alloc())?;
+    assert_links(&rt, &topo);
+    Ok(())
+}
+
+fn assert_domains(rt: &impl Abort, topo: &Topology) {
     assert_eq!(rt; topo.domains(), 1);
     assert_eq!(rt; topo.domain_name(0), "tray");
     assert_eq!(rt; topo.domain_devices(0), [1, 2].as_slice());
     assert_eq!(rt; topo.domain_links(0), [1].as_slice());
+}
+
+#[test]
+fn domains(rt: HostRuntime) -> Result<(), Fail> {
+    let topo = copied(rt.alloc())?;
+    assert_domains(&rt, &topo);
     Ok(())
 }
 
@@ -355,10 +375,15 @@ fn domains(rt: HostRuntime) -> Result<(), Fail> {
 const PRINTED: &str =
     "depth = 2\ngrain = 1000\nloss = 1\nperiod = 100000000\nppm = 200\nroots = [\"r\", \"b\"]\ntick = 90000000\nversion = 2\n\n[[device]]\ngrain = 1000\nname = \"r\"\nppm = 200\nside = \"root\"\n\n[[device]]\ngrain = 1000\nname = \"b\"\nppm = 200\nside = \"root\"\n\n[[device]]\ngrain = 1500\nname = \"x\"\nppm = 100\nside = \"backup\"\n\n[[domain]]\ndevices = [\"b\", \"x\"]\nlinks = [\"bx\"]\nname = \"tray\"\n\n[[link]]\nback_max = 1000000\nback_min = 400000\nends = [\"r\", \"b\"]\nmax = 1000000\nmin = 400000\nname = \"rb\"\n\n[[link]]\nback_max = 600000\nback_min = 300000\nends = [\"b\", \"x\"]\nmax = 1000000\nmin = 400000\nname = \"bx\"\n";
 
+/// The text of a topology. It promises nothing, so that no proof looks into the text.
+fn text_of(alloc: Global, topo: &Topology) -> Result<Vec<u8>, Fail> {
+    Ok(topology_text(alloc, topo)?)
+}
+
 #[test]
 fn printed(rt: HostRuntime) -> Result<(), Fail> {
     let topo = triangle(rt.alloc())?;
-    let text = topology_text(rt.alloc(), &topo)?;
+    let text = text_of(rt.alloc(), &topo)?;
     assert_eq!(rt; std::str::from_utf8(text.as_slice()), Ok(PRINTED));
     Ok(())
 }

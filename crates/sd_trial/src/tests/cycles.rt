@@ -12,6 +12,7 @@ use sd_num::NoMemory;
 use sd_plan::{DeviceList, Plan};
 use sd_topo::Topology;
 use std::alloc::Global;
+use std::process::Abort;
 use std::test::Fail;
 
 /// The cycle that a domain of the square may bring about.
@@ -29,17 +30,25 @@ fn breach(
     loop_breach(alloc, topo, plan, domain)
 }
 
-#[test]
-fn loops_of_a_square(rt: HostRuntime) -> Result<(), Fail> {
+/// Which links may be on a cycle.
+fn assert_cycles(rt: &(impl Abort + AllocGlobal), topo: &Topology, plan: &Plan) -> Result<(), Fail>
+    requires square { IsSquare (network topo.now) }
+    requires plan { plan.now ≡ examples.square_plan }
+{
     let alloc = rt.alloc();
-    let topo = square(alloc)?;
-    let plan = square_plan(alloc)?;
     assert!(rt; topo.domains() == 1);
-    let Some(cycle) = breach(alloc, &topo, &plan, Listed(0))? else {
+    let Some(cycle) = breach(alloc, topo, plan, Listed(0))? else {
         panic!(rt; "both links may fail, and no cycle is shown");
     };
     assert_eq!(rt; cycle.as_slice(), [2, 3].as_slice());
-    assert!(rt; breach(alloc, &topo, &plan, Link(1))?.is_none());
-    assert!(rt; breach(alloc, &topo, &plan, Link(3))?.is_none());
+    assert!(rt; breach(alloc, topo, plan, Link(1))?.is_none());
+    assert!(rt; breach(alloc, topo, plan, Link(3))?.is_none());
     Ok(())
+}
+
+#[test]
+fn loops_of_a_square(rt: HostRuntime) -> Result<(), Fail> {
+    let topo = square(rt.alloc())?;
+    let plan = square_plan(rt.alloc())?;
+    assert_cycles(&rt, &topo, &plan)
 }

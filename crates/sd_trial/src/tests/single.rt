@@ -5,21 +5,45 @@ ghost use Rattle.sd_plan.specs.Plans.{Fits};
 ghost use Rattle.sd_plan.specs.Structure as structure;
 ghost use Rattle.sd_topo.specs.Topologies.{network};
 
-use super::Tally;
+use super::{Tally, plan_of, topology_of};
 use sd_check_loop::loop_breach;
 use sd_check_reach::{domain_breach, reach_breach};
 use sd_check_root::root_breach;
 use sd_domain::DomainId;
-use sd_plain::{
-    CONDITIONS, Domain, Plain, Said, counted_case, has_domain, plan_text_of, topology_text_of,
-};
+use sd_plain::{CONDITIONS, Condition, Domain, Plain, Said, counted_case, has_domain};
 use sd_plan::{Plan, structure_breach};
-use sd_plantext::read_plan;
 use sd_topo::Topology;
-use sd_topotext::read_topology;
 use std::alloc::{AllocError, Global};
 use std::process::Abort;
 use std::test::Fail;
+
+/// How a domain breaks one condition, by its call.
+fn asked_of(
+    alloc: Global,
+    topo: &Topology,
+    plan: &Plan,
+    question: (Condition, DomainId),
+) -> Result<Option<Said>, Fail>
+    requires fits { Fits (network topo.now) plan.now }
+    requires structured { structure.structure_breach (network topo.now) plan.now ≡ None }
+    requires domain { IsDomain (network topo.now) question.1 }
+{
+    let (condition, domain) = question;
+    Ok(match condition {
+        Condition::Root => root_breach(alloc, topo, plan, domain)?.map(|at| Said::Root(domain, at)),
+        Condition::Loop => match loop_breach(alloc, topo, plan, domain)? {
+            Some(cycle) => Some(Said::Loop(domain, Vec::from_slice(alloc, cycle.as_slice())?)),
+            None => None,
+        },
+        Condition::Domain => {
+            domain_breach(alloc, topo, plan, domain)?.map(|device| Said::Domain(domain, device))
+        }
+        Condition::Reach => match reach_breach(alloc, topo, plan, domain)? {
+            Some(chain) => Some(Said::Reach(domain, Vec::from_slice(alloc, chain.as_slice())?)),
+            None => None,
+        },
+    })
+}
 
 /// How a domain breaks the conditions, by the four calls.
 fn asked(alloc: Global, topo: &Topology, plan: &Plan, domain: DomainId) -> Result<Vec<Said>, Fail>
@@ -27,22 +51,13 @@ fn asked(alloc: Global, topo: &Topology, plan: &Plan, domain: DomainId) -> Resul
     requires structured { structure.structure_breach (network topo.now) plan.now ≡ None }
     requires domain { IsDomain (network topo.now) domain }
 {
-    let mut said = Vec::new(alloc);
-    if let Some(at) = root_breach(alloc, topo, plan, domain)? {
-        said.push(Said::Root(domain, at))?;
+    let mut all = Vec::new(alloc);
+    for condition in CONDITIONS {
+        if let Some(said) = asked_of(alloc, topo, plan, (condition, domain))? {
+            all.push(said)?;
+        }
     }
-    if let Some(cycle) = loop_breach(alloc, topo, plan, domain)? {
-        let cycle = Vec::from_slice(alloc, cycle.as_slice())?;
-        said.push(Said::Loop(domain, cycle))?;
-    }
-    if let Some(device) = domain_breach(alloc, topo, plan, domain)? {
-        said.push(Said::Domain(domain, device))?;
-    }
-    if let Some(chain) = reach_breach(alloc, topo, plan, domain)? {
-        let chain = Vec::from_slice(alloc, chain.as_slice())?;
-        said.push(Said::Reach(domain, chain))?;
-    }
-    Ok(said)
+    Ok(all)
 }
 
 /// How a domain breaks the conditions, by their definitions.
@@ -56,7 +71,35 @@ fn all_broken_by(plain: &Plain, f: &Domain) -> Result<Vec<Said>, AllocError> {
     Ok(all)
 }
 
+/// The calls and the slow program say the same of a domain, of which this is what the calls say.
+fn assert_same(rt: &impl Abort, broken: &[Said], slowly: &[Said], tally: &mut Tally) {
+    assert_eq!(rt; broken, slowly);
+    for said in broken {
+        tally.add(said);
+    }
+}
+
 /// The calls and the slow program say the same of each domain.
+fn assert_domains_of(
+    rt: &(impl Abort + AllocGlobal),
+    planned: (&Topology, &Plan),
+    plain: &Plain<'_>,
+    tally: &mut Tally,
+) -> Result<(), Fail>
+    requires fits { Fits (network planned.0.now) planned.1.now }
+    requires structured { structure.structure_breach (network planned.0.now) planned.1.now ≡ None }
+{
+    let (topo, plan) = planned;
+    for f in &plain.domains {
+        assert!(rt; has_domain(topo, f.id));
+        let broken = asked(rt.alloc(), topo, plan, f.id)?;
+        let slowly = all_broken_by(plain, f)?;
+        assert_same(rt, broken.as_slice(), slowly.as_slice(), tally);
+    }
+    Ok(())
+}
+
+/// The same, where the slow program's view of the plan is made.
 fn assert_domains(
     rt: &(impl Abort + AllocGlobal),
     topo: &Topology,
@@ -66,17 +109,8 @@ fn assert_domains(
     requires fits { Fits (network topo.now) plan.now }
     requires structured { structure.structure_breach (network topo.now) plan.now ≡ None }
 {
-    let alloc = rt.alloc();
-    let plain = Plain::of(alloc, topo, plan)?;
-    for f in &plain.domains {
-        assert!(rt; has_domain(topo, f.id));
-        let broken = asked(alloc, topo, plan, f.id)?;
-        assert_eq!(rt; broken, all_broken_by(&plain, f)?);
-        for said in &broken {
-            tally.add(said);
-        }
-    }
-    Ok(())
+    let plain = Plain::of(rt.alloc(), topo, plan)?;
+    assert_domains_of(rt, (topo, plan), &plain, tally)
 }
 
 /// The same of a plan whose structure is right.
@@ -94,21 +128,29 @@ fn assert_plan(
     }
 }
 
+/// The same of a case that is made by counting.
+fn assert_counted(
+    rt: &(impl Abort + AllocGlobal),
+    case: u32,
+    tally: &mut Tally,
+) -> Result<(), Fail> {
+    let setup = counted_case(rt.alloc(), case)?;
+    let topo = topology_of(rt.alloc(), &setup)?;
+    let plan = plan_of(rt.alloc(), &topo, &setup)?;
+    assert_plan(rt, &topo, &plan, tally)
+}
+
+/// Whether each condition was broken often enough.
+fn is_ample(tally: &Tally) -> bool {
+    tally.root >= 104 && tally.loops >= 78 && tally.domain >= 44 && tally.reach >= 117
+}
+
 #[test]
 fn each_condition_asked_by_itself_agrees(rt: HostRuntime) -> Result<(), Fail> {
-    let alloc = rt.alloc();
     let mut tally = Tally::default();
     for case in 0..400 {
-        let setup = counted_case(alloc, case)?;
-        let topology = topology_text_of(alloc, &setup)?;
-        let text = plan_text_of(alloc, &setup)?;
-        let topo = read_topology(alloc, topology.as_bytes())?;
-        let plan = read_plan(alloc, &topo, text.as_bytes())?;
-        assert_plan(&rt, &topo, &plan, &mut tally)?;
+        assert_counted(&rt, case, &mut tally)?;
     }
-    assert!(rt; tally.root >= 104, "{tally:?}");
-    assert!(rt; tally.loops >= 78, "{tally:?}");
-    assert!(rt; tally.domain >= 44, "{tally:?}");
-    assert!(rt; tally.reach >= 117, "{tally:?}");
+    assert!(rt; is_ample(&tally), "{tally:?}");
     Ok(())
 }

@@ -13,7 +13,8 @@ loop-d-preserved c =
     let items = c.push_reserved.ensures.items in
     record {
       listed = subst (λ (xs : List (Option ℕ)). (k : ℕ) → k < c.loop-d.d + 1 → IsListed (net_of o) (plan_of o) c.args.times.budget o.domain k (bound_at xs k)) (sym items)
-          (listed_more (IsListed (net_of o) (plan_of o) c.args.times.budget o.domain) old c.bound_of.result c.loop-d.d c.loop-d.invariant.size c.loop-d.invariant.listed c.bound_of.ensures);
+          (listed_more (IsListed (net_of o) (plan_of o) c.args.times.budget o.domain) old c.bound_of.result c.loop-d.d c.loop-d.invariant.size c.loop-d.invariant.listed c.bound_of.ensures.bound);
       size = ap (λ (xs : List (Option ℕ)). length xs) items ∙ length_push old c.bound_of.result ∙ omega (arith, c.loop-d.invariant.size);
+      growths = c.bound_of.ensures.growths;
       room = c.push_reserved.ensures.capacity ∙ c.loop-d.invariant.room;
     }

@@ -1,5 +1,5 @@
 use Rattle.std.proofs.Common.{◌≡◌, ℕ, List, [], ◌∷◌, take}
-use Rattle.std.specs.Prelude.{flat_map}
+use Rattle.std.specs.Prelude.{flat_map, codes}
 use Rattle.sd_topo.specs.Topologies.{network}
 use Rattle.sd_checker.specs.Text.{domain_words}
 use Rattle.sd_drill.specs.Printed.{bound_line}
@@ -9,5 +9,6 @@ use Rattle.sd_drilling.proofs.writing.print_domain.Given as goal
 
 abbrev pub invariant-loop-d : goal.invariant-loop-d
 invariant-loop-d l =
-    (kind : List ℕ) × (name : List ℕ) × (domain_words (network l.topo) l.fn.domain ≡ kind ∷ name ∷ []) × (printed l.page.front ≡ front_of kind name)
+    (kind : List ℕ) × (name : List ℕ) × (domain_words (network l.topo) l.fn.domain ≡ kind ∷ name ∷ [])
+    × (printed l.page.bound_front ≡ front_of (codes "bound") kind name) × (printed l.page.nobound_front ≡ front_of (codes "nobound") kind name)
     × (l.page.text.items ≡ flat_map (bound_line (network l.topo) l.fn.domain l.bounds) (take l.d-index l.members))

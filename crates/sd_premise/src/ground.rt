@@ -1,0 +1,51 @@
+//! What the events of a world are judged on.
+ghost use Rattle.std.specs.Prelude.{◌≡◌, ◌≤◌, ◌<◌, ◌^◌, [], length, IfOk};
+ghost use Rattle.sd_topo.specs.Topologies.{network};
+ghost use Rattle.sd_history.specs.World.{Setting};
+ghost use Rattle.sd_roster.specs.Plans.{AreSound};
+ghost use Rattle.sd_world.specs.Standing.{Stands};
+ghost use Rattle.sd_premise_clocks.specs.Memberships.{AreMembers};
+ghost use Rattle.sd_premise_renewal.specs.Links.{ArePresent};
+
+use sd_num::NoMemory;
+use sd_plan::Plan;
+use sd_premise_clocks::Members;
+use sd_premise_renewal::PresentLinks;
+use sd_topo::Topology;
+use sd_world::World;
+use std::alloc::Global;
+
+/// What the monitors ask: the topology, what the plans say of it, and the world in registers.
+#[derive(Drop)]
+pub(crate) struct Ground {
+    pub(crate) topology: Topology,
+    pub(crate) members: Members,
+    pub(crate) links: PresentLinks,
+    pub(crate) world: World,
+}
+
+impl Ground {
+    /// Before any event, with a copy of the topology.
+    pub(crate) fn new(alloc: Global, topo: &Topology, plans: &[Plan]) -> Result<Ground, NoMemory>
+        requires sound { AreSound (network topo.now) plans.now }
+        ensures network { IfOk result (λ ground. network ground.topology ≡ network topo.now) }
+        ensures members { IfOk result (λ ground. (setting : Setting)
+            → setting.net ≡ network topo.now → setting.plans ≡ plans.now → AreMembers setting ground.members) }
+        ensures links { IfOk result (λ ground. (setting : Setting)
+            → setting.net ≡ network topo.now → setting.plans ≡ plans.now → ArePresent setting ground.links) }
+        ensures world { IfOk result (λ ground. (setting : Setting)
+            → setting.net ≡ network topo.now → Stands ground.world setting []) }
+    {
+        let members = Members::new(alloc, topo, plans)?;
+        let links = PresentLinks::new(alloc, topo, plans)?;
+        let world = World::new(alloc, topo.devices(), topo.links())?;
+        // Last, since each exit after it would drop it: it is the largest.
+        let topology = topo.copy(alloc)?;
+        Ok(Ground {
+            topology,
+            members,
+            links,
+            world,
+        })
+    }
+}
