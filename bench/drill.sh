@@ -11,7 +11,7 @@
 #   check    the plan is accepted
 #   drill    the same, and every line is written
 #   lines    a program in plain Rust (bench/lines.rs) writes the same lines from a table
-# The aim: drilling takes at most 1.5 times what that program takes.
+# The aim: drilling takes at most 1.5 times what that program takes. TMPDIR=/dev/shm leaves the disk out of it.
 set -eu
 program=$(realpath "$1")
 devices=${2:-1024}

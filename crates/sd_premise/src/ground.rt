@@ -1,5 +1,5 @@
 //! What the events of a world are judged on.
-ghost use Rattle.std.specs.Prelude.{◌≡◌, ◌≤◌, ◌<◌, ◌^◌, [], length, IfOk};
+ghost use Rattle.std.specs.Prelude.{◌≡◌, [], IfOk};
 ghost use Rattle.sd_topo.specs.Topologies.{network};
 ghost use Rattle.sd_history.specs.World.{Setting};
 ghost use Rattle.sd_roster.specs.Plans.{AreSound};
