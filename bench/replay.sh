@@ -9,7 +9,9 @@
 #   check    the first plan is accepted
 #   tenth    a tenth of the rounds
 #   replay   all of them
-# The aim: at most 0.3 microseconds an event, and the same peak memory for the last two.
+# The aim: the same peak memory for the last two, and an event that costs at most five times what it costs a tuned
+# program in plain Rust without proofs (bench/plain), which runs last where there is a rustc: it replays the same
+# schedule and has to write the same bytes.
 set -eu
 program=$(realpath "$1")
 rounds=${2:-17000}
@@ -43,3 +45,14 @@ for length in $((rounds / 10)) "$rounds"; do
     awk -v least="$least" -v checking="$checking" -v events="$events" -v peak="$(peak "${words[@]}")" \
         'BEGIN { printf "%d events, %.0f ns for each, %d kB at most\n", events, (least - checking) * 1000 / events, peak }'
 done
+if command -v rustc >/dev/null; then
+    rustc -O --edition 2021 -o "$folder/plain" "$here/plain/main.rs"
+    plain=
+    for _ in 1 2 3; do
+        took=$("$folder/plain" "${words[@]:1}" 2>&1 >"$folder/copy")
+        if [ -z "$plain" ] || [ "$took" -lt "$plain" ]; then plain=$took; fi
+    done
+    cmp "$folder/answer" "$folder/copy"
+    awk -v least="$least" -v checking="$checking" -v plain="$plain" -v events="$events" \
+        'BEGIN { printf "plain    %8.3f s, %.0f ns for each; ratio %.2f\n", plain / 1e9, plain / events, (least - checking) * 1000 / plain }'
+fi

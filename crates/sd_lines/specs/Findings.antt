@@ -1,9 +1,10 @@
 -- The lines of what is found of one event.
-use Rattle.std.specs.Prelude.{◌≡◌, ◌⊎◌, ℕ, ◌<◌, Bool, false, not, List, [], ◌∷◌, ◌++◌, length, flat_map, Option, IfSome}
+use Rattle.std.specs.Prelude.{◌≡◌, ◌⊎◌, ℕ, ◌<◌, Bool, false, not, ◌||◌, ◌&&◌, is_some, List, [], ◌∷◌, ◌++◌, length, flat_map, Option, IfSome}
 use Rattle.sd_num.specs.Lists.{of_some}
 use Rattle.sd_num.specs.Texts.{text_of}
 use Rattle.sd_topo.specs.Network.{Network}
 use Rattle.sd_clock.specs.Estimates.{contains}
+use Rattle.sd_history.specs.declared.BrokenSet.{BrokenSet}
 use Rattle.sd_history.specs.Lines.{Line, LoopAlarm, RootsAlarm, broken_lines, report_lines}
 use Rattle.sd_history.specs.World.{Setting}
 use Rattle.sd_history.specs.Steps.{Step}
@@ -16,6 +17,14 @@ pub record IsOf (net : Network) (found : Findings) : Type 0 where
   pub first : IfSome found.roots (λ two. two.0 < length net.devices)
   pub second : IfSome found.roots (λ two. two.1 < length net.devices)
   pub asked : IfSome found.report (λ told. told.0 < length net.devices)
+
+-- some premise breaks
+abbrev pub breaks_some : BrokenSet → Bool
+breaks_some b = b.start || (b.drift || (b.delay || (b.tick || (b.loss || (b.domain || b.renew)))))
+
+-- nothing is to be printed
+abbrev pub are_none : Findings → Bool
+are_none found = not (breaks_some found.broken) && (not (is_some found.looped) && (not (is_some found.roots) && not (is_some found.report)))
 
 -- there is a report that misses the reference
 abbrev pub misses_in : Findings → Bool

@@ -36,7 +36,7 @@ impl EventLines {
     }
 
     /// Forgets what was printed.
-    pub(crate) fn clear(&mut self)
+    pub fn clear(&mut self)
         ensures { printed self.new ≡ [] }
     {
         self.bytes.clear();

@@ -1,6 +1,6 @@
 //! What is found of one event.
 ghost use Rattle.std.specs.Prelude.{◌≡◌};
-ghost use Rattle.sd_lines.specs.Findings.{misses_in};
+ghost use Rattle.sd_lines.specs.Findings.{breaks_some, are_none, misses_in};
 
 use sd_clock::Report;
 use sd_history::BrokenSet;
@@ -21,7 +21,30 @@ pub struct Findings {
     pub reference: u64,
 }
 
+/// Whether some premise breaks.
+fn breaks_some(broken: &BrokenSet) -> bool
+    ensures { result ≡ breaks_some broken.now }
+{
+    broken.start
+        || broken.drift
+        || broken.delay
+        || broken.tick
+        || broken.loss
+        || broken.domain
+        || broken.renew
+}
+
 impl Findings {
+    /// Whether nothing is to be printed of the event, as of nearly all.
+    pub fn are_none(&self) -> bool
+        ensures { result ≡ are_none self.now }
+    {
+        !breaks_some(&self.broken)
+            && self.looped.is_none()
+            && self.roots.is_none()
+            && self.report.is_none()
+    }
+
     /// Whether the event has a report whose interval does not have the reference time in it.
     pub fn misses(&self) -> bool
         ensures { result ≡ misses_in self.now }

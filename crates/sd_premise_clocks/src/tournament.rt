@@ -6,8 +6,8 @@ use sd_num::NoMemory;
 use std::alloc::Global;
 use std::marker::Model;
 
-/// Numbers by place. To write one takes as many steps as the tree is high; to ask for the least
-/// takes one.
+/// Numbers by place. To write one takes as many steps as the tree is high, and one where it stood
+/// there before; to ask for the least takes one.
 #[derive(Drop)]
 pub struct Tournament {
     /// How many numbers there are, at least 1.
@@ -63,6 +63,9 @@ impl Tournament {
         ensures { self.new ≡ slice_set self.old place number }
     {
         let node = self.places + place;
+        if self.nodes[node] == number {
+            return;
+        }
         self.nodes[node] = number;
         replay(&mut self.nodes, self.places, node);
     }

@@ -2,3 +2,4 @@
 pub mod Joining
 pub mod LongRuns
 pub mod Listing
+pub mod InOrder

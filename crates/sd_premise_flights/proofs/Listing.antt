@@ -1,5 +1,5 @@
 -- Waiting flights and the entries of their dues.
-use Rattle.std.proofs.Common.{◌≡◌, ℕ, ◌+◌, ◌<◌, ◌≤◌, Bool, true, false, cond, ◌||◌, ◌&&◌, List, [], ◌∷◌, Option, Some, None, nat_eq, ◌⊎◌, inl, inr, refl, sym, ◌∙◌, ap, subst, arith}
+use Rattle.std.proofs.Common.{◌≡◌, ℕ, ◌<◌, ◌≤◌, true, cond, ◌&&◌, List, [], ◌∷◌, Option, Some, None, nat_eq, ◌⊎◌, inl, inr, refl, sym, ◌∙◌, ap, subst, arith}
 use Rattle.std.specs.List.{list_any, All}
 use Rattle.std.specs.Option.{is_some, IfNone}
 use Rattle.std.specs.List.Sorted.{IsPermutation}
@@ -8,7 +8,7 @@ use Rattle.std.proofs.lemmas.Option.{same_Some, none-some}
 use Rattle.std.proofs.lemmas.List.Elements.{All-head, All-tail}
 use Rattle.std.proofs.lemmas.Bool.{cases_eq, eq-eqb, ne_eqb, eqb-true, or_left, or_right, or_cases, and_parts, and_from}
 use Rattle.sd_msg.specs.declared.Flight.{Flight}
-use Rattle.sd_premise_flights.specs.WaitingKept.{Entry, entry, is_entry_of, AreListed}
+use Rattle.sd_premise_flights.specs.UnorderedKept.{Entry, entry, is_entry_of, AreListed}
 
 own_entry : (f : Flight) → is_entry_of f (entry f.due f.number) ≡ true
 own_entry f = and_from (nat_eq f.due f.due) (nat_eq f.number f.number) (eq-eqb f.due f.due refl) (eq-eqb f.number f.number refl)

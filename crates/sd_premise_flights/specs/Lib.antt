@@ -2,6 +2,10 @@
 pub mod Runs
 pub mod RunsKept
 pub mod RunsView
+pub mod OrderlyKept
+pub mod OrderlyView
+pub mod UnorderedKept
+pub mod UnorderedView
 pub mod WaitingKept
 pub mod WaitingView
 pub mod Interrupted

@@ -4,7 +4,9 @@
 #![tactic(auto)]
 
 mod interruptions;
+mod orderly;
 mod runs;
+mod unordered;
 mod waiting;
 
 pub use interruptions::Interruptions;

@@ -1,26 +1,23 @@
 //! The flights that wait for their receipt, of which the next overdue one is found at once.
-ghost use Rattle.std.specs.Prelude.{◌≡◌, ◌≤◌, ◌<◌, ◌+◌, ◌-◌, ℕ, ◌∷◌, ◌&&◌, All, None, Some, is_some, OnOk, IfNone, IfSome, nat_eq, false, true, if◌then◌else◌};
-ghost use Rattle.std.specs.HashMap.{spare, hash_map_len};
-ghost use Rattle.std.specs.BinaryHeap.{heap_items, heap_len, heap_capacity, IsHeap, IsHeap-prop};
-ghost use Rattle.std.specs.List.Sorted.{IsPermutation};
+ghost use Rattle.std.specs.Prelude.{◌≡◌, ◌≤◌, ◌<◌, ◌+◌, ℕ, None, Some, is_some, OnOk, IfNone, IfSome, nat_eq, false, if◌then◌else◌};
 ghost use Rattle.sd_num.specs.Lists.{of_some, same_number};
-ghost use Rattle.sd_premise_flights.specs.WaitingKept.{flight_in, entry, by_due, AreListed, AreListed-prop};
+ghost use Rattle.sd_premise_flights.specs.OrderlyView.{orderly_at};
+ghost use Rattle.sd_premise_flights.specs.UnorderedView.{unordered_at};
+ghost use Rattle.sd_premise_flights.specs.WaitingKept.{AreApart, AreApart-prop};
 
+use crate::orderly::Orderly;
+use crate::unordered::Unordered;
 use sd_msg::Flight;
 use sd_num::NoMemory;
 use std::alloc::Global;
-use std::cmp::Reverse;
-use std::collections::{BinaryHeap, HashMap};
 
-/// Flights by number, with their dues in a heap. A flight leaves by its number alone, and its due
-/// stays in the heap until it is the least: so each flight costs one push and one pop.
+/// Flights by number. Most are sent with ascending numbers and dues, and wait in that order; the
+/// others wait apart from them.
 #[derive(Drop)]
 pub struct Waiting {
-    flights: HashMap<u64, Flight>,
-    /// The due and the number of each flight, and of some that have left.
-    dues: BinaryHeap<Reverse<(u64, u64)>>,
-    ghost listed: { AreListed (flight_in flights) (heap_items dues) } by { AreListed-prop (flight_in flights) (heap_items dues) },
-    ghost heap: { IsHeap by_due (heap_items dues) } by { IsHeap-prop by_due (heap_items dues) },
+    orderly: Orderly,
+    others: Unordered,
+    ghost apart: { AreApart (orderly_at orderly) (unordered_at others) } by { AreApart-prop (orderly_at orderly) (unordered_at others) },
 }
 
 impl Waiting {
@@ -32,8 +29,8 @@ impl Waiting {
         ensures count { count_of result ≡ 0 }
     {
         Waiting {
-            flights: HashMap::new(alloc),
-            dues: BinaryHeap::new(alloc),
+            orderly: Orderly::new(alloc),
+            others: Unordered::new(alloc),
         }
     }
 
@@ -44,20 +41,15 @@ impl Waiting {
         ensures flights { (n : ℕ) → waiting_at self.new n ≡ waiting_at self.old n }
         ensures count { count_of self.new ≡ count_of self.old }
     {
-        if self.flights.reserve(count).is_err() {
-            return Err(NoMemory);
-        }
-        match self.dues.reserve(count) {
-            Ok(()) => Ok(()),
-            Err(_) => Err(NoMemory),
-        }
+        self.orderly.ready(count)?;
+        self.others.ready(count)
     }
 
-    /// How many flights wait.
+    /// How many flights are kept: no fewer than wait.
     pub fn len(&self) -> usize
         ensures { result ≡ count_of self.now }
     {
-        self.flights.len()
+        self.orderly.len() + self.others.len()
     }
 
     /// Adds a flight, in place of any of its number.
@@ -67,8 +59,13 @@ impl Waiting {
         ensures count { count_of self.new ≤ count_of self.old + 1 }
         ensures room { room_for self.old ≤ room_for self.new + 1 }
     {
-        keep(&mut self.flights, flight);
-        list(&mut self.dues, flight.due, flight.number);
+        if self.orderly.is_followed_by(&flight) {
+            self.others.receive(flight.number);
+            self.orderly.add(flight);
+        } else {
+            let _replaced = self.orderly.receive(flight.number);
+            self.others.add(flight);
+        }
     }
 
     /// Takes out the flight that was received, if there is one and it waits.
@@ -78,7 +75,9 @@ impl Waiting {
         ensures room { room_for self.old ≤ room_for self.new }
     {
         if let Some(number) = taken {
-            let _received = self.flights.remove(&number);
+            if !self.orderly.receive(number) {
+                self.others.receive(number);
+            }
         }
     }
 
@@ -87,77 +86,12 @@ impl Waiting {
         ensures flight { IfSome result (λ f. (waiting_at self.old f.number ≡ Some f) × (f.due < reference)) }
         ensures flights { (n : ℕ) → waiting_at self.new n ≡ (if of_some result false (λ f. nat_eq f.number n) then None else waiting_at self.old n) }
         ensures none { IfNone result ((n : ℕ) (f : Flight) → waiting_at self.new n ≡ Some f → reference ≤ f.due) }
-        ensures count { count_of self.new + (if is_some result then 1 else 0) ≡ count_of self.old }
+        ensures count { count_of self.new + (if is_some result then 1 else 0) ≤ count_of self.old }
         ensures room { room_for self.old ≤ room_for self.new }
     {
-        'entries: while let Some(number) = pop_before(&mut self.dues, reference) {
-            if let Some(flight) = take_overdue(&mut self.flights, number, reference) {
-                return Some(flight);
-            }
+        if let Some(flight) = self.orderly.next_overdue(reference) {
+            return Some(flight);
         }
-        None
+        self.others.next_overdue(reference)
     }
-}
-
-/// Keeps a flight under its number.
-fn keep(flights: &mut HashMap<u64, Flight>, flight: Flight)
-    requires { 1 ≤ spare flights.old }
-    ensures flights { (n : ℕ) → flight_in flights.new n ≡ (if nat_eq flight.number n then Some flight else flight_in flights.old n) }
-    ensures count { hash_map_len flights.new ≤ hash_map_len flights.old + 1 }
-    ensures room { spare flights.old ≤ spare flights.new + 1 }
-{
-    match flights.insert(flight.number, flight) {
-        Ok(_) => {}
-        Err(_) => unreachable!(),
-    }
-}
-
-/// Adds an entry to the heap.
-fn list(dues: &mut BinaryHeap<Reverse<(u64, u64)>>, due: u64, number: u64)
-    requires room { heap_len dues.old < heap_capacity dues.old }
-    requires heap { IsHeap by_due (heap_items dues.old) }
-    ensures heap { IsHeap by_due (heap_items dues.new) }
-    ensures entries { IsPermutation (entry due number ∷ heap_items dues.old) (heap_items dues.new) }
-    ensures count { heap_len dues.new ≡ heap_len dues.old + 1 }
-    ensures capacity { heap_capacity dues.old ≤ heap_capacity dues.new }
-{
-    match dues.push(Reverse((due, number))) {
-        Ok(()) => {}
-        Err(_) => unreachable!(),
-    }
-}
-
-/// Takes out the entry of the least due, if that lies before the reference, and gives its number.
-fn pop_before(dues: &mut BinaryHeap<Reverse<(u64, u64)>>, reference: u64) -> Option<u64>
-    requires { IsHeap by_due (heap_items dues.old) }
-    ensures heap { IsHeap by_due (heap_items dues.new) }
-    ensures popped { IfSome result (λ number. (due : ℕ) × (due < reference) × IsPermutation (heap_items dues.old) (entry due number ∷ heap_items dues.new)) }
-    ensures none { IfNone result (All (λ e. reference ≤ e.0.0) (heap_items dues.old)) }
-    ensures kept { IfNone result (heap_items dues.new ≡ heap_items dues.old) }
-    ensures count { heap_len dues.new + (if is_some result then 1 else 0) ≡ heap_len dues.old }
-    ensures capacity { heap_capacity dues.new ≡ heap_capacity dues.old }
-{
-    match dues.peek() {
-        Some(Reverse((due, _))) if *due < reference => {}
-        _ => return None,
-    }
-    match dues.pop() {
-        Some(Reverse((_, number))) => Some(number),
-        None => unreachable!(),
-    }
-}
-
-/// Takes out the flight of a number, if its due lies before the reference.
-fn take_overdue(flights: &mut HashMap<u64, Flight>, number: u64, reference: u64) -> Option<Flight>
-    ensures flight { IfSome result (λ f. (flight_in flights.old number ≡ Some f) × (f.due < reference)) }
-    ensures flights { (n : ℕ) → flight_in flights.new n ≡ (if is_some result && nat_eq number n then None else flight_in flights.old n) }
-    ensures none { IfNone result ((f : Flight) → flight_in flights.old number ≡ Some f → reference ≤ f.due) }
-    ensures count { hash_map_len flights.new + (if is_some result then 1 else 0) ≡ hash_map_len flights.old }
-    ensures room { spare flights.old ≤ spare flights.new }
-{
-    match flights.get(&number) {
-        Some(flight) if flight.due < reference => {}
-        _ => return None,
-    }
-    flights.remove(&number)
 }

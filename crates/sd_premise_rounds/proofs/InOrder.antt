@@ -1,16 +1,16 @@
 -- What holds of events that come in order.
-use Rattle.std.proofs.Common.{◌≡◌, ℕ, zero, suc, ◌+◌, ◌<◌, ◌≤◌, max, Bool, true, false, ◌||◌, ◌&&◌, not, List, [], ◌∷◌, ◌++◌, length, map, Option, Some, None, nat_eq, nat_le, nat_lt, ◌⊎◌, inl, inr, refl, sym, ◌∙◌, ap, arith}
+use Rattle.std.proofs.Common.{◌≡◌, ℕ, zero, suc, ◌+◌, ◌<◌, ◌≤◌, max, Bool, true, false, ◌||◌, not, List, [], ◌∷◌, ◌++◌, map, Option, Some, None, nat_eq, nat_le, nat_lt, ◌⊎◌, inl, inr, refl, ap, arith}
 use Rattle.std.specs.List.{Contains, list_any}
 use Rattle.std.proofs.lemmas.Bool.{or_parts, or_cases, or_from, not-true, and_parts, ltb-false, le-ltb, leb-true, eqb-true, eq-eqb, ne_eqb}
 use Rattle.std.proofs.lemmas.List.Folds.{list_any_at}
-use Rattle.sd_num.specs.Lists.{of_some, greatest, ascends}
+use Rattle.sd_num.specs.Lists.{of_some, ascends}
 use Rattle.sd_msg.specs.declared.Flight.{Flight}
 use Rattle.sd_sched.specs.declared.Event.{Event}
 use Rattle.sd_sched.specs.Events.{reference_of}
 use Rattle.sd_history.specs.World.{Setting, Seen, latest_reference}
 use Rattle.sd_history.specs.Refusals.{may_be_seen, unknown_device, unknown_link, time_falls}
 use Rattle.sd_history.specs.Premises.{flights, is_overdue, was_received}
-use Rattle.sd_premise_rounds.specs.Order.{last_sent, Follows, IsInOrder}
+use Rattle.sd_premise_rounds.specs.Order.{last_sent, IsInOrder}
 use Rattle.sd_premise_rounds.proofs.Sending.{greatest_of}
 
 -- An event that may be seen

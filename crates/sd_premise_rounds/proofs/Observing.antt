@@ -1,5 +1,5 @@
 -- What is kept stands for one event more.
-use Rattle.std.proofs.Common.{◌≡◌, ℕ, ◌<◌, ◌≤◌, Bool, true, false, cond, ◌||◌, ◌&&◌, not, List, ◌∷◌, length, Option, Some, None, nat_eq, nat_le, nat_lt, ◌⊎◌, inl, inr, refl, sym, ◌∙◌, ap, subst, arith}
+use Rattle.std.proofs.Common.{◌≡◌, ℕ, ◌<◌, Bool, true, false, cond, ◌&&◌, List, ◌∷◌, length, Option, nat_eq, ◌⊎◌, inl, inr, refl, sym, ◌∙◌, ap, subst, arith}
 use Rattle.std.proofs.lemmas.Bool.{both_ways, true_from_ne_false, leb-false, lt-ltb, and_parts, eqb-true}
 use Rattle.sd_num.specs.Lists.{of_some}
 use Rattle.sd_topo.specs.declared.Thing.{Thing}

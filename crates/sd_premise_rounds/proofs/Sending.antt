@@ -1,5 +1,5 @@
 -- The flights that are sent are added one after the other.
-use Rattle.std.proofs.Common.{◌≡◌, ℕ, suc, ◌+◌, ◌<◌, ◌≤◌, max, true, cond, List, [], ◌∷◌, length, map, get_or, drop, Option, Some, nat_eq, refl, sym, ◌∙◌, ap, arith, add-one, drop-cons}
+use Rattle.std.proofs.Common.{◌≡◌, ℕ, suc, ◌+◌, ◌<◌, max, cond, List, [], ◌∷◌, length, map, get_or, drop, Option, Some, nat_eq, sym, ◌∙◌, ap, arith, add-one, drop-cons}
 use Rattle.sd_num.specs.Lists.{greatest}
 use Rattle.sd_msg.specs.declared.Flight.{Flight}
 use Rattle.sd_premise_rounds.specs.Loss.{with_sent}

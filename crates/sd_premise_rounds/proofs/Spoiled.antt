@@ -1,16 +1,13 @@
 -- Which rounds are spoiled after one more event.
-use Rattle.std.proofs.Common.{◌≡◌, ℕ, zero, suc, ◌<◌, ◌≤◌, Bool, true, false, cond, ◌||◌, ◌&&◌, not, List, [], ◌∷◌, length, map, filter, Option, Some, None, option_map, nat_eq, nat_lt, ◌⊎◌, inl, inr, refl, sym, ◌∙◌, ap, subst, arith}
+use Rattle.std.proofs.Common.{◌≡◌, ℕ, zero, suc, Bool, true, false, cond, ◌||◌, ◌&&◌, not, List, [], ◌∷◌, map, filter, Option, None, nat_lt, ◌⊎◌, inl, inr, refl, sym, ◌∙◌, ap, subst, arith}
 use Rattle.std.specs.List.{Contains, list_any}
 use Rattle.std.proofs.lemmas.Bool.{or_left, or_right, or_parts, or_cases, or_from, and_parts, and_from, not-true, not_from_false, ltb-true, lt-ltb, both_ways}
 use Rattle.std.proofs.lemmas.List.Elements.{Contains-append_cases, Contains-append_right}
-use Rattle.sd_num.specs.Lists.{same_number}
-use Rattle.sd_topo.specs.declared.Thing.{Thing}
 use Rattle.sd_msg.specs.declared.Flight.{Flight}
 use Rattle.sd_sched.specs.Events.{reference_of}
 use Rattle.sd_history.specs.World.{Setting, Seen}
-use Rattle.sd_history.specs.Premises.{flights, is_overdue, was_received, was_interrupted, spoils, spoiled_rounds, is_round}
+use Rattle.sd_history.specs.Premises.{flights, is_overdue, was_received, was_interrupted, spoils, is_round}
 use Rattle.sd_premise_rounds.specs.Order.{Follows, IsInOrder}
-use Rattle.sd_premise_flights.specs.Interrupted.{is_interrupted}
 use Rattle.sd_premise_rounds.specs.Loss.{Waits, AreWaiting, mark_in, is_spoiled, is_round_of, IsLost, HasOnlyLost}
 use Rattle.sd_premise_rounds.proofs.Marks.{was_interrupted_by}
 use Rattle.sd_premise_rounds.proofs.Waits.{LeavesTaken, received_now, left_parts, sent_waits}

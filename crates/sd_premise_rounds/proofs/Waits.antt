@@ -1,7 +1,7 @@
 -- Which flights wait after one more event.
-use Rattle.std.proofs.Common.{◌≡◌, ℕ, zero, suc, ◌+◌, ◌<◌, ◌≤◌, Bool, true, false, cond, ◌||◌, ◌&&◌, List, [], ◌∷◌, ◌++◌, length, map, get_or, Option, Some, None, option_map, nat_eq, nat_le, nat_lt, ◌⊎◌, inl, inr, refl, sym, ◌∙◌, ap, subst, arith}
-use Rattle.std.specs.List.{Contains, All}
-use Rattle.std.proofs.lemmas.Bool.{or_from, or_parts, or_cases, and_parts, cases_eq, cases_lt, eq-eqb, ne_eqb, le-ltb, le-leb, lt-leb, ltb-false, leb-true, false_from_ne_true, both_ways}
+use Rattle.std.proofs.Common.{◌≡◌, ℕ, zero, suc, ◌+◌, ◌<◌, ◌≤◌, Bool, true, false, cond, List, [], ◌∷◌, map, Option, Some, None, option_map, nat_eq, nat_lt, ◌⊎◌, inl, inr, refl, sym, ◌∙◌, ap, subst, arith}
+use Rattle.std.specs.List.{Contains}
+use Rattle.std.proofs.lemmas.Bool.{or_from, or_parts, or_cases, and_parts, cases_eq, cases_lt, eq-eqb, ne_eqb, le-ltb, le-leb, lt-leb, ltb-false, leb-true, false_from_ne_true}
 use Rattle.std.proofs.lemmas.Option.{same_Some, none-some}
 use Rattle.std.proofs.lemmas.List.Elements.{Contains-append_cases, Contains-append_left, Contains-append_right, All-contains}
 use Rattle.sd_num.specs.Lists.{of_some, same_number, ascends}
@@ -12,6 +12,10 @@ use Rattle.sd_history.specs.Premises.{flights, is_overdue, was_received}
 use Rattle.sd_premise_rounds.specs.Order.{last_sent, Follows, IsInOrder}
 use Rattle.sd_premise_rounds.specs.Loss.{number_taken, Waits, AreWaiting, with_sent, if_in_time}
 use Rattle.sd_premise_rounds.proofs.InOrder.{time_rises, le_greatest, sent_above, not_overdue, taken_low, received_low}
+
+-- the same flights wait
+pub waiting_same : (seen : List Seen) (old new : ℕ → Option Flight) → ((n : ℕ) → new n ≡ old n) → AreWaiting seen old → AreWaiting seen new
+waiting_same seen old new same h = record { found = λ n f at. h.found n f (sym (same n) ∙ at); all = λ f waits. same f.number ∙ h.all f waits }
 
 -- Flights that are sent
 

@@ -56,6 +56,7 @@ impl Rounds {
     }
 
     /// Makes room for an event that sends so many flights that reach.
+    #[tactic(auto, using(crate::proofs::Waits::waiting_same))]
     pub fn ready(&mut self, alloc: Global, sent: usize) -> Result<(), NoMemory>
         ensures room { OnOk result (sent ≤ room_of self.new) }
         ensures grows { room_of self.old ≤ room_of self.new }

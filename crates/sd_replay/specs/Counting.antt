@@ -20,6 +20,11 @@ pub record HasRoom (tally : Tally) : Type 0 where
 abbrev pub one : Bool → ℕ
 one so = if so then 1 else 0
 
+-- with an event of which nothing is to be printed
+abbrev pub with_nothing : Tally → Tally
+with_nothing tally = record tally { events = tally.events + 1 }
+
+-- with an event of which this was found
 abbrev pub tally_with : Tally → Findings → Tally
 tally_with tally found =
     record {

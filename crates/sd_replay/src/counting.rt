@@ -4,7 +4,7 @@ ghost use Rattle.sd_history.specs.Lines.{broken_lines};
 ghost use Rattle.sd_lines.specs.Findings.{found_lines};
 ghost use Rattle.sd_replay.specs.Tallies.{is_broken, is_alarm};
 ghost use Rattle.sd_num.specs.Lists.{of_some};
-ghost use Rattle.sd_replay.specs.Counting.{HasRoom, no_tally, one, tally_with};
+ghost use Rattle.sd_replay.specs.Counting.{HasRoom, no_tally, one, tally_with, with_nothing};
 
 use crate::Tally;
 use sd_history::BrokenSet;
@@ -61,6 +61,17 @@ impl Tally {
             broken: 0,
             alarms: 0,
             greatest_eps: 0,
+        }
+    }
+
+    /// The tally with one event more, of which nothing is to be printed.
+    pub(crate) fn with_nothing(self) -> Tally
+        requires { HasRoom self }
+        ensures { result ≡ with_nothing self }
+    {
+        Tally {
+            events: self.events + 1,
+            ..self
         }
     }
 

@@ -46,8 +46,13 @@ impl Journal {
         ensures lines { printed self.new.lines ≡ found_bytes (network self.old.topology) (self.old.tally.events + 1) findings.now }
         ensures ended { self.new.ended ≡ ended }
     {
-        self.tally = self.tally.with(findings);
-        print_findings(&mut self.lines, &self.topology, self.tally.events, findings);
+        if findings.are_none() {
+            self.tally = self.tally.with_nothing();
+            self.lines.clear();
+        } else {
+            self.tally = self.tally.with(findings);
+            print_findings(&mut self.lines, &self.topology, self.tally.events, findings);
+        }
         self.ended = ended;
     }
 }

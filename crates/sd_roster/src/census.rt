@@ -105,8 +105,9 @@ impl Sight<'_> {
         requires range { d < length self.now.answers.now }
         ensures { result ≡ is_present (seen_by self.now) d }
     {
-        self.world.is_up(d)
-            && self.world.window().is_open()
+        // The window first: while none is open, which is nearly always, nothing else is looked at.
+        self.world.window().is_open()
+            && self.world.is_up(d)
             && is_member(self.plans, self.staged(), d)
     }
 

@@ -5,6 +5,7 @@ use sd_num::NoMemory;
 use sd_premise_flights::{Interruptions, Runs, Waiting};
 use sd_topo::Thing;
 use std::alloc::Global;
+use std::process::Abort;
 use std::test::Fail;
 
 /// A flight over link 1 from device 2 to device 3.
@@ -31,29 +32,62 @@ fn stamp(term: u32, round: u64) -> Stamp {
     Stamp { term, round }
 }
 
+/// Flights that wait, added one by one: their numbers and dues.
+fn waiting_of(alloc: Global, flights: &[(u64, u64)]) -> Result<Waiting, NoMemory> {
+    let mut waiting = Waiting::new(alloc);
+    for (number, due) in flights {
+        waiting.ready(1)?;
+        waiting.add(flight(*number, *due));
+    }
+    Ok(waiting)
+}
+
+/// At each reference the number of the flight that is overdue next; at the end none is left.
+fn assert_overdue(rt: &impl Abort, waiting: &mut Waiting, rows: &[(u64, Option<u64>)]) {
+    for (reference, next) in rows {
+        let number = waiting.next_overdue(*reference).map(|flight| flight.number);
+        assert_eq!(rt; number, *next, "at {reference}");
+    }
+    assert_eq!(rt; waiting.len(), 0);
+}
+
 #[test]
 fn flights_come_out_by_their_dues(rt: HostRuntime) -> Result<(), Fail> {
-    let mut waiting = Waiting::new(rt.alloc());
-    for (number, due) in [(1, 30), (2, 10), (3, 20), (5, 15)] {
-        waiting.ready(1)?;
-        waiting.add(flight(number, due));
-    }
+    let mut waiting = waiting_of(rt.alloc(), &[(1, 30), (2, 10), (3, 20), (5, 15)])?;
     waiting.receive(Some(5));
     waiting.receive(Some(4));
     waiting.receive(None);
     assert_eq!(rt; waiting.len(), 3);
-    for (reference, next) in [
+    let rows = [
         (10, None),
         (21, Some(2)),
         (21, Some(3)),
         (21, None),
         (31, Some(1)),
         (31, None),
-    ] {
-        let number = waiting.next_overdue(reference).map(|flight| flight.number);
-        assert_eq!(rt; number, next, "at {reference}");
-    }
-    assert_eq!(rt; waiting.len(), 0);
+    ];
+    assert_overdue(&rt, &mut waiting, &rows);
+    Ok(())
+}
+
+/// Flight 4 is added once more with a later due, in place of the first; 2 is received between the
+/// others.
+#[test]
+fn flights_with_rising_dues_come_out_in_their_order(rt: HostRuntime) -> Result<(), Fail> {
+    let flights = [(1, 10), (2, 20), (4, 20), (5, 30), (4, 25)];
+    let mut waiting = waiting_of(rt.alloc(), &flights)?;
+    waiting.receive(Some(2));
+    waiting.receive(Some(3));
+    let rows = [
+        (10, None),
+        (21, Some(1)),
+        (21, None),
+        (26, Some(4)),
+        (26, None),
+        (31, Some(5)),
+        (31, None),
+    ];
+    assert_overdue(&rt, &mut waiting, &rows);
     Ok(())
 }
 

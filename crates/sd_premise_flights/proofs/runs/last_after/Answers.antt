@@ -1,4 +1,4 @@
-use Rattle.std.proofs.Common.{ℕ, ap, sym, ◌∙◌, refl, subst, unwrap_or, arith}
+use Rattle.std.proofs.Common.{ℕ, ap, sym, ◌∙◌, subst, unwrap_or, arith}
 use Rattle.sd_premise_flights.specs.Runs.{ReachesOn}
 use Rattle.sd_premise_flights.specs.RunsKept.{beside}
 use Rattle.sd_premise_flights.proofs.Joining.{looked_on, none_after}

@@ -1,6 +1,5 @@
-use Rattle.std.proofs.Common.{ℕ}
 use Rattle.sd_premise_flights.specs.RunsKept.{beside}
-use Rattle.sd_premise_flights.proofs.Joining.{Joins, added, added_runs, added_rounds, joined_run}
+use Rattle.sd_premise_flights.proofs.Joining.{added_runs}
 use Rattle.sd_premise_flights.proofs.runs.Runs.add.Goals as goal
 
 pub invariant_of-self : goal.invariant_of-self

@@ -1,4 +1,4 @@
-use Rattle.std.proofs.Common.{ℕ, ◌≡◌, ◌≤◌, Bool, false, sym, ap, ◌∙◌, subst, arith}
+use Rattle.std.proofs.Common.{ℕ, ◌≡◌, Bool, false, sym, ap, ◌∙◌, subst, arith}
 use Rattle.sd_msg.specs.declared.Flight.{Flight}
 use Rattle.sd_premise_flights.specs.declared.interruptions.Interruptions.{Interruptions}
 use Rattle.sd_premise_flights.specs.Runs.{HasLongRun}
@@ -6,7 +6,7 @@ use Rattle.sd_premise_flights.specs.Interrupted.{is_interrupted}
 use Rattle.sd_premise_flights.specs.RunsView.{has_round}
 use Rattle.sd_premise_flights.specs.WaitingView.{waiting_at}
 use Rattle.sd_premise_flights.specs.InterruptionsView.{mark_of}
-use Rattle.sd_premise_rounds.proofs.Judging.{judges_lost}
+use Rattle.sd_premise_rounds.proofs.Judging.{judges_interrupted, judges_lost}
 use Rattle.sd_premise_rounds.proofs.rounds.Rounds.judge.Goals as goal
 
 -- the interruptions stay as they were when the judging began
@@ -40,4 +40,19 @@ overdue-preserved c =
       room = omega (arith, c.overdue.invariant.room, found.count, found.room, c.spoil.ensures.room, now.room);
       interruptions = c.overdue.invariant.interruptions;
       limit = limit;
+    }
+
+pub overdue-preserved-then-interrupted : goal.overdue-preserved-then-interrupted
+overdue-preserved-then-interrupted c =
+    let was = c.args.self.now in
+    let now = c.overdue.self in
+    let found = c.in-Some.ensures in
+    let cut = ap (λ (k : Interruptions). is_interrupted (mark_of k) c.in-Some.flight) (sym c.overdue.invariant.interruptions) ∙ sym c.interrupted.ensures ∙ c.if-interrupted.true in
+    record {
+      judges = judges_interrupted (waiting_at was.waiting) (waiting_at now.waiting) (waiting_at c.next_overdue.new.self) (mark_of was.interruptions) c.args.reference (has_round was.runs) (has_round now.runs) c.in-Some.flight
+          c.overdue.invariant.judges found.flight.0 found.flight.1 found.flights cut;
+      short = c.overdue.invariant.short;
+      room = omega (arith, c.overdue.invariant.room, found.count, found.room);
+      interruptions = c.overdue.invariant.interruptions;
+      limit = c.overdue.invariant.limit;
     }

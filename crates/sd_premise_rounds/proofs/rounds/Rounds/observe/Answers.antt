@@ -1,12 +1,10 @@
-use Rattle.std.proofs.Common.{◌≡◌, ℕ, ◌&&◌, max, cond, vec_len, true, false, List, ◌∷◌, Option, None, option_map, refl, sym, ◌∙◌, ap, subst, arith}
+use Rattle.std.proofs.Common.{◌≡◌, ℕ, ◌&&◌, max, cond, true, false, List, ◌∷◌, None, sym, ◌∙◌, ap, subst, arith}
 use Rattle.sd_num.specs.Lists.{of_some, same_number}
 use Rattle.sd_topo.specs.declared.Thing.{Thing}
 use Rattle.sd_domain.specs.Failures.{same_thing}
-use Rattle.sd_msg.specs.declared.Flight.{Flight}
 use Rattle.sd_sched.specs.Events.{reference_of}
 use Rattle.sd_history.specs.Things.{failure_of}
 use Rattle.sd_history.specs.World.{Setting, Seen}
-use Rattle.sd_history.specs.Premises.{loss_holds}
 use Rattle.sd_premise_rounds.specs.Order.{last_sent, Follows}
 use Rattle.sd_premise_rounds.specs.Loss.{mark_in, with_sent, if_in_time, HasOnlyLost, AddsLost}
 use Rattle.sd_premise_flights.specs.RunsView.{has_round}

@@ -1,5 +1,0 @@
-//! Worked runs of `order`, over a shelf and a sink in memory.
-#![tactic(auto)]
-
-#[cfg(test)]
-mod tests;
