@@ -10,9 +10,8 @@
 #   tenth    a tenth of the rounds
 #   replay   all of them
 # The aim: the same peak memory for the last two, and an event that costs at most five times what it costs a tuned
-# program in plain Rust, which is said to make sixteen million events a second: 0.31 microseconds. A program in plain
-# Rust without proofs (bench/plain) runs last where there is a rustc: it replays the same schedule and has to write the
-# same bytes.
+# program in plain Rust, which makes some sixteen million events a second: 0.31 microseconds. Such a program, without
+# proofs (bench/plain), runs last where there is a rustc: it replays the same schedule and has to write the same bytes.
 set -eu
 program=$(realpath "$1")
 rounds=${2:-17000}

@@ -6,16 +6,18 @@ use std::io::Write;
 impl Replay<'_> {
     /// Notes how a device stands now, and prints the alarms that it brings.
     pub fn stand(&mut self, d: u32, out: &mut impl Write) {
-        let device = &self.devices[d as usize];
-        let (parent, acts) = if self.states[d as usize].up {
-            (device.edge(self.plans, d as usize).map(|edge| edge.parent), device.mode == Mode::Acting)
+        let state = &mut self.states[d as usize];
+        let (parent, acts) = if state.up {
+            let plan = &self.plans[state.device.plan as usize];
+            (state.device.parent(plan, d), state.device.mode == Mode::Acting)
         } else {
             (None, false)
         };
-        if std::mem::replace(&mut self.states[d as usize].acts, acts) != acts {
+        let (had, acted) = (std::mem::replace(&mut state.parent, parent), std::mem::replace(&mut state.acts, acts));
+        if acted != acts {
             self.act(acts, out);
         }
-        if std::mem::replace(&mut self.states[d as usize].parent, parent) != parent {
+        if had != parent {
             self.follow(d, out);
         }
     }

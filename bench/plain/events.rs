@@ -51,6 +51,76 @@ fn take(bytes: &[u8]) -> Option<(u64, &[u8])> {
     None
 }
 
+/// How many bytes are looked at together: lines that are longer take longer.
+const WINDOW: usize = 64;
+
+/// The places of the bytes that are no digits among the first 48, a bit for each.
+#[cfg(target_arch = "x86_64")]
+fn gaps(window: &[u8; WINDOW]) -> u64 {
+    use std::arch::x86_64::*;
+    let sixteen = |place: usize| {
+        let half = |place: usize| i64::from_le_bytes(window[place..place + 8].try_into().unwrap());
+        // SAFETY: each x86_64 has SSE2. Of the signed bytes, the digits become the ten greatest.
+        let mask = unsafe {
+            let bytes = _mm_set_epi64x(half(place + 8), half(place));
+            let raised = _mm_add_epi8(bytes, _mm_set1_epi8(0x7f - b'9' as i8));
+            _mm_movemask_epi8(_mm_cmplt_epi8(raised, _mm_set1_epi8(0x7f - 9)))
+        };
+        u64::from(mask as u16)
+    };
+    sixteen(0) | sixteen(16) << 16 | sixteen(32) << 32
+}
+
+#[cfg(not(target_arch = "x86_64"))]
+fn gaps(window: &[u8; WINDOW]) -> u64 {
+    (0..48).fold(0, |gaps, place| gaps | u64::from(!window[place].is_ascii_digit()) << place)
+}
+
+/// The number that eight digits show, of which the first stands lowest.
+fn eight(digits: u64) -> u64 {
+    const PAIR: u64 = 0x0000_00ff_0000_00ff;
+    let pairs = digits * 10 + (digits >> 8);
+    let (outer, inner) = (pairs & PAIR, pairs >> 16 & PAIR);
+    (outer * (100 + (1_000_000 << 32))).wrapping_add(inner * (1 + (10_000 << 32))) >> 32
+}
+
+/// The number of the digits between two places of a window, where there are at most sixteen.
+#[inline(always)]
+fn number(window: &[u8; WINDOW], from: usize, to: usize) -> Option<u64> {
+    let digits = |place: usize| Some(u64::from_le_bytes(*window.get(place..)?.first_chunk()?) ^ 0x3030_3030_3030_3030);
+    let (front, len) = (digits(from)?, to - from);
+    let is_plain = len == 1 || front as u8 != 0;
+    match len {
+        1..=8 if is_plain => Some(eight(front << (64 - 8 * len))),
+        9..=16 if is_plain => Some(eight(front << (128 - 8 * len)) * 100_000_000 + eight(digits(to - 8)?)),
+        _ => None,
+    }
+}
+
+/// The same as `event_of` for a short line of a `tick` or a `recv` that has enough bytes behind it.
+#[inline(always)]
+pub fn quick_event_of(bytes: &[u8]) -> Option<(u64, Event, &[u8])> {
+    let window = bytes.first_chunk()?;
+    let is_tick = window.starts_with(b"tick ");
+    if !is_tick && !window.starts_with(b"recv ") {
+        return None;
+    }
+    let mut gaps = gaps(window) >> 5 << 5;
+    let mut last = 4;
+    let mut field = |behind: u8| {
+        let (from, to) = (last + 1, gaps.trailing_zeros() as usize);
+        (last, gaps) = (to, gaps & gaps.wrapping_sub(1));
+        if *window.get(to)? == behind { number(window, from, to) } else { None }
+    };
+    let (reference, device) = (field(b' ')?, field(b' ')? as u32);
+    let event = if is_tick {
+        Event::Tick { device, counter: field(b'\n')? }
+    } else {
+        Event::Recv { device, counter: field(b' ')?, message: field(b'\n')? }
+    };
+    Some((reference, event, &bytes[last + 1..]))
+}
+
 /// The event of the line at the front of the bytes, with its reference, and the lines behind it.
 pub fn event_of(bytes: &[u8]) -> Option<(u64, Event, &[u8])> {
     let word = &bytes[..bytes.iter().position(|byte| *byte == b' ')?];

@@ -15,7 +15,7 @@ mod refusals;
 mod replay;
 mod texts;
 
-use events::event_of;
+use events::{event_of, quick_event_of, Event};
 use replay::Replay;
 use std::fs::{read_to_string, File};
 use std::io::{stdout, BufWriter, Read, Write};
@@ -34,9 +34,14 @@ fn go_through(replay: &mut Replay, mut file: File, out: &mut impl Write) -> std:
         let whole = buffer[..held].iter().rposition(|byte| *byte == b'\n').map_or(0, |at| at + 1);
         let mut lines = &buffer[..whole];
         while !lines.is_empty() {
-            let (reference, event, rest) = event_of(lines).expect("a line is none of a schedule");
+            let (reference, event, rest) = quick_event_of(lines).or_else(|| event_of(lines)).expect("a line is none of a schedule");
             lines = rest;
-            if let Err(fault) = replay.step(reference, event, out) {
+            let done = match event {
+                Event::Tick { device, counter } => replay.tick(reference, device, counter, out),
+                Event::Recv { device, counter, message } => replay.receive(reference, device, counter, message, out),
+                _ => replay.step(reference, event, out),
+            };
+            if let Err(fault) = done {
                 return writeln!(out, "input schedule {} {fault}", replay.events + 1);
             }
         }

@@ -1,92 +1,92 @@
 //! The premises on ticks, drift, losses, failures and renewals.
-use crate::replay::{Replay, State, NONE};
+use crate::replay::Replay;
 
 const MILLION: i128 = 1_000_000;
 
 impl Replay<'_> {
-    /// Takes a device out of the list of those that owe a tick.
-    pub fn unlink(&mut self, d: u32) {
-        let State { before, after, .. } = self.states[d as usize];
-        if before == NONE {
-            self.head = after
-        } else {
-            self.states[before as usize].after = after
-        }
-        if after == NONE {
-            self.tail = before
-        } else {
-            self.states[after as usize].before = before
-        }
+    /// Whether some tick is late. All are looked at, which has to be done once in the time by which
+    /// they are early.
+    #[cold]
+    pub fn is_late(&mut self, reference: u64) -> bool {
+        let awaited = self.began.filter(|_| self.awaited > 0).unwrap_or(u64::MAX);
+        let oldest = self.owed.iter().fold(awaited, |oldest, owed| oldest.min(*owed));
+        self.punctual = oldest.saturating_add(self.params.tick);
+        reference > self.punctual
     }
 
-    /// Puts it at the end of the list: it owes a tick since now.
-    pub fn owe(&mut self, d: u32, reference: u64) {
-        let tail = std::mem::replace(&mut self.tail, d);
-        if tail == NONE {
-            self.head = d
-        } else {
-            self.states[tail as usize].after = d
-        }
+    /// What a reading says of the slowest rate since time zero, and of the fastest.
+    fn rates(&self, reference: u64, counter: u64) -> (i128, i128) {
+        let ahead = i128::from(counter as i64 - reference as i64) * MILLION;
+        let drift = i128::from(self.params.ppm) * i128::from(counter);
+        (ahead - drift, -ahead - drift)
+    }
+
+    pub fn begin_rates(&mut self, d: u32, reference: u64, counter: u64) {
+        let rates = self.rates(reference, counter);
         let state = &mut self.states[d as usize];
-        (state.owed, state.before, state.after) = (reference, tail, NONE);
+        (state.slow, state.fast) = rates;
     }
 
     /// Whether a reading keeps the rates with all of its life, which it joins.
-    pub fn keeps_rates(&mut self, d: u32, reference: u64, counter: u64, begins: bool) -> bool {
-        let (counter, reference) = (i128::from(counter), i128::from(reference));
-        let (ppm, grain) = (i128::from(self.params[0]), i128::from(self.params[1]));
-        let (ahead, drift) = ((counter - reference) * MILLION, ppm * counter);
-        let (slow, fast) = (ahead - drift, -ahead - drift);
+    #[inline(always)]
+    pub fn keeps_rates(&mut self, d: u32, reference: u64, counter: u64) -> bool {
+        let (slow, fast) = self.rates(reference, counter);
+        let grain = i128::from(self.params.grain) * MILLION;
         let state = &mut self.states[d as usize];
-        if begins {
-            (state.slow, state.fast) = (slow, fast);
-            return true;
-        }
-        let keeps = slow - state.slow <= grain * MILLION && fast - state.fast <= grain * MILLION;
+        let keeps = slow - state.slow <= grain && fast - state.fast <= grain;
         (state.slow, state.fast) = (state.slow.min(slow), state.fast.min(fast));
         keeps
     }
 
-    /// Drops the flights at the front that were judged and are not on their way.
-    fn drop_first(&mut self, reference: u64) {
-        while let Some(flight) = self.flights.front() {
-            if self.judged == 0 || flight.flies && flight.last >= reference {
-                return;
-            }
-            self.flights.pop_front();
-            self.first += 1;
-            self.judged -= 1;
-        }
-    }
-
     /// Adds a spoiled round, and tells whether it is none of too many in a row.
-    fn spoil(&mut self, (term, round): (u32, u64)) -> bool {
-        self.spoiled.insert((term, round));
-        let is_spoiled = |round: &u64| self.spoiled.contains(&(term, *round));
-        let behind = (0..round).rev().take_while(is_spoiled).count();
-        let before = (round + 1..).take_while(is_spoiled).count();
-        (behind + before) as u64 + 1 <= self.params[4]
+    fn spoil(&mut self, stamp: u64) -> bool {
+        self.spoiled.insert(stamp);
+        let is_spoiled = |stamp: &u64| self.spoiled.contains(stamp);
+        let behind = (stamp >> 32 << 32..stamp).rev().take_while(is_spoiled).count();
+        let before = (stamp + 1..).take_while(is_spoiled).count();
+        (behind + before) as u64 + 1 <= self.params.loss
     }
 
     /// Whether no round is one of too many spoiled ones, the flights judged that are overdue.
-    pub fn judge(&mut self, reference: u64) -> bool {
+    pub fn judge_flights(&mut self, reference: u64) -> bool {
         let mut holds = true;
+        self.due = u64::MAX;
         while let Some(flight) = self.flights.get_mut(self.judged) {
-            if flight.waits && reference <= flight.due {
+            let sending = &self.sendings[(flight.sending - self.first_sending) as usize];
+            let due = sending.sent_at + flight.end.max;
+            if reference <= due {
+                self.due = due;
                 break;
             }
             let number = self.first + self.judged as u64;
             self.judged += 1;
             if std::mem::replace(&mut flight.waits, false) {
-                let flight = *flight;
-                let ends = [flight.sender, flight.receiver].map(|d| self.states[d as usize].cut);
-                if number > ends[0].max(ends[1]).max(self.links_cut[flight.link as usize]) {
-                    holds &= self.spoil(flight.message.stamp);
+                let ends = [sending.sender, flight.end.receiver].map(|d| self.states[d as usize].cut);
+                if number > ends[0].max(ends[1]).max(self.links_cut[flight.end.link as usize]) {
+                    let stamp = sending.message.stamp;
+                    holds &= self.spoil(stamp);
                 }
             }
         }
         self.drop_first(reference);
         holds
+    }
+
+    /// Drops the flights at the front that were judged and are not on their way.
+    fn drop_first(&mut self, reference: u64) {
+        while let (1.., Some(flight)) = (self.judged, self.flights.front()) {
+            let sending = &self.sendings[(flight.sending - self.first_sending) as usize];
+            if flight.flies && sending.sent_at + 2 * flight.end.max >= reference {
+                break;
+            }
+            self.flights.pop_front();
+            self.first += 1;
+            self.judged -= 1;
+        }
+        let all = self.first_sending + self.sendings.len() as u32;
+        let first = self.flights.front().map_or(all, |flight| flight.sending);
+        self.sendings.drain(..(first - self.first_sending) as usize);
+        self.first_sending = first;
     }
 
     pub fn is_in_one_domain(&self) -> bool {
@@ -100,9 +100,8 @@ impl Replay<'_> {
     /// cut off, which is judged more strictly here, by any device that is left out and up.
     pub fn is_prepared(&self) -> bool {
         let plan = &self.plans[self.epoch as usize + 1];
-        (0..self.states.len()).all(|d| {
-            let state = &self.states[d];
-            if plan.members[d] {
+        self.states.iter().zip(&plan.members).all(|(state, is_member)| {
+            if *is_member {
                 state.up && state.given_in_window
             } else {
                 !state.up
@@ -112,6 +111,6 @@ impl Replay<'_> {
 
     pub fn have_entered(&self) -> bool {
         let plan = &self.plans[self.epoch as usize + 1];
-        (0..self.states.len()).all(|d| !(plan.members[d] && self.states[d].up) || self.states[d].entered)
+        self.states.iter().zip(&plan.members).all(|(state, is_member)| !(*is_member && state.up) || state.entered)
     }
 }

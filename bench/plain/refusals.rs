@@ -1,15 +1,41 @@
 //! Why an event is refused.
 use crate::events::Event;
-use crate::replay::Replay;
+use crate::replay::{Flight, Replay, State};
+
+const MOST_EVENTS: u64 = 1 << 26;
 
 impl Replay<'_> {
+    /// Whether nothing is against a reading of a device.
+    #[inline(always)]
+    pub fn admits(&self, reference: u64, d: u32, counter: u64) -> bool {
+        let is_open = !self.ended && self.events < MOST_EVENTS;
+        let admits = |state: &State| state.up && counter >= state.reading;
+        is_open && reference >= self.reference && self.states.get(d as usize).is_some_and(admits)
+    }
+
+    /// Whether a message is on its way to a device.
+    #[inline(always)]
+    pub fn is_flight(&self, reference: u64, d: u32, message: u64) -> bool {
+        let flight = self.flights.get(message.wrapping_sub(self.first) as usize);
+        flight.is_some_and(|flight| flight.end.receiver == d && self.flies(flight, reference))
+    }
+
+    #[inline(always)]
+    fn flies(&self, flight: &Flight, reference: u64) -> bool {
+        let sending = &self.sendings[(flight.sending - self.first_sending) as usize];
+        flight.flies && reference <= sending.sent_at + 2 * flight.end.max
+    }
+
     /// The first cause, as `sundial replay` names it.
-    pub fn refusal(&self, reference: u64, event: &Event) -> Option<&'static str> {
-        let place = self.place_refusal(event).or_else(|| self.message_refusal(reference, event));
-        place
+    #[cold]
+    pub fn refuse(&self, reference: u64, event: &Event) -> Result<(), &'static str> {
+        let cause = self
+            .place_refusal(event)
+            .or_else(|| self.message_refusal(reference, event))
             .or_else(|| self.device_refusal(reference, event))
             .or_else(|| self.window_refusal(event))
-            .or_else(|| self.late_refusal(event))
+            .or_else(|| self.late_refusal(event));
+        cause.map_or(Ok(()), Err)
     }
 
     fn place_refusal(&self, event: &Event) -> Option<&'static str> {
@@ -36,8 +62,8 @@ impl Replay<'_> {
             return Some("UnknownMessage");
         }
         match message.checked_sub(self.first).map(|place| &self.flights[place as usize]) {
-            Some(flight) if flight.flies && flight.last >= reference => {
-                event.device().is_some_and(|d| d != flight.receiver).then_some("WrongDevice")
+            Some(flight) if self.flies(flight, reference) => {
+                event.device().is_some_and(|d| d != flight.end.receiver).then_some("WrongDevice")
             }
             _ => Some("SpentMessage"),
         }
@@ -66,9 +92,9 @@ impl Replay<'_> {
                 let is_open = self.staged && !self.committed;
                 !(is_open
                     && self.plans[staged as usize].root == device
-                    && self.devices[device as usize].given == Some(staged))
+                    && self.states[device as usize].device.given == staged)
             }
-            Event::Seal { device } => !self.committed || self.devices[device as usize].plan != staged,
+            Event::Seal { device } => !self.committed || self.states[device as usize].device.plan != staged,
             _ => false,
         };
         is_out_of_order.then_some("WindowOrder")
@@ -86,6 +112,6 @@ impl Replay<'_> {
         if !is_member {
             return Some("NotMember");
         }
-        (self.events >= 1 << 26).then_some("TooManyEvents")
+        (self.events >= MOST_EVENTS).then_some("TooManyEvents")
     }
 }

@@ -16,6 +16,15 @@ pub struct Network {
     pub numbers: HashMap<String, u64>,
 }
 
+/// The rates, the period, the limit of ticks and the rounds that may be lost.
+pub struct Params {
+    pub ppm: u64,
+    pub grain: u64,
+    pub period: u64,
+    pub tick: u64,
+    pub loss: u64,
+}
+
 fn quoted(text: &str) -> impl Iterator<Item = &str> {
     text.split('"').skip(1).step_by(2)
 }
@@ -72,6 +81,11 @@ impl Network {
         net
     }
 
+    pub fn params(&self) -> Params {
+        let [ppm, grain, period, tick, loss] = ["ppm", "grain", "period", "tick", "loss"].map(|key| self.numbers[key]);
+        Params { ppm, grain, period, tick, loss }
+    }
+
     fn device(&self, name: &str) -> u32 {
         self.numbers[&format!("device {name}")] as u32
     }
@@ -81,12 +95,16 @@ impl Network {
     }
 }
 
-#[derive(Clone, Copy)]
-pub struct Edge {
-    pub parent: u32,
+/// The far end of a link that a device sends over.
+pub struct End {
     pub link: u32,
+    pub receiver: u32,
+    pub min: u64,
+    pub max: u64,
     pub mid: u64,
     pub half: u64,
+    /// Whether the receiver listens to the link in each mode.
+    pub heard_in: [bool; 3],
 }
 
 pub struct Plan {
@@ -95,10 +113,11 @@ pub struct Plan {
     pub waits: [u64; 3],
     pub members: Vec<bool>,
     pub absent_links: HashSet<u32>,
-    pub primary: Vec<Option<Edge>>,
-    pub backup: Vec<Option<Edge>>,
-    /// Below each device: links ascending, with the device at the other end.
-    pub ends: Vec<Vec<(u32, u32)>>,
+    /// The parents of each device.
+    pub primary: Vec<Option<u32>>,
+    pub backup: Vec<Option<u32>>,
+    /// Below each device: links ascending.
+    pub ends: Vec<Vec<End>>,
 }
 
 /// What stands behind a key of a JSON text, up to the end of the text.
@@ -132,27 +151,34 @@ impl Plan {
             absent_links: list(text, "absent_links").into_iter().map(|name| net.link(name)).collect(),
             primary: vec![None; count],
             backup: vec![None; count],
-            ends: vec![Vec::new(); count],
+            ends: Vec::new(),
         };
         for name in list(text, "absent_devices") {
             plan.members[net.device(name) as usize] = false;
         }
         let rows = behind(text, "rows").unwrap();
+        let mut edges = Vec::new();
         for row in rows[..rows.find(']').unwrap()].split('}').filter_map(|row| row.split_once('{')) {
             let device = net.device(word(row.1, "device").unwrap());
-            for (parent, link, is_primary) in [("parent", "link", true), ("backup", "backup_link", false)] {
-                let Some(parent) = word(row.1, parent) else {
-                    continue;
-                };
-                let (parent, link) = (net.device(parent), net.link(word(row.1, link).unwrap()));
-                let Link { min, max, .. } = net.links[link as usize];
-                let mid = min + (max - min) / 2;
-                let table = if is_primary { &mut plan.primary } else { &mut plan.backup };
-                table[device as usize] = Some(Edge { parent, link, mid, half: max - mid });
-                plan.ends[parent as usize].push((link, device));
-            }
+            let edge = |parent, link| Some((net.device(word(row.1, parent)?), net.link(word(row.1, link)?)));
+            let both = [edge("parent", "link"), edge("backup", "backup_link")];
+            [plan.primary[device as usize], plan.backup[device as usize]] = both.map(|edge| Some(edge?.0));
+            let hears = |link| both.map(|edge| edge.is_some_and(|edge| edge.1 == link));
+            edges.extend(both.into_iter().flatten().map(|(parent, link)| (parent, link, device, hears(link))));
         }
-        plan.ends.iter_mut().for_each(|ends| ends.sort());
+        edges.sort();
+        for parent in 0..count as u32 {
+            let below = edges.iter().filter(|edge| edge.0 == parent);
+            plan.ends.push(below.map(|&(_, link, receiver, hears)| End::new(net, link, receiver, hears)).collect());
+        }
         plan
+    }
+}
+
+impl End {
+    fn new(net: &Network, link: u32, receiver: u32, [primary, backup]: [bool; 2]) -> End {
+        let Link { min, max, .. } = net.links[link as usize];
+        let mid = min + (max - min) / 2;
+        End { link, receiver, min, max, mid, half: max - mid, heard_in: [primary, backup, false] }
     }
 }

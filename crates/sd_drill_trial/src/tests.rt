@@ -1,6 +1,5 @@
 //! The drill beside a plain slow program, under each domain of the accepted plans among some that are
 //! made by counting.
-ghost use Rattle.std.specs.Prelude.{IfOk};
 ghost use Rattle.sd_checker.specs.Verdicts.{IsAccepted};
 ghost use Rattle.sd_plan.specs.Plans.{Fits};
 ghost use Rattle.sd_topo.specs.Topologies.{network};
@@ -10,13 +9,10 @@ mod slow;
 use sd_checker::{Verdict, check};
 use sd_drill::{Budget, WorstList, worst};
 use sd_num::NoMemory;
-use sd_plain::{Domain, Plain, Setup, counted_case, has_domain, plan_text_of, topology_text_of};
+use sd_plain::{Domain, Plain, counted_case, has_domain, plan_of, topology_of};
 use sd_plan::Plan;
-use sd_plantext::read_plan;
 use sd_topo::Topology;
-use sd_topotext::read_topology;
 use slow::bounds_of;
-use std::alloc::Global;
 use std::process::Abort;
 use std::test::Fail;
 
@@ -119,20 +115,6 @@ fn assert_plan(
         }
         Verdict::Refused(_) => Ok(()),
     }
-}
-
-/// The topology of a case, by its text.
-fn topology_of(alloc: Global, setup: &Setup) -> Result<Topology, Fail> {
-    let text = topology_text_of(alloc, setup)?;
-    Ok(read_topology(alloc, text.as_bytes())?)
-}
-
-/// The plan of a case, by its text.
-fn plan_of(alloc: Global, topo: &Topology, setup: &Setup) -> Result<Plan, Fail>
-    ensures { IfOk result (Fits (network topo.now)) }
-{
-    let text = plan_text_of(alloc, setup)?;
-    Ok(read_plan(alloc, topo, text.as_bytes())?)
 }
 
 /// The same of a case that is made by counting.

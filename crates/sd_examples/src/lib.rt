@@ -7,7 +7,7 @@ mod plans;
 mod tests;
 mod texts;
 
-pub use networks::{NoExample, fabric, square};
+pub use networks::{NoExample, fabric, square, topology_of};
 pub use plans::{fabric_plan, row, square_plan};
 pub use texts::{
     DRIFTLESS, DRIFTLESS_PLAN, FABRIC, FABRIC_GREEDY, FABRIC_PLAN, FABRIC_RENEWED, SQUARE,

@@ -17,8 +17,8 @@ pub enum NoExample {
     Misshapen,
 }
 
-/// Reads a text.
-fn read(alloc: Global, text: &str) -> Result<Topology, NoExample> {
+/// The topology of a text. It promises nothing, so that no proof looks into the text.
+pub fn topology_of(alloc: Global, text: &str) -> Result<Topology, NoExample> {
     match read_topology(alloc, text.as_bytes()) {
         Ok(topo) => Ok(topo),
         Err(fault) => Err(NoExample::Refused(fault)),
@@ -38,7 +38,7 @@ fn has_ends(topo: &Topology, l: u32, a: u32, b: u32) -> bool
 pub fn fabric(alloc: Global) -> Result<Topology, NoExample>
     ensures { IfOk result (λ topo. IsFabric (network topo)) }
 {
-    let topo = read(alloc, FABRIC)?;
+    let topo = topology_of(alloc, FABRIC)?;
     if topo.devices() != 5 || topo.links() != 6 || topo.params().depth != 3 {
         return Err(NoExample::Misshapen);
     }
@@ -55,7 +55,7 @@ pub fn fabric(alloc: Global) -> Result<Topology, NoExample>
 pub fn square(alloc: Global) -> Result<Topology, NoExample>
     ensures { IfOk result (λ topo. IsSquare (network topo)) }
 {
-    let topo = read(alloc, SQUARE_TRAY)?;
+    let topo = topology_of(alloc, SQUARE_TRAY)?;
     if topo.devices() != 4 || topo.links() != 5 || topo.params().depth != 3 {
         return Err(NoExample::Misshapen);
     }

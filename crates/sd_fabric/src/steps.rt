@@ -38,6 +38,7 @@ fn report_by(event: &Event, reply: &Reply) -> Option<(u32, Report)>
 impl Fabric {
     /// How many messages the event sends at most: for a `tick` or a `recv` the ends below the named
     /// device in the plan in force and in the staged one together.
+    #[inline(always)]
     pub fn most_sent(&self, event: &Event) -> usize
         ensures { result ≡ most_sent_in self.now event.now }
     {
@@ -71,16 +72,17 @@ impl Fabric {
             .len()
     }
 
-    /// Makes room for all messages that the event sends. Only this takes memory.
-    pub fn ready(&mut self, alloc: Global, event: &Event) -> Result<(), NoMemory>
-        ensures room { OnOk result (most_sent_in self.old event.now ≤ self.new.book.room) }
-        ensures memory { OnErr result (most_sent_in self.old event.now ≢ 0) }
+    /// Makes room for so many messages. Only this takes memory.
+    #[inline(always)]
+    pub fn ready(&mut self, alloc: Global, messages: usize) -> Result<(), NoMemory>
+        ensures room { OnOk result (messages ≤ self.new.book.room) }
+        ensures memory { OnErr result (messages ≢ 0) }
         ensures others { OnlyRoomGrew self.old self.new }
         ensures sound { IsSound self.new }
     {
-        match self.most_sent(event) {
+        match messages {
             0 => Ok(()),
-            count => self.book.ready(alloc, count),
+            _ => self.book.ready(alloc, messages),
         }
     }
 

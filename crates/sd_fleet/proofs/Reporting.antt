@@ -60,9 +60,8 @@ same_most old new e grew =
     forget e' = refl
 
 -- no more is sent than there was room for
-pub sent_most : (old new : Registers) (e : Event) (reply : Reply) (outcome : Outcome) → OnlyRoomGrew old new → refusal_in new e ≡ None → Tells e reply → outcome ≡ outcome_in new e reply → outcome.sent ≤ most_sent_in old e
-sent_most old new e reply outcome grew accepted tells comes =
-    let room = sent_room new e reply accepted tells in
-    let same = same_most old new e grew in
+pub sent_most : (r : Registers) (e : Event) (reply : Reply) (outcome : Outcome) → refusal_in r e ≡ None → Tells e reply → outcome ≡ outcome_in r e reply → outcome.sent ≤ most_sent_in r e
+sent_most r e reply outcome accepted tells comes =
+    let room = sent_room r e reply accepted tells in
     let sent = ap (λ (x : Outcome). x.sent) comes in
-    omega (arith, room, same, sent)
+    omega (arith, room, sent)

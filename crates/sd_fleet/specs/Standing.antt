@@ -1,5 +1,5 @@
 -- For which run a fleet stands.
-use Rattle.std.specs.Prelude.{◌≡◌, ◌⊎◌, ℕ, ◌<◌, List, ◌∷◌, length, Some, None, IsTrue}
+use Rattle.std.specs.Prelude.{◌≡◌, ◌⊎◌, ℕ, ◌<◌, ◌≤◌, List, ◌∷◌, length, Some, None, IsTrue}
 use Rattle.sd_core.specs.declared.node.Node.{Ghosts}
 use Rattle.sd_sched.specs.declared.Event.{Event}
 use Rattle.sd_history.specs.declared.ApplyFault.{ApplyFault}
@@ -9,6 +9,9 @@ use Rattle.sd_history.specs.Steps.{Step}
 use Rattle.sd_history.specs.Refusals.{refusal}
 use Rattle.sd_history.specs.Nodes.{NodeStep, IsRun, steps_of, node_in}
 use Rattle.sd_fabric.specs.declared.Outcome.{Outcome}
+use Rattle.sd_fabric.specs.Registers.{Registers}
+use Rattle.sd_fabric.specs.Causes.{refusal_in}
+use Rattle.sd_fabric.specs.Room.{most_sent_in}
 use Rattle.sd_fabric.specs.Doing.{may_send}
 use Rattle.sd_fabric.specs.Outcomes.{outcome_of}
 use Rattle.sd_fabric.specs.Standing as fabric
@@ -20,6 +23,11 @@ pub record StandsFor {N : Type 0} (g : Ghosts N) (fleet : Fleet N g) (setting : 
   pub is_run : IsRun g setting run
   pub fabric : fabric.Stands fleet.fabric setting (steps_of run)
   pub nodes : (d : ℕ) → d < length setting.net.devices → node_at fleet.nodes.items d ≡ node_in run d
+
+-- the event is not refused, and there is room for all messages that it sends
+pub record IsPrepared (r : Registers) (e : Event) : Type 0 where
+  pub accepted : refusal_in r e ≡ None
+  pub room : most_sent_in r e ≤ r.book.room
 
 -- the event was accepted after the run, and came to this: the fleet stands for the run with one step more, of just this event
 pub record IsAccepted {N : Type 0} (g : Ghosts N) (fleet : Fleet N g) (setting : Setting) (run : List (NodeStep N)) (e : Event) (outcome : Outcome) : Type 0 where

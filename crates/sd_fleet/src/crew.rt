@@ -24,6 +24,7 @@ pub(crate) struct Moment {
 }
 
 /// Does what an event does to its device, and tells what the device replies.
+#[inline(always)]
 pub(crate) fn perform<N: Node>(nodes: &mut [Option<N>], act: &Act, moment: &Moment) -> Reply
     requires events { moment.now.events ≤ 2 ^ 26 }
     requires can { CanAct N.Node nodes.old moment.now act.now }

@@ -1,5 +1,5 @@
 //! The fleet: which events are refused, and what each accepted event comes to.
-ghost use Rattle.std.specs.Prelude.{◌≡◌, ◌≤◌, ◌<◌, ◌^◌, ℕ, List, [], length, replicate, IsTrue, Some, None, Err, IfOk, IfErr, IfSome};
+ghost use Rattle.std.specs.Prelude.{◌≡◌, ◌≤◌, ◌<◌, ◌^◌, ℕ, List, [], length, replicate, IsTrue, Some, None, Err, IfOk, IfErr, IfSome, OnOk};
 ghost use Rattle.sd_topo.specs.Topologies.{network};
 ghost use Rattle.sd_sched.specs.Events.{device_of};
 ghost use Rattle.sd_sched.specs.Lines.{is_within};
@@ -11,6 +11,8 @@ ghost use Rattle.sd_history_flights.specs.Flights.{look_in};
 ghost use Rattle.sd_roster.specs.Plans.{AreSound};
 ghost use Rattle.sd_fabric.specs.Causes.{refusal_in};
 ghost use Rattle.sd_fabric.specs.Room.{most_sent_of, most_sent_in};
+ghost use Rattle.sd_fabric.specs.Sound.{IsSound};
+ghost use Rattle.sd_fabric.specs.Stepping.{OnlyRoomGrew};
 ghost use Rattle.sd_fleet.specs.Calling.{IsLimited};
 ghost use Rattle.sd_fleet.specs.Bounds.{IsCrew, moment_of};
 
@@ -53,7 +55,8 @@ fn no_nodes<N: Node>(alloc: Global, devices: u32) -> Result<Vec<Option<N>>, NoMe
 /// The moment of an event.
 fn moment_at(fabric: &Fabric, event: &Event) -> Moment
     requires { IfSome (device_of event.now) (λ d. d < length fabric.now.net.devices) }
-    ensures { result ≡ moment_of fabric.now event.now }
+    ensures moment { result ≡ moment_of fabric.now event.now }
+    ensures sound { IsSound fabric.now }
 {
     let world = fabric.world();
     Moment {
@@ -67,7 +70,7 @@ fn moment_at(fabric: &Fabric, event: &Event) -> Moment
 }
 
 impl<N: Node> Fleet<N> {
-    ghost use Rattle.sd_fleet.specs.Standing.{StandsFor, IsAccepted, IsFault};
+    ghost use Rattle.sd_fleet.specs.Standing.{StandsFor, IsPrepared, IsAccepted, IsFault};
 
     /// A fleet before any event, with the first plan in force.
     pub fn new(alloc: Global, topo: &Topology, plans: &[Plan]) -> Result<Fleet<N>, NoMemory>
@@ -122,16 +125,52 @@ impl<N: Node> Fleet<N> {
             → StandsFor N.Node self.old setting run
             → StandsFor N.Node self.new setting run × IsFault fault setting (steps_of run) event.now) }
     {
+        match self.prepare(alloc, event) {
+            Ok(_) => Ok(self.happen(event)),
+            Err(fault) => Err(fault),
+        }
+    }
+
+    /// Makes the room that an event needs and nothing else, and answers how many messages the event
+    /// sends at most; or why it does not happen. `Memory` is answered for a `tick` or a `recv` alone.
+    pub fn prepare(&mut self, alloc: Global, event: &Event) -> Result<usize, ApplyFault>
+        // where `refusal` tells a fault, it is this one
+        ensures same { IfSome (refusal_in self.old.fabric event.now) (λ fault. result ≡ Err fault) }
+        ensures prepared { OnOk result (IsPrepared self.new.fabric event.now) }
+        ensures most { IfOk result (λ most. most ≡ most_sent_in self.new.fabric event.now) }
+        ensures fault { IfErr result (λ fault. (setting : Setting) (run : List (NodeStep N))
+            → StandsFor N.Node self.old setting run → IsFault fault setting (steps_of run) event.now) }
+        // nothing changed but room
+        ensures others { OnlyRoomGrew self.old.fabric self.new.fabric }
+        ensures stands { (setting : Setting) (run : List (NodeStep N))
+            → StandsFor N.Node self.old setting run → StandsFor N.Node self.new setting run }
+    {
         if let Some(fault) = self.fabric.refusal(event) {
             return Err(fault);
         }
-        let Ok(()) = self.fabric.ready(alloc, event) else {
-            return Err(ApplyFault::Memory);
-        };
+        let most = self.fabric.most_sent(event);
+        match self.fabric.ready(alloc, most) {
+            Ok(()) => Ok(most),
+            Err(_) => Err(ApplyFault::Memory),
+        }
+    }
+
+    /// An event happens for which the fleet was prepared.
+    // Its outcome is large, and is moved once less where this is a part of what calls it.
+    #[inline(always)]
+    pub fn happen(&mut self, event: &Event) -> Outcome
+        requires within { IsTrue (is_within event.now) }
+        requires prepared { IsPrepared self.old.fabric event.now }
+        ensures accepted { (setting : Setting) (run : List (NodeStep N))
+            → StandsFor N.Node self.old setting run
+            → IsAccepted N.Node self.new setting run event.now result }
+        ensures limited { IfSome result.report (λ told. IsLimited told.1) }
+        ensures few { result.sent ≤ most_sent_in self.old.fabric event.now }
+    {
         let act = self.fabric.act(event);
         let moment = moment_at(&self.fabric, event);
         let reply = perform(&mut self.nodes, &act, &moment);
-        Ok(self.fabric.step(event, &reply))
+        self.fabric.step(event, &reply)
     }
 
     /// The flight of a number, or why there is none: `Unknown` or `Spent`.

@@ -2,6 +2,7 @@
 //! counting: what tests compare the checker and the drill with. For tests alone.
 #![tactic(auto)]
 
+mod cases;
 mod closing;
 mod counted;
 mod domains;
@@ -15,12 +16,12 @@ mod timing;
 mod verdicts;
 mod walks;
 
+pub use cases::{plan_of, topology_of};
 pub use closing::Rule;
 pub use counted::counted_case;
 pub use ids::has_domain;
 pub use plain::{Domain, Plain};
 pub use setups::{Change, Setup};
 pub use shapes::{FABRIC, LADDER, MESH, RING, SQUARE, Shape, TRIANGLE};
-pub use texts::{plan_text_of, topology_text_of};
 pub use timing::{error_of, low_of};
 pub use verdicts::{CONDITIONS, Condition, Said, said_by};

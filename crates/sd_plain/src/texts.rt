@@ -60,7 +60,7 @@ fn add_domains(text: &mut String, setup: &Setup) -> Result<(), AllocError> {
 }
 
 /// The text of the topology.
-pub fn topology_text_of(alloc: Global, setup: &Setup) -> Result<String, AllocError> {
+pub(crate) fn topology_text_of(alloc: Global, setup: &Setup) -> Result<String, AllocError> {
     let (tick, depth) = (setup.tick, setup.depth);
     let mut text = format!(in alloc;
         "version = 1\nppm = 200\ngrain = 1000\nperiod = 100000000\ntick = {tick}\nloss = 1\ndepth = {depth}\nroots = [\"d0\"]\n"
@@ -115,7 +115,7 @@ fn add_absent(text: &mut String, setup: &Setup) -> Result<(), AllocError> {
 }
 
 /// The text of the plan.
-pub fn plan_text_of(alloc: Global, setup: &Setup) -> Result<String, AllocError> {
+pub(crate) fn plan_text_of(alloc: Global, setup: &Setup) -> Result<String, AllocError> {
     let (root, backup_root) = (setup.root, setup.backup_root);
     let (first, second, wait) = (setup.wait_first, setup.wait_second, setup.wait);
     let mut text = format!(in alloc;

@@ -1,5 +1,5 @@
 -- The monitor of drift stands for what was seen and one event more.
-use Rattle.std.proofs.Common.{◌≡◌, ◌≢◌, ℕ, ◌<◌, ◌≤◌, Bool, true, false, ◌&&◌, ◌||◌, cond, List, [], ◌∷◌, length, set, Option, Some, None, nat_le, ◌⊎◌, inl, inr, refl, sym, ap, ◌∙◌, subst, arith}
+use Rattle.std.proofs.Common.{◌≡◌, ◌≢◌, ℕ, ◌<◌, ◌≤◌, Bool, true, false, ◌&&◌, ◌||◌, cond, List, [], ◌∷◌, length, set, Some, None, nat_le, ◌⊎◌, inl, inr, refl, sym, ap, ◌∙◌, subst, arith}
 use Rattle.std.specs.Prelude.{slice_get}
 use Rattle.std.proofs.Math.ListN.{length-set}
 use Rattle.std.proofs.lemmas.Bool.{and_parts, and_from, leb-true, le-leb, cases_eq}
@@ -11,10 +11,10 @@ use Rattle.sd_sched.specs.Events.{reference_of}
 use Rattle.sd_history.specs.World.{Setting, Seen, latest_reference, latest_reading}
 use Rattle.sd_history.specs.Premises.{readings, reads_honestly, drift_holds}
 use Rattle.sd_history.specs.Refusals.{makes_some, may_be_seen}
-use Rattle.sd_premise_clocks.specs.declared.extremes.Reading.{Reading}
-use Rattle.sd_premise_clocks.specs.declared.extremes.Extremes.{Extremes}
-use Rattle.sd_premise_clocks.specs.Readings.{pair_of, keeps_rates_with, is_after_each}
-use Rattle.sd_premise_clocks.specs.Drifts.{DriftKept, DriftStands, IsLife, reading_of}
+use Rattle.sd_premise_clocks.specs.declared.offsets.Reading.{Reading}
+use Rattle.sd_premise_clocks.specs.declared.offsets.Offsets.{Offsets}
+use Rattle.sd_premise_clocks.specs.Readings.{pair_of, keeps_rates_with, is_after_each, no_offsets, offsets_at, lesser, are_within, least_offsets}
+use Rattle.sd_premise_clocks.specs.Drifts.{DriftKept, DriftStands, reading_of}
 use Rattle.sd_premise_clocks.proofs.Drifting.{all_imply}
 use Rattle.sd_premise_clocks.proofs.Seeing.{time_rises, counter_rises}
 use Rattle.sd_premise_clocks.proofs.Lives.{Reads, readings_here, readings_elsewhere, readings_unread, latest_here, latest_elsewhere, latest_unread, honest_here, honest_unread}
@@ -36,7 +36,7 @@ pub stands_unread : (setting : Setting) (kept : DriftKept) (earlier : List Seen)
 stands_unread setting kept earlier s unread stands may = record {
   holds = stands.holds ∙ sym (ap (λ (b : Bool). drift_holds setting earlier && b) (honest_unread setting s earlier unread) ∙ and_true (drift_holds setting earlier));
   devices = stands.devices;
-  lives = λ d life at. subst (λ (xs : List (ℕ × ℕ)). IsLife (rates_of setting.net d).ppm xs life) (sym (readings_unread s earlier d unread)) (stands.lives d life at);
+  lives = λ d life at. stands.lives d life at ∙ ap (least_offsets (rates_of setting.net d).ppm) (sym (readings_unread s earlier d unread));
   in_order = λ d.
       (let rises : latest_reference earlier ≤ reference_of s.event = time_rises setting earlier s.event may in
       let same : latest_reading (s ∷ earlier) d ≡ latest_reading earlier d = latest_unread s earlier d unread in
@@ -68,13 +68,13 @@ past_before setting kept earlier s d r read stands may = by (makes_some s.event)
         after_more (readings earlier d) (latest_reference earlier) (latest_reading earlier d) r.reference r.counter (omega arith) counts (stands.in_order d)
 
 -- what was kept of the life
-past_life : (setting : Setting) (kept : DriftKept) (earlier : List Seen) (s : Seen) (d : ℕ) (begins : Bool) (before : Option Extremes) → begins ≡ makes_some s.event
-    → (begins ≡ true → before ≡ None) → (begins ≡ false → slice_get kept.lives d ≡ Some before) → DriftStands setting kept earlier
-    → IsLife (rates_of setting.net d).ppm (past_of earlier s d) before
+past_life : (setting : Setting) (kept : DriftKept) (earlier : List Seen) (s : Seen) (d : ℕ) (begins : Bool) (before : Offsets) → begins ≡ makes_some s.event
+    → (begins ≡ true → before ≡ no_offsets) → (begins ≡ false → slice_get kept.lives d ≡ Some before) → DriftStands setting kept earlier
+    → before ≡ least_offsets (rates_of setting.net d).ppm (past_of earlier s d)
 past_life setting kept earlier s d begins before is begun held stands = by (makes_some s.event) refl
   where
-    by : (b : Bool) → makes_some s.event ≡ b → IsLife (rates_of setting.net d).ppm (cond b [] (readings earlier d)) before
-    by true makes = subst (λ (o : Option Extremes). IsLife (rates_of setting.net d).ppm [] o) (sym (begun (is ∙ makes))) refl
+    by : (b : Bool) → makes_some s.event ≡ b → before ≡ least_offsets (rates_of setting.net d).ppm (cond b [] (readings earlier d))
+    by true makes = begun (is ∙ makes)
     by false makes = stands.lives d before (held (is ∙ makes))
 
 -- whether it keeps the rates is judged over its life
@@ -87,42 +87,49 @@ judged_here setting earlier s d r read = honest_here setting s earlier d r read 
     by false = refl
 
 -- what taking in a reading of an oscillator with these rates does to what is kept
-pub record TakesIn (rates : Rates) (s : Seen) (d : ℕ) (r : Reading) (before : Option Extremes) (after : Extremes) (begins keeps : Bool) (old new : DriftKept) : Type 0 where
+pub record TakesIn (rates : Rates) (s : Seen) (d : ℕ) (r : Reading) (before offsets : Offsets) (begins : Bool) (old new : DriftKept) : Type 0 where
   pub begins_life : begins ≡ makes_some s.event
-  pub begun : begins ≡ true → before ≡ None
+  pub begun : begins ≡ true → before ≡ no_offsets
   pub held : begins ≡ false → slice_get old.lives d ≡ Some before
-  pub judged : (xs : List (ℕ × ℕ)) → IsLife rates.ppm xs before → is_after_each xs (pair_of r) ≡ true → keeps ≡ keeps_rates_with rates xs (pair_of r)
-  pub grown : (xs : List (ℕ × ℕ)) → IsLife rates.ppm xs before → is_after_each xs (pair_of r) ≡ true → IsLife rates.ppm (pair_of r ∷ xs) (Some after)
-  pub holds : new.holds ≡ (old.holds && keeps)
-  pub lives : new.lives ≡ set old.lives d (Some after)
+  pub offsets_are : offsets ≡ offsets_at rates.ppm (pair_of r)
+  pub judged : (xs : List (ℕ × ℕ)) → is_after_each xs (pair_of r) ≡ true → are_within rates.grain (least_offsets rates.ppm xs) offsets ≡ keeps_rates_with rates xs (pair_of r)
+  pub holds : new.holds ≡ (old.holds && are_within rates.grain before offsets)
+  pub lives : new.lives ≡ set old.lives d (lesser before offsets)
   pub within : d < length old.lives
 
-pub stands_reading : (setting : Setting) (rates : Rates) (s : Seen) (d : ℕ) (r : Reading) (before : Option Extremes) (after : Extremes) (begins keeps : Bool) (old new : DriftKept) (earlier : List Seen)
-    → Reads s.event d r → rates ≡ rates_of setting.net d → TakesIn rates s d r before after begins keeps old new → DriftStands setting old earlier → may_be_seen setting earlier s.event ≡ true
+pub stands_reading : (setting : Setting) (rates : Rates) (s : Seen) (d : ℕ) (r : Reading) (before offsets : Offsets) (begins : Bool) (old new : DriftKept) (earlier : List Seen)
+    → Reads s.event d r → rates ≡ rates_of setting.net d → TakesIn rates s d r before offsets begins old new → DriftStands setting old earlier → may_be_seen setting earlier s.event ≡ true
     → DriftStands setting new (s ∷ earlier)
-stands_reading setting rates s d r before after begins keeps old new earlier read own takes_in stands may =
-    let takes : TakesIn (rates_of setting.net d) s d r before after begins keeps old new = subst (λ (own : Rates). TakesIn own s d r before after begins keeps old new) own takes_in in
-    let life : IsLife (rates_of setting.net d).ppm (past_of earlier s d) before = past_life setting old earlier s d begins before takes.begins_life takes.begun takes.held stands in
+stands_reading setting rates s d r before offsets begins old new earlier read own takes_in stands may =
+    let takes : TakesIn (rates_of setting.net d) s d r before offsets begins old new = subst (λ (own : Rates). TakesIn own s d r before offsets begins old new) own takes_in in
+    let life : before ≡ least_offsets (rates_of setting.net d).ppm (past_of earlier s d) = past_life setting old earlier s d begins before takes.begins_life takes.begun takes.held stands in
     let first : is_after_each (past_of earlier s d) (pair_of r) ≡ true = past_before setting old earlier s d r read stands may in
     record {
-      holds = takes.holds ∙ ap (λ (b : Bool). b && keeps) stands.holds
-          ∙ ap (λ (b : Bool). drift_holds setting earlier && b) (takes.judged (past_of earlier s d) life first ∙ sym (judged_here setting earlier s d r read));
-      devices = ap length takes.lives ∙ length-set old.lives d (Some after) ∙ stands.devices;
-      lives = λ x kept at. lives_at x kept takes.within (takes.grown (past_of earlier s d) life first) (ap (λ (ls : List (Option Extremes)). slice_get ls x) (sym takes.lives) ∙ at) (cases_eq x d);
+      holds = takes.holds ∙ ap (λ (b : Bool). b && are_within (rates_of setting.net d).grain before offsets) stands.holds
+          ∙ ap (λ (b : Bool). drift_holds setting earlier && b) (ap (λ (o : Offsets). are_within (rates_of setting.net d).grain o offsets) life ∙ takes.judged (past_of earlier s d) first
+          ∙ sym (judged_here setting earlier s d r read));
+      devices = ap length takes.lives ∙ length-set old.lives d (lesser before offsets) ∙ stands.devices;
+      lives = λ x kept at. lives_at x kept takes.within (grown takes.offsets_are life) (ap (λ (ls : List Offsets). slice_get ls x) (sym takes.lives) ∙ at) (cases_eq x d);
       in_order = λ x. order_at x first (cases_eq x d);
     }
   where
-    lives_at : (x : ℕ) (kept : Option Extremes) → d < length old.lives → IsLife (rates_of setting.net d).ppm (pair_of r ∷ past_of earlier s d) (Some after) → slice_get (set old.lives d (Some after)) x ≡ Some kept
-        → (x ≡ d) ⊎ (x ≡ d → ⊥) → IsLife (rates_of setting.net x).ppm (readings (s ∷ earlier) x) kept
+    -- the lesser of both is the least with the reading
+    grown : offsets ≡ offsets_at (rates_of setting.net d).ppm (pair_of r) → before ≡ least_offsets (rates_of setting.net d).ppm (past_of earlier s d)
+        → lesser before offsets ≡ least_offsets (rates_of setting.net d).ppm (readings (s ∷ earlier) d)
+    grown is life =
+        ap (λ (o : Offsets). lesser o offsets) life
+        ∙ ap (lesser (least_offsets (rates_of setting.net d).ppm (past_of earlier s d))) is
+        ∙ ap (least_offsets (rates_of setting.net d).ppm) (sym (readings_here s earlier d r read))
+
+    lives_at : (x : ℕ) (kept : Offsets) → d < length old.lives → lesser before offsets ≡ least_offsets (rates_of setting.net d).ppm (readings (s ∷ earlier) d)
+        → slice_get (set old.lives d (lesser before offsets)) x ≡ Some kept → (x ≡ d) ⊎ (x ≡ d → ⊥) → kept ≡ least_offsets (rates_of setting.net x).ppm (readings (s ∷ earlier) x)
     lives_at x kept within grown at (inl same) =
-        let at_d : slice_get (set old.lives d (Some after)) d ≡ Some kept = ap (λ (k : ℕ). slice_get (set old.lives d (Some after)) k) (sym same) ∙ at in
-        let is_after : Some after ≡ kept = same_Some (Some after) kept (sym (at_written old.lives d (Some after) within) ∙ at_d) in
-        subst (λ (k : ℕ). IsLife (rates_of setting.net k).ppm (readings (s ∷ earlier) k) kept) (sym same)
-        (subst (λ (o : Option Extremes). IsLife (rates_of setting.net d).ppm (readings (s ∷ earlier) d) o) is_after
-        (subst (λ (xs : List (ℕ × ℕ)). IsLife (rates_of setting.net d).ppm xs (Some after)) (sym (readings_here s earlier d r read)) grown))
+        let at_d : slice_get (set old.lives d (lesser before offsets)) d ≡ Some kept = ap (slice_get (set old.lives d (lesser before offsets))) (sym same) ∙ at in
+        let is_after : lesser before offsets ≡ kept = same_Some (lesser before offsets) kept (sym (at_written old.lives d (lesser before offsets) within) ∙ at_d) in
+        sym is_after ∙ grown ∙ ap (λ (k : ℕ). least_offsets (rates_of setting.net k).ppm (readings (s ∷ earlier) k)) (sym same)
     lives_at x kept within grown at (inr other) =
-        subst (λ (xs : List (ℕ × ℕ)). IsLife (rates_of setting.net x).ppm xs kept) (sym (readings_elsewhere s earlier d x r read (λ e. other (sym e))))
-        (stands.lives x kept (sym (at_unwritten old.lives d x (Some after) other) ∙ at))
+        stands.lives x kept (sym (at_unwritten old.lives d x (lesser before offsets) other) ∙ at)
+        ∙ ap (least_offsets (rates_of setting.net x).ppm) (sym (readings_elsewhere s earlier d x r read (λ e. other (sym e))))
 
     order_at : (x : ℕ) → is_after_each (past_of earlier s d) (pair_of r) ≡ true → (x ≡ d) ⊎ (x ≡ d → ⊥)
         → is_after_each (readings (s ∷ earlier) x) (reference_of s.event, latest_reading (s ∷ earlier) x) ≡ true

@@ -1,10 +1,12 @@
--- No device is late exactly where the least of the references since which they owe a tick is not.
-use Rattle.std.proofs.Common.{◌≡◌, ℕ, zero, suc, ◌+◌, ◌-◌, ◌^◌, ◌<◌, ◌≤◌, Bool, true, false, not, ◌&&◌, ◌||◌, cond, List, [], ◌∷◌, length, nat_le, Some, None, inl, inr, refl, sym, ap, ◌∙◌, subst, arith}
+-- No device is late exactly where none owes a tick since a reference that is too early.
+use Rattle.std.proofs.Common.{◌≡◌, ℕ, zero, suc, ◌+◌, ◌-◌, ◌^◌, ◌<◌, ◌≤◌, Bool, true, false, not, ◌&&◌, ◌||◌, cond, List, [], ◌∷◌, length, get_or, nat_le, Some, None, inl, inr, refl, sym, ap, ◌∙◌, subst, arith}
 use Rattle.std.specs.Prelude.{filter, unwrap_or}
 use Rattle.std.specs.List.{list_all}
 use Rattle.std.proofs.lemmas.Bool.{and_parts, and_from, leb-true, le-leb, not-true, both_ways, cases_lt}
 use Rattle.std.proofs.lemmas.Bool.Decides.{same_from_decides}
+use Rattle.std.proofs.lemmas.List.{get_or_default}
 use Rattle.std.proofs.lemmas.List.Folds.{list_all-append}
+use Rattle.std.proofs.lemmas.List.Sums.{AllPass-from_list_all, list_all-from_AllPass}
 use Rattle.sd_num.specs.Lists.{below, of_some}
 use Rattle.sd_topo.specs.Network.{device_numbers}
 use Rattle.sd_topo.specs.declared.Thing.TheVariants as thing
@@ -13,6 +15,7 @@ use Rattle.sd_sched.specs.Events.{reference_of}
 use Rattle.sd_history.specs.World.{Setting, Seen, makes, fails, is_up, was_made, has_ever_failed, is_untouched, plan_numbered}
 use Rattle.sd_history.specs.Premises.{latest_tick, is_current_member, first_reference, ticks_in_time}
 use Rattle.sd_premise_clocks.specs.Owing.{is_awaited, first_of, owed_at}
+use Rattle.sd_premise_clocks.specs.Tickings.{AreOwed}
 
 -- Lists
 
@@ -161,13 +164,22 @@ in_time_holds setting s earlier small holds d within =
     both_in_time setting s earlier d small (each_below (tick_test setting s earlier) (length setting.net.devices) parts.0 d within)
     (λ member. sym (ap (λ (b : Bool). not b || start_test setting s earlier d) member) ∙ start)
 
--- so one look at the least number tells
-pub least_tells : (setting : Setting) (s : Seen) (earlier : List Seen) (least : ℕ) → reference_of s.event < 2 ^ 64
-    → ((d : ℕ) → d < length setting.net.devices → least ≤ owed_at setting earlier d) → (d : ℕ) → d < length setting.net.devices → owed_at setting earlier d ≡ least
-    → nat_le (reference_of s.event - setting.net.params.tick) least ≡ ticks_in_time setting s earlier
-least_tells setting s earlier least small below_all d within is_least =
-    same_from_decides (nat_le (reference_of s.event - setting.net.params.tick) least) (ticks_in_time setting s earlier) (
-      λ early. λ k inside. (let bound = leb-true (reference_of s.event - setting.net.params.tick) least early in let under = below_all k inside in omega (arith, bound, under)),
-      λ in_time. le-leb (reference_of s.event - setting.net.params.tick) least (omega (arith, in_time d within, is_least)),
+-- so one look at all references since which devices owe a tick tells
+pub all_tell : (setting : Setting) (s : Seen) (earlier : List Seen) (owed : List ℕ) → reference_of s.event < 2 ^ 64 → length owed ≡ length setting.net.devices
+    → AreOwed setting earlier owed → list_all (nat_le (reference_of s.event - setting.net.params.tick)) owed ≡ ticks_in_time setting s earlier
+all_tell setting s earlier owed small devices are =
+    let due : ℕ = reference_of s.event - setting.net.params.tick in
+    same_from_decides (list_all (nat_le due) owed) (ticks_in_time setting s earlier) (
+      λ none. λ d inside.
+          (let known : d < length owed = subst (λ (n : ℕ). d < n) (sym devices) inside in
+          let bound = leb-true due (get_or owed d 0) (AllPass-from_list_all (nat_le due) owed none d 0 known) in
+          let at = are d known in
+          omega (arith, bound, at)),
+      λ in_time. list_all-from_AllPass (nat_le due) owed (
+          λ d other within.
+          (let bound : due ≤ owed_at setting earlier d = in_time d (subst (λ (n : ℕ). d < n) devices within) in
+          let at = are d within in
+          le-leb due (get_or owed d other) (omega (arith, bound, at, get_or_default owed d other 0 within)))
+          ),
     )
     (in_time_holds setting s earlier small, holds_in_time setting s earlier)

@@ -1,24 +1,21 @@
 -- The monitor of ticks stands for what was seen and one event more.
-use Rattle.std.proofs.Common.{◌≡◌, ℕ, ◌-◌, ◌^◌, ◌<◌, ◌≤◌, Bool, true, false, ◌&&◌, ◌||◌, List, [], ◌∷◌, length, get_or, nat_le, Option, Some, None, inl, inr, refl, sym, ap, ◌∙◌, subst, arith}
+use Rattle.std.proofs.Common.{◌≡◌, ℕ, ◌-◌, ◌^◌, ◌<◌, Bool, true, false, ◌&&◌, ◌||◌, List, [], ◌∷◌, length, get_or, nat_le, Option, Some, None, inl, inr, refl, sym, ap, ◌∙◌, subst}
 use Rattle.std.specs.Prelude.{is_none}
-use Rattle.std.specs.List.{All, Contains}
+use Rattle.std.specs.List.{list_all}
 use Rattle.std.proofs.lemmas.Bool.{or_parts, both_ways, cases_eq}
 use Rattle.std.proofs.lemmas.Option.{same_Some}
-use Rattle.std.proofs.lemmas.List.{get_or_default}
 use Rattle.sd_sched.specs.Events.{reference_of, device_of, is_stage}
 use Rattle.sd_history.specs.World.{Setting, Seen}
 use Rattle.sd_history.specs.Premises.{tick_holds, ticks_in_time}
 use Rattle.sd_premise_clocks.specs.Owing.{owed_at, TicksKept, ticks_after, TicksStand}
 use Rattle.sd_premise_clocks.specs.Tickings.{AreOwed, TickKept, TickStands}
 use Rattle.sd_premise_clocks.proofs.Ticking.{owed_kept, ticks_stand}
-use Rattle.sd_premise_clocks.proofs.Judging.{least_tells}
+use Rattle.sd_premise_clocks.proofs.Judging.{all_tell}
 
 -- what one event more does to what is kept
-pub record Observes (setting : Setting) (s : Seen) (earlier : List Seen) (least : ℕ) (all : Bool) (old new : TickKept) : Type 0 where
+pub record Observes (setting : Setting) (s : Seen) (earlier : List Seen) (all : Bool) (old new : TickKept) : Type 0 where
   pub small : reference_of s.event < 2 ^ 64
-  pub below : All (λ n. least ≤ n) old.owed
-  pub among : Contains old.owed least
-  pub holds : new.holds ≡ (old.holds && nat_le (reference_of s.event - old.limit) least)
+  pub holds : new.holds ≡ (old.holds && list_all (nat_le (reference_of s.event - old.limit)) old.owed)
   pub limit : new.limit ≡ old.limit
   pub ticks : new.ticks ≡ ticks_after s.event old.ticks
   pub places : length new.owed ≡ length old.owed
@@ -27,27 +24,17 @@ pub record Observes (setting : Setting) (s : Seen) (earlier : List Seen) (least 
   pub named : all ≡ false → (d : ℕ) → device_of s.event ≡ Some d → get_or new.owed d 0 ≡ owed_at setting (s ∷ earlier) d
   pub others : all ≡ false → (k : ℕ) → (device_of s.event ≡ Some k → ⊥) → get_or new.owed k 0 ≡ get_or old.owed k 0
 
--- the premise is judged by the least number
-judged : (setting : Setting) (s : Seen) (earlier : List Seen) (least : ℕ) (old : TickKept) → reference_of s.event < 2 ^ 64 → All (λ n. least ≤ n) old.owed → Contains old.owed least
-    → TickStands setting old earlier → nat_le (reference_of s.event - old.limit) least ≡ ticks_in_time setting s earlier
-judged setting s earlier least old small below among stands =
-    let place : ℕ = among.0 in
-    let within : place < length old.owed = among.1 in
-    let is_least : get_or old.owed place least ≡ least = among.2 in
-    ap (λ (n : ℕ). nat_le (reference_of s.event - n) least) stands.limit
-    ∙ least_tells setting s earlier least small
-    (λ d inside.
-    (let known : d < length old.owed = subst (λ (n : ℕ). d < n) (sym stands.devices) inside in
-    let at = stands.owed d known in
-    let under = below d 0 known in
-    omega (arith, at, under)))
-    place (subst (λ (n : ℕ). place < n) stands.devices within) (sym (stands.owed place within) ∙ get_or_default old.owed place 0 least within ∙ is_least)
+-- the premise is judged by the references since which the devices owe a tick
+judged : (setting : Setting) (s : Seen) (earlier : List Seen) (old : TickKept) → reference_of s.event < 2 ^ 64 → TickStands setting old earlier
+    → list_all (nat_le (reference_of s.event - old.limit)) old.owed ≡ ticks_in_time setting s earlier
+judged setting s earlier old small stands =
+    ap (λ (n : ℕ). list_all (nat_le (reference_of s.event - n)) old.owed) stands.limit ∙ all_tell setting s earlier old.owed small stands.devices stands.owed
 
 -- since when each device owes a tick after the event
-owed_after : (setting : Setting) (s : Seen) (earlier : List Seen) (least : ℕ) (all : Bool) (old new : TickKept) → TickStands setting old earlier → Observes setting s earlier least all old new
+owed_after : (setting : Setting) (s : Seen) (earlier : List Seen) (all : Bool) (old new : TickKept) → TickStands setting old earlier → Observes setting s earlier all old new
     → all ≡ false → AreOwed setting (s ∷ earlier) new.owed
-owed_after setting s [] least all old new stands observes some k within = absurd (both_ways all some (observes.is_all ∙ ap (λ (o : Option ℕ). is_none o || s.closed || is_stage s.event) stands.ticks.first))
-owed_after setting s (x ∷ earlier) least all old new stands observes some k within = by (device_of s.event) refl
+owed_after setting s [] all old new stands observes some k within = absurd (both_ways all some (observes.is_all ∙ ap (λ (o : Option ℕ). is_none o || s.closed || is_stage s.event) stands.ticks.first))
+owed_after setting s (x ∷ earlier) all old new stands observes some k within = by (device_of s.event) refl
   where
     stays : (s.closed ≡ false) × (is_stage s.event ≡ false)
     stays =
@@ -69,11 +56,11 @@ owed_after setting s (x ∷ earlier) least all old new stands observes some k wi
       | inr apart ↦ other (λ at. apart (same_Some k d (sym at ∙ names)))
     ]
 
-pub tick_stands : (setting : Setting) (s : Seen) (earlier : List Seen) (least : ℕ) (all : Bool) (old new : TickKept) → TickStands setting old earlier → Observes setting s earlier least all old new
+pub tick_stands : (setting : Setting) (s : Seen) (earlier : List Seen) (all : Bool) (old new : TickKept) → TickStands setting old earlier → Observes setting s earlier all old new
     → TickStands setting new (s ∷ earlier)
-tick_stands setting s earlier least all old new stands observes = record {
-  holds = observes.holds ∙ ap (λ (b : Bool). b && nat_le (reference_of s.event - old.limit) least) stands.holds
-      ∙ ap (λ (b : Bool). tick_holds setting earlier && b) (judged setting s earlier least old observes.small observes.below observes.among stands);
+tick_stands setting s earlier all old new stands observes = record {
+  holds = observes.holds ∙ ap (λ (b : Bool). b && list_all (nat_le (reference_of s.event - old.limit)) old.owed) stands.holds
+      ∙ ap (λ (b : Bool). tick_holds setting earlier && b) (judged setting s earlier old observes.small stands);
   limit = observes.limit ∙ stands.limit;
   devices = observes.places ∙ stands.devices;
   ticks = subst (λ (kept : TicksKept). TicksStand setting kept (s ∷ earlier)) (sym observes.ticks) (ticks_stand setting old.ticks s earlier stands.ticks);
@@ -82,4 +69,4 @@ tick_stands setting s earlier least all old new stands observes = record {
   where
     by : (b : Bool) → all ≡ b → AreOwed setting (s ∷ earlier) new.owed
     by true is = observes.each is
-    by false is = owed_after setting s earlier least all old new stands observes is
+    by false is = owed_after setting s earlier all old new stands observes is

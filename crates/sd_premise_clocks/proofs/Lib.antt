@@ -1,5 +1,5 @@
 pub mod Drifting
-pub mod Matches
+pub mod Reaching
 pub mod Seeing
 pub mod Lives
 pub mod Holding

@@ -13,7 +13,7 @@ use Rattle.sd_sched.specs.Events.{reference_of, device_of, counter_of}
 use Rattle.sd_history.specs.World.{Setting, Seen, makes, latest_reading}
 use Rattle.sd_history.specs.Premises.{readings, reads_honestly}
 use Rattle.sd_history.specs.Refusals.{makes_some}
-use Rattle.sd_premise_clocks.specs.declared.extremes.Reading.{Reading}
+use Rattle.sd_premise_clocks.specs.declared.offsets.Reading.{Reading}
 use Rattle.sd_premise_clocks.specs.Readings.{pair_of, keeps_rates_with}
 use Rattle.sd_premise_clocks.specs.Drifts.{reading_with, reading_of}
 

@@ -8,23 +8,23 @@ ghost use Rattle.sd_history.specs.World.{Setting, Seen as Sight};
 ghost use Rattle.sd_history.specs.Premises.{drift_holds};
 ghost use Rattle.sd_history.specs.Refusals.{makes_some, may_be_seen};
 ghost use Rattle.sd_premise_clocks.specs.Sights.{sight_of};
-ghost use Rattle.sd_premise_clocks.specs.Readings.{pair_of, is_after_each, keeps_rates_with};
-ghost use Rattle.sd_premise_clocks.specs.Drifts.{reading_of, IsLife, DriftStands};
+ghost use Rattle.sd_premise_clocks.specs.Readings.{no_offsets};
+ghost use Rattle.sd_premise_clocks.specs.Drifts.{reading_of, DriftStands};
 
 use crate::Seen;
-use crate::extremes::{Extremes, Reading};
+use crate::offsets::{Offsets, Reading};
 use sd_num::{NoMemory, Rates};
 use sd_sched::Event;
 use sd_topo::Topology;
 use std::alloc::Global;
 use std::marker::Model;
 
-/// Whether the premise on drift has held so far, and the extreme readings of the present life of
-/// each device.
+/// Whether the premise on drift has held so far, and how far each device's counter lay off the
+/// reference at least in its present life.
 #[derive(Drop)]
 pub struct DriftMonitor {
-    /// By device; none before its first reading.
-    lives: Vec<Option<Extremes>>,
+    /// By device.
+    lives: Vec<Offsets>,
     holds: bool,
 }
 
@@ -58,28 +58,6 @@ fn begins_life(event: &Event) -> bool
     matches!(event, Event::Start { .. } | Event::Join { .. })
 }
 
-/// Whether a further reading keeps the rates with each of a life.
-fn allows(life: Option<Extremes>, rates: Rates, reading: Reading) -> bool
-    ensures { (readings : List (ℕ × ℕ)) → IsLife rates.ppm readings life → IsTrue (is_after_each readings (pair_of reading))
-        → result ≡ keeps_rates_with rates readings (pair_of reading) }
-{
-    match life {
-        Some(extremes) => extremes.allow(rates, reading),
-        None => true,
-    }
-}
-
-/// The extreme readings of a life with a further reading.
-fn with_reading(life: Option<Extremes>, rates: Rates, reading: Reading) -> Extremes
-    ensures { (readings : List (ℕ × ℕ)) → IsLife rates.ppm readings life → IsTrue (is_after_each readings (pair_of reading))
-        → IsLife rates.ppm (pair_of reading ∷ readings) (Some result) }
-{
-    match life {
-        Some(extremes) => extremes.with_reading(rates, reading),
-        None => Extremes::of_first(reading),
-    }
-}
-
 impl DriftMonitor {
     /// A monitor that has seen nothing of the devices of a topology.
     pub fn new(alloc: Global, topo: &Topology) -> Result<DriftMonitor, NoMemory>
@@ -87,7 +65,7 @@ impl DriftMonitor {
         ensures stands { IfOk result (λ monitor. (setting : Setting) → setting.net ≡ network topo.now
             → DriftStands setting monitor []) }
     {
-        match vec![in alloc; None; topo.devices() as usize] {
+        match vec![in alloc; Offsets::of_none(); topo.devices() as usize] {
             Ok(lives) => Ok(DriftMonitor { lives, holds: true }),
             Err(_) => Err(NoMemory),
         }
@@ -107,21 +85,22 @@ impl DriftMonitor {
     {
         if let Some((device, reading)) = reading_of(&seen.event) {
             let rates = topo.rates(device);
+            let offsets = Offsets::at(rates, reading);
             let life = self.life_before(device, begins_life(&seen.event));
-            self.holds &= allows(life, rates, reading);
-            self.lives[device as usize] = Some(with_reading(life, rates, reading));
+            self.holds &= life.allow(rates.grain, offsets);
+            self.lives[device as usize] = life.with_reading(offsets);
         }
         self.holds
     }
 
-    /// The life of a device that a reading goes on with, which is none where it begins one.
-    fn life_before(&self, device: u32, begins: bool) -> Option<Extremes>
+    /// The least offsets of the life that a reading of a device goes on with, or begins.
+    fn life_before(&self, device: u32, begins: bool) -> Offsets
         requires { device < length self.now.lives }
-        ensures begun { begins ≡ true → result ≡ None }
+        ensures begun { begins ≡ true → result ≡ no_offsets }
         ensures kept { begins ≡ false → slice_get self.now.lives device ≡ Some result }
     {
         if begins {
-            None
+            Offsets::of_none()
         } else {
             self.lives[device as usize]
         }

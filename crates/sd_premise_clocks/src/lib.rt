@@ -3,13 +3,15 @@
 //! of what was seen so far, and answers with each event whether its premise holds still.
 //!
 //! No monitor takes memory once it is made, and none looks at more than a logarithmic number of
-//! devices at an event, but for the tick monitor at a stage and a closing.
+//! devices at an event, but for the tick monitor: at the first event, a stage and a closing it looks
+//! at each device, and at another event perhaps at many of which earlier events told it, so that
+//! only the average over all events is logarithmic.
 #![tactic(auto)]
 
 mod delay;
 mod drift;
-mod extremes;
 mod members;
+mod offsets;
 mod seen;
 mod start;
 mod tick;

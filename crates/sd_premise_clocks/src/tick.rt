@@ -1,6 +1,7 @@
 //! The premise on ticks: each device that is up and a member of a plan that counts ticks often
 //! enough, and each member of the first plan starts soon.
-ghost use Rattle.std.specs.Prelude.{◌≡◌, ◌≢◌, ℕ, ◌<◌, ◌||◌, ◌∷◌, [], List, length, slice_index, is_none, IfOk};
+ghost use Rattle.std.specs.Prelude.{◌≡◌, ◌≢◌, ℕ, ◌<◌, ◌||◌, ◌&&◌, ◌∷◌, [], List, length, nat_le, slice_index, is_none, IfOk};
+ghost use Rattle.std.specs.List.{list_all};
 ghost use Rattle.std.specs.Option.{ForSome};
 ghost use Rattle.sd_topo.specs.Topologies.{network};
 ghost use Rattle.sd_sched.specs.Events.{device_of, is_stage};
@@ -27,7 +28,7 @@ use std::marker::Model;
 pub struct TickMonitor {
     ticks: Ticks,
     /// By device, the reference since which it owes a tick, and the greatest number where it owes
-    /// none. The device that is late first is so found without a look at the others.
+    /// none. That none is late is so seen, at most events, by one look.
     owed: Tournament,
     /// How much reference time may pass from one tick to the next, in ps.
     limit: u64,
@@ -79,6 +80,15 @@ fn note_all(owed: &mut Tournament, ticks: &Ticks, members: &Members, world: &Wor
     }
 }
 
+/// Whether the premise held so far, and no device owes a tick since before `due`. Once it is broken
+/// no device is looked at: it stays so.
+fn holds_still(held: bool, owed: &mut Tournament, due: u64) -> bool
+    ensures answer { result ≡ (held && list_all (nat_le due) owed.old) }
+    ensures same { owed.new ≡ owed.old }
+{
+    held && owed.has_none_below(due)
+}
+
 impl TickMonitor {
     /// A monitor that has seen nothing of the devices of a topology and of the members of plans.
     pub fn new(alloc: Global, topo: &Topology, members: &Members) -> Result<TickMonitor, NoMemory>
@@ -110,7 +120,8 @@ impl TickMonitor {
             → TickStands setting self.old earlier → result ≡ tick_holds setting (sight_of seen.now ∷ earlier) }
         ensures devices { length self.new.owed ≡ length self.old.owed }
     {
-        self.holds &= seen.event.reference().saturating_sub(self.limit) <= self.owed.least();
+        let due = seen.event.reference().saturating_sub(self.limit);
+        self.holds = holds_still(self.holds, &mut self.owed, due);
         let all = self.is_changed_for_all(seen);
         self.ticks.observe(&seen.event);
         if all {

@@ -1,19 +1,24 @@
-//! A tournament tree: numbers by place, of which the least is always at hand.
-ghost use Rattle.std.specs.Prelude.{◌≡◌, ◌+◌, ◌*◌, ◌/◌, ◌<◌, ◌≤◌, length, drop, replicate, slice_set, All, Contains, IfOk};
-ghost use Rattle.sd_premise_clocks.specs.Tournaments.{ArePlayed, ArePlayedBut};
+//! A tournament tree that is brought up to date only when it is asked: numbers by place, and
+//! whether one of them is less than a bound.
+ghost use Rattle.std.specs.Prelude.{◌≡◌, ◌*◌, ◌<◌, ◌≤◌, length, drop, replicate, nat_le, slice_index, slice_set, All, IfOk};
+ghost use Rattle.std.specs.List.{list_all};
+ghost use Rattle.sd_premise_clocks.specs.Tournaments.{AreOrdered, AreOrderedBut, HaveRisen};
 
 use sd_num::NoMemory;
 use std::alloc::Global;
 use std::marker::Model;
 
-/// Numbers by place. To write one takes as many steps as the tree is high, and one where it stood
-/// there before; to ask for the least takes one.
+/// Numbers by place. To write a number no less than the one that stood there takes one step, and a
+/// lesser one as many as the tree is high. A question takes one where the root reaches the bound;
+/// else it brings nodes up to date that greater numbers left behind. Until a number is less than
+/// the bound, all questions do so to no more nodes than the tree is high for each number written.
 #[derive(Drop)]
 pub struct Tournament {
     /// How many numbers there are, at least 1.
     places: usize,
     /// The tree, node by node from its root at 1: the children of node i are 2 i and 2 i + 1, and
-    /// it has the lesser of their numbers. The last `places` nodes have the numbers themselves.
+    /// it has no greater number than either, so none below it is less. The last `places` nodes have
+    /// the numbers themselves.
     nodes: Vec<u64>,
 }
 
@@ -29,19 +34,38 @@ impl Model for Tournament {
     ghost invariant = { IsTournament };
 }
 
-/// Plays the matches above a node again, up to the root.
-fn replay(nodes: &mut [u64], places: usize, changed: usize)
+/// Lowers the nodes above a changed one to its number, as far as they are greater.
+fn lower(nodes: &mut [u64], places: usize, changed: usize)
     requires size { length nodes.old ≡ 2 * places }
     requires node { changed < 2 * places }
-    requires played { ArePlayedBut nodes.old places (changed / 2) }
-    ensures played { ArePlayed nodes.new places }
+    requires ordered { AreOrderedBut nodes.old changed }
+    ensures ordered { AreOrdered nodes.new }
     ensures same { drop places nodes.new ≡ drop places nodes.old }
 {
     let mut node = changed;
-    while node > 1 {
+    while node > 1 && nodes[node / 2] > nodes[node] {
+        nodes[node / 2] = nodes[node];
         node /= 2;
-        nodes[node] = nodes[2 * node].min(nodes[2 * node + 1]);
     }
+}
+
+/// Brings up to date the nodes from this one down that are less than the bound.
+fn refresh(nodes: &mut [u64], places: usize, node: usize, bound: u64)
+    requires size { length nodes.old ≡ 2 * places }
+    requires first { 1 ≤ node }
+    requires last { node < 2 * places }
+    requires ordered { AreOrdered nodes.old }
+    ensures ordered { AreOrdered nodes.new }
+    ensures risen { HaveRisen nodes.old nodes.new }
+    ensures same { drop places nodes.new ≡ drop places nodes.old }
+    ensures reached { All (λ number. bound ≤ number) (drop places nodes.old) → bound ≤ slice_index nodes.new node }
+{
+    if nodes[node] >= bound || node >= places {
+        return;
+    }
+    refresh(nodes, places, 2 * node, bound);
+    refresh(nodes, places, 2 * node + 1, bound);
+    nodes[node] = nodes[2 * node].min(nodes[2 * node + 1]);
 }
 
 impl Tournament {
@@ -63,18 +87,20 @@ impl Tournament {
         ensures { self.new ≡ slice_set self.old place number }
     {
         let node = self.places + place;
-        if self.nodes[node] == number {
-            return;
-        }
         self.nodes[node] = number;
-        replay(&mut self.nodes, self.places, node);
+        lower(&mut self.nodes, self.places, node);
     }
 
-    /// The least of the numbers.
-    pub fn least(&self) -> u64
-        ensures below { All (λ number. result ≤ number) self.now }
-        ensures among { Contains self.now result }
+    /// Whether no number is less than the bound.
+    pub fn has_none_below(&mut self, bound: u64) -> bool
+        ensures answer { result ≡ list_all (nat_le bound) self.old }
+        ensures same { self.new ≡ self.old }
     {
-        self.nodes[1]
+        // Nearly always the root tells.
+        if self.nodes[1] >= bound {
+            return true;
+        }
+        refresh(&mut self.nodes, self.places, 1, bound);
+        self.nodes[1] >= bound
     }
 }

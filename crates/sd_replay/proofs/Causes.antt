@@ -59,3 +59,7 @@ told_cause setting steps e fault r told is = by (refusal setting steps e) refl i
     by None none is = tt
     by (Some cause) same (inl is) = told ∙ ap Err (of_cause setting steps e fault is ∙ ap Apply (cc (same, is)))
     by (Some cause) same (inr short) = cc (same, short.1)
+
+-- an event that the history does not refuse is not refused for a cause
+pub unrefused : {A : Type 0} (r : Result A ReplayFault) (setting : Setting) (steps : List Step) (e : Event) → refusal setting steps e ≡ None → IfSome (refusal setting steps e) (λ cause. r ≡ Err (Apply cause))
+unrefused r setting steps e none = subst (λ (o : Option ApplyFault). IfSome o (λ cause. r ≡ Err (Apply cause))) (sym none) tt

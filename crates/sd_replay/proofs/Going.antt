@@ -83,6 +83,12 @@ module _ {N V : Type 0} (g : Ghosts N) (o : observers.Ghosts V) (fleet : Fleet N
             };
       }
 
+-- the fleet is another that stands for the same runs
+pub stands_prepared : {N V : Type 0} (g : Ghosts N) (o : observers.Ghosts V) (before after : Fleet N g) (onlooker : Onlooker) (journal : Journal) (observer : V) (setting : Setting) (run : List (NodeStep N))
+    → ((setting : Setting) (run : List (NodeStep N)) → fleets.StandsFor g before setting run → fleets.StandsFor g after setting run) → Stands g o before onlooker journal observer setting run → Stands g o after onlooker journal observer setting run
+stands_prepared g o before after onlooker journal observer setting run keeps stands =
+    record { sound = stands.sound; made = keeps setting run stands.made; onlooks = stands.onlooks; tells = stands.tells; told = stands.told }
+
 -- another fleet that stands for the same runs
 pub with_fleet : {N V : Type 0} (g : Ghosts N) (o : observers.Ghosts V) (before after : Fleet N g) (onlooker : Onlooker) (journal : Journal) (observer : V)
     → ((setting : Setting) (run : List (NodeStep N)) → fleets.StandsFor g before setting run → fleets.StandsFor g after setting run) → HasRun g o before onlooker journal observer → HasRun g o after onlooker journal observer

@@ -38,6 +38,7 @@ impl Journal {
     }
 
     /// Writes an event, of which this was found, in place of the one before.
+    #[inline(always)]
     pub(crate) fn note(&mut self, findings: &Findings, ended: bool)
         requires room { HasRoom self.old.tally }
         requires devices { IsOf (network self.old.topology) findings.now }

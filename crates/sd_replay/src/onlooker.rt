@@ -62,6 +62,7 @@ impl Onlooker {
     }
 
     /// Makes room for an event that sends so many messages. Only this takes memory.
+    #[inline(always)]
     pub(crate) fn ready(&mut self, alloc: Global, sent: usize) -> Result<(), NoMemory>
         ensures room { OnOk result (sent ≤ room_of self.new) }
         ensures grows { room_of self.old ≤ room_of self.new }
@@ -80,6 +81,7 @@ impl Onlooker {
 
     /// Looks at an event that has just happened in the fleet, and tells what is to be printed of
     /// it. It takes no memory.
+    #[inline(always)]
     pub(crate) fn look<N: Node>(
         &mut self,
         fleet: &Fleet<N>,

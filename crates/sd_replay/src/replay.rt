@@ -105,11 +105,11 @@ impl<N: Node, V: Observer> Replay<N, V> {
         ensures refused { IfErr result (λ fault. (setting : Setting) (run : List (NodeStep N)) → StandsFor N.Node V.Observer self.old setting run
             → StandsFor N.Node V.Observer self.new setting run × IsFault fault setting (steps_of run) event.now) }
     {
-        // The fleet asks itself whether it refuses the event: only where there is no room is it asked here.
-        let Ok(()) = self.ready(alloc, event) else {
-            return Err(self.without_room(event));
+        let most = self.fleet.prepare(alloc, event)?;
+        let Ok(()) = self.ready(alloc, event, most) else {
+            return Err(ReplayFault::Memory);
         };
-        let outcome = self.fleet.apply(alloc, event)?;
+        let outcome = self.fleet.happen(event);
         let findings = self.onlooker.look(&self.fleet, event, &outcome);
         self.journal.note(&findings, outcome.ended);
         if let Some((d, report)) = outcome.report {
@@ -119,21 +119,11 @@ impl<N: Node, V: Observer> Replay<N, V> {
         Ok(())
     }
 
-    /// Why an event does not happen for which there is no room: a refusal comes first.
-    fn without_room(&self, event: &Event) -> ReplayFault
-        requires { IsTrue (may_take event.now) }
-        ensures { (setting : Setting) (run : List (NodeStep N)) → StandsFor N.Node V.Observer self.now setting run
-            → IsFault result setting (steps_of run) event.now }
-    {
-        match self.fleet.refusal(event) {
-            Some(fault) => ReplayFault::Apply(fault),
-            None => ReplayFault::Memory,
-        }
-    }
-
-    /// Makes the room that the event needs beside the fleet's own.
-    fn ready(&mut self, alloc: Global, event: &Event) -> Result<(), NoMemory>
-        ensures room { OnOk result (most_sent_in self.old.fleet.fabric event.now ≤ room_of self.new.onlooker) }
+    /// Makes the room that the event needs beside the fleet's own, which sends so many messages at
+    /// most.
+    fn ready(&mut self, alloc: Global, event: &Event, most: usize) -> Result<(), NoMemory>
+        requires most { most ≡ most_sent_in self.old.fleet.fabric event.now }
+        ensures room { OnOk result (most ≤ room_of self.new.onlooker) }
         ensures observer { OnOk result (IsTrue (asks event.now) → 1 ≤ V.room self.new.observer) }
         ensures memory { OnErr result (IsTrue (may_take event.now)) }
         ensures fleet { self.new.fleet ≡ self.old.fleet }
@@ -142,10 +132,7 @@ impl<N: Node, V: Observer> Replay<N, V> {
         ensures told { (reports : List ReportAt) → V.stands self.old.observer reports → V.stands self.new.observer reports }
     {
         match *event {
-            Event::Tick { .. } | Event::Recv { .. } => {
-                let sent = self.fleet.most_sent(event);
-                self.onlooker.ready(alloc, sent)
-            }
+            Event::Tick { .. } | Event::Recv { .. } => self.onlooker.ready(alloc, most),
             Event::Ask { .. } => self.observer.ready(alloc),
             _ => Ok(()),
         }

@@ -35,6 +35,7 @@ fn stance_of<N: Node>(fleet: &Fleet<N>, d: u32) -> Stance
 }
 
 /// Keeps how a device stands after the latest event.
+#[inline(always)]
 fn keep_stance<N: Node>(stances: &mut Stances, fleet: &Fleet<N>, d: u32)
     requires device { d < length fleet.now.fabric.net.devices }
     requires parents { d < length stances.old.parents }

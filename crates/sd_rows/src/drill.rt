@@ -1,13 +1,12 @@
 //! `drill`: bounds and refusals worked out by hand, in pieces, and where the outside fails.
-ghost use Rattle.std.specs.Prelude.{◌≡◌, ◌≤◌, false, IfOk};
+ghost use Rattle.std.specs.Prelude.{◌≤◌};
 
+use crate::runs::{Run, assert_ran, run_of};
 use sd_examples::{
     DRIFTLESS, DRIFTLESS_PLAN, FABRIC, FABRIC_PLAN, TRIANGLE, TRIANGLE_2, TRIANGLE_PLAN,
 };
-use sd_outside::MemShelf;
 use sd_rows_kit::{USAGE, run_words, shelf_of};
 use sd_top::Status;
-use std::alloc::{AllocError, Global};
 use std::process::Abort;
 use std::test::Fail;
 
@@ -37,19 +36,9 @@ bound link bx x 5449722
 done 6 3
 ";
 
-/// A shelf that holds a topology and a plan.
-fn shelf_for<'a>(
-    alloc: Global,
-    topology: &'a str,
-    plan: &'a str,
-    piece: usize,
-    failing: &[u64],
-) -> Result<MemShelf, AllocError>
-    requires { 1 ≤ piece }
-    ensures { IfOk result (λ shelf. shelf.begun ≡ false) }
-{
-    let texts = [("topology", topology.as_bytes()), ("plan", plan.as_bytes())];
-    shelf_of(alloc, &texts, piece, failing)
+/// A topology and a plan under their names.
+fn texts_of<'a>(topology: &'a str, plan: &'a str) -> [(&'a str, &'a [u8]); 2] {
+    [("topology", topology.as_bytes()), ("plan", plan.as_bytes())]
 }
 
 /// One run that nothing stops: what is written and answered.
@@ -62,14 +51,12 @@ fn assert_run(
 ) -> Result<(), Fail>
     requires { 1 ≤ piece }
 {
-    let alloc = rt.alloc();
-    let (topology, plan) = files;
-    let (output, status) = due;
-    let mut shelf = shelf_for(alloc, topology, plan, piece, &[])?;
-    let ran = run_words(alloc, words, &mut shelf, &[])?;
-    assert_eq!(rt; std::str::from_utf8(ran.out.bytes()), Ok(output));
-    assert_eq!(rt; ran.status, status, "{output:?} in pieces of {piece}");
-    Ok(())
+    let texts = texts_of(files.0, files.1);
+    let run = Run {
+        piece,
+        ..run_of(words, &texts)
+    };
+    assert_ran(rt, run, due)
 }
 
 #[test]
@@ -130,7 +117,7 @@ fn a_budget_is_two_numbers_within_their_limit(rt: HostRuntime) -> Result<(), Fai
     }
     let alloc = rt.alloc();
     let limit = "1152921504606846976";
-    let mut shelf = shelf_for(alloc, TRIANGLE, TRIANGLE_PLAN, 8192, &[])?;
+    let mut shelf = shelf_of(alloc, &texts_of(TRIANGLE, TRIANGLE_PLAN), 8192, &[])?;
     let words = ["drill", "topology", "plan", limit, limit];
     let ran = run_words(alloc, &words, &mut shelf, &[])?;
     assert_eq!(rt; ran.status, Status::Done);
@@ -139,28 +126,27 @@ fn a_budget_is_two_numbers_within_their_limit(rt: HostRuntime) -> Result<(), Fai
 
 #[test]
 fn a_write_that_fails_ends_the_drill(rt: HostRuntime) -> Result<(), Fail> {
-    let alloc = rt.alloc();
+    let texts = texts_of(TRIANGLE, TRIANGLE_PLAN);
     for (write, kept, length) in [(1, 0, 0), (1, 8, 8), (2, 0, 69), (7, 7, 430)] {
-        let mut shelf = shelf_for(alloc, TRIANGLE, TRIANGLE_PLAN, 8192, &[])?;
-        let ran = run_words(alloc, &WORDS, &mut shelf, &[(write, kept)])?;
-        assert_eq!(rt; ran.status, Status::SinkFault, "write {write}");
-        assert_eq!(rt; ran.out.bytes().len(), length, "write {write}");
-        assert!(rt;
-            BOUNDS.as_bytes().starts_with(ran.out.bytes()),
-            "write {write}"
-        );
+        let run = Run {
+            writes: &[(write, kept)],
+            ..run_of(&WORDS, &texts)
+        };
+        let front = BOUNDS.get(..length).ok_or("the bounds are shorter")?;
+        assert_ran(&rt, run, (front, Status::SinkFault))?;
     }
     Ok(())
 }
 
 #[test]
 fn a_read_that_fails_leaves_nothing(rt: HostRuntime) -> Result<(), Fail> {
-    let alloc = rt.alloc();
+    let texts = texts_of(TRIANGLE, TRIANGLE_PLAN);
     for call in [1, 2, 4] {
-        let mut shelf = shelf_for(alloc, TRIANGLE, TRIANGLE_PLAN, 8192, &[call])?;
-        let ran = run_words(alloc, &WORDS, &mut shelf, &[])?;
-        assert_eq!(rt; ran.status, Status::ShelfFault, "call {call}");
-        assert_eq!(rt; ran.out.bytes().len(), 0, "call {call}");
+        let run = Run {
+            calls: &[call],
+            ..run_of(&WORDS, &texts)
+        };
+        assert_ran(&rt, run, ("", Status::ShelfFault))?;
     }
     Ok(())
 }

@@ -5,6 +5,8 @@
 #[cfg(test)]
 mod drill;
 #[cfg(test)]
+mod runs;
+#[cfg(test)]
 mod tests;
 #[cfg(test)]
 mod twoway;

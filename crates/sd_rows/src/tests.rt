@@ -1,5 +1,5 @@
 //! Worked runs of the whole program: bytes, statuses, pieces and faults.
-ghost use Rattle.std.specs.Prelude.{◌≡◌, ◌≤◌, false, IfOk};
+ghost use Rattle.std.specs.Prelude.{◌≤◌};
 
 mod check;
 mod faults;
@@ -7,25 +7,24 @@ mod migrate;
 mod plan;
 mod texts;
 
-use sd_outside::MemShelf;
-use sd_rows_kit::{USAGE, run_words, shelf_of};
+use crate::runs::{Run, assert_leaves, assert_ran, refused_at_once, run_of};
+use sd_rows_kit::USAGE;
 use sd_top::Status;
-use std::alloc::Global;
 use std::process::Abort;
 use std::test::Fail;
 
 /// A start, an ask five microseconds later and an end.
 const PLAIN: &str = "start 1000000 0 0 1000000 500\nask 6000000 0 5000000\nend 6000000\n";
 
-/// A shelf that holds a text under the name `file`.
-fn shelf_with(alloc: Global, text: &[u8], piece: usize, failing: &[u64]) -> Result<MemShelf, Fail>
-    requires { 1 ≤ piece }
-    ensures { IfOk result (λ shelf. shelf.begun ≡ false) }
-{
-    Ok(shelf_of(alloc, &[("file", text)], piece, failing)?)
+/// The words of all runs but those of other words.
+const WORDS: [&str; 2] = ["solo", "file"];
+
+/// A schedule under its name.
+fn texts_of<'a>(schedule: &'a [u8]) -> [(&'a str, &'a [u8]); 1] {
+    [("file", schedule)]
 }
 
-/// One schedule over a shelf in memory: what is written and answered.
+/// One schedule in pieces: what is written and answered.
 fn assert_run(
     rt: &(impl Abort + AllocGlobal),
     schedule: &[u8],
@@ -35,16 +34,12 @@ fn assert_run(
 ) -> Result<(), Fail>
     requires { 1 ≤ piece }
 {
-    let alloc = rt.alloc();
-    let mut shelf = shelf_with(alloc, schedule, piece, &[])?;
-    let ran = run_words(alloc, &["solo", "file"], &mut shelf, &[])?;
-    assert_eq!(rt; ran.status, status, "{output:?} in pieces of {piece}");
-    assert_eq!(rt;
-        ran.out.bytes(),
-        output.as_bytes(),
-        "{output:?} in pieces of {piece}"
-    );
-    Ok(())
+    let texts = texts_of(schedule);
+    let run = Run {
+        piece,
+        ..run_of(&WORDS, &texts)
+    };
+    assert_ran(rt, run, (output, status))
 }
 
 #[test]
@@ -219,57 +214,58 @@ fn long_lines(rt: HostRuntime) -> Result<(), Fail> {
 
 #[test]
 fn reads_no_further_than_a_refused_line_needs(rt: HostRuntime) -> Result<(), Fail> {
-    let mut schedule = vec![in rt.alloc(); b'y'; 20_002]?;
-    schedule.as_mut_slice()[..2].copy_from_slice(b"x\n");
-    let mut shelf = shelf_with(rt.alloc(), schedule.as_slice(), 8192, &[3])?;
-    let words = ["solo", "file"];
-    let ran = run_words(rt.alloc(), &words, &mut shelf, &[])?;
-    assert_eq!(rt; ran.status, Status::InputRefused);
-    assert_eq!(rt;
-        ran.out.bytes(),
-        b"input schedule 1 UnknownWord\n".as_slice()
-    );
-    assert!(rt; shelf.left().len() >= 11_810);
-    Ok(())
+    let schedule = refused_at_once(rt.alloc())?;
+    let texts = texts_of(schedule.as_slice());
+    let run = Run {
+        calls: &[3],
+        ..run_of(&WORDS, &texts)
+    };
+    let due = ("input schedule 1 UnknownWord\n", Status::InputRefused);
+    assert_leaves(&rt, run, due, 11_810)
 }
 
 #[test]
 fn each_call_of_the_shelf_fails(rt: HostRuntime) -> Result<(), Fail> {
+    let texts = texts_of(PLAIN.as_bytes());
     for call in 1..=8u64 {
-        let mut shelf = shelf_with(rt.alloc(), PLAIN.as_bytes(), 12, &[call])?;
-        let words = ["solo", "file"];
-        let ran = run_words(rt.alloc(), &words, &mut shelf, &[])?;
+        let run = Run {
+            piece: 12,
+            calls: &[call],
+            ..run_of(&WORDS, &texts)
+        };
         let output = if call < 7 {
             ""
         } else {
             "report 2 0 6000000 2500\n"
         };
-        assert_eq!(rt; ran.status, Status::ShelfFault, "call {call}");
-        assert_eq!(rt; ran.out.bytes(), output.as_bytes(), "call {call}");
+        assert_ran(&rt, run, (output, Status::ShelfFault))?;
     }
     // a third call that fails in pieces of 30 bytes, and a name that is not held
     for (name, call) in [("file", 3), ("other", 4)] {
-        let mut shelf = shelf_with(rt.alloc(), PLAIN.as_bytes(), 30, &[call])?;
         let words = ["solo", name];
-        let ran = run_words(rt.alloc(), &words, &mut shelf, &[])?;
-        assert_eq!(rt; ran.status, Status::ShelfFault, "{name}");
-        assert_eq!(rt; ran.out.bytes(), b"".as_slice(), "{name}");
+        let run = Run {
+            piece: 30,
+            calls: &[call],
+            ..run_of(&words, &texts)
+        };
+        assert_ran(&rt, run, ("", Status::ShelfFault))?;
     }
     Ok(())
 }
 
 #[test]
 fn each_write_fails(rt: HostRuntime) -> Result<(), Fail> {
-    let words = ["solo", "file"];
+    let texts = texts_of(PLAIN.as_bytes());
     for (write, kept, output) in [
         (1, 3, "rep"),
         (1, 9, "report 2 "),
         (2, 3, "report 2 0 6000000 2500\ndon"),
     ] {
-        let mut shelf = shelf_with(rt.alloc(), PLAIN.as_bytes(), 8192, &[])?;
-        let ran = run_words(rt.alloc(), &words, &mut shelf, &[(write, kept)])?;
-        assert_eq!(rt; ran.status, Status::SinkFault);
-        assert_eq!(rt; ran.out.bytes(), output.as_bytes());
+        let run = Run {
+            writes: &[(write, kept)],
+            ..run_of(&WORDS, &texts)
+        };
+        assert_ran(&rt, run, (output, Status::SinkFault))?;
     }
     Ok(())
 }
@@ -294,11 +290,9 @@ fn other_words_are_usage(rt: HostRuntime) -> Result<(), Fail> {
         &["migrate", "file", "file"],
         &["file", "migrate"],
     ];
+    let texts = texts_of(PLAIN.as_bytes());
     for words in cases {
-        let mut shelf = shelf_with(rt.alloc(), PLAIN.as_bytes(), 8192, &[])?;
-        let ran = run_words(rt.alloc(), words, &mut shelf, &[])?;
-        assert_eq!(rt; ran.status, Status::Usage);
-        assert_eq!(rt; ran.out.bytes(), USAGE.as_bytes());
+        assert_ran(&rt, run_of(words, &texts), (USAGE, Status::Usage))?;
     }
     Ok(())
 }

@@ -1,33 +1,22 @@
 //! `twoway`: bounds and refusals worked out by hand, in pieces, and where the outside fails.
-ghost use Rattle.std.specs.Prelude.{◌≡◌, ◌≤◌, false, IfOk};
+ghost use Rattle.std.specs.Prelude.{◌≤◌};
 
+use crate::runs::{Run, assert_calls_fail, assert_leaves, assert_ran, refused_at_once, run_of};
 use sd_examples::{TRIANGLE, TRIANGLE_2};
-use sd_outside::MemShelf;
-use sd_rows_kit::{USAGE, run_words, shelf_of};
+use sd_rows_kit::USAGE;
 use sd_top::Status;
-use std::alloc::{AllocError, Global};
 use std::process::Abort;
 use std::test::Fail;
 
 /// The words of all runs but those of other words.
 const WORDS: [&str; 3] = ["twoway", "topology", "exchanges"];
 
-/// A shelf that holds a topology and exchanges.
-fn shelf_for<'a>(
-    alloc: Global,
-    topology: &'a str,
-    exchanges: &'a [u8],
-    piece: usize,
-    failing: &[u64],
-) -> Result<MemShelf, AllocError>
-    requires { 1 ≤ piece }
-    ensures { IfOk result (λ shelf. shelf.begun ≡ false) }
-{
-    let texts = [("topology", topology.as_bytes()), ("exchanges", exchanges)];
-    shelf_of(alloc, &texts, piece, failing)
+/// A topology and exchanges under their names.
+fn texts_of<'a>(topology: &'a str, exchanges: &'a [u8]) -> [(&'a str, &'a [u8]); 2] {
+    [("topology", topology.as_bytes()), ("exchanges", exchanges)]
 }
 
-/// One run over the triangle: what is written and answered.
+/// One run over a topology in pieces: what is written and answered.
 fn assert_bounds(
     rt: &(impl Abort + AllocGlobal),
     topology: &str,
@@ -38,12 +27,12 @@ fn assert_bounds(
 ) -> Result<(), Fail>
     requires { 1 ≤ piece }
 {
-    let alloc = rt.alloc();
-    let mut shelf = shelf_for(alloc, topology, exchanges, piece, &[])?;
-    let ran = run_words(alloc, &WORDS, &mut shelf, &[])?;
-    assert_eq!(rt; std::str::from_utf8(ran.out.bytes()), Ok(output));
-    assert_eq!(rt; ran.status, status, "{output:?} in pieces of {piece}");
-    Ok(())
+    let texts = texts_of(topology, exchanges);
+    let run = Run {
+        piece,
+        ..run_of(&WORDS, &texts)
+    };
+    assert_ran(rt, run, (output, status))
 }
 
 /// Exchanges over the triangle, with what is written.
@@ -185,17 +174,10 @@ fn long_lines(rt: HostRuntime) -> Result<(), Fail> {
 
 #[test]
 fn reads_no_further_than_a_refused_line_needs(rt: HostRuntime) -> Result<(), Fail> {
-    let mut exchanges = vec![in rt.alloc(); b'y'; 20_002]?;
-    exchanges.as_mut_slice()[..2].copy_from_slice(b"x\n");
-    let mut shelf = shelf_for(rt.alloc(), TRIANGLE, exchanges.as_slice(), 8192, &[])?;
-    let ran = run_words(rt.alloc(), &WORDS, &mut shelf, &[])?;
-    assert_eq!(rt; ran.status, Status::InputRefused);
-    assert_eq!(rt;
-        ran.out.bytes(),
-        b"input exchanges 1 UnknownWord\n".as_slice()
-    );
-    assert!(rt; shelf.left().len() >= 11_810);
-    Ok(())
+    let exchanges = refused_at_once(rt.alloc())?;
+    let texts = texts_of(TRIANGLE, exchanges.as_slice());
+    let due = ("input exchanges 1 UnknownWord\n", Status::InputRefused);
+    assert_leaves(&rt, run_of(&WORDS, &texts), due, 11_810)
 }
 
 /// Two links with an exchange each, and what is written of them.
@@ -206,25 +188,15 @@ const TWO: (&str, &str) = (
 
 #[test]
 fn nothing_is_written_where_a_call_of_the_shelf_fails(rt: HostRuntime) -> Result<(), Fail> {
-    let alloc = rt.alloc();
-    let exchanges = TWO.0.as_bytes();
+    let (exchanges, output) = TWO;
+    let texts = texts_of(TRIANGLE, exchanges.as_bytes());
     // each text is begun, read, and found to be at its end
-    for call in 1..=6u64 {
-        let mut shelf = shelf_for(alloc, TRIANGLE, exchanges, 8192, &[call])?;
-        let ran = run_words(alloc, &WORDS, &mut shelf, &[])?;
-        assert_eq!(rt; ran.status, Status::ShelfFault, "call {call}");
-        assert_eq!(rt; ran.out.bytes(), b"".as_slice(), "call {call}");
-    }
-    let mut shelf = shelf_for(alloc, TRIANGLE, exchanges, 8192, &[7])?;
-    let ran = run_words(alloc, &WORDS, &mut shelf, &[])?;
-    assert_eq!(rt; ran.status, Status::Done);
-    assert_eq!(rt; std::str::from_utf8(ran.out.bytes()), Ok(TWO.1));
-    Ok(())
+    assert_calls_fail(&rt, run_of(&WORDS, &texts), 6, output)
 }
 
 #[test]
 fn each_line_is_a_write_of_its_own(rt: HostRuntime) -> Result<(), Fail> {
-    let alloc = rt.alloc();
+    let texts = texts_of(TRIANGLE, TWO.0.as_bytes());
     for (write, kept, output) in [
         (1, 0, ""),
         (1, 7, "link rb"),
@@ -235,10 +207,11 @@ fn each_line_is_a_write_of_its_own(rt: HostRuntime) -> Result<(), Fail> {
             "link rb 698660 701340 1 inside\nlink rx 0 500 1 outside\ndone 3",
         ),
     ] {
-        let mut shelf = shelf_for(alloc, TRIANGLE, TWO.0.as_bytes(), 8192, &[])?;
-        let ran = run_words(alloc, &WORDS, &mut shelf, &[(write, kept)])?;
-        assert_eq!(rt; ran.status, Status::SinkFault, "write {write}");
-        assert_eq!(rt; std::str::from_utf8(ran.out.bytes()), Ok(output));
+        let run = Run {
+            writes: &[(write, kept)],
+            ..run_of(&WORDS, &texts)
+        };
+        assert_ran(&rt, run, (output, Status::SinkFault))?;
     }
     Ok(())
 }
@@ -252,15 +225,9 @@ fn other_words_are_usage(rt: HostRuntime) -> Result<(), Fail> {
         &["topology", "twoway", "exchanges"],
         &["Twoway", "topology", "exchanges"],
     ];
+    let texts = texts_of(TRIANGLE, b"end\n");
     for words in cases {
-        let mut shelf = shelf_for(rt.alloc(), TRIANGLE, b"end\n", 8192, &[])?;
-        let ran = run_words(rt.alloc(), words, &mut shelf, &[])?;
-        assert_eq!(rt; ran.status, Status::Usage, "{words:?}");
-        assert_eq!(rt;
-            std::str::from_utf8(ran.out.bytes()),
-            Ok(USAGE),
-            "{words:?}"
-        );
+        assert_ran(&rt, run_of(words, &texts), (USAGE, Status::Usage))?;
     }
     Ok(())
 }

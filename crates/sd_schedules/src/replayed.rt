@@ -40,6 +40,10 @@ fn put(text: &mut Vec<u8>, bytes: &[u8]) -> Result<(), NoMemory>
     ensures { OnOk result (text.new.items ≡ bytes.now) }
 {
     text.clear();
+    // Nearly all events have no lines.
+    if bytes.is_empty() {
+        return Ok(());
+    }
     match text.extend_from_slice(bytes) {
         Ok(()) => Ok(()),
         Err(_) => Err(NoMemory),

@@ -80,6 +80,8 @@ impl Stances {
     }
 
     /// A device stands so from now on. It takes no memory.
+    // Nearly always it stands so already, which is seen at once.
+    #[inline(always)]
     pub fn set(&mut self, d: u32, stance: Stance)
         requires parents { d < length self.old.parents }
         requires acting { d < length self.old.acting }

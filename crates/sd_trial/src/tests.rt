@@ -1,5 +1,4 @@
 //! The checker beside a plain slow program, on networks and plans made by counting and by hand.
-ghost use Rattle.std.specs.Prelude.{IfOk};
 ghost use Rattle.sd_plan.specs.Plans.{Fits};
 ghost use Rattle.sd_topo.specs.Topologies.{network};
 
@@ -9,13 +8,9 @@ mod worked;
 
 use sd_checker::{Verdict, accepted_line, check, refused_line};
 use sd_num::NoMemory;
-use sd_plain::{
-    Change, Plain, Said, Setup, Shape, counted_case, plan_text_of, said_by, topology_text_of,
-};
+use sd_plain::{Change, Plain, Said, Setup, Shape, counted_case, plan_of, said_by, topology_of};
 use sd_plan::Plan;
-use sd_plantext::read_plan;
 use sd_topo::Topology;
-use sd_topotext::read_topology;
 use std::alloc::{AllocError, Global};
 use std::process::Abort;
 use std::test::Fail;
@@ -79,20 +74,6 @@ fn line_of(alloc: Global, topo: &Topology, verdict: &Verdict) -> Result<String, 
         Verdict::Accepted => accepted_line(alloc, topo),
         Verdict::Refused(breach) => refused_line(alloc, topo, 1, breach),
     }
-}
-
-/// The topology of a case, by its text.
-fn topology_of(alloc: Global, setup: &Setup) -> Result<Topology, Fail> {
-    let text = topology_text_of(alloc, setup)?;
-    Ok(read_topology(alloc, text.as_bytes())?)
-}
-
-/// The plan of a case, by its text.
-fn plan_of(alloc: Global, topo: &Topology, setup: &Setup) -> Result<Plan, Fail>
-    ensures { IfOk result (Fits (network topo.now)) }
-{
-    let text = plan_text_of(alloc, setup)?;
-    Ok(read_plan(alloc, topo, text.as_bytes())?)
 }
 
 /// What the checker says of a plan. The verdict promises nothing here: it is compared.

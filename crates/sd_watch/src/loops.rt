@@ -97,6 +97,8 @@ fn first_by_trials(parents: &[Option<u32>]) -> Option<u32>
 /// In a list of at most 4096 devices each is looked at at most three times; the marks that spare
 /// more take 16 KiB of the stack. For a longer list there are none, and each parent is tried by
 /// `loop_at`.
+// Never a part of its caller, which would make the room for marks at each of its own calls.
+#[inline(never)]
 pub fn first_loop(parents: &[Option<u32>]) -> Option<u32>
     ensures { MatchOption result (HasNoLoop (parent_in parents.now)) (λ d. IsFirstOnLoop (parent_in parents.now) d) }
 {

@@ -3,8 +3,7 @@ ghost use Rattle.std.specs.Prelude.{IfOk};
 ghost use Rattle.sd_topo.specs.Topologies.{network};
 ghost use Rattle.sd_place.specs.Usable.{IsAbsentOf};
 
-use super::topology_of;
-use sd_examples::FABRIC;
+use sd_examples::{FABRIC, topology_of};
 use sd_place::{Neighbour, Placed, Present, backup_root_of, place};
 use sd_plan::{Absent, DeviceList};
 use sd_topo::Topology;

@@ -5,26 +5,14 @@ ghost use Rattle.sd_topo.specs.Topologies.{network};
 use super::counted::{counted, text_of};
 use super::places::all_there;
 use super::plain::{Small, plain_rows};
-use super::topology_of;
-use sd_examples::FABRIC;
+use sd_examples::{FABRIC, row, topology_of};
 use sd_num::NoMemory;
-use sd_plan::{Hop, Plan, PlanRow};
+use sd_plan::{Plan, PlanRow};
 use sd_planner::{Planned, plan_for};
 use sd_topo::Topology;
 use std::alloc::Global;
 use std::process::Abort;
 use std::test::Fail;
-
-/// A row with a primary and a backup.
-fn row(parent: u32, link: u32, backup: u32, backup_link: u32) -> Option<PlanRow> {
-    Some(PlanRow {
-        primary: Hop { parent, link },
-        backup: Some(Hop {
-            parent: backup,
-            link: backup_link,
-        }),
-    })
-}
 
 /// The roots and the waits of the fabric's plan.
 fn assert_waits(rt: &impl Abort, plan: &Plan) {
@@ -89,7 +77,7 @@ fn makes(
 /// The topology of a counted network.
 fn topology_with(alloc: Global, net: &Small) -> Result<Topology, Fail> {
     let text = text_of(alloc, net)?;
-    topology_of(alloc, text.as_str())
+    Ok(topology_of(alloc, text.as_str())?)
 }
 
 /// Whether the planner makes the rows of the plain program of a network.

@@ -5,8 +5,7 @@ ghost use Rattle.sd_plan.specs.Examples as examples;
 ghost use Rattle.sd_plan.specs.Examples.{IsFabric};
 ghost use Rattle.sd_plan.specs.Plans.{Fits};
 
-use super::topology_of;
-use sd_examples::{FABRIC, FABRIC_GREEDY, fabric, fabric_plan};
+use sd_examples::{FABRIC, FABRIC_GREEDY, fabric, fabric_plan, topology_of};
 use sd_num::NoMemory;
 use sd_plan::{Plan, PlanRow};
 use sd_plantext::{PlanFault, plan_text, read_plan};

@@ -1,6 +1,5 @@
 //! Texts with their faults, and good texts with what they say.
-use super::topology_of;
-use sd_examples::TRIANGLE;
+use sd_examples::{TRIANGLE, topology_of};
 use sd_plan::{Absent, Hop, Plan, PlanRow};
 use sd_plantext::{PlanFault, PlanKey, PlanPlace, read_absent, read_plan};
 use sd_topo::Topology;

@@ -1,9 +1,9 @@
 //! Each monitor at its bound and just past it.
-ghost use Rattle.std.specs.Prelude.{◌≡◌, ◌<◌, ◌^◌, length};
+ghost use Rattle.std.specs.Prelude.{◌≡◌, ◌<◌, ◌^◌, Some, length};
+ghost use Rattle.sd_sched.specs.Events.{device_of};
 ghost use Rattle.sd_topo.specs.Topologies.{network};
 
-use super::topology_of;
-use sd_examples::TRIANGLE;
+use sd_examples::{TRIANGLE, topology_of};
 use sd_msg::{Flight, Message, Stamp};
 use sd_premise_clocks::{DelayMonitor, DriftMonitor, Members, Seen, StartMonitor, TickMonitor};
 use sd_sched::Event;
@@ -49,118 +49,114 @@ fn clocks_set_within_their_uncertainty(rt: HostRuntime) -> Result<(), Fail> {
     Ok(())
 }
 
-/// Whether the premise on drift holds at a start of device 0 with counter 0.
-fn starts(monitor: &mut DriftMonitor, topo: &Topology, reference: u64) -> bool
+/// What device 0 does; its counter is 0 when it starts or joins.
+#[derive(Clone, Copy)]
+enum Deed {
+    Start,
+    Join,
+    /// It reads its counter.
+    Read(u64),
+}
+
+/// What device 0 does at a reference, as an event.
+fn event_of(deed: Deed, reference: u64) -> Event
+    ensures { device_of result ≡ Some 0 }
+{
+    let (device, clock) = (0, reference);
+    match deed {
+        Deed::Start => Event::Start {
+            reference,
+            device,
+            counter: 0,
+            clock,
+            eps: 0,
+        },
+        Deed::Join => Event::Join {
+            reference,
+            device,
+            counter: 0,
+            clock,
+            eps: 0,
+        },
+        Deed::Read(counter) => Event::Ask {
+            reference,
+            device,
+            counter,
+        },
+    }
+}
+
+/// Whether the premise on drift holds still when device 0 does this.
+fn does(monitor: &mut DriftMonitor, topo: &Topology, deed: Deed, reference: u64) -> bool
     requires lives { length monitor.old.lives ≡ length (network topo.now).devices }
     requires device { 0 < length (network topo.now).devices }
     ensures { length monitor.new.lives ≡ length monitor.old.lives }
 {
-    let seen = seen(Event::Start {
-        reference,
-        device: 0,
-        counter: 0,
-        clock: reference,
-        eps: 0,
-    });
+    let seen = seen(event_of(deed, reference));
     monitor.observe(topo, &seen)
 }
 
-/// Whether it holds at a join of device 0 with counter 0.
-fn joins(monitor: &mut DriftMonitor, topo: &Topology, reference: u64) -> bool
-    requires lives { length monitor.old.lives ≡ length (network topo.now).devices }
-    requires device { 0 < length (network topo.now).devices }
-    ensures { length monitor.new.lives ≡ length monitor.old.lives }
-{
-    let seen = seen(Event::Join {
-        reference,
-        device: 0,
-        counter: 0,
-        clock: reference,
-        eps: 0,
-    });
-    monitor.observe(topo, &seen)
-}
+/// A reference, what device 0 does then, and whether the premise on drift holds.
+type Moment = (u64, Deed, bool);
 
-/// Whether it holds at a reading of device 0.
-fn reads(monitor: &mut DriftMonitor, topo: &Topology, reference: u64, counter: u64) -> bool
-    requires lives { length monitor.old.lives ≡ length (network topo.now).devices }
-    requires device { 0 < length (network topo.now).devices }
-    ensures { length monitor.new.lives ≡ length monitor.old.lives }
+fn assert_moments_of(
+    rt: &impl Abort,
+    monitor: &mut DriftMonitor,
+    topo: &Topology,
+    moments: &[Moment],
+)
+    requires { length monitor.old.lives ≡ length (network topo.now).devices }
 {
-    let seen = seen(Event::Ask {
-        reference,
-        device: 0,
-        counter,
-    });
-    monitor.observe(topo, &seen)
-}
-
-/// Whether it holds of two readings, the first at 0 and 0.
-fn keeps(rt: &impl AllocGlobal, topo: &Topology, reference: u64, counter: u64) -> Result<bool, Fail>
-    requires { 0 < length (network topo.now).devices }
-{
-    let mut monitor = DriftMonitor::new(rt.alloc(), topo)?;
-    let first = starts(&mut monitor, topo, 0);
-    Ok(first && reads(&mut monitor, topo, reference, counter))
-}
-
-fn assert_at_the_bound(rt: &(impl Abort + AllocGlobal), topo: &Topology) -> Result<(), Fail> {
     assert!(rt; topo.devices() == 3);
-    assert!(rt; keeps(rt, topo, 50_011_000, 50_000_000)?);
-    assert!(rt; !keeps(rt, topo, 50_011_001, 50_000_000)?);
-    assert!(rt; keeps(rt, topo, 49_989_000, 50_000_000)?);
-    assert!(rt; !keeps(rt, topo, 49_988_999, 50_000_000)?);
+    for moment in moments {
+        let (reference, deed, holds) = *moment;
+        let held = does(monitor, topo, deed, reference);
+        assert_eq!(rt; held, holds, "{reference}");
+    }
+}
+
+/// The monitor sees these moments of the triangle, one after another.
+fn assert_moments(rt: &(impl Abort + AllocGlobal), moments: &[Moment]) -> Result<(), Fail> {
+    let topo = topology_of(rt.alloc(), TRIANGLE)?;
+    let mut monitor = DriftMonitor::new(rt.alloc(), &topo)?;
+    assert_moments_of(rt, &mut monitor, &topo, moments);
     Ok(())
 }
 
 #[test]
 fn drift_at_the_bound(rt: HostRuntime) -> Result<(), Fail> {
-    let topo = topology_of(rt.alloc(), TRIANGLE)?;
-    assert_at_the_bound(&rt, &topo)
-}
-
-fn assert_outer_pair(rt: &impl Abort, monitor: &mut DriftMonitor, topo: &Topology)
-    requires { length monitor.old.lives ≡ length (network topo.now).devices }
-{
-    assert!(rt; topo.devices() == 3);
-    assert!(rt; starts(monitor, topo, 0));
-    assert!(rt; reads(monitor, topo, 1_001_200, 1_000_000));
-    assert!(rt; !reads(monitor, topo, 2_002_400, 2_000_000));
-}
-
-fn assert_outer_pair_of(rt: &(impl Abort + AllocGlobal), topo: &Topology) -> Result<(), Fail> {
-    let mut monitor = DriftMonitor::new(rt.alloc(), topo)?;
-    assert_outer_pair(rt, &mut monitor, topo);
+    for (reference, holds) in [
+        (50_011_000, true),
+        (50_011_001, false),
+        (49_989_000, true),
+        (49_988_999, false),
+    ] {
+        let reading = (reference, Deed::Read(50_000_000), holds);
+        assert_moments(&rt, &[(0, Deed::Start, true), reading])?;
+    }
     Ok(())
 }
 
 #[test]
 fn drift_of_the_outer_pair(rt: HostRuntime) -> Result<(), Fail> {
-    let topo = topology_of(rt.alloc(), TRIANGLE)?;
-    assert_outer_pair_of(&rt, &topo)
-}
-
-fn assert_two_lives(rt: &impl Abort, monitor: &mut DriftMonitor, topo: &Topology)
-    requires { length monitor.old.lives ≡ length (network topo.now).devices }
-{
-    assert!(rt; topo.devices() == 3);
-    assert!(rt; starts(monitor, topo, 0));
-    assert!(rt; reads(monitor, topo, 1_001_200, 1_000_000));
-    assert!(rt; joins(monitor, topo, 9_000_000));
-    assert!(rt; reads(monitor, topo, 10_001_200, 1_000_000));
-    assert!(rt; !reads(monitor, topo, 11_002_400, 2_000_000));
-}
-
-fn assert_two_lives_of(rt: &(impl Abort + AllocGlobal), topo: &Topology) -> Result<(), Fail> {
-    let mut monitor = DriftMonitor::new(rt.alloc(), topo)?;
-    assert_two_lives(rt, &mut monitor, topo);
-    Ok(())
+    let moments = [
+        (0, Deed::Start, true),
+        (1_001_200, Deed::Read(1_000_000), true),
+        (2_002_400, Deed::Read(2_000_000), false),
+    ];
+    assert_moments(&rt, &moments)
 }
 
 #[test]
 fn drift_is_judged_within_one_life(rt: HostRuntime) -> Result<(), Fail> {
-    let topo = topology_of(rt.alloc(), TRIANGLE)?;
-    assert_two_lives_of(&rt, &topo)
+    let moments = [
+        (0, Deed::Start, true),
+        (1_001_200, Deed::Read(1_000_000), true),
+        (9_000_000, Deed::Join, true),
+        (10_001_200, Deed::Read(1_000_000), true),
+        (11_002_400, Deed::Read(2_000_000), false),
+    ];
+    assert_moments(&rt, &moments)
 }
 
 /// Two devices, and a link with its own bounds for each direction.

@@ -1,7 +1,7 @@
 //! Short schedules at each boundary of the premise of loss. Up to two consecutive rounds of one
 //! term may be spoiled, and each flight is due 10 after it is sent.
 
-use super::topology_of;
+use sd_examples::topology_of;
 use sd_msg::{Flight, Message, Stamp};
 use sd_num::NoMemory;
 use sd_premise_rounds::Rounds;

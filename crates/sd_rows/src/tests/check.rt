@@ -1,7 +1,7 @@
 //! `check`: verdicts on plans, and texts that are refused.
 
 use super::texts::*;
-use sd_rows_kit::{run_words, shelf_of};
+use crate::runs::{Run, assert_ran, run_of};
 use sd_top::Status;
 use std::process::Abort;
 use std::test::Fail;
@@ -17,14 +17,13 @@ fn assert_check(
     output: &str,
     status: Status,
 ) -> Result<(), Fail> {
-    let alloc = rt.alloc();
+    let texts = [("topology", topology), ("plan", plan)];
     for piece in [7, 8192] {
-        let texts = [("topology", topology), ("plan", plan)];
-        let mut shelf = shelf_of(alloc, &texts, piece, &[])?;
-        let words = ["check", "topology", "plan"];
-        let ran = run_words(alloc, &words, &mut shelf, &[])?;
-        assert_eq!(rt; std::str::from_utf8(ran.out.bytes()), Ok(output));
-        assert_eq!(rt; ran.status, status, "{output:?} in pieces of {piece}");
+        let run = Run {
+            piece,
+            ..run_of(&["check", "topology", "plan"], &texts)
+        };
+        assert_ran(rt, run, (output, status))?;
     }
     Ok(())
 }
@@ -218,12 +217,8 @@ fn a_plan_text_that_is_no_plan_is_refused(rt: HostRuntime) -> Result<(), Fail> {
 
 #[test]
 fn the_topology_is_judged_before_the_plan_is_sought(rt: HostRuntime) -> Result<(), Fail> {
-    let alloc = rt.alloc();
-    let mut shelf = shelf_of(alloc, &[("topology", b"")], 8192, &[])?;
     let words = ["check", "topology", "elsewhere"];
-    let ran = run_words(alloc, &words, &mut shelf, &[])?;
-    let output = "input topology Missing version 0\n";
-    assert_eq!(rt; std::str::from_utf8(ran.out.bytes()), Ok(output));
-    assert_eq!(rt; ran.status, Status::InputRefused);
-    Ok(())
+    let texts = [("topology", b"".as_slice())];
+    let due = ("input topology Missing version 0\n", Status::InputRefused);
+    assert_ran(&rt, run_of(&words, &texts), due)
 }

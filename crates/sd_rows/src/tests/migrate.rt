@@ -1,8 +1,7 @@
 //! `migrate`: what it writes for topologies of both versions, and how it refuses.
 ghost use Rattle.std.specs.Prelude.{◌≤◌};
 
-use super::shelf_with;
-use sd_rows_kit::run_words;
+use crate::runs::{Run, assert_ran, run_of};
 use sd_top::Status;
 use std::alloc::{AllocError, Global};
 use std::process::Abort;
@@ -46,7 +45,10 @@ fn joined(alloc: Global, pieces: &[&str]) -> Result<String, AllocError> {
     Ok(text)
 }
 
-/// One topology over a shelf in memory: what is written and answered.
+/// The words of all runs.
+const WORDS: [&str; 2] = ["migrate", "file"];
+
+/// One topology in pieces: what is written and answered.
 fn assert_migrates(
     rt: &(impl Abort + AllocGlobal),
     topology: &[u8],
@@ -56,12 +58,12 @@ fn assert_migrates(
 ) -> Result<(), Fail>
     requires { 1 ≤ piece }
 {
-    let alloc = rt.alloc();
-    let mut shelf = shelf_with(alloc, topology, piece, &[])?;
-    let ran = run_words(alloc, &["migrate", "file"], &mut shelf, &[])?;
-    assert_eq!(rt; std::str::from_utf8(ran.out.bytes()), Ok(output));
-    assert_eq!(rt; ran.status, status, "{output:?} in pieces of {piece}");
-    Ok(())
+    let texts = [("file", topology)];
+    let run = Run {
+        piece,
+        ..run_of(&WORDS, &texts)
+    };
+    assert_ran(rt, run, (output, status))
 }
 
 #[test]
@@ -271,25 +273,27 @@ fn one_device_past_the_limit_is_refused(rt: HostRuntime) -> Result<(), Fail> {
 
 #[test]
 fn nothing_is_written_where_the_shelf_fails(rt: HostRuntime) -> Result<(), Fail> {
-    let alloc = rt.alloc();
+    let texts = [("file", TRIANGLE.as_bytes())];
     for call in 1..=4u64 {
-        let mut shelf = shelf_with(alloc, TRIANGLE.as_bytes(), 400, &[call])?;
-        let words = ["migrate", "file"];
-        let ran = run_words(alloc, &words, &mut shelf, &[])?;
-        assert_eq!(rt; ran.status, Status::ShelfFault, "call {call}");
-        assert_eq!(rt; ran.out.bytes(), b"".as_slice(), "call {call}");
+        let run = Run {
+            piece: 400,
+            calls: &[call],
+            ..run_of(&WORDS, &texts)
+        };
+        assert_ran(&rt, run, ("", Status::ShelfFault))?;
     }
     Ok(())
 }
 
 #[test]
 fn a_front_of_the_text_is_written_where_the_sink_fails(rt: HostRuntime) -> Result<(), Fail> {
-    let alloc = rt.alloc();
+    let texts = [("file", TRIANGLE.as_bytes())];
     for (kept, output) in [(0, ""), (9, "depth = 2")] {
-        let mut shelf = shelf_with(alloc, TRIANGLE.as_bytes(), 4096, &[])?;
-        let ran = run_words(alloc, &["migrate", "file"], &mut shelf, &[(1, kept)])?;
-        assert_eq!(rt; ran.status, Status::SinkFault, "{kept}");
-        assert_eq!(rt; ran.out.bytes(), output.as_bytes(), "{kept}");
+        let run = Run {
+            writes: &[(1, kept)],
+            ..run_of(&WORDS, &texts)
+        };
+        assert_ran(&rt, run, (output, Status::SinkFault))?;
     }
     Ok(())
 }

@@ -1,7 +1,7 @@
 //! `plan` and `renew`: greedy plans, and texts that are refused.
 
 use super::texts::*;
-use sd_rows_kit::{run_words, shelf_of};
+use crate::runs::{Run, assert_ran, run_of};
 use sd_top::Status;
 use std::alloc::Global;
 use std::process::Abort;
@@ -18,13 +18,12 @@ fn assert_plan(
     output: &str,
     status: Status,
 ) -> Result<(), Fail> {
-    let alloc = rt.alloc();
-    let mut shelf = shelf_of(alloc, &[("topology", topology)], 4096, &[])?;
-    let words = ["plan", "topology"];
-    let ran = run_words(alloc, &words, &mut shelf, &[])?;
-    assert_eq!(rt; std::str::from_utf8(ran.out.bytes()), Ok(output));
-    assert_eq!(rt; ran.status, status, "{output:?}");
-    Ok(())
+    let texts = [("topology", topology)];
+    let run = Run {
+        piece: 4096,
+        ..run_of(&["plan", "topology"], &texts)
+    };
+    assert_ran(rt, run, (output, status))
 }
 
 /// One renewal: what is written and answered.
@@ -34,19 +33,18 @@ fn assert_renewal(
     output: &str,
     status: Status,
 ) -> Result<(), Fail> {
-    let alloc = rt.alloc();
+    let words = ["renew", "topology", "plan", "absent"];
+    let texts = [
+        ("topology", texts.0.as_bytes()),
+        ("plan", texts.1.as_bytes()),
+        ("absent", texts.2.as_bytes()),
+    ];
     for piece in [7, 8192] {
-        let (topology, plan, absent) = texts;
-        let texts = [
-            ("topology", topology.as_bytes()),
-            ("plan", plan.as_bytes()),
-            ("absent", absent.as_bytes()),
-        ];
-        let mut shelf = shelf_of(alloc, &texts, piece, &[])?;
-        let words = ["renew", "topology", "plan", "absent"];
-        let ran = run_words(alloc, &words, &mut shelf, &[])?;
-        assert_eq!(rt; std::str::from_utf8(ran.out.bytes()), Ok(output));
-        assert_eq!(rt; ran.status, status, "{output:?} in pieces of {piece}");
+        let run = Run {
+            piece,
+            ..run_of(&words, &texts)
+        };
+        assert_ran(rt, run, (output, status))?;
     }
     Ok(())
 }

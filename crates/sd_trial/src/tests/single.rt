@@ -5,12 +5,14 @@ ghost use Rattle.sd_plan.specs.Plans.{Fits};
 ghost use Rattle.sd_plan.specs.Structure as structure;
 ghost use Rattle.sd_topo.specs.Topologies.{network};
 
-use super::{Tally, plan_of, topology_of};
+use super::Tally;
 use sd_check_loop::loop_breach;
 use sd_check_reach::{domain_breach, reach_breach};
 use sd_check_root::root_breach;
 use sd_domain::DomainId;
-use sd_plain::{CONDITIONS, Condition, Domain, Plain, Said, counted_case, has_domain};
+use sd_plain::{
+    CONDITIONS, Condition, Domain, Plain, Said, counted_case, has_domain, plan_of, topology_of,
+};
 use sd_plan::{Plan, structure_breach};
 use sd_topo::Topology;
 use std::alloc::{AllocError, Global};

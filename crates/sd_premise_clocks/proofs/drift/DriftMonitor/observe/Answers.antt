@@ -1,4 +1,4 @@
-use Rattle.std.proofs.Common.{◌≡◌, ℕ, ◌<◌, true, ◌&&◌, List, ◌∷◌, set, Some, sym, ap, ◌∙◌, subst}
+use Rattle.std.proofs.Common.{◌≡◌, ℕ, ◌<◌, Bool, true, ◌&&◌, List, ◌∷◌, set, sym, ap, ◌∙◌, subst}
 use Rattle.sd_topo.specs.Network.{Network, rates_of}
 use Rattle.sd_history.specs.World.{Setting, Seen}
 use Rattle.sd_history.specs.Refusals.{may_be_seen}
@@ -22,16 +22,17 @@ stands_after c setting earlier net stands may =
           let own = w.rates-rates.ensures ∙ ap (λ (n : Network). rates_of n w.in-Some.device) (sym net) in
           let known = c.requires.device w.in-Some.device read.device in
           subst (λ (inside : Inside). DriftStands setting (drift_kept inside) (sight_of c.args.seen.now ∷ earlier)) (sym w.self-inside-is)
-          (stands_reading setting w.rates-rates.result (sight_of c.args.seen.now) w.in-Some.device w.in-Some.reading w.life_before-life.result w.with_reading.result w.begins_life.result w.allows.result
+          (stands_reading setting w.rates-rates.result (sight_of c.args.seen.now) w.in-Some.device w.in-Some.reading w.life_before-life.result w.at-offsets.result w.begins_life.result
           c.args.self.now _ earlier read own
           (record {
             begins_life = w.begins_life.ensures;
             begun = w.life_before-life.ensures.begun;
             held = w.life_before-life.ensures.kept;
-            judged = w.allows.ensures;
-            grown = w.with_reading.ensures;
-            holds = ap (λ (kept : DriftKept). kept.holds && w.allows.result) c.self.view_is;
-            lives = ap (λ (kept : DriftKept). set kept.lives w.in-Some.device (Some w.with_reading.result)) c.self.view_is;
+            offsets_are = w.at-offsets.ensures.offsets;
+            judged = w.at-offsets.ensures.rule;
+            holds = ap (λ (kept : DriftKept). kept.holds && w.allow.result) c.self.view_is ∙ ap (λ (b : Bool). c.args.self.now.holds && b) w.allow.ensures;
+            lives = ap (λ (kept : DriftKept). set kept.lives w.in-Some.device w.with_reading.result) c.self.view_is
+                ∙ ap (set c.args.self.now.lives w.in-Some.device) w.with_reading.ensures;
             within = subst (λ (n : ℕ). w.in-Some.device < n) (sym c.requires.topology) known;
           }) stands may))
       | in_default w ↦

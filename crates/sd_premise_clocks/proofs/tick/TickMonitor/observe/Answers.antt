@@ -1,4 +1,5 @@
 use Rattle.std.proofs.Common.{◌≡◌, ℕ, ◌-◌, true, false, ◌&&◌, nat_le, List, ◌∷◌, length, get_or, Some, None, refl, sym, ap, ◌∙◌, subst, arith}
+use Rattle.std.specs.List.{list_all}
 use Rattle.std.proofs.lemmas.Bool.{both_ways}
 use Rattle.std.proofs.lemmas.Option.{same_Some}
 use Rattle.sd_sched.specs.Events.{device_of}
@@ -17,25 +18,24 @@ use Rattle.sd_premise_clocks.proofs.tick.TickMonitor.observe.Goals.{then-all, el
 
 -- what is kept after the event, with these references since which devices owe a tick
 abbrev kept_with : goal.Joined-all → List ℕ → TickKept
-kept_with c owed = record { ticks = c.observe.new.self; owed = owed; limit = c.self.inside.limit; holds = c.self.inside.holds && nat_le c.saturating_sub.result c.least.result }
+kept_with c owed = record { ticks = c.observe.new.self; owed = owed; limit = c.self.inside.limit; holds = c.holds_still-self-inside.result }
 
-observes : (c : goal.Joined-all) (setting : Setting) (earlier : List Seen) (owed : List ℕ) → length owed ≡ length c.self.inside.owed
+observes : (c : goal.Joined-all) (setting : Setting) (earlier : List Seen) (owed : List ℕ) → length owed ≡ length c.holds_still-self-inside.new.owed
     → (c.is_changed_for_all-all.result ≡ true → AreOwed setting (sight_of c.args.seen.now ∷ earlier) owed)
     → (c.is_changed_for_all-all.result ≡ false → (d : ℕ) → device_of c.args.seen.now.event ≡ Some d → get_or owed d 0 ≡ owed_at setting (sight_of c.args.seen.now ∷ earlier) d)
-    → (c.is_changed_for_all-all.result ≡ false → (k : ℕ) → (device_of c.args.seen.now.event ≡ Some k → ⊥) → get_or owed k 0 ≡ get_or c.self.inside.owed k 0)
-    → Observes setting (sight_of c.args.seen.now) earlier c.least.result c.is_changed_for_all-all.result (tick_kept c.self.inside) (kept_with c owed)
+    → (c.is_changed_for_all-all.result ≡ false → (k : ℕ) → (device_of c.args.seen.now.event ≡ Some k → ⊥) → get_or owed k 0 ≡ get_or c.holds_still-self-inside.new.owed k 0)
+    → Observes setting (sight_of c.args.seen.now) earlier c.is_changed_for_all-all.result (tick_kept c.self.inside) (kept_with c owed)
 observes c setting earlier owed places each named others = record {
   small = (let is = c.reference.ensures in omega arith);
-  below = c.least.ensures.below;
-  among = c.least.ensures.among;
-  holds = ap (λ (n : ℕ). c.self.inside.holds && nat_le n c.least.result) (c.saturating_sub.ensures ∙ ap (λ (n : ℕ). n - c.self.inside.limit) c.reference.ensures);
+  holds = c.holds_still-self-inside.ensures.answer
+      ∙ ap (λ (n : ℕ). c.self.inside.holds && list_all (nat_le n) c.self.inside.owed) (c.saturating_sub-due.ensures ∙ ap (λ (n : ℕ). n - c.self.inside.limit) c.reference.ensures);
   limit = refl;
   ticks = c.observe.ensures;
-  places = places;
+  places = places ∙ ap (λ (xs : List ℕ). length xs) c.holds_still-self-inside.ensures.same;
   is_all = c.is_changed_for_all-all.ensures;
   each = each;
   named = named;
-  others = others;
+  others = λ some k apart. others some k apart ∙ ap (λ (xs : List ℕ). get_or xs k 0) c.holds_still-self-inside.ensures.same;
 }
 
 -- what all of it tells after the event
@@ -55,7 +55,7 @@ stands_after c setting earlier members world stood =
     elim c.if-all.branch [
       | then-all w ↦
           subst (λ (inside : Inside). TickStands setting (tick_kept inside) (sight_of c.args.seen.now ∷ earlier)) (sym w.self-inside-is)
-          (tick_stands setting (sight_of c.args.seen.now) earlier c.least.result c.is_changed_for_all-all.result (tick_kept c.self.inside) (kept_with c w.note_all.new.owed) stands
+          (tick_stands setting (sight_of c.args.seen.now) earlier c.is_changed_for_all-all.result (tick_kept c.self.inside) (kept_with c w.note_all.new.owed) stands
           (observes c setting earlier w.note_all.new.owed w.note_all.ensures.places
           (λ all. w.note_all.ensures.each setting (sight_of c.args.seen.now ∷ earlier) told)
           (λ some. absurd (both_ways c.is_changed_for_all-all.result some w.if-all.true))
@@ -63,7 +63,7 @@ stands_after c setting earlier members world stood =
       | else-all+in-Some w ↦
           (let names : device_of c.args.seen.now.event ≡ Some w.in-Some.d = sym w.device.ensures ∙ w.in-Some.is in
           subst (λ (inside : Inside). TickStands setting (tick_kept inside) (sight_of c.args.seen.now ∷ earlier)) (sym w.self-inside-is)
-          (tick_stands setting (sight_of c.args.seen.now) earlier c.least.result c.is_changed_for_all-all.result (tick_kept c.self.inside) (kept_with c w.note.new.owed) stands
+          (tick_stands setting (sight_of c.args.seen.now) earlier c.is_changed_for_all-all.result (tick_kept c.self.inside) (kept_with c w.note.new.owed) stands
           (observes c setting earlier w.note.new.owed w.note.ensures.places
           (λ all. absurd (both_ways c.is_changed_for_all-all.result w.if-all.false all))
           (λ some d at. subst (λ (k : ℕ). get_or w.note.new.owed k 0 ≡ owed_at setting (sight_of c.args.seen.now ∷ earlier) k) (same_Some w.in-Some.d d (sym names ∙ at))
@@ -72,8 +72,8 @@ stands_after c setting earlier members world stood =
       | else-all+in_default w ↦
           (let none : device_of c.args.seen.now.event ≡ None = sym w.device.ensures ∙ w.in_default.is in
           subst (λ (inside : Inside). TickStands setting (tick_kept inside) (sight_of c.args.seen.now ∷ earlier)) (sym w.self-inside-is)
-          (tick_stands setting (sight_of c.args.seen.now) earlier c.least.result c.is_changed_for_all-all.result (tick_kept c.self.inside) (kept_with c c.self.inside.owed) stands
-          (observes c setting earlier c.self.inside.owed refl
+          (tick_stands setting (sight_of c.args.seen.now) earlier c.is_changed_for_all-all.result (tick_kept c.self.inside) (kept_with c c.holds_still-self-inside.new.owed) stands
+          (observes c setting earlier c.holds_still-self-inside.new.owed refl
           (λ all. absurd (both_ways c.is_changed_for_all-all.result w.if-all.false all))
           (λ some d at. absurd (none_some d (sym none ∙ at)))
           (λ some k apart. refl))))

@@ -1,5 +1,5 @@
 -- The event happens in the fleet, is looked at, is noted and is told.
-use Rattle.std.proofs.Common.{◌≡◌, ◌++◌, ◌∷◌, [], ℕ, List, Option, Some, MatchOption, refl, sym, subst}
+use Rattle.std.proofs.Common.{◌≡◌, ◌∙◌, ◌++◌, ◌∷◌, [], ℕ, List, Option, Some, MatchOption, refl, sym, subst}
 use Rattle.std.proofs.Math.Logic.{∥∥₁_map}
 use Rattle.sd_clock.specs.declared.Report.{Report}
 use Rattle.sd_msg.specs.Observed.{ReportAt}
@@ -7,57 +7,54 @@ use Rattle.sd_msg.specs.Observing.{report_at}
 use Rattle.sd_sched.specs.Events.{reference_of}
 use Rattle.sd_history.specs.World.{Setting}
 use Rattle.sd_history.specs.Nodes.{NodeStep, steps_of}
+use Rattle.sd_fabric.proofs.Refused.{refusal_is}
 use Rattle.sd_replay.specs.FleetFaults.{of_fleet}
 use Rattle.sd_replay.specs.Standing.{Stands}
-use Rattle.sd_replay.proofs.Causes.{if_told, told_as, told_cause, told_of_fleet}
+use Rattle.sd_replay.proofs.Causes.{if_told, told_as, told_cause, told_of_fleet, unrefused}
 use Rattle.sd_replay.proofs.Calm.{stays_calm}
-use Rattle.sd_replay.proofs.Going.{with_fleet, stands_ready}
+use Rattle.sd_replay.proofs.Going.{with_fleet, stands_prepared, stands_ready}
 use Rattle.sd_replay.proofs.Happening.{IsDone, has_step, numbers_merely, tally_merely, devices_merely, ready_merely, stands_on, run_on}
 use Rattle.sd_replay.proofs.replay.Replay.step_event.Given.{Over}
 use Rattle.sd_replay.proofs.replay.Replay.step_event.Goals as goal
 
 pub invariant_of-self : goal.invariant_of-self
 invariant_of-self g c =
-    record {
-      run =
-          ∥∥₁_map c.ready.new.self.run
-          (with_fleet g.N.Node g.V.Observer c.ready.new.self.fleet c.apply.new.self c.ready.new.self.onlooker c.ready.new.self.journal c.ready.new.self.observer (λ setting run stands. (c.in_err-outcome.ensures.refused setting run stands).0));
-    }
+    record { run = ∥∥₁_map c.args.self.now.run (with_fleet g.N.Node g.V.Observer c.args.self.now.fleet c.prepare.new.self c.args.self.now.onlooker c.args.self.now.journal c.args.self.now.observer c.prepare.ensures.stands) }
 
 pub look-findings-requires-clause-step : goal.look-findings-requires-clause-step
 look-findings-requires-clause-step g c =
     ∥∥₁_map c.ready.new.self.run
-    (has_step g.N.Node g.V.Observer c.ready.new.self.fleet c.ready.new.self.onlooker c.ready.new.self.journal c.ready.new.self.observer c.apply.new.self c.args.event.now c.in_ok-outcome.outcome c.in_ok-outcome.ensures.accepted)
+    (has_step g.N.Node g.V.Observer c.ready.new.self.fleet c.ready.new.self.onlooker c.ready.new.self.journal c.ready.new.self.observer c.happen-outcome.new.self c.args.event.now c.happen-outcome.result c.happen-outcome.ensures.accepted)
 
 pub look-findings-requires-clause-numbers : goal.look-findings-requires-clause-numbers
 look-findings-requires-clause-numbers g c =
-    numbers_merely g.N.Node g.V.Observer c.ready.new.self.fleet c.ready.new.self.onlooker c.ready.new.self.journal c.ready.new.self.observer c.apply.new.self c.args.event.now c.in_ok-outcome.outcome c.in_ok-outcome.ensures.accepted
+    numbers_merely g.N.Node g.V.Observer c.ready.new.self.fleet c.ready.new.self.onlooker c.ready.new.self.journal c.ready.new.self.observer c.happen-outcome.new.self c.args.event.now c.happen-outcome.result c.happen-outcome.ensures.accepted
     c.ready.new.self.run
 
 pub note-requires-clause-room : goal.note-requires-clause-room
 note-requires-clause-room g c =
-    tally_merely g.N.Node g.V.Observer c.ready.new.self.fleet c.ready.new.self.onlooker c.ready.new.self.journal c.ready.new.self.observer c.apply.new.self c.args.event.now c.in_ok-outcome.outcome c.in_ok-outcome.ensures.accepted
+    tally_merely g.N.Node g.V.Observer c.ready.new.self.fleet c.ready.new.self.onlooker c.ready.new.self.journal c.ready.new.self.observer c.happen-outcome.new.self c.args.event.now c.happen-outcome.result c.happen-outcome.ensures.accepted
     c.ready.new.self.run
 
 pub note-requires-clause-devices : goal.note-requires-clause-devices
 note-requires-clause-devices g c =
-    devices_merely g.N.Node g.V.Observer c.ready.new.self.fleet c.ready.new.self.onlooker c.ready.new.self.journal c.ready.new.self.observer c.apply.new.self c.args.event.now c.in_ok-outcome.outcome c.in_ok-outcome.ensures.accepted
+    devices_merely g.N.Node g.V.Observer c.ready.new.self.fleet c.ready.new.self.onlooker c.ready.new.self.journal c.ready.new.self.observer c.happen-outcome.new.self c.args.event.now c.happen-outcome.result c.happen-outcome.ensures.accepted
     c.look-findings.result c.look-findings.ensures.devices c.ready.new.self.run
 
 pub seen-requires-clause-ready : goal.seen-requires-clause-ready
 seen-requires-clause-ready g c =
-    let some : c.in_ok-outcome.outcome.report ≡ Some (c.in-Some.d, c.in-Some.report) = cc (c.in-Some.is, c.in-Some.d-is, c.in-Some.report-is) in
-    ready_merely g.N.Node g.V.Observer c.ready.new.self.fleet c.ready.new.self.onlooker c.ready.new.self.journal c.ready.new.self.observer c.apply.new.self c.args.event.now c.in_ok-outcome.outcome c.in_ok-outcome.ensures.accepted
+    let some : c.happen-outcome.result.report ≡ Some (c.in-Some.d, c.in-Some.report) = cc (c.in-Some.is, c.in-Some.d-is, c.in-Some.report-is) in
+    ready_merely g.N.Node g.V.Observer c.ready.new.self.fleet c.ready.new.self.onlooker c.ready.new.self.journal c.ready.new.self.observer c.happen-outcome.new.self c.args.event.now c.happen-outcome.result c.happen-outcome.ensures.accepted
     (c.in-Some.d, c.in-Some.report) some c.in-Ok.ensures.observer c.ready.new.self.run
 
 -- a report is told
 told : (g : Over) (c : goal.After-seen g)
-    → IsDone g.N.Node g.V.Observer c.ready.new.self.fleet c.apply.new.self c.ready.new.self.onlooker c.look-findings.new.self c.ready.new.self.journal c.note.new.self c.ready.new.self.observer c.seen.new.self c.args.event.now c.in_ok-outcome.outcome
+    → IsDone g.N.Node g.V.Observer c.ready.new.self.fleet c.happen-outcome.new.self c.ready.new.self.onlooker c.look-findings.new.self c.ready.new.self.journal c.note.new.self c.ready.new.self.observer c.seen.new.self c.args.event.now c.happen-outcome.result
     c.look-findings.result
 told g c =
-    let some : c.in_ok-outcome.outcome.report ≡ Some (c.in-Some.d, c.in-Some.report) = cc (c.in-Some.is, c.in-Some.d-is, c.in-Some.report-is) in
+    let some : c.happen-outcome.result.report ≡ Some (c.in-Some.d, c.in-Some.report) = cc (c.in-Some.is, c.in-Some.d-is, c.in-Some.report-is) in
     record {
-      accepts = c.in_ok-outcome.ensures.accepted;
+      accepts = c.happen-outcome.ensures.accepted;
       onlooks = c.look-findings.ensures.stands;
       finds = c.look-findings.ensures.found;
       report = c.look-findings.ensures.report;
@@ -76,11 +73,11 @@ told g c =
 
 -- nothing is told
 untold : (g : Over) (c : goal.In_default-report g)
-    → IsDone g.N.Node g.V.Observer c.ready.new.self.fleet c.apply.new.self c.ready.new.self.onlooker c.look-findings.new.self c.ready.new.self.journal c.note.new.self c.ready.new.self.observer c.ready.new.self.observer c.args.event.now
-    c.in_ok-outcome.outcome c.look-findings.result
+    → IsDone g.N.Node g.V.Observer c.ready.new.self.fleet c.happen-outcome.new.self c.ready.new.self.onlooker c.look-findings.new.self c.ready.new.self.journal c.note.new.self c.ready.new.self.observer c.ready.new.self.observer c.args.event.now
+    c.happen-outcome.result c.look-findings.result
 untold g c =
     record {
-      accepts = c.in_ok-outcome.ensures.accepted;
+      accepts = c.happen-outcome.ensures.accepted;
       onlooks = c.look-findings.ensures.stands;
       finds = c.look-findings.ensures.found;
       report = c.look-findings.ensures.report;
@@ -100,7 +97,7 @@ invariant_of-self-in-Some g c =
     record {
       run =
           ∥∥₁_map c.ready.new.self.run
-          (run_on g.N.Node g.V.Observer c.ready.new.self.fleet c.apply.new.self c.ready.new.self.onlooker c.look-findings.new.self c.ready.new.self.journal c.note.new.self c.ready.new.self.observer c.seen.new.self c.args.event.now c.in_ok-outcome.outcome
+          (run_on g.N.Node g.V.Observer c.ready.new.self.fleet c.happen-outcome.new.self c.ready.new.self.onlooker c.look-findings.new.self c.ready.new.self.journal c.note.new.self c.ready.new.self.observer c.seen.new.self c.args.event.now c.happen-outcome.result
           c.look-findings.result (told g c));
     }
 
@@ -109,40 +106,42 @@ invariant_of-self-in_default-report g c =
     record {
       run =
           ∥∥₁_map c.ready.new.self.run
-          (run_on g.N.Node g.V.Observer c.ready.new.self.fleet c.apply.new.self c.ready.new.self.onlooker c.look-findings.new.self c.ready.new.self.journal c.note.new.self c.ready.new.self.observer c.ready.new.self.observer c.args.event.now
-          c.in_ok-outcome.outcome c.look-findings.result (untold g c));
+          (run_on g.N.Node g.V.Observer c.ready.new.self.fleet c.happen-outcome.new.self c.ready.new.self.onlooker c.look-findings.new.self c.ready.new.self.journal c.note.new.self c.ready.new.self.observer c.ready.new.self.observer c.args.event.now
+          c.happen-outcome.result c.look-findings.result (untold g c));
     }
 
 pub returns-in-Some-clause-accepted : goal.returns-in-Some-clause-accepted
 unfolding told
 returns-in-Some-clause-accepted g c = λ setting run stands.
+    let prepared = stands_prepared g.N.Node g.V.Observer c.args.self.now.fleet c.prepare.new.self c.args.self.now.onlooker c.args.self.now.journal c.args.self.now.observer setting run c.prepare.ensures.stands stands in
     let ready =
-    stands_ready g.N.Node g.V.Observer c.args.self.now.fleet c.ready.new.self.fleet c.args.self.now.onlooker c.ready.new.self.onlooker c.args.self.now.journal c.ready.new.self.journal c.args.self.now.observer c.ready.new.self.observer setting run
-    c.ready.ensures.fleet c.ready.ensures.journal c.ready.ensures.onlooks c.ready.ensures.told stands
+    stands_ready g.N.Node g.V.Observer c.prepare.new.self c.ready.new.self.fleet c.args.self.now.onlooker c.ready.new.self.onlooker c.args.self.now.journal c.ready.new.self.journal c.args.self.now.observer c.ready.new.self.observer setting run
+    c.ready.ensures.fleet c.ready.ensures.journal c.ready.ensures.onlooks c.ready.ensures.told prepared
     in
-    let accepted = c.in_ok-outcome.ensures.accepted setting run ready.made in
+    let accepted = c.happen-outcome.ensures.accepted setting run ready.made in
     record {
       next = accepted.next;
       happens = accepted.happens;
       stands =
-          stands_on g.N.Node g.V.Observer c.ready.new.self.fleet c.apply.new.self c.ready.new.self.onlooker c.look-findings.new.self c.ready.new.self.journal c.note.new.self c.ready.new.self.observer c.seen.new.self c.args.event.now c.in_ok-outcome.outcome
+          stands_on g.N.Node g.V.Observer c.ready.new.self.fleet c.happen-outcome.new.self c.ready.new.self.onlooker c.look-findings.new.self c.ready.new.self.journal c.note.new.self c.ready.new.self.observer c.seen.new.self c.args.event.now c.happen-outcome.result
           c.look-findings.result (told g c.before) setting run ready;
     }
 
 pub returns-in_default-report-clause-accepted : goal.returns-in_default-report-clause-accepted
 unfolding untold
 returns-in_default-report-clause-accepted g c = λ setting run stands.
+    let prepared = stands_prepared g.N.Node g.V.Observer c.args.self.now.fleet c.prepare.new.self c.args.self.now.onlooker c.args.self.now.journal c.args.self.now.observer setting run c.prepare.ensures.stands stands in
     let ready =
-    stands_ready g.N.Node g.V.Observer c.args.self.now.fleet c.ready.new.self.fleet c.args.self.now.onlooker c.ready.new.self.onlooker c.args.self.now.journal c.ready.new.self.journal c.args.self.now.observer c.ready.new.self.observer setting run
-    c.ready.ensures.fleet c.ready.ensures.journal c.ready.ensures.onlooks c.ready.ensures.told stands
+    stands_ready g.N.Node g.V.Observer c.prepare.new.self c.ready.new.self.fleet c.args.self.now.onlooker c.ready.new.self.onlooker c.args.self.now.journal c.ready.new.self.journal c.args.self.now.observer c.ready.new.self.observer setting run
+    c.ready.ensures.fleet c.ready.ensures.journal c.ready.ensures.onlooks c.ready.ensures.told prepared
     in
-    let accepted = c.in_ok-outcome.ensures.accepted setting run ready.made in
+    let accepted = c.happen-outcome.ensures.accepted setting run ready.made in
     record {
       next = accepted.next;
       happens = accepted.happens;
       stands =
-          stands_on g.N.Node g.V.Observer c.ready.new.self.fleet c.apply.new.self c.ready.new.self.onlooker c.look-findings.new.self c.ready.new.self.journal c.note.new.self c.ready.new.self.observer c.ready.new.self.observer c.args.event.now
-          c.in_ok-outcome.outcome c.look-findings.result (untold g c.before) setting run ready;
+          stands_on g.N.Node g.V.Observer c.ready.new.self.fleet c.happen-outcome.new.self c.ready.new.self.onlooker c.look-findings.new.self c.ready.new.self.journal c.note.new.self c.ready.new.self.observer c.ready.new.self.observer c.args.event.now
+          c.happen-outcome.result c.look-findings.result (untold g c.before) setting run ready;
     }
 
 pub returns-in-Some-clause-calm : goal.returns-in-Some-clause-calm
@@ -151,24 +150,27 @@ returns-in-Some-clause-calm g c = λ setting run stands. stays_calm setting stan
 pub returns-in_default-report-clause-calm : goal.returns-in_default-report-clause-calm
 returns-in_default-report-clause-calm g c = λ setting run stands. stays_calm setting stands.sound (steps_of run)
 
--- the fleet is made ready and answers a fault
-unstepped : (g : Over) (c : goal.After-from_residual g) (setting : Setting) (run : List (NodeStep g.row.N.Denot)) → Stands g.N.Node g.V.Observer c.args.self.now.fleet c.args.self.now.onlooker c.args.self.now.journal c.args.self.now.observer setting run
-    → Stands g.N.Node g.V.Observer c.ready.new.self.fleet c.ready.new.self.onlooker c.ready.new.self.journal c.ready.new.self.observer setting run
-unstepped g c setting run stands =
-    stands_ready g.N.Node g.V.Observer c.args.self.now.fleet c.ready.new.self.fleet c.args.self.now.onlooker c.ready.new.self.onlooker c.args.self.now.journal c.ready.new.self.journal c.args.self.now.observer c.ready.new.self.observer setting run
-    c.ready.ensures.fleet c.ready.ensures.journal c.ready.ensures.onlooks c.ready.ensures.told stands
+-- the fleet answers a fault
+pub returns-in_err-most-clause-refusal : goal.returns-in_err-most-clause-refusal
+returns-in_err-most-clause-refusal g c = λ setting run stands.
+    told_cause setting (steps_of run) c.args.event.now c.in_err-most.field-0.0 c.from_residual.result (told_as c.from_residual.result (of_fleet c.in_err-most.field-0.0) c.from_residual.ensures.1)
+    (c.in_err-most.ensures.fault setting run stands.made)
 
-pub returns-in_err-outcome-clause-refusal : goal.returns-in_err-outcome-clause-refusal
-returns-in_err-outcome-clause-refusal g c = λ setting run stands.
-    told_cause setting (steps_of run) c.args.event.now c.in_err-outcome.field-0.0 c.from_residual.result (told_as c.from_residual.result (of_fleet c.in_err-outcome.field-0.0) c.from_residual.ensures.1)
-    (c.in_err-outcome.ensures.refused setting run (unstepped g c setting run stands).made).1
+pub returns-in_err-most-clause-refused : goal.returns-in_err-most-clause-refused
+returns-in_err-most-clause-refused g c =
+    if_told _ c.from_residual.result (of_fleet c.in_err-most.field-0.0) c.from_residual.ensures.1
+    (λ setting run stands. (stands_prepared g.N.Node g.V.Observer c.args.self.now.fleet c.prepare.new.self c.args.self.now.onlooker c.args.self.now.journal c.args.self.now.observer setting run c.prepare.ensures.stands stands, told_of_fleet setting (steps_of run) c.args.event.now c.in_err-most.field-0.0 (c.in_err-most.ensures.fault setting run stands.made)))
 
-pub returns-in_err-outcome-clause-refused : goal.returns-in_err-outcome-clause-refused
-returns-in_err-outcome-clause-refused g c =
-    if_told _ c.from_residual.result (of_fleet c.in_err-outcome.field-0.0) c.from_residual.ensures.1
-    (λ setting run stands.
-    (let ready = unstepped g c setting run stands in
-    let refused = c.in_err-outcome.ensures.refused setting run ready.made in (
-      record { sound = ready.sound; made = refused.0; onlooks = ready.onlooks; tells = ready.tells; told = ready.told },
-      told_of_fleet setting (steps_of run) c.args.event.now c.in_err-outcome.field-0.0 refused.1,
-    )))
+-- there is no room for an event that the history does not refuse
+pub returns-in_default-clause-refusal : goal.returns-in_default-clause-refusal
+returns-in_default-clause-refusal g c = λ setting run stands.
+    unrefused _ setting (steps_of run) c.args.event.now (sym (refusal_is setting c.prepare.new.self.fabric (steps_of run) c.args.event.now (c.prepare.ensures.stands setting run stands.made).fabric) ∙ c.in_ok-most.ensures.prepared.accepted)
+
+pub returns-in_default-clause-refused : goal.returns-in_default-clause-refused
+returns-in_default-clause-refused g c = λ setting run stands.
+    let prepared = stands_prepared g.N.Node g.V.Observer c.args.self.now.fleet c.prepare.new.self c.args.self.now.onlooker c.args.self.now.journal c.args.self.now.observer setting run c.prepare.ensures.stands stands in
+    let ready =
+    stands_ready g.N.Node g.V.Observer c.prepare.new.self c.ready.new.self.fleet c.args.self.now.onlooker c.ready.new.self.onlooker c.args.self.now.journal c.ready.new.self.journal c.args.self.now.observer c.ready.new.self.observer setting run
+    c.ready.ensures.fleet c.ready.ensures.journal c.ready.ensures.onlooks c.ready.ensures.told prepared
+    in
+    (ready, (sym (refusal_is setting c.prepare.new.self.fabric (steps_of run) c.args.event.now (c.prepare.ensures.stands setting run stands.made).fabric) ∙ c.in_ok-most.ensures.prepared.accepted, c.in_default.ensures.memory))

@@ -1,12 +1,12 @@
-use Rattle.std.proofs.Common.{◌≡◌, ◌*◌, ◌/◌, ◌<◌, length, drop}
-use Rattle.sd_premise_clocks.specs.Tournaments.{ArePlayedBut}
-use Rattle.sd_premise_clocks.proofs.tournament.replay.Given as goal
+use Rattle.std.proofs.Common.{◌≡◌, ◌*◌, ◌<◌, length, drop}
+use Rattle.sd_premise_clocks.specs.Tournaments.{AreOrderedBut}
+use Rattle.sd_premise_clocks.proofs.tournament.lower.Given as goal
 
 abbrev pub invariant-loop-node : goal.invariant-loop-node
 invariant-loop-node l = record {
   size : length l.nodes ≡ 2 * l.places;
   node : l.node < 2 * l.places;
-  played : ArePlayedBut l.nodes l.places (l.node / 2);
+  ordered : AreOrderedBut l.nodes l.node;
   same : drop l.places l.nodes ≡ drop l.places l.initial.nodes;
 }
 
