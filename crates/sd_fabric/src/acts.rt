@@ -102,7 +102,7 @@ impl Fabric {
     fn receipt(&self, device: u32, counter: u64, message: u64) -> Act
         ensures { result ≡ receipt (flight_at self.now message) device counter }
     {
-        match self.book.look(message) {
+        match self.book.find(message) {
             Ok(flight) => calls(
                 device,
                 Call::Receive {

@@ -57,7 +57,7 @@ impl Fabric {
         ensures { result ≡ first_of (message_causes self.now event.now) }
     {
         let number = message_of(event)?;
-        match self.book.look(number) {
+        match self.book.find(number) {
             Err(TakeFault::Unknown) => Some(ApplyFault::UnknownMessage),
             Err(_) => Some(ApplyFault::SpentMessage),
             Ok(flight) if flight.last < event.reference() => Some(ApplyFault::SpentMessage),

@@ -16,13 +16,9 @@ found_given : (last n : ℕ) (fs : List Flight) (o : Option Flight) → (n ≡ 0
 found_given last n fs o positive within is = rw (given last n positive within, is) refl
 
 -- the flight at the place has the number
-pub found_placed : (last n : ℕ) (fs : List Flight) (i : ℕ) → AreNumbered 0 last fs → (n ≡ 0 → ⊥) → n ≤ last → i < length fs → ((d : Flight) → number_at fs i d ≡ n) → (d : Flight) → found last fs n ≡ Ok (get_or fs i d)
-found_placed last n fs i h positive within inside number d = found_given last n fs (Some (get_or fs i d)) positive within (found_at 0 last n fs i h inside number d)
-
--- and is this one
-pub found_here : (last n : ℕ) (fs : List Flight) (i : ℕ) (f : Flight) → AreNumbered 0 last fs → (n ≡ 0 → ⊥) → n ≤ last → i < length fs → ((d : Flight) → f ≡ get_or fs i d) → f.number ≡ n
-    → (d : Flight) → found last fs n ≡ Ok (get_or fs i d)
-found_here last n fs i f h positive within inside is number = found_placed last n fs i h positive within inside (λ e. sym (ap (λ (g : Flight). g.number) (is e)) ∙ number)
+pub found_here : (last n : ℕ) (fs : List Flight) (i : ℕ) (f : Flight) → AreNumbered 0 last fs → (n ≡ 0 → ⊥) → n ≤ last → i < length fs → ((d : Flight) → f ≡ get_or fs i d) → f.number ≡ n → found last fs n ≡ Ok f
+found_here last n fs i f h positive within inside is number =
+    found_given last n fs (Some f) positive within (found_at 0 last n fs i h inside (λ e. sym (ap (λ (g : Flight). g.number) (is e)) ∙ number) f ∙ ap Some (sym (is f)))
 
 abbrev IsBefore : List Flight → ℕ → ℕ → Type 0
 IsBefore fs n i = (k : ℕ) (d : Flight) → k < i → number_at fs k d < n

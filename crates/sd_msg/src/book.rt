@@ -1,8 +1,8 @@
 //! The book of the flights that are on their way.
-ghost use Rattle.std.specs.Prelude.{◌≡◌, ◌≤◌, ◌<◌, ◌+◌, ◌-◌, ◌^◌, [], filter, not, is_ok, OnOk, OnErr, if◌then◌else◌};
+ghost use Rattle.std.specs.Prelude.{◌≡◌, ◌≤◌, ◌<◌, ◌+◌, ◌-◌, ◌^◌, [], filter, not, is_ok, Ok, Err, IfOk, IfErr, OnOk, if◌then◌else◌};
 ghost use Rattle.sd_msg.specs.Books.{AreGiven, found, for_device, dismissed, without, with_sent, is_swept, is_current};
 
-use crate::flights::{drop_first, keep_left, place_left, reopen, room, spend};
+use crate::flights::{drop_first, flight_left, keep_left, reopen, room, spend};
 use crate::spent::Spent;
 use crate::{Flight, TakeFault};
 use sd_num::NoMemory;
@@ -95,13 +95,23 @@ impl FlightBook {
         number
     }
 
+    /// The flight of a number, lent, or why there is none: `Unknown` or `Spent`.
+    pub fn find(&self, number: u64) -> Result<&Flight, TakeFault>
+        ensures given { AreGiven self.now }
+        ensures flight { IfOk result (λ f. found self.now.last self.now.flights number ≡ Ok f.now) }
+        ensures fault { IfErr result (λ e. found self.now.last self.now.flights number ≡ Err e) }
+    {
+        let (_, flight) = flight_left(&self.flights, self.last, &self.spent, number)?;
+        Ok(flight)
+    }
+
     /// The flight of a number, or why there is none: `Unknown` or `Spent`.
     pub fn look(&self, number: u64) -> Result<Flight, TakeFault>
         ensures given { AreGiven self.now }
         ensures flight { result ≡ found self.now.last self.now.flights number }
     {
-        let place = place_left(&self.flights, self.last, &self.spent, number)?;
-        Ok(self.flights[place])
+        let flight = self.find(number)?;
+        Ok(*flight)
     }
 
     /// The flight of a number, which the device receives: it is spent then. A fault changes
@@ -113,11 +123,13 @@ impl FlightBook {
         ensures last { self.new.last ≡ self.old.last }
         ensures room { self.old.room ≤ self.new.room }
     {
-        let place = place_left(&self.flights, self.last, &self.spent, number)?;
-        if self.flights[place].receiver != device {
+        let (place, flight) = flight_left(&self.flights, self.last, &self.spent, number)?;
+        if flight.receiver != device {
             return Err(TakeFault::WrongDevice);
         }
-        Ok(spend(&mut self.flights, self.last, &self.spent, place))
+        let taken = *flight;
+        spend(&mut self.flights, self.last, &self.spent, place);
+        Ok(taken)
     }
 
     /// Loses the flight of a number: it is spent then. A fault changes nothing.
@@ -128,8 +140,8 @@ impl FlightBook {
         ensures last { self.new.last ≡ self.old.last }
         ensures room { self.old.room ≤ self.new.room }
     {
-        let place = place_left(&self.flights, self.last, &self.spent, number)?;
-        let _lost = spend(&mut self.flights, self.last, &self.spent, place);
+        let (place, _) = flight_left(&self.flights, self.last, &self.spent, number)?;
+        spend(&mut self.flights, self.last, &self.spent, place);
         Ok(())
     }
 

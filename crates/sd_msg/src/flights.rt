@@ -9,6 +9,7 @@ use crate::{Flight, TakeFault};
 use std::collections::VecDeque;
 
 /// The place of the first flight with no smaller number, by halving.
+#[inline(never)]
 fn place_from(flights: &VecDeque<Flight>, last: u64, number: u64) -> usize
     requires { AreNumbered 0 last flights.now.items }
     ensures bound { result ≤ length flights.now.items }
@@ -18,85 +19,79 @@ fn place_from(flights: &VecDeque<Flight>, last: u64, number: u64) -> usize
     flights.partition_point(|flight| flight.number < number)
 }
 
-/// The place of the flight with a number while each number behind the first has its place.
-fn place_guessed(flights: &VecDeque<Flight>, number: u64) -> Option<usize>
-    ensures place { IfSome result (λ i. i < length flights.now.items) }
-    ensures number { IfSome result (λ i. (d : Flight) → (slice_index_or flights.now.items i d).number ≡ number) }
+/// The flight with a number, and its place, while each number behind the first has its place.
+#[inline(always)]
+fn flight_guessed(flights: &VecDeque<Flight>, number: u64) -> Option<(usize, &Flight)>
+    ensures place { IfSome result (λ p. p.0 < length flights.now.items) }
+    ensures item { IfSome result (λ p. (d : Flight) → p.1.now ≡ slice_index_or flights.now.items p.0 d) }
+    ensures number { IfSome result (λ p. p.1.now.number ≡ number) }
 {
     let first = flights.front()?;
     let place = usize::try_from(number.checked_sub(first.number)?).ok()?;
     match flights.get(place) {
-        Some(flight) if flight.number == number => Some(place),
+        Some(flight) if flight.number == number => Some((place, flight)),
         _ => None,
     }
 }
 
-/// The place of the flight with a number, of those given up to the last, or why there is none.
-pub(crate) fn place_given(
+/// The flight with a number, of those given up to the last, and its place, or why there is none.
+#[inline]
+fn flight_given(
     flights: &VecDeque<Flight>,
     last: u64,
     number: u64,
-) -> Result<usize, TakeFault>
+) -> Result<(usize, &Flight), TakeFault>
     requires { AreNumbered 0 last flights.now.items }
-    ensures place { IfOk result (λ i. i < length flights.now.items) }
-    ensures number { IfOk result (λ i. (d : Flight) → (slice_index_or flights.now.items i d).number ≡ number) }
-    ensures flight { IfOk result (λ i. (d : Flight) → found last flights.now.items number ≡ Ok (slice_index_or flights.now.items i d)) }
+    ensures place { IfOk result (λ p. p.0 < length flights.now.items) }
+    ensures item { IfOk result (λ p. (d : Flight) → p.1.now ≡ slice_index_or flights.now.items p.0 d) }
+    ensures number { IfOk result (λ p. p.1.now.number ≡ number) }
+    ensures flight { IfOk result (λ p. found last flights.now.items number ≡ Ok p.1.now) }
     ensures fault { IfErr result (λ e. found last flights.now.items number ≡ Err e) }
 {
     if number == 0 || number > last {
         return Err(TakeFault::Unknown);
     }
-    if let Some(place) = place_guessed(flights, number) {
-        return Ok(place);
+    if let Some(placed) = flight_guessed(flights, number) {
+        return Ok(placed);
     }
     let place = place_from(flights, last, number);
     match flights.get(place) {
-        Some(flight) if flight.number == number => Ok(place),
+        Some(flight) if flight.number == number => Ok((place, flight)),
         _ => Err(TakeFault::Spent),
     }
 }
 
 /// The same of those that are left.
-pub(crate) fn place_left(
-    flights: &VecDeque<Flight>,
+pub(crate) fn flight_left<'b>(
+    flights: &'b VecDeque<Flight>,
     last: u64,
     spent: &Spent,
     number: u64,
-) -> Result<usize, TakeFault>
+) -> Result<(usize, &'b Flight), TakeFault>
     requires { AreNumbered 0 last flights.now.items }
-    ensures place { IfOk result (λ i. i < length flights.now.items) }
-    ensures number { IfOk result (λ i. (d : Flight) → (slice_index_or flights.now.items i d).number ≡ number) }
-    ensures flight { IfOk result (λ i. (d : Flight) → found last (filter (is_left spent.now) flights.now.items) number ≡ Ok (slice_index_or flights.now.items i d)) }
+    ensures place { IfOk result (λ p. p.0 < length flights.now.items) }
+    ensures item { IfOk result (λ p. (d : Flight) → p.1.now ≡ slice_index_or flights.now.items p.0 d) }
+    ensures number { IfOk result (λ p. p.1.now.number ≡ number) }
+    ensures flight { IfOk result (λ p. found last (filter (is_left spent.now) flights.now.items) number ≡ Ok p.1.now) }
     ensures fault { IfErr result (λ e. found last (filter (is_left spent.now) flights.now.items) number ≡ Err e) }
 {
-    let place = place_given(flights, last, number)?;
-    if !spent.leaves(&flights[place]) {
+    let (place, flight) = flight_given(flights, last, number)?;
+    if !spent.leaves(flight) {
         return Err(TakeFault::Spent);
     }
-    Ok(place)
+    Ok((place, flight))
 }
 
 /// Spends the flight at a place: it stays there as one that does not reach.
-pub(crate) fn spend(
-    flights: &mut VecDeque<Flight>,
-    last: u64,
-    spent: &Spent,
-    place: usize,
-) -> Flight
+pub(crate) fn spend(flights: &mut VecDeque<Flight>, last: u64, spent: &Spent, place: usize)
     requires kept { AreKept last spent.now flights.old.items }
     requires place { place < length flights.old.items }
-    ensures flight { (d : Flight) → result ≡ slice_index_or flights.old.items place d }
-    ensures left { filter (is_left spent.now) flights.new.items ≡ without result.number (filter (is_left spent.now) flights.old.items) }
+    ensures left { (d : Flight) → filter (is_left spent.now) flights.new.items ≡ without (slice_index_or flights.old.items place d).number (filter (is_left spent.now) flights.old.items) }
     ensures kept { AreKept last spent.now flights.new.items }
     ensures len { deque_len flights.new ≡ deque_len flights.old }
     ensures capacity { deque_capacity flights.new ≡ deque_capacity flights.old }
 {
-    let flight = flights[place];
-    flights[place] = Flight {
-        reaches: false,
-        ..flight
-    };
-    flight
+    flights[place].reaches = false;
 }
 
 /// Leaves out all that are spent.

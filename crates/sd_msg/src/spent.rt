@@ -45,6 +45,7 @@ impl Spent {
     }
 
     /// Whether the flight is not spent.
+    #[inline(always)]
     pub fn leaves(&self, flight: &Flight) -> bool
         ensures { result ≡ is_left self.now flight.now }
     {

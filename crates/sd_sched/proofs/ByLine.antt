@@ -11,7 +11,8 @@ use Rattle.std.proofs.lemmas.Grind.{common_steps}
 use Rattle.sd_sched.proofs.Cuts.{fields_step}
 use Rattle.sd_sched.proofs.ByWord.{event_of, event_of_word_is, known_word}
 
-word_first : (line : List ℕ) (w : Word) (numbers : Result (List ℕ) LineFault) → first_field line ≡ (row_of w).spelled → numbers_from 1 (row_of w).shape (fields_behind (drop (length (first_field line)) line)) ≡ numbers → event_of_line line ≡ event_of (row_of w).event numbers
+-- the event of a line by its first field and what is behind it
+pub word_first : (line : List ℕ) (w : Word) (numbers : Result (List ℕ) LineFault) → first_field line ≡ (row_of w).spelled → numbers_from 1 (row_of w).shape (fields_behind (drop (length (first_field line)) line)) ≡ numbers → event_of_line line ≡ event_of (row_of w).event numbers
 unfolding event_of_line
 word_first line w numbers spells read =
     ap event_of_fields (fields_step line)

@@ -7,4 +7,5 @@ pub mod ByWord
 pub mod First
 pub mod Front
 pub mod ByLine
+pub mod InTurn
 pub mod ReadBack

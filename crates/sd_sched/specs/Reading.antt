@@ -1,5 +1,5 @@
 -- Fields read one after the other, as they are found.
-use Rattle.std.specs.Prelude.{ℕ, ◌+◌, ◌≤◌, Bool, true, false, List, [], ◌∷◌, ◌++◌, Option, Some, None, Result, Ok, Err, slice_index}
+use Rattle.std.specs.Prelude.{ℕ, ◌≡◌, ◌+◌, ◌≤◌, Bool, true, false, List, [], ◌∷◌, ◌++◌, Option, Some, None, Result, Ok, Err, slice_index}
 use Rattle.sd_num.specs.Lists.{of_some}
 use Rattle.sd_sched.specs.Lines.{Word as Row, start_word, tick_word, recv_word, lose_word, fail_word, fix_word, ask_word, stage_word, give_word, commit_word, seal_word, join_word, mend_word, end_word, fields, field_number, limit}
 use Rattle.sd_sched.specs.declared.LineFault.{LineFault}
@@ -86,3 +86,11 @@ so_far (Some fault) numbers = Err fault
 abbrev pub WithinFrom : ℕ → List Field → List ℕ → Type 0
 WithinFrom place [] numbers = Unit {0}
 WithinFrom place (field ∷ shape) numbers = (slice_index numbers place ≤ limit field) × WithinFrom (place + 1) shape numbers
+
+-- the fields begin with one that has this number, and these are behind it
+abbrev pub Begins : Field → List (List ℕ) → ℕ → List (List ℕ) → Type 0
+Begins field texts n behind = (text : List ℕ) × ((texts ≡ text ∷ behind) × (field_number field text ≡ Some n))
+
+-- the fields of a line begin with a reference time, a device and a counter, and these are behind them
+abbrev pub BeginsThree : List (List ℕ) → ℕ → ℕ → ℕ → List (List ℕ) → Type 0
+BeginsThree texts reference device counter behind = (shape : List Field) → numbers_from 1 (Amount ∷ Which ∷ Amount ∷ shape) texts ≡ Ok (reference ∷ device ∷ counter ∷ []) then numbers_from 4 shape behind

@@ -89,7 +89,8 @@ fn graver(first: Option<LineFault>, second: LineFault) -> LineFault
 }
 
 /// Reads the field at the front of the bytes.
-fn read_field(field: Field, bytes: &[u8]) -> Found<'_>
+#[inline(always)]
+pub fn read_field(field: Field, bytes: &[u8]) -> Found<'_>
     ensures number { result.number ≡ field_number field (first_of bytes.now) }
     ensures within { IfSome result.number (λ n. n ≤ limit field) }
     ensures left { result.left.now ≡ drop (length (first_of bytes.now)) bytes.now }
@@ -102,6 +103,7 @@ fn read_field(field: Field, bytes: &[u8]) -> Found<'_>
 }
 
 /// Reads the number at the front of the bytes, which is to be at most the given one.
+#[inline(always)]
 pub fn read_number(bytes: &[u8], most: u64) -> Found<'_>
     ensures number { result.number ≡ number_within most (number_of (first_of bytes.now)) }
     ensures within { IfSome result.number (λ n. n ≤ most) }
@@ -145,6 +147,7 @@ fn ends_at(bytes: &[u8], place: usize) -> bool
 /// Reads a field that does not begin as a number within the limits does, once more from its start:
 /// its line is refused.
 #[cold]
+#[inline(never)]
 fn read_refused(bytes: &[u8], most: u64) -> Found<'_>
     ensures number { result.number ≡ number_within most (number_of (first_of bytes.now)) }
     ensures within { IfSome result.number (λ n. n ≤ most) }

@@ -19,6 +19,7 @@ mod fields;
 mod making;
 mod printing;
 mod reading;
+mod usual;
 mod words;
 
 pub use fields::{Found, behind_space, first_field, read_number};

@@ -12,4 +12,4 @@ returns-in_err-place-clause-given c =
 pub returns-clause-given : goal.returns-clause-given
 returns-clause-given c =
     let b = c.self.inside in
-    seen_numbered (is_left b.spent) b.last b.spent c.spend-lost.new.flights.items c.spend-lost.ensures.kept
+    seen_numbered (is_left b.spent) b.last b.spent c.spend.new.flights.items c.spend.ensures.kept

@@ -1,7 +1,7 @@
 use Rattle.std.proofs.Common.{◌≡◌, ◌∙◌, sym, ap, Ok, Err, rules}
 use Rattle.sd_sched.specs.Lines.{event_of_line}
 use Rattle.sd_sched.proofs.ByLine.{line_of_word, event_of_shape}
-use Rattle.sd_sched.proofs.reading.read_line.Goals as goal
+use Rattle.sd_sched.proofs.reading.read_any.Goals as goal
 
 pub returns-in_err-numbers-clause-event : goal.returns-in_err-numbers-clause-event
 returns-in_err-numbers-clause-event c =

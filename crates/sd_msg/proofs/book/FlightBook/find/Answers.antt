@@ -2,10 +2,10 @@ use Rattle.std.proofs.Common.{subst}
 use Rattle.sd_msg.specs.Books.{AreGiven}
 use Rattle.sd_msg.specs.Spent.{is_left}
 use Rattle.sd_msg.proofs.Books.{seen_numbered}
-use Rattle.sd_msg.proofs.book.FlightBook.look.Goals as goal
+use Rattle.sd_msg.proofs.book.FlightBook.find.Goals as goal
 
-pub returns-in_err-place-clause-given : goal.returns-in_err-place-clause-given
-returns-in_err-place-clause-given c =
+pub returns-in_err-flight-clause-given : goal.returns-in_err-flight-clause-given
+returns-in_err-flight-clause-given c =
     let b = c.self.inside in
     subst AreGiven c.self.view_is (seen_numbered (is_left b.spent) b.last b.spent b.flights.items c.self.invariant)
 
