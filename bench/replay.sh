@@ -11,7 +11,8 @@
 #   replay   all of them
 # The aim: the same peak memory for the last two, and an event that costs at most five times what it costs a tuned
 # program in plain Rust, which makes some sixteen million events a second: 0.31 microseconds. Such a program, without
-# proofs (bench/plain), runs last where there is a rustc: it replays the same schedule and has to write the same bytes.
+# proofs (bench/plain), runs last where there is a rustc, in turn with the replay: it replays the same schedule and has
+# to write the same bytes.
 set -eu
 program=$(realpath "$1")
 rounds=${2:-17000}
@@ -47,12 +48,17 @@ for length in $((rounds / 10)) "$rounds"; do
 done
 if command -v rustc >/dev/null; then
     rustc -O --edition 2021 -o "$folder/plain" "$here/plain/main.rs"
-    plain=
-    for _ in 1 2 3; do
-        took=$("$folder/plain" "${words[@]:1}" 2>&1 >"$folder/copy")
-        if [ -z "$plain" ] || [ "$took" -lt "$plain" ]; then plain=$took; fi
-    done
-    cmp "$folder/answer" "$folder/copy"
-    awk -v least="$least" -v checking="$checking" -v plain="$plain" -v events="$events" \
-        'BEGIN { printf "plain    %8.3f s, %.0f ns for each; ratio %.2f\n", plain / 1e9, plain / events, (least - checking) * 1000 / plain }'
+    # In turn, since the speed of a machine may change from one minute to the next.
+    for _ in 1 2 3 4 5 6 7; do
+        begun=${EPOCHREALTIME//[!0-9]/}
+        "$program" "${words[@]}" >"$folder/answer" || :
+        took=$((${EPOCHREALTIME//[!0-9]/} - begun))
+        plain=$("$folder/plain" "${words[@]:1}" 2>&1 >"$folder/copy")
+        cmp "$folder/answer" "$folder/copy"
+        echo "$(((took - checking) * 1000)) $plain"
+    done >"$folder/pairs"
+    awk '{ print $1 / $2 }' "$folder/pairs" | sort -n >"$folder/ratios"
+    awk -v events="$events" -v middle="$(sed -n 4p "$folder/ratios")" '
+        NR == 1 || $1 < replay { replay = $1 } NR == 1 || $2 < plain { plain = $2 }
+        END { printf "in turn: %.0f ns an event, and %.0f in plain Rust; ratio %.2f, in the middle of seven pairs %.2f\n", replay / events, plain / events, replay / plain, middle }' "$folder/pairs"
 fi

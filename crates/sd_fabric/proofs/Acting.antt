@@ -20,12 +20,9 @@ use Rattle.sd_world.specs.Registers.{is_open}
 use Rattle.sd_roster.specs.Plans.{is_member_numbered}
 use Rattle.sd_roster.specs.Rosters.{staged_number}
 use Rattle.sd_roster.proofs.Queries.{staged_number_is, staged_when, member_row_numbered_is}
-use Rattle.sd_fabric.specs.declared.Making.TheVariants as making
-use Rattle.sd_fabric.specs.declared.Call.TheVariants as call
-use Rattle.sd_fabric.specs.declared.Act.TheVariants as act
 use Rattle.sd_fabric.specs.Registers.{Registers}
 use Rattle.sd_fabric.specs.Causes.{refusal_in, flight_at}
-use Rattle.sd_fabric.specs.Doing.{act_seen, act_in, receipt, changes}
+use Rattle.sd_fabric.specs.Doing.{act_in, receipt, changes}
 use Rattle.sd_fabric.specs.Standing.{Stands}
 use Rattle.sd_fabric.proofs.Refused.{same_look, refusal_is}
 use Rattle.sd_fabric.proofs.Admitted.{device_known, started_member, given_member}
@@ -51,31 +48,31 @@ module _ (setting : Setting) (r : Registers) (steps : List Step) (stands : Stand
 
   -- a start gives the duty of the plan in force
   started_is : (ref d c clock eps : ℕ) → refusal_in r (event.Start ref d c clock eps) ≡ None
-      → act_seen (act_in r (event.Start ref d c clock eps)) ≡ act_by setting steps (event.Start ref d c clock eps)
+      → act_in r (event.Start ref d c clock eps) ≡ act_by setting steps (event.Start ref d c clock eps)
   started_is ref d c clock eps accepted =
       let e : Event = event.Start ref d c clock eps in
-      ap (λ o. act_seen (of_some o act.Passes (λ (row : TableRow). act.Makes d (making.Started row.duty c clock eps))))
+      ap (λ o. of_some o Passes (λ (row : TableRow). Makes d (calls.Started row.duty c clock eps)))
       (member_row_numbered_is r.roster setting steps stands.roster r.roster.world.epoch d stands.roster.sound.in_force (device_within e accepted d refl) (started_member r e accepted d refl))
       ∙ ap (λ n. Makes d (calls.Started (duty_of setting.net (plan_numbered setting n) n d) c clock eps)) stands.roster.world.epoch
 
   -- a give gives that of the staged plan
-  given_is : (ref d : ℕ) → refusal_in r (event.Give ref d) ≡ None → act_seen (act_in r (event.Give ref d)) ≡ act_by setting steps (event.Give ref d)
+  given_is : (ref d : ℕ) → refusal_in r (event.Give ref d) ≡ None → act_in r (event.Give ref d) ≡ act_by setting steps (event.Give ref d)
   given_is ref d accepted =
       let e : Event = event.Give ref d in
       let parts = and_parts (is_open r.roster.world.window) (is_member_numbered r.roster.plans (staged_number r.roster) d) (given_member r e accepted d refl) in
       let open_ : window_is_open seen ≡ true = sym stands.roster.world.open_window ∙ parts.0 in
-      ap (λ o. act_seen (of_some o act.Passes (λ (row : TableRow). act.Calls d (call.Give row.duty))))
+      ap (λ o. of_some o Passes (λ (row : TableRow). Calls d (calls.Give row.duty)))
       (member_row_numbered_is r.roster setting steps stands.roster (staged_number r.roster) d (stands.roster.sound.staged parts.0) (device_within e accepted d refl) parts.1)
       ∙ ap (λ n. Calls d (calls.Give (duty_of setting.net (plan_numbered setting n) n d))) (staged_number_is r.roster setting steps stands.roster)
       ∙ sym (ap (λ o. of_some o Passes (λ (plan : Plan). Calls d (calls.Give (duty_of setting.net plan (staged_epoch seen) d)))) (staged_when r.roster setting steps stands.roster open_))
 
-  received_is : (ref d c n : ℕ) → refusal_in r (event.Recv ref d c n) ≡ None → act_seen (act_in r (event.Recv ref d c n)) ≡ act_by setting steps (event.Recv ref d c n)
+  received_is : (ref d c n : ℕ) → refusal_in r (event.Recv ref d c n) ≡ None → act_in r (event.Recv ref d c n) ≡ act_by setting steps (event.Recv ref d c n)
   received_is ref d c n accepted =
       let it = flight_there (event.Recv ref d c n) accepted n refl in
-      ap (λ look. act_seen (receipt look d c)) it.1 ∙ sym (ap (λ o. of_some o Passes (λ (f : Flight). Calls d (calls.Receive f.link f.message c))) it.2)
+      ap (λ look. receipt look d c) it.1 ∙ sym (ap (λ o. of_some o Passes (λ (f : Flight). Calls d (calls.Receive f.link f.message c))) it.2)
 
   -- what the event does
-  pub act_is : (e : Event) → refusal_in r e ≡ None → act_seen (act_in r e) ≡ act_by setting steps e
+  pub act_is : (e : Event) → refusal_in r e ≡ None → act_in r e ≡ act_by setting steps e
   act_is (event.Start ref d c clock eps) accepted = started_is ref d c clock eps accepted
   act_is (event.Join ref d c clock eps) accepted = ap (λ net. Makes d (calls.Joined (rates_of net d) c clock eps)) stands.net
   act_is (event.Tick ref d c) accepted = refl

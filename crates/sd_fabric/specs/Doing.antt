@@ -28,14 +28,14 @@ use Rattle.sd_fabric.specs.Causes.{flight_at}
 -- the words of histories for what the types of the code say
 
 abbrev pub making_seen : Making → calls.Making
-making_seen (making.Started duty counter clock eps) = calls.Started duty counter clock eps
+making_seen (making.Started duty counter clock eps) = calls.Started duty.now counter clock eps
 making_seen (making.Joined rates counter clock eps) = calls.Joined rates counter clock eps
 
 abbrev pub call_seen : Call → calls.Call
 call_seen (call.Tick counter) = calls.Tick counter
-call_seen (call.Receive link message counter) = calls.Receive link message counter
+call_seen (call.Receive link message counter) = calls.Receive link message.now counter
 call_seen (call.Fix counter clock eps) = calls.Fix counter clock eps
-call_seen (call.Give duty) = calls.Give duty
+call_seen (call.Give duty) = calls.Give duty.now
 call_seen (call.Commit counter) = calls.Commit counter
 call_seen call.Seal = calls.Seal
 
@@ -89,25 +89,25 @@ given_in r e = option_and_then (λ d. option_and_then (λ a. a.given) (live_at r
 -- what an event does, by what is kept
 
 -- the duty of a member in the plan with a number
-abbrev pub with_duty : Registers → ℕ → ℕ → (Duty → Act) → Act
-with_duty r epoch d f = of_some (row_numbered r.roster.plans epoch d) act.Passes (λ row. f row.duty)
+abbrev pub with_duty : Registers → ℕ → ℕ → (Duty → steps.Act) → steps.Act
+with_duty r epoch d f = of_some (row_numbered r.roster.plans epoch d) Passes (λ row. f row.duty)
 
-abbrev pub receipt : Result Flight TakeFault → ℕ → ℕ → Act
-receipt (Ok f) d counter = act.Calls d (call.Receive f.link f.message counter)
-receipt (Err e) d counter = act.Passes
+abbrev pub receipt : Result Flight TakeFault → ℕ → ℕ → steps.Act
+receipt (Ok f) d counter = Calls d (calls.Receive f.link f.message counter)
+receipt (Err e) d counter = Passes
 
 -- a call of the device
-abbrev pub call_in : Registers → Event → Act
-call_in r (event.Tick reference device counter) = act.Calls device (call.Tick counter)
+abbrev pub call_in : Registers → Event → steps.Act
+call_in r (event.Tick reference device counter) = Calls device (calls.Tick counter)
 call_in r (event.Recv reference device counter message) = receipt (flight_at r message) device counter
-call_in r (event.Fix reference device counter clock eps) = act.Calls device (call.Fix counter clock eps)
-call_in r (event.Give reference device) = with_duty r (staged_number r.roster) device (λ duty. act.Calls device (call.Give duty))
-call_in r (event.Commit reference device counter) = act.Calls device (call.Commit counter)
-call_in r (event.Seal reference device) = act.Calls device call.Seal
-call_in r _ = act.Passes
+call_in r (event.Fix reference device counter clock eps) = Calls device (calls.Fix counter clock eps)
+call_in r (event.Give reference device) = with_duty r (staged_number r.roster) device (λ duty. Calls device (calls.Give duty))
+call_in r (event.Commit reference device counter) = Calls device (calls.Commit counter)
+call_in r (event.Seal reference device) = Calls device calls.Seal
+call_in r _ = Passes
 
-abbrev pub act_in : Registers → Event → Act
-act_in r (event.Start reference device counter clock eps) = with_duty r r.roster.world.epoch device (λ duty. act.Makes device (making.Started duty counter clock eps))
-act_in r (event.Join reference device counter clock eps) = act.Makes device (making.Joined (rates_of r.net device) counter clock eps)
-act_in r (event.Ask reference device counter) = act.Asks device counter
+abbrev pub act_in : Registers → Event → steps.Act
+act_in r (event.Start reference device counter clock eps) = with_duty r r.roster.world.epoch device (λ duty. Makes device (calls.Started duty counter clock eps))
+act_in r (event.Join reference device counter clock eps) = Makes device (calls.Joined (rates_of r.net device) counter clock eps)
+act_in r (event.Ask reference device counter) = Asks device counter
 act_in r e = call_in r e

@@ -1,17 +1,17 @@
 //! What an event does to the device that it names.
 ghost use Rattle.std.specs.Prelude.{◌≡◌, None};
+ghost use Rattle.sd_history.specs.Steps.{Calls};
 ghost use Rattle.sd_fabric.specs.Causes.{refusal_in, flight_at};
-ghost use Rattle.sd_fabric.specs.Doing.{act_in, call_in, receipt};
-ghost use Rattle.sd_fabric.specs.declared.Act.TheVariants as acts;
+ghost use Rattle.sd_fabric.specs.Doing.{act_seen, call_seen, act_in, call_in, receipt};
 
 use crate::{Act, Call, Fabric, Making};
 use sd_sched::Event;
 
 impl Fabric {
     /// What an event that is not refused does to its device.
-    pub fn act(&self, event: &Event) -> Act
+    pub fn act(&self, event: &Event) -> Act<'_>
         requires { refusal_in self.now event.now ≡ None }
-        ensures { result ≡ act_in self.now event.now }
+        ensures { act_seen result ≡ act_in self.now event.now }
     {
         match *event {
             Event::Start {
@@ -54,9 +54,9 @@ impl Fabric {
     }
 
     /// The call that an event makes of its device, if it makes one.
-    fn call(&self, event: &Event) -> Act
+    fn call(&self, event: &Event) -> Act<'_>
         requires { refusal_in self.now event.now ≡ None }
-        ensures { result ≡ call_in self.now event.now }
+        ensures { act_seen result ≡ call_in self.now event.now }
     {
         match *event {
             Event::Tick {
@@ -99,15 +99,15 @@ impl Fabric {
     }
 
     /// The receipt of a message.
-    fn receipt(&self, device: u32, counter: u64, message: u64) -> Act
-        ensures { result ≡ receipt (flight_at self.now message) device counter }
+    fn receipt(&self, device: u32, counter: u64, message: u64) -> Act<'_>
+        ensures { act_seen result ≡ receipt (flight_at self.now message) device counter }
     {
         match self.book.find(message) {
             Ok(flight) => calls(
                 device,
                 Call::Receive {
                     link: flight.link,
-                    message: flight.message,
+                    message: &flight.message,
                     counter,
                 },
             ),
@@ -117,8 +117,8 @@ impl Fabric {
 }
 
 /// The device is called.
-fn calls(device: u32, call: Call) -> Act
-    ensures { result ≡ acts.Calls device call }
+fn calls(device: u32, call: Call<'_>) -> Act<'_>
+    ensures { act_seen result ≡ Calls device (call_seen call.entry) }
 {
     Act::Calls { device, call }
 }

@@ -10,12 +10,13 @@ use sd_sched::Event;
 use sd_world::failure_of;
 
 /// Leaves out what ended before the event, and takes or loses the flight of its message. The
-/// answer is the flight that it receives.
-pub(crate) fn deliver(book: &mut FlightBook, event: &Event) -> Option<Flight>
+/// flight that it receives is written where the caller wants it.
+// A flight is large, and most events receive none.
+pub(crate) fn deliver(book: &mut FlightBook, event: &Event, taken: &mut Option<Flight>)
     requires given { AreGiven book.old }
     requires message { CanDeliver book.old event.now }
     ensures given { AreGiven book.new }
-    ensures flight { result ≡ taken_from book.old event.now }
+    ensures flight { taken.new ≡ taken_from book.old event.now }
     ensures flights { book.new.flights ≡ delivered event.now book.old.flights }
     ensures last { book.new.last ≡ book.old.last }
     ensures room { book.old.room ≤ book.new.room }
@@ -26,12 +27,12 @@ pub(crate) fn deliver(book: &mut FlightBook, event: &Event) -> Option<Flight>
             device,
             message,
             ..
-        } => book.take(message, device).ok(),
+        } => *taken = book.take(message, device).ok(),
         Event::Lose { message, .. } => {
             let _: Result<(), TakeFault> = book.lose(message);
-            None
+            *taken = None;
         }
-        _ => None,
+        _ => *taken = None,
     }
 }
 

@@ -5,7 +5,7 @@
 //! What kind of device that is it never asks.
 #![tactic(auto)]
 
-ghost use Rattle.std.specs.Prelude.{◌≡◌, Some, None};
+ghost use Rattle.std.specs.Prelude.{◌≡◌, Some, None, false};
 ghost use Rattle.sd_core.specs.declared.Effect.TheVariants as effects;
 
 mod acts;
@@ -28,11 +28,11 @@ use sd_plan::Duty;
 pub use sd_roster::Answered;
 
 /// How a device is made. Counters, clocks and uncertainties are in ps.
-#[derive(Clone, Copy, Debug, PartialEq, Eq)]
-pub enum Making {
+#[derive(Clone, Copy, Debug)]
+pub enum Making<'a> {
     /// With its duty of the plan in force.
     Started {
-        duty: Duty,
+        duty: &'a Duty,
         counter: u64,
         clock: u64,
         eps: u64,
@@ -46,15 +46,15 @@ pub enum Making {
     },
 }
 
-/// A call of a device that is made.
-#[derive(Clone, Copy, Debug, PartialEq, Eq)]
-pub enum Call {
+/// A call of a device that is made. What is large is lent.
+#[derive(Clone, Copy, Debug)]
+pub enum Call<'a> {
     Tick {
         counter: u64,
     },
     Receive {
         link: u32,
-        message: Message,
+        message: &'a Message,
         counter: u64,
     },
     Fix {
@@ -63,7 +63,7 @@ pub enum Call {
         eps: u64,
     },
     Give {
-        duty: Duty,
+        duty: &'a Duty,
     },
     Commit {
         counter: u64,
@@ -72,10 +72,10 @@ pub enum Call {
 }
 
 /// What an event does to the device that it names.
-#[derive(Clone, Copy, Debug, PartialEq, Eq)]
-pub enum Act {
-    Makes { device: u32, making: Making },
-    Calls { device: u32, call: Call },
+#[derive(Clone, Copy, Debug)]
+pub enum Act<'a> {
+    Makes { device: u32, making: Making<'a> },
+    Calls { device: u32, call: Call<'a> },
     /// It asks the device for a report at this counter.
     Asks { device: u32, counter: u64 },
     /// It leaves all devices alone.
@@ -153,4 +153,31 @@ pub struct Outcome {
     pub closed: bool,
     /// Whether the event is `end`.
     pub ended: bool,
+}
+
+impl Outcome {
+    /// Of no event.
+    pub fn nothing() -> Outcome
+        ensures { result ≡ record {
+          report = None;
+          taken = None;
+          first_sent = 0;
+          sent = 0;
+          activated = None;
+          acted = false;
+          closed = false;
+          ended = false;
+        } }
+    {
+        Outcome {
+            report: None,
+            taken: None,
+            first_sent: 0,
+            sent: 0,
+            activated: None,
+            acted: false,
+            closed: false,
+            ended: false,
+        }
+    }
 }

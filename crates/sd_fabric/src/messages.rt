@@ -152,16 +152,16 @@ pub(crate) fn send(
     let Some(sender) = event.device() else {
         return Sent::none();
     };
-    let Some(answers) = reply.answers else {
+    let Some(answers) = &reply.answers else {
         return Sent::none();
     };
-    let Effect::Send(message) = reply.effect else {
+    let Effect::Send(message) = &reply.effect else {
         return Sent::none();
     };
     let sending = Sending {
         reference: event.reference(),
         sender,
-        message,
+        message: *message,
     };
     let ways = Ways {
         topology,

@@ -22,16 +22,16 @@ use sd_num::NoMemory;
 use sd_sched::Event;
 use std::alloc::Global;
 
-/// The report of an ask, with the device that was asked.
-fn report_by(event: &Event, reply: &Reply) -> Option<(u32, Report)>
-    ensures { result ≡ report_in event.now reply.now }
+/// Notes the report of an ask, with the device that was asked.
+// A report is written where there is one alone, since most events have none.
+fn note_report(noted: &mut Option<(u32, Report)>, event: &Event, reply: &Reply)
+    ensures { noted.new ≡ report_in event.now reply.now }
 {
-    match *event {
-        Event::Ask { device, .. } => match reply.report {
-            Some(report) => Some((device, report)),
-            None => None,
-        },
-        _ => None,
+    *noted = None;
+    if let Event::Ask { device, .. } = *event {
+        if let Some(report) = reply.report {
+            *noted = Some((device, report));
+        }
     }
 }
 
@@ -86,39 +86,35 @@ impl Fabric {
         }
     }
 
-    /// An event that is not refused, of which its device told this.
-    pub fn step(&mut self, event: &Event, reply: &Reply) -> Outcome
+    /// An event that is not refused, of which its device told this. What comes of it is written
+    /// into an outcome that the caller lends.
+    pub fn step(&mut self, event: &Event, reply: &Reply, outcome: &mut Outcome)
         requires accepted { refusal_in self.old event.now ≡ None }
         requires within { IsTrue (is_within event.now) }
         requires tells { Tells event.now reply.now }
         requires room { most_sent_in self.old event.now ≤ self.old.book.room }
         ensures after { IsAfter self.old event.now reply.now self.new }
-        ensures comes { result ≡ outcome_in self.old event.now reply.now }
+        ensures comes { outcome.new ≡ outcome_in self.old event.now reply.now }
         ensures sound { IsSound self.new }
         ensures stands { (setting : Setting) (steps : List Step) (told : Told) → Says reply.now told
             → Stands self.old setting steps → Stands self.new setting (step_of setting steps event.now told ∷ steps) }
         ensures outcome { (setting : Setting) (steps : List Step) (told : Told) → Says reply.now told
-            → Stands self.old setting steps → result ≡ outcome_of (step_of setting steps event.now told) }
+            → Stands self.old setting steps → outcome.new ≡ outcome_of (step_of setting steps event.now told) }
     {
         let device = event.device();
-        let acted = acts(&self.roster, device);
+        outcome.acted = acts(&self.roster, device);
         let was_new = is_new(&self.roster, device);
-        let taken = deliver(&mut self.book, event);
+        deliver(&mut self.book, event, &mut outcome.taken);
         let sent = send(&self.topology, &self.roster, &mut self.book, event, reply);
+        outcome.first_sent = sent.first;
+        outcome.sent = sent.count;
         sweep(&mut self.book, event);
-        self.roster.observe(event, reply.answers);
+        self.roster.observe(event, &reply.answers);
         let is_new_now = is_new(&self.roster, device);
-        let closed = close(&mut self.roster);
-        Outcome {
-            report: report_by(event, reply),
-            taken,
-            first_sent: sent.first,
-            sent: sent.count,
-            activated: entering(device, was_new, is_new_now),
-            acted,
-            closed,
-            ended: ends(event),
-        }
+        outcome.activated = entering(device, was_new, is_new_now);
+        outcome.closed = close(&mut self.roster);
+        outcome.ended = ends(event);
+        note_report(&mut outcome.report, event, reply);
     }
 }
 

@@ -27,13 +27,12 @@ use Rattle.sd_msg.specs.declared.TakeFault.TheVariants as fault
 use Rattle.sd_msg.specs.Books.{found, has_number, is_given}
 use Rattle.sd_plan.specs.Tables.{TableRow}
 use Rattle.sd_topo.proofs.Laws.{rates_law}
-use Rattle.sd_fabric.specs.declared.Making.TheVariants as making
+use Rattle.sd_core.specs.Calls as calls
 use Rattle.sd_fabric.specs.Registers.{Registers}
 use Rattle.sd_fabric.specs.Sound.{IsSound}
 use Rattle.sd_fabric.specs.Causes.{refusal_in, causes_in, past_preparing_in}
-use Rattle.sd_fabric.specs.declared.Call.{Call}
-use Rattle.sd_fabric.specs.declared.Call.TheVariants as call
-use Rattle.sd_fabric.specs.declared.Act.TheVariants as act
+use Rattle.sd_core.specs.Calls.{Call}
+use Rattle.sd_history.specs.Steps as steps
 use Rattle.sd_fabric.specs.Doing.{act_in, receipt, given_in}
 use Rattle.sd_fabric.proofs.Admitted.{none_holds, device_known, message_known, message_unspent, counter_rises, device_up, started_member, given_member}
 use Rattle.sd_fleet.specs.Calling.{IsNode, IsMessage, IsEstimate, CanCall}
@@ -95,7 +94,7 @@ module _ {N : Type 0} (g : Ghosts N) (r : Registers) (nodes : List (Option N)) (
 
   called : (d : ℕ) (call : Call) → device_of e ≡ Some d → up_at r.roster.world d ≡ true
       → ((n : N) → node_at nodes d ≡ Some n → CanCall g r.roster.world.events (reading_at r.roster.world d) n call)
-      → CanAct g nodes (moment_of r e) (act.Calls d call)
+      → CanAct g nodes (moment_of r e) (steps.Calls d call)
   called d call named up can = (in_places d named, there d named up, λ n is. callable d call n named up is (can n is))
 
   -- the device of an event that calls it is up, and its counter does not fall
@@ -210,15 +209,15 @@ module _ {N : Type 0} (g : Ghosts N) (r : Registers) (nodes : List (Option N)) (
   pub can_act : (e : Event) → refusal_in r e ≡ None → IsTrue (is_within e) → CanAct g nodes (moment_of r e) (act_in r e)
   can_act (event.Tick reference d counter) accepted within =
       let e = event.Tick reference d counter in
-      called g r nodes e crew sound accepted d (call.Tick counter) refl (up_now g r nodes e crew sound accepted d refl refl)
+      called g r nodes e crew sound accepted d (calls.Tick counter) refl (up_now g r nodes e crew sound accepted d refl refl)
       (λ n is. (counter_rises r e accepted d counter refl refl refl, amount _ (nat_le reference (2 ^ 60)) true counter within))
   can_act (event.Fix reference d counter clock eps) accepted within =
       let e = event.Fix reference d counter clock eps in
-      called g r nodes e crew sound accepted d (call.Fix counter clock eps) refl (up_now g r nodes e crew sound accepted d refl refl)
+      called g r nodes e crew sound accepted d (calls.Fix counter clock eps) refl (up_now g r nodes e crew sound accepted d refl refl)
       (λ n is. (counter_rises r e accepted d counter refl refl refl, estimate d reference counter clock eps within))
   can_act (event.Seal reference d) accepted within =
       let e = event.Seal reference d in
-      called g r nodes e crew sound accepted d call.Seal refl (up_now g r nodes e crew sound accepted d refl refl) (λ n is. tt)
+      called g r nodes e crew sound accepted d calls.Seal refl (up_now g r nodes e crew sound accepted d refl refl) (λ n is. tt)
   can_act (event.Join reference d counter clock eps) accepted within =
       let e = event.Join reference d counter clock eps in
       (in_places g r nodes e crew sound accepted d refl, (rates_law r.net d sound.net (device_known r e accepted d refl), estimate d reference counter clock eps within))
@@ -235,13 +234,13 @@ module _ {N : Type 0} (g : Ghosts N) (r : Registers) (nodes : List (Option N)) (
       let e = event.Start reference d counter clock eps in
       let (row, at) = row_there r.roster.plans r.roster.world.epoch d (started_member r e accepted d refl) in
       let kept = sound.tables.rows r.roster.world.epoch d row sound.roster.in_force at in
-      subst (λ (o : Option TableRow). CanAct g nodes (moment_of r e) (of_some o act.Passes (λ row. act.Makes d (making.Started row.duty counter clock eps)))) (sym at)
+      subst (λ (o : Option TableRow). CanAct g nodes (moment_of r e) (of_some o steps.Passes (λ row. steps.Makes d (calls.Started row.duty counter clock eps)))) (sym at)
       (in_places g r nodes e crew sound accepted d refl, (kept.duty, estimate d reference counter clock eps within))
   can_act (event.Recv reference d counter message) accepted within =
       let e = event.Recv reference d counter message in
       let (f, at) = flight_found r.book.last r.book.flights message reference (message_known r e accepted message refl) (message_unspent r e accepted message refl) in
       subst (λ (o : Result Flight TakeFault). CanAct g nodes (moment_of r e) (receipt o d counter)) (sym at)
-      (called g r nodes e crew sound accepted d (call.Receive f.link f.message counter) refl (up_now g r nodes e crew sound accepted d refl refl)
+      (called g r nodes e crew sound accepted d (calls.Receive f.link f.message counter) refl (up_now g r nodes e crew sound accepted d refl refl)
       (λ n is. (
         counter_rises r e accepted d counter refl refl refl,
         amount _ (nat_le reference (2 ^ 60)) (nat_le message (2 ^ 60) && true) counter within,
@@ -252,11 +251,11 @@ module _ {N : Type 0} (g : Ghosts N) (r : Registers) (nodes : List (Option N)) (
       let parts = and_parts (is_open r.roster.world.window) (is_member_numbered r.roster.plans (staged_number r.roster) d) (given_member r e accepted d refl) in
       let (row, at) = row_there r.roster.plans (staged_number r.roster) d parts.1 in
       let kept = sound.tables.rows (staged_number r.roster) d row (sound.roster.staged parts.0) at in
-      subst (λ (o : Option TableRow). CanAct g nodes (moment_of r e) (of_some o act.Passes (λ row. act.Calls d (call.Give row.duty)))) (sym at)
-      (called g r nodes e crew sound accepted d (call.Give row.duty) refl (up_now g r nodes e crew sound accepted d refl refl) (λ n is. kept.duty))
+      subst (λ (o : Option TableRow). CanAct g nodes (moment_of r e) (of_some o steps.Passes (λ row. steps.Calls d (calls.Give row.duty)))) (sym at)
+      (called g r nodes e crew sound accepted d (calls.Give row.duty) refl (up_now g r nodes e crew sound accepted d refl refl) (λ n is. kept.duty))
   can_act (event.Commit reference d counter) accepted within =
       let e = event.Commit reference d counter in
-      called g r nodes e crew sound accepted d (call.Commit counter) refl (up_now g r nodes e crew sound accepted d refl refl)
+      called g r nodes e crew sound accepted d (calls.Commit counter) refl (up_now g r nodes e crew sound accepted d refl refl)
       (λ n is. (
         counter_rises r e accepted d counter refl refl refl,
         amount _ (nat_le reference (2 ^ 60)) true counter within,

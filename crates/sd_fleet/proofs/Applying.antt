@@ -25,7 +25,7 @@ use Rattle.sd_fabric.specs.Outcomes.{outcome_of}
 use Rattle.sd_fabric.specs.Standing.{Stands}
 use Rattle.sd_fabric.specs.Stepping.{IsAfter, OnlyRoomGrew}
 use Rattle.sd_fabric.specs.Sound.{IsSound}
-use Rattle.sd_fabric.specs.declared.Act.{Act}
+use Rattle.sd_history.specs.Steps.{Act}
 use Rattle.sd_fabric.proofs.Admitted.{device_known}
 use Rattle.sd_sched.specs.Events.{device_of}
 use Rattle.sd_sched.specs.Lines.{is_within}

@@ -27,9 +27,8 @@ use Rattle.sd_roster.specs.declared.Answered.{Answered}
 use Rattle.sd_roster.specs.Plans.{is_member_numbered}
 use Rattle.sd_roster.specs.Rosters as roster
 use Rattle.sd_roster.specs.Rosters.{staged_number, can_close_in, ends_below, registers_closed}
-use Rattle.sd_fabric.specs.declared.Making.TheVariants as making
-use Rattle.sd_fabric.specs.declared.Call.TheVariants as call
-use Rattle.sd_fabric.specs.declared.Act.TheVariants as act
+use Rattle.sd_core.specs.Calls as calls
+use Rattle.sd_history.specs.Steps as steps
 use Rattle.sd_fabric.specs.declared.Reply.{Reply}
 use Rattle.sd_fabric.specs.Registers.{Registers}
 use Rattle.sd_fabric.specs.Sound.{IsSound}
@@ -107,7 +106,7 @@ there_named : {N : Type 0} (g : Ghosts N) (old : Registers) (e : Event) (reply :
 there_named g old (event.Start reference d counter clock eps) reply nodes after crew sound accepted acts =
     let e = event.Start reference d counter clock eps in
     let (row, at) = row_there old.roster.plans old.roster.world.epoch d (started_member old e accepted d refl) in
-    let made = subst (λ (o : Option TableRow). Acts g nodes (of_some o act.Passes (λ row. act.Makes d (making.Started row.duty counter clock eps))) (moment_of old e) reply after) at acts in
+    let made = subst (λ (o : Option TableRow). Acts g nodes (of_some o steps.Passes (λ row. steps.Makes d (calls.Started row.duty counter clock eps))) (moment_of old e) reply after) at acts in
     λ up. placed_there g old e reply nodes after crew sound d made.node (device_known old e accepted d refl) made.placed
 there_named g old (event.Join reference d counter clock eps) reply nodes after crew sound accepted acts =
     let e = event.Join reference d counter clock eps in
@@ -137,7 +136,7 @@ there_named g old (event.Give reference d) reply nodes after crew sound accepted
     let e = event.Give reference d in
     let parts = and_parts (is_open old.roster.world.window) (is_member_numbered old.roster.plans (staged_number old.roster) d) (given_member old e accepted d refl) in
     let (row, at) = row_there old.roster.plans (staged_number old.roster) d parts.1 in
-    let called = subst (λ (o : Option TableRow). Acts g nodes (of_some o act.Passes (λ row. act.Calls d (call.Give row.duty))) (moment_of old e) reply after) at acts in
+    let called = subst (λ (o : Option TableRow). Acts g nodes (of_some o steps.Passes (λ row. steps.Calls d (calls.Give row.duty))) (moment_of old e) reply after) at acts in
     λ up. placed_there g old e reply nodes after crew sound d called.node (device_known old e accepted d refl) called.placed
 there_named g old (event.Commit reference d counter) reply nodes after crew sound accepted acts =
     let e = event.Commit reference d counter in

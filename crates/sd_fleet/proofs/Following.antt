@@ -15,12 +15,11 @@ use Rattle.sd_history.specs.World.{Setting, staged, staged_epoch}
 use Rattle.sd_history.specs.Steps as steps
 use Rattle.sd_history.specs.Steps.{Calls, Passes, seen_of, flight_numbered, Told, tells_nothing, tells_made, tells_called, tells_report, Step, changed, act_by, step_of}
 use Rattle.sd_history.specs.Nodes.{answers_of, NodeStep, steps_of, node_in, addressed, Allows, IsRun}
-use Rattle.sd_fabric.specs.declared.Act.{Act}
-use Rattle.sd_fabric.specs.declared.Act.TheVariants as act
+use Rattle.sd_history.specs.Steps.{Act}
 use Rattle.sd_fabric.specs.declared.Reply.{Reply}
 use Rattle.sd_fabric.specs.Registers.{Registers}
 use Rattle.sd_fabric.specs.Causes.{refusal_in}
-use Rattle.sd_fabric.specs.Doing.{act_seen, Says}
+use Rattle.sd_fabric.specs.Doing.{Says}
 use Rattle.sd_fabric.specs.Standing.{Stands}
 use Rattle.sd_fabric.proofs.Acting as fabric
 use Rattle.sd_fleet.specs.declared.crew.Moment.{Moment}
@@ -44,8 +43,8 @@ left_placed nodes after m d x within placed = by (nat_eq m d) refl
     by true here = some_at nodes after d x within (subst (λ (k : ℕ). after ≡ slice_set nodes k (Some x)) (eqb-true m d here) placed)
     by false apart = set_other nodes after m d (Some x) placed apart
 
-pub shows : {N : Type 0} (g : Ghosts N) (nodes after : List (Option N)) (a : Act) (moment : Moment) (reply : Reply) → Acts g nodes a moment reply after → Shows g nodes after (act_seen a) reply
-shows g nodes after (act.Makes m making) moment reply acts =
+pub shows : {N : Type 0} (g : Ghosts N) (nodes after : List (Option N)) (a : Act) (moment : Moment) (reply : Reply) → Acts g nodes a moment reply after → Shows g nodes after a reply
+shows g nodes after (steps.Makes m making) moment reply acts =
     record {
       told = tells_made (answers_of g acts.node);
       node = Some acts.node;
@@ -53,7 +52,7 @@ shows g nodes after (act.Makes m making) moment reply acts =
       allowed = record { node = acts.node; made = acts.made; tells = refl; left = refl };
       left = λ d within. left_placed nodes after m d acts.node within acts.placed;
     }
-shows g nodes after (act.Calls m call) moment reply acts =
+shows g nodes after (steps.Calls m call) moment reply acts =
     record {
       told = tells_called reply.effect (answers_of g acts.node);
       node = Some acts.node;
@@ -61,7 +60,7 @@ shows g nodes after (act.Calls m call) moment reply acts =
       allowed = record { old = acts.before; node = acts.node; effect = reply.effect; there = acts.was; stepped = acts.stepped; tells = refl; left = refl };
       left = λ d within. left_placed nodes after m d acts.node within acts.placed;
     }
-shows g nodes after (act.Asks m counter) moment reply acts =
+shows g nodes after (steps.Asks m counter) moment reply acts =
     record {
       told = tells_report acts.0.report;
       node = None;
@@ -69,7 +68,7 @@ shows g nodes after (act.Asks m counter) moment reply acts =
       allowed = record { node = acts.0.node; report = acts.0.report; there = acts.0.was; reported = acts.0.reported; tells = refl; left = refl };
       left = λ d within. ap (λ ns. node_at ns d) acts.1;
     }
-shows g nodes after act.Passes moment reply acts =
+shows g nodes after steps.Passes moment reply acts =
     record {
       told = tells_nothing;
       node = None;

@@ -23,11 +23,10 @@ use Rattle.sd_roster.specs.Plans.{row_numbered, is_member_numbered}
 use Rattle.sd_roster.specs.Rosters.{staged_number, answers_after}
 use Rattle.sd_roster.specs.Standing.{summary}
 use Rattle.sd_roster.proofs.Observing.{other_answers}
-use Rattle.sd_fabric.specs.declared.Making.{Making}
-use Rattle.sd_fabric.specs.declared.Making.TheVariants as making
-use Rattle.sd_fabric.specs.declared.Call.{Call}
-use Rattle.sd_fabric.specs.declared.Call.TheVariants as call
-use Rattle.sd_fabric.specs.declared.Act.TheVariants as act
+use Rattle.sd_core.specs.Calls.{Making}
+use Rattle.sd_core.specs.Calls as calls
+use Rattle.sd_core.specs.Calls.{Call}
+use Rattle.sd_history.specs.Steps as steps
 use Rattle.sd_fabric.specs.declared.Reply.{Reply}
 use Rattle.sd_fabric.specs.Registers.{Registers}
 use Rattle.sd_fabric.specs.Sound.{IsSound}
@@ -43,7 +42,7 @@ use Rattle.sd_fleet.proofs.Going.{node_later, acts_other, some_at, actor_in}
 
 -- the duty of a give is the device's own in its plan
 abbrev HasRow : List Numbered → ℕ → Call → Type 0
-HasRow plans d (call.Give duty) = option_map (λ (row : TableRow). row.duty) (row_numbered plans duty.epoch d) ≡ Some duty
+HasRow plans d (calls.Give duty) = option_map (λ (row : TableRow). row.duty) (row_numbered plans duty.epoch d) ≡ Some duty
 HasRow plans d _ = Unit {0}
 
 abbrev IsOwn : List Numbered → ℕ → Option Duty → Type 0
@@ -55,15 +54,15 @@ own_or_none plans d before after (inl same) own duty holds = own duty (sym same 
 own_or_none plans d before after (inr none) own duty holds = cc
 
 own_after : (plans : List Numbered) (d : ℕ) (c : Call) (before after : Option Duty) → GivenAfter c before after → HasRow plans d c → IsOwn plans d before → IsOwn plans d after
-own_after plans d (call.Tick counter) before after given row own = own_or_none plans d before after given own
-own_after plans d (call.Receive link message counter) before after given row own = own_or_none plans d before after given own
-own_after plans d (call.Fix counter clock eps) before after given row own = own_or_none plans d before after given own
-own_after plans d (call.Give mine) before after given row own =
+own_after plans d (calls.Tick counter) before after given row own = own_or_none plans d before after given own
+own_after plans d (calls.Receive link message counter) before after given row own = own_or_none plans d before after given own
+own_after plans d (calls.Fix counter clock eps) before after given row own = own_or_none plans d before after given own
+own_after plans d (calls.Give mine) before after given row own =
     λ duty holds.
     (let same : mine ≡ duty = same_Some mine duty (sym given ∙ holds) in
     subst (λ (x : Duty). option_map (λ (row : TableRow). row.duty) (row_numbered plans x.epoch d) ≡ Some x) same row)
-own_after plans d (call.Commit counter) before after given row own = own_or_none plans d before after given own
-own_after plans d call.Seal before after given row own = own_or_none plans d before after given own
+own_after plans d (calls.Commit counter) before after given row own = own_or_none plans d before after given own
+own_after plans d calls.Seal before after given row own = own_or_none plans d before after given own
 
 -- the fabric once the event has happened, before its window closes
 abbrev pub happened : Registers → Event → Reply → Registers
@@ -160,8 +159,8 @@ kept_named g old (event.Start reference d counter clock eps) reply nodes after c
     let e = event.Start reference d counter clock eps in
     let known = device_known old e accepted d refl in
     let (row, at) = row_there old.roster.plans old.roster.world.epoch d (started_member old e accepted d refl) in
-    kept_made g old e reply nodes after crew sound d (making.Started row.duty counter clock eps) known refl
-    (subst (λ (o : Option TableRow). Acts g nodes (of_some o act.Passes (λ row. act.Makes d (making.Started row.duty counter clock eps))) (moment_of old e) reply after) at acts)
+    kept_made g old e reply nodes after crew sound d (calls.Started row.duty counter clock eps) known refl
+    (subst (λ (o : Option TableRow). Acts g nodes (of_some o steps.Passes (λ row. steps.Makes d (calls.Started row.duty counter clock eps))) (moment_of old e) reply after) at acts)
     (ap (λ (s : DeviceState). s.reading) (state_named g old e reply nodes after crew sound d known refl))
 kept_named g old (event.Join reference d counter clock eps) reply nodes after crew sound accepted acts =
     let e = event.Join reference d counter clock eps in
@@ -170,12 +169,12 @@ kept_named g old (event.Join reference d counter clock eps) reply nodes after cr
 kept_named g old (event.Tick reference d counter) reply nodes after crew sound accepted acts =
     let e = event.Tick reference d counter in
     let known = device_known old e accepted d refl in
-    kept_called g old e reply nodes after crew sound d (call.Tick counter) known refl acts (ap (λ (s : DeviceState). s.reading) (state_named g old e reply nodes after crew sound d known refl)) tt
+    kept_called g old e reply nodes after crew sound d (calls.Tick counter) known refl acts (ap (λ (s : DeviceState). s.reading) (state_named g old e reply nodes after crew sound d known refl)) tt
 kept_named g old (event.Recv reference d counter message) reply nodes after crew sound accepted acts =
     let e = event.Recv reference d counter message in
     let known = device_known old e accepted d refl in
     let (f, at) = flight_found old.book.last old.book.flights message reference (message_known old e accepted message refl) (message_unspent old e accepted message refl) in
-    kept_called g old e reply nodes after crew sound d (call.Receive f.link f.message counter) known refl
+    kept_called g old e reply nodes after crew sound d (calls.Receive f.link f.message counter) known refl
     (subst (λ (o : Result Flight TakeFault). Acts g nodes (receipt o d counter) (moment_of old e) reply after) at acts)
     (ap (λ (s : DeviceState). s.reading) (state_named g old e reply nodes after crew sound d known refl)) tt
 kept_named g old (event.Lose reference message) reply nodes after crew sound accepted acts = tt
@@ -189,7 +188,7 @@ kept_named g old (event.FailLink reference l) reply nodes after crew sound accep
 kept_named g old (event.Fix reference d counter clock eps) reply nodes after crew sound accepted acts =
     let e = event.Fix reference d counter clock eps in
     let known = device_known old e accepted d refl in
-    kept_called g old e reply nodes after crew sound d (call.Fix counter clock eps) known refl acts (ap (λ (s : DeviceState). s.reading) (state_named g old e reply nodes after crew sound d known refl)) tt
+    kept_called g old e reply nodes after crew sound d (calls.Fix counter clock eps) known refl acts (ap (λ (s : DeviceState). s.reading) (state_named g old e reply nodes after crew sound d known refl)) tt
 kept_named g old (event.Ask reference d counter) reply nodes after crew sound accepted acts =
     let e = event.Ask reference d counter in
     let reads : reading_at (happened old e reply).roster.world d ≡ counter = ap (λ (s : DeviceState). s.reading) (state_named g old e reply nodes after crew sound d (device_known old e accepted d refl) refl) in
@@ -202,18 +201,18 @@ kept_named g old (event.Give reference d) reply nodes after crew sound accepted 
     let parts = and_parts (is_open old.roster.world.window) (is_member_numbered old.roster.plans (staged_number old.roster) d) (given_member old e accepted d refl) in
     let (row, at) = row_there old.roster.plans (staged_number old.roster) d parts.1 in
     let numbered : row.duty.epoch ≡ staged_number old.roster = sound.tables.numbers (staged_number old.roster) d row (sound.roster.staged parts.0) at in
-    kept_called g old e reply nodes after crew sound d (call.Give row.duty) known refl
-    (subst (λ (o : Option TableRow). Acts g nodes (of_some o act.Passes (λ row. act.Calls d (call.Give row.duty))) (moment_of old e) reply after) at acts)
+    kept_called g old e reply nodes after crew sound d (calls.Give row.duty) known refl
+    (subst (λ (o : Option TableRow). Acts g nodes (of_some o steps.Passes (λ row. steps.Calls d (calls.Give row.duty))) (moment_of old e) reply after) at acts)
     (ap (λ (s : DeviceState). s.reading) (state_named g old e reply nodes after crew sound d known refl))
     (ap (λ (n : ℕ). option_map (λ (r : TableRow). r.duty) (row_numbered old.roster.plans n d)) numbered ∙ ap (option_map (λ (r : TableRow). r.duty)) at)
 kept_named g old (event.Commit reference d counter) reply nodes after crew sound accepted acts =
     let e = event.Commit reference d counter in
     let known = device_known old e accepted d refl in
-    kept_called g old e reply nodes after crew sound d (call.Commit counter) known refl acts (ap (λ (s : DeviceState). s.reading) (state_named g old e reply nodes after crew sound d known refl)) tt
+    kept_called g old e reply nodes after crew sound d (calls.Commit counter) known refl acts (ap (λ (s : DeviceState). s.reading) (state_named g old e reply nodes after crew sound d known refl)) tt
 kept_named g old (event.Seal reference d) reply nodes after crew sound accepted acts =
     let e = event.Seal reference d in
     let known = device_known old e accepted d refl in
-    kept_called g old e reply nodes after crew sound d call.Seal known refl acts (ap (λ (s : DeviceState). s.reading) (state_named g old e reply nodes after crew sound d known refl)) tt
+    kept_called g old e reply nodes after crew sound d calls.Seal known refl acts (ap (λ (s : DeviceState). s.reading) (state_named g old e reply nodes after crew sound d known refl)) tt
 kept_named g old (event.MendDevice reference d) reply nodes after crew sound accepted acts =
     let e = event.MendDevice reference d in
     let reads : reading_at (happened old e reply).roster.world d ≡ reading_at old.roster.world d =

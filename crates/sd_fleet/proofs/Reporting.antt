@@ -7,7 +7,7 @@ use Rattle.sd_sched.specs.declared.Event.{Event}
 use Rattle.sd_sched.specs.declared.Event.TheVariants as event
 use Rattle.sd_roster.specs.Rosters as roster
 use Rattle.sd_topo.specs.Network.{Network}
-use Rattle.sd_fabric.specs.declared.Act.{Act}
+use Rattle.sd_history.specs.Steps.{Act}
 use Rattle.sd_fabric.specs.declared.Reply.{Reply}
 use Rattle.sd_fabric.specs.declared.Outcome.{Outcome}
 use Rattle.sd_fabric.specs.Registers.{Registers}

@@ -9,10 +9,9 @@ use Rattle.sd_core.specs.declared.Effect.{Effect}
 use Rattle.sd_core.specs.declared.Effect.TheVariants.{Quiet}
 use Rattle.sd_core.specs.declared.node.Node.{Ghosts}
 use Rattle.sd_core.specs.Limits.{IsDuty}
-use Rattle.sd_fabric.specs.declared.Making.{Making}
-use Rattle.sd_fabric.specs.declared.Making.TheVariants as making
-use Rattle.sd_fabric.specs.declared.Call.{Call}
-use Rattle.sd_fabric.specs.declared.Call.TheVariants as call
+use Rattle.sd_core.specs.Calls.{Making}
+use Rattle.sd_core.specs.Calls as calls
+use Rattle.sd_core.specs.Calls.{Call}
 
 -- each event raises clocks and uncertainties by less than this
 abbrev pub rise : ℕ
@@ -44,39 +43,39 @@ pub record IsEstimate (counter clock eps : ℕ) : Type 0 where
 
 -- what a making asks of its numbers
 abbrev pub CanMake : Making → Type 0
-CanMake (making.Started duty counter clock eps) = IsDuty duty × IsEstimate counter clock eps
-CanMake (making.Joined rates counter clock eps) = IsRates rates × IsEstimate counter clock eps
+CanMake (calls.Started duty counter clock eps) = IsDuty duty × IsEstimate counter clock eps
+CanMake (calls.Joined rates counter clock eps) = IsRates rates × IsEstimate counter clock eps
 
 -- the counter that a new node has read
 abbrev pub counter_made : Making → ℕ
-counter_made (making.Started duty counter clock eps) = counter
-counter_made (making.Joined rates counter clock eps) = counter
+counter_made (calls.Started duty counter clock eps) = counter
+counter_made (calls.Joined rates counter clock eps) = counter
 
 -- what a node's latest reading is, once it is called
 abbrev pub reading_after : Call → ℕ → ℕ
-reading_after (call.Tick counter) reading = counter
-reading_after (call.Receive link message counter) reading = counter
-reading_after (call.Fix counter clock eps) reading = counter
-reading_after (call.Give duty) reading = reading
-reading_after (call.Commit counter) reading = counter
-reading_after call.Seal reading = reading
+reading_after (calls.Tick counter) reading = counter
+reading_after (calls.Receive link message counter) reading = counter
+reading_after (calls.Fix counter clock eps) reading = counter
+reading_after (calls.Give duty) reading = reading
+reading_after (calls.Commit counter) reading = counter
+reading_after calls.Seal reading = reading
 
 -- what a call asks of its numbers and of a node whose latest reading is this, after so many events
 abbrev pub CanCall : {N : Type 0} (g : Ghosts N) → ℕ → ℕ → N → Call → Type 0
-CanCall g events reading n (call.Tick counter) = (reading ≤ counter) × (counter ≤ 2 ^ 60)
-CanCall g events reading n (call.Receive link message counter) = (reading ≤ counter) × (counter ≤ 2 ^ 60) × IsMessage events message
-CanCall g events reading n (call.Fix counter clock eps) = (reading ≤ counter) × IsEstimate counter clock eps
-CanCall g events reading n (call.Give duty) = IsDuty duty
-CanCall g events reading n (call.Commit counter) = (reading ≤ counter) × (counter ≤ 2 ^ 60) × (option_map (λ (duty : Duty). duty.role) (g.given n) ≡ Some role.Root)
-CanCall g events reading n call.Seal = Unit {0}
+CanCall g events reading n (calls.Tick counter) = (reading ≤ counter) × (counter ≤ 2 ^ 60)
+CanCall g events reading n (calls.Receive link message counter) = (reading ≤ counter) × (counter ≤ 2 ^ 60) × IsMessage events message
+CanCall g events reading n (calls.Fix counter clock eps) = (reading ≤ counter) × IsEstimate counter clock eps
+CanCall g events reading n (calls.Give duty) = IsDuty duty
+CanCall g events reading n (calls.Commit counter) = (reading ≤ counter) × (counter ≤ 2 ^ 60) × (option_map (λ (duty : Duty). duty.role) (g.given n) ≡ Some role.Root)
+CanCall g events reading n calls.Seal = Unit {0}
 
 -- the duty that is held as given after a call: a give's own, and else the same as before or none
 abbrev pub GivenAfter : Call → Option Duty → Option Duty → Type 0
-GivenAfter (call.Give duty) before after = after ≡ Some duty
+GivenAfter (calls.Give duty) before after = after ≡ Some duty
 GivenAfter _ before after = (after ≡ before) ⊎ (after ≡ None)
 
 -- what a call sends: nothing, but for a tick or a message
 abbrev pub MaySend : Call → Effect → Type 0
-MaySend (call.Tick counter) effect = Unit {0}
-MaySend (call.Receive link message counter) effect = Unit {0}
+MaySend (calls.Tick counter) effect = Unit {0}
+MaySend (calls.Receive link message counter) effect = Unit {0}
 MaySend _ effect = effect ≡ Quiet

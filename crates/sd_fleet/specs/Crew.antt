@@ -7,12 +7,11 @@ use Rattle.sd_core.specs.declared.node.Node.{Ghosts}
 use Rattle.sd_core.specs.Limits.{IfSent}
 use Rattle.sd_history.specs.Nodes.{answers_of}
 use Rattle.sd_roster.specs.Standing.{summary}
-use Rattle.sd_fabric.specs.declared.Making.{Making}
-use Rattle.sd_fabric.specs.declared.Call.{Call}
-use Rattle.sd_fabric.specs.declared.Act.{Act}
-use Rattle.sd_fabric.specs.declared.Act.TheVariants as act
+use Rattle.sd_core.specs.Calls.{Making}
+use Rattle.sd_core.specs.Calls.{Call}
+use Rattle.sd_history.specs.Steps.{Act}
+use Rattle.sd_history.specs.Steps as steps
 use Rattle.sd_fabric.specs.declared.Reply.{Reply}
-use Rattle.sd_fabric.specs.Doing.{making_seen, call_seen}
 use Rattle.sd_fleet.specs.declared.crew.Moment.{Moment}
 use Rattle.sd_fleet.specs.Calling.{IsNode, IsMessage, CanMake, CanCall, GivenAfter, MaySend, counter_made, reading_after, rise}
 
@@ -23,7 +22,7 @@ node_at nodes d = slice_index_or nodes d None
 -- a node is made at the place, as its type allows, and is replied of
 pub record MakesAt {N : Type 0} (g : Ghosts N) (old : List (Option N)) (d : ℕ) (making : Making) (reply : Reply) (new : List (Option N)) : Type 0 where
   pub node : N
-  pub made : g.makes (making_seen making) node
+  pub made : g.makes making node
   pub given : g.given node ≡ None
   pub numbers : (events : ℕ) → IsNode g (events + 1) (counter_made making) node
   pub replied : reply ≡ record { effect = Quiet; answers = Some (summary (answers_of g node)); report = None }
@@ -40,7 +39,7 @@ pub record CallsAt {N : Type 0} (g : Ghosts N) (old : List (Option N)) (d : ℕ)
   pub before : N
   pub node : N
   pub was : node_at old d ≡ Some before
-  pub stepped : g.steps before (call_seen call) reply.effect node
+  pub stepped : g.steps before call reply.effect node
   pub given : GivenAfter call (g.given before) (g.given node)
   pub numbers : IsNode g (moment.events + 1) (reading_after call moment.reading) node
   pub sent : IfSent reply.effect (IsMessage (moment.events + 1))
@@ -60,15 +59,15 @@ pub record AsksAt {N : Type 0} (g : Ghosts N) (nodes : List (Option N)) (d count
 
 -- the act can be done at the moment
 abbrev pub CanAct : {N : Type 0} (g : Ghosts N) → List (Option N) → Moment → Act → Type 0
-CanAct g nodes moment (act.Makes d making) = (d < length nodes) × CanMake making
-CanAct g nodes moment (act.Calls d call) = (d < length nodes) × (node_at nodes d ≢ None) × ((n : _) → node_at nodes d ≡ Some n → IsCallable g moment call n)
-CanAct g nodes moment (act.Asks d counter) =
+CanAct g nodes moment (steps.Makes d making) = (d < length nodes) × CanMake making
+CanAct g nodes moment (steps.Calls d call) = (d < length nodes) × (node_at nodes d ≢ None) × ((n : _) → node_at nodes d ≡ Some n → IsCallable g moment call n)
+CanAct g nodes moment (steps.Asks d counter) =
     (d < length nodes) × (node_at nodes d ≢ None) × ((n : _) → node_at nodes d ≡ Some n → IsNode g moment.events moment.reading n) × (moment.reading ≤ counter) × (counter ≤ 2 ^ 60)
-CanAct g nodes moment act.Passes = Unit {0}
+CanAct g nodes moment steps.Passes = Unit {0}
 
 -- the act was done, and is replied of
 abbrev pub Acts : {N : Type 0} (g : Ghosts N) → List (Option N) → Act → Moment → Reply → List (Option N) → Type 0
-Acts g old (act.Makes d making) moment reply new = MakesAt g old d making reply new
-Acts g old (act.Calls d call) moment reply new = CallsAt g old d call moment reply new
-Acts g old (act.Asks d counter) moment reply new = AsksAt g old d counter moment reply × (new ≡ old)
-Acts g old act.Passes moment reply new = (reply ≡ record { effect = Quiet; answers = None; report = None }) × (new ≡ old)
+Acts g old (steps.Makes d making) moment reply new = MakesAt g old d making reply new
+Acts g old (steps.Calls d call) moment reply new = CallsAt g old d call moment reply new
+Acts g old (steps.Asks d counter) moment reply new = AsksAt g old d counter moment reply × (new ≡ old)
+Acts g old steps.Passes moment reply new = (reply ≡ record { effect = Quiet; answers = None; report = None }) × (new ≡ old)

@@ -5,7 +5,7 @@ ghost use Rattle.sd_plan.specs.declared.Duty.{Duty};
 ghost use Rattle.sd_core.specs.Limits.{IfSent};
 ghost use Rattle.sd_history.specs.Nodes.{answers_of as node_answers};
 ghost use Rattle.sd_roster.specs.Standing.{summary};
-ghost use Rattle.sd_fabric.specs.Doing.{making_seen, call_seen};
+ghost use Rattle.sd_fabric.specs.Doing.{making_seen, call_seen, act_seen};
 ghost use Rattle.sd_fleet.specs.Calling.{IsMessage, IsNode, CanMake, CanCall, GivenAfter, MaySend, counter_made, reading_after};
 ghost use Rattle.sd_fleet.specs.Crew.{node_at, MakesAt, IsCallable, CallsAt, AsksAt, CanAct, Acts};
 
@@ -25,10 +25,10 @@ pub(crate) struct Moment {
 
 /// Does what an event does to its device, and tells what the device replies.
 #[inline(always)]
-pub(crate) fn perform<N: Node>(nodes: &mut [Option<N>], act: &Act, moment: &Moment) -> Reply
+pub(crate) fn perform<N: Node>(nodes: &mut [Option<N>], act: &Act<'_>, moment: &Moment) -> Reply
     requires events { moment.now.events ≤ 2 ^ 26 }
-    requires can { CanAct N.Node nodes.old moment.now act.now }
-    ensures { Acts N.Node nodes.old act.now moment.now result nodes.new }
+    requires can { CanAct N.Node nodes.old moment.now (act_seen act.now) }
+    ensures { Acts N.Node nodes.old (act_seen act.now) moment.now result nodes.new }
 {
     match act {
         Act::Makes { device, making } => make_at(nodes, *device, making),
@@ -39,10 +39,10 @@ pub(crate) fn perform<N: Node>(nodes: &mut [Option<N>], act: &Act, moment: &Mome
 }
 
 /// Makes a node at the place of a device.
-fn make_at<N: Node>(nodes: &mut [Option<N>], d: u32, making: &Making) -> Reply
+fn make_at<N: Node>(nodes: &mut [Option<N>], d: u32, making: &Making<'_>) -> Reply
     requires place { d < length nodes.old }
-    requires can { CanMake making.now }
-    ensures { MakesAt N.Node nodes.old d making.now result nodes.new }
+    requires can { CanMake (making_seen making.now) }
+    ensures { MakesAt N.Node nodes.old d (making_seen making.now) result nodes.new }
 {
     let node = made::<N>(making);
     let answers = answers_of(&node, None);
@@ -51,12 +51,12 @@ fn make_at<N: Node>(nodes: &mut [Option<N>], d: u32, making: &Making) -> Reply
 }
 
 /// Calls the node of a device.
-fn call_at<N: Node>(nodes: &mut [Option<N>], d: u32, called: &Call, moment: &Moment) -> Reply
+fn call_at<N: Node>(nodes: &mut [Option<N>], d: u32, called: &Call<'_>, moment: &Moment) -> Reply
     requires events { moment.now.events ≤ 2 ^ 26 }
     requires place { d < length nodes.old }
     requires there { node_at nodes.old d ≢ None }
-    requires callable { (n : N) → node_at nodes.old d ≡ Some n → IsCallable N.Node moment.now called.now n }
-    ensures { CallsAt N.Node nodes.old d called.now moment.now result nodes.new }
+    requires callable { (n : N) → node_at nodes.old d ≡ Some n → IsCallable N.Node moment.now (call_seen called.now) n }
+    ensures { CallsAt N.Node nodes.old d (call_seen called.now) moment.now result nodes.new }
 {
     match &mut nodes[d as usize] {
         Some(node) => {
@@ -85,11 +85,11 @@ fn ask_at<N: Node>(nodes: &[Option<N>], d: u32, counter: u64, moment: &Moment) -
 }
 
 /// Makes a node.
-fn made<N: Node>(making: &Making) -> N
-    requires { CanMake making.now }
+fn made<N: Node>(making: &Making<'_>) -> N
+    requires { CanMake (making_seen making.now) }
     ensures made { N.makes (making_seen making.now) result }
     ensures given { N.given result ≡ None }
-    ensures numbers { (events : ℕ) → IsNode N.Node (events + 1) (counter_made making.now) result }
+    ensures numbers { (events : ℕ) → IsNode N.Node (events + 1) (counter_made (making_seen making.now)) result }
 {
     match *making {
         Making::Started {
@@ -97,7 +97,7 @@ fn made<N: Node>(making: &Making) -> N
             counter,
             clock,
             eps,
-        } => N::start(duty, counter, clock, eps),
+        } => N::start(*duty, counter, clock, eps),
         Making::Joined {
             rates,
             counter,
@@ -108,15 +108,15 @@ fn made<N: Node>(making: &Making) -> N
 }
 
 /// Calls a node. A tick and a message alone may send something.
-fn call<N: Node>(node: &mut N, call: &Call, moment: &Moment) -> Effect
+fn call<N: Node>(node: &mut N, call: &Call<'_>, moment: &Moment) -> Effect
     requires events { moment.now.events ≤ 2 ^ 26 }
     requires numbers { IsNode N.Node moment.now.events moment.now.reading node.old }
-    requires can { CanCall N.Node moment.now.events moment.now.reading node.old call.now }
+    requires can { CanCall N.Node moment.now.events moment.now.reading node.old (call_seen call.now) }
     ensures step { N.steps node.old (call_seen call.now) result node.new }
-    ensures given { GivenAfter call.now (N.given node.old) (N.given node.new) }
-    ensures numbers { IsNode N.Node (moment.now.events + 1) (reading_after call.now moment.now.reading) node.new }
+    ensures given { GivenAfter (call_seen call.now) (N.given node.old) (N.given node.new) }
+    ensures numbers { IsNode N.Node (moment.now.events + 1) (reading_after (call_seen call.now) moment.now.reading) node.new }
     ensures sent { IfSent result (IsMessage (moment.now.events + 1)) }
-    ensures quiet { MaySend call.now result }
+    ensures quiet { MaySend (call_seen call.now) result }
 {
     match *call {
         Call::Tick { counter } => return node.on_tick(counter),
@@ -124,13 +124,13 @@ fn call<N: Node>(node: &mut N, call: &Call, moment: &Moment) -> Effect
             link,
             message,
             counter,
-        } => return node.on_message(link, message, counter),
+        } => return node.on_message(link, *message, counter),
         Call::Fix {
             counter,
             clock,
             eps,
         } => node.on_fix(counter, clock, eps),
-        Call::Give { duty } => node.on_give(duty),
+        Call::Give { duty } => node.on_give(*duty),
         Call::Commit { counter } => node.on_commit(counter),
         Call::Seal => node.on_seal(),
     }
@@ -153,8 +153,8 @@ fn answers_of<N: Node>(node: &N, given: Option<u32>) -> Answered
 }
 
 /// The number of the plan whose duty the node was given last, with this call.
-fn given_by(call: &Call, before: Option<u32>) -> Option<u32>
-    ensures { (old new : Option Duty) → GivenAfter call.now old new
+fn given_by(call: &Call<'_>, before: Option<u32>) -> Option<u32>
+    ensures { (old new : Option Duty) → GivenAfter (call_seen call.now) old new
         → ((duty : Duty) → old ≡ Some duty → before ≡ Some duty.epoch)
         → ((duty : Duty) → new ≡ Some duty → result ≡ Some duty.epoch) }
 {

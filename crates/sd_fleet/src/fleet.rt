@@ -126,7 +126,11 @@ impl<N: Node> Fleet<N> {
             → StandsFor N.Node self.new setting run × IsFault fault setting (steps_of run) event.now) }
     {
         match self.prepare(alloc, event) {
-            Ok(_) => Ok(self.happen(event)),
+            Ok(_) => {
+                let mut outcome = Outcome::nothing();
+                self.happen(event, &mut outcome);
+                Ok(outcome)
+            }
             Err(fault) => Err(fault),
         }
     }
@@ -155,22 +159,21 @@ impl<N: Node> Fleet<N> {
         }
     }
 
-    /// An event happens for which the fleet was prepared.
-    // Its outcome is large, and is moved once less where this is a part of what calls it.
-    #[inline(always)]
-    pub fn happen(&mut self, event: &Event) -> Outcome
+    /// An event happens for which the fleet was prepared. What comes of it is written into an
+    /// outcome that the caller lends.
+    pub fn happen(&mut self, event: &Event, outcome: &mut Outcome)
         requires within { IsTrue (is_within event.now) }
         requires prepared { IsPrepared self.old.fabric event.now }
         ensures accepted { (setting : Setting) (run : List (NodeStep N))
             → StandsFor N.Node self.old setting run
-            → IsAccepted N.Node self.new setting run event.now result }
-        ensures limited { IfSome result.report (λ told. IsLimited told.1) }
-        ensures few { result.sent ≤ most_sent_in self.old.fabric event.now }
+            → IsAccepted N.Node self.new setting run event.now outcome.new }
+        ensures limited { IfSome outcome.new.report (λ told. IsLimited told.1) }
+        ensures few { outcome.new.sent ≤ most_sent_in self.old.fabric event.now }
     {
         let act = self.fabric.act(event);
         let moment = moment_at(&self.fabric, event);
         let reply = perform(&mut self.nodes, &act, &moment);
-        self.fabric.step(event, &reply)
+        self.fabric.step(event, &reply, outcome);
     }
 
     /// The flight of a number, or why there is none: `Unknown` or `Spent`.

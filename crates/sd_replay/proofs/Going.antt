@@ -117,3 +117,10 @@ stands_ready g o fleet same old new journal noted observer told setting run flee
       tells = subst (λ (j : Journal). Tells j setting (steps_of run)) (sym journals_same) stands.tells;
       told = tells (reports (steps_of run)) stands.told;
     }
+
+-- the fleet is prepared, and then there is room
+pub stands_with_room : {N V : Type 0} (g : Ghosts N) (o : observers.Ghosts V) {fleet prepared same : Fleet N g} {old new : Onlooker} {journal noted : Journal} {observer told : V} (setting : Setting) (run : List (NodeStep N))
+    → ((s : Setting) (r : List (NodeStep N)) → fleets.StandsFor g fleet s r → fleets.StandsFor g prepared s r) → same ≡ prepared → noted ≡ journal
+    → ((s : Setting) (steps : List Step) → Onlooks old s steps → Onlooks new s steps) → ((xs : List ReportAt) → o.stands observer xs → o.stands told xs) → Stands g o fleet old journal observer setting run → Stands g o same new noted told setting run
+stands_with_room g o {fleet} {prepared} {same} {old} {new} {journal} {noted} {observer} {told} setting run prepares fleets_same journals_same keeps tells stands =
+    stands_ready g o prepared same old new journal noted observer told setting run fleets_same journals_same keeps tells (stands_prepared g o fleet prepared old journal observer setting run prepares stands)

@@ -21,7 +21,7 @@ use crate::onlooker::Onlooker;
 use crate::watched::Watched;
 use crate::{PlanList, ReplayFault, Tally};
 use sd_core::Node;
-use sd_fleet::Fleet;
+use sd_fleet::{Fleet, Outcome};
 use sd_msg::Observer;
 use sd_num::NoMemory;
 use sd_sched::{Event, read_line};
@@ -109,7 +109,8 @@ impl<N: Node, V: Observer> Replay<N, V> {
         let Ok(()) = self.ready(alloc, event, most) else {
             return Err(ReplayFault::Memory);
         };
-        let outcome = self.fleet.happen(event);
+        let mut outcome = Outcome::nothing();
+        self.fleet.happen(event, &mut outcome);
         let findings = self.onlooker.look(&self.fleet, event, &outcome);
         self.journal.note(&findings, outcome.ended);
         if let Some((d, report)) = outcome.report {

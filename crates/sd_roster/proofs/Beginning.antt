@@ -1,22 +1,21 @@
 -- A roster before any event.
-use Rattle.std.specs.Prelude.{◌≡◌, ℕ, zero, suc, ◌+◌, ◌<◌, ◌≤◌, ◌^◌, Bool, true, false, List, [], ◌∷◌, length, replicate, Option, Some, None, option_map, refl}
+use Rattle.std.specs.Prelude.{◌≡◌, ℕ, zero, suc, ◌<◌, ◌≤◌, ◌^◌, List, [], length, replicate, Option, None, refl}
 use Rattle.std.proofs.Common.{ap, ◌∙◌, sym, subst, arith}
 use Rattle.std.proofs.lemmas.List.{length-replicate}
-use Rattle.sd_num.specs.Lists.{of_some, at_place}
+use Rattle.sd_num.specs.Lists.{at_place}
 use Rattle.sd_topo.specs.Network.{Network, IsNetwork}
 use Rattle.sd_plan.specs.declared.Plan.{Plan}
 use Rattle.sd_history.specs.World.{Setting}
-use Rattle.sd_history.specs.Steps.{answers_in}
 use Rattle.sd_world.specs.Registers.{first_registers}
 use Rattle.sd_world.specs.Registers as world
 use Rattle.sd_world.specs.Standing as standing
 use Rattle.sd_roster.specs.declared.Answered.{Answered}
 use Rattle.sd_roster.specs.declared.census.Census.{Census}
 use Rattle.sd_roster.specs.declared.plans.Numbered.{Numbered}
-use Rattle.sd_roster.specs.Plans.{IsNumber, AreSound, AreTables, numbered}
+use Rattle.sd_roster.specs.Plans.{AreSound, numbered}
 use Rattle.sd_roster.specs.Rosters.{Registers, IsSound}
 use Rattle.sd_roster.specs.Counts.{none_counted, census_of}
-use Rattle.sd_roster.specs.Standing.{Stands, summary}
+use Rattle.sd_roster.specs.Standing.{Stands}
 use Rattle.sd_roster.proofs.ByNumber.{length-plans}
 use Rattle.sd_roster.proofs.Tables.{tables_fit}
 use Rattle.sd_roster.proofs.Observing.{census_shut}

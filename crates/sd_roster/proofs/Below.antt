@@ -1,26 +1,26 @@
 -- What lies below a device, by number, is what the history says: those that are no members of a plan have nobody below them in it, since
 -- each parent is a member.
-use Rattle.std.specs.Prelude.{◌≡◌, ℕ, ◌+◌, ◌<◌, ◌≤◌, Bool, true, false, ◌&&◌, ◌||◌, ◌-◌, List, [], ◌∷◌, length, filter_map, find, nat_eq, slice_get, get_or, Option, Some, None, is_some, option_map, IfSome, ◌⊎◌, refl, if◌then◌else◌}
+use Rattle.std.specs.Prelude.{◌≡◌, ℕ, ◌<◌, ◌≤◌, Bool, true, false, ◌&&◌, ◌||◌, ◌-◌, List, [], ◌∷◌, length, filter_map, find, nat_eq, slice_get, get_or, Option, Some, None, is_some, option_map, IfSome, refl, if◌then◌else◌}
 use Rattle.std.specs.List.{cons_option}
 use Rattle.std.proofs.Common.{arith, sym, ◌∙◌, ap, subst, inl, inr}
 use Rattle.std.proofs.lemmas.Bool.{and_parts, or_cases, eqb-true, false_from_ne_true}
 use Rattle.std.proofs.lemmas.Option.{slice_get-get_or}
-use Rattle.sd_num.specs.Lists.{of_some, at_place}
+use Rattle.sd_num.specs.Lists.{of_some}
 use Rattle.sd_topo.specs.Network.{Network, device_numbers, link_numbers, joins}
 use Rattle.sd_plan.specs.declared.Hop.{Hop}
 use Rattle.sd_plan.specs.declared.Plan.{Plan}
 use Rattle.sd_plan.specs.declared.End.{End}
 use Rattle.sd_plan.specs.Plans.{Fits, IsHop, is_member, is_present, primary_of, backup_of}
-use Rattle.sd_plan.specs.Structure.{hop_is_right, structure_breach}
+use Rattle.sd_plan.specs.Structure.{hop_is_right}
 use Rattle.sd_plan.specs.Duties.{duty_of, ends_of, leads_to, follows_over}
 use Rattle.sd_plan.specs.Tables.{TableRow, table_row}
 use Rattle.sd_plan.proofs.Numbered.{find_none}
 use Rattle.sd_plan.proofs.Rules.{KeepsRules, keeps_rules, hops_within}
-use Rattle.sd_history.specs.World.{Setting, Seen, window, window_is_open, epoch_in_force, staged_epoch, in_force, staged, plan_numbered, current_plan, no_plan}
+use Rattle.sd_history.specs.World.{Setting, Seen, window, window_is_open, epoch_in_force, staged_epoch, in_force, staged, plan_numbered, no_plan}
 use Rattle.sd_history.specs.Steps.{Step, seen_of, ends_at}
 use Rattle.sd_world.specs.Registers.{is_open}
 use Rattle.sd_roster.specs.Plans.{IsNumber, IsFollowable, AreSound, row_numbered}
-use Rattle.sd_roster.specs.Rosters.{Registers, staged_number, is_current_number, ends_below}
+use Rattle.sd_roster.specs.Rosters.{Registers, staged_number, ends_below}
 use Rattle.sd_roster.specs.Standing.{Stands}
 use Rattle.sd_roster.proofs.Queries.{plan_count, staged_number_is, row_numbered_is}
 

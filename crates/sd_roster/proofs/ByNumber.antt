@@ -1,11 +1,11 @@
 -- The plans by their numbers: the table of a number is that of the history's plan with this number.
-use Rattle.std.specs.Prelude.{◌≡◌, ℕ, ◌+◌, ◌-◌, ◌<◌, ◌≤◌, Bool, true, false, List, [], length, Some, None, option_map, refl, if◌then◌else◌}
+use Rattle.std.specs.Prelude.{◌≡◌, ℕ, ◌+◌, ◌-◌, ◌<◌, true, List, [], length, Some}
 use Rattle.std.proofs.Common.{arith, sym, ◌∙◌, ap}
 use Rattle.sd_topo.specs.Network.{Network}
 use Rattle.sd_plan.specs.declared.Plan.{Plan}
 use Rattle.sd_plan.specs.Plans.{is_member}
 use Rattle.sd_plan.specs.Duties.{duty_of, ends_of}
-use Rattle.sd_plan.specs.Tables.{TableRow, table_of, table_row, row_at, has_row_at}
+use Rattle.sd_plan.specs.Tables.{table_of, table_row, row_at, has_row_at}
 use Rattle.sd_plan.proofs.Numbered.{length-numbered, at-numbered}
 use Rattle.sd_plan.proofs.TableLaws.{row_at-table, row_at-member, has_row_at-table}
 use Rattle.sd_history.specs.World.{Setting, plan_numbered}

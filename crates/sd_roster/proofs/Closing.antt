@@ -1,18 +1,16 @@
 -- The window can close by what is kept exactly where it can by the words on histories.
-use Rattle.std.specs.Prelude.{◌≡◌, ℕ, ◌+◌, ◌<◌, ◌≤◌, zero, suc, Bool, true, false, ◌&&◌, not, cond, List, [], ◌∷◌, length, filter, nat_eq, nat_le, Option, Some, None, is_some, option_map, refl, if◌then◌else◌}
+use Rattle.std.specs.Prelude.{◌≡◌, ℕ, ◌<◌, zero, suc, Bool, true, false, ◌&&◌, List, [], ◌∷◌, length, filter, nat_eq, nat_le, Option, Some, None, is_some, option_map, refl}
 use Rattle.std.specs.List.{list_all, list_any}
-use Rattle.std.proofs.Common.{arith, sym, ◌∙◌, ap, subst, inl, inr}
-use Rattle.std.proofs.lemmas.Bool.{ne_eqb, eq-eqb, cases_eq, cases_Bool}
+use Rattle.std.proofs.Common.{arith, sym, ◌∙◌, ap, inl, inr}
 use Rattle.sd_num.specs.Lists.{of_some, below}
-use Rattle.sd_topo.specs.Network.{Network}
 use Rattle.sd_plan.specs.declared.Plan.{Plan}
 use Rattle.sd_plan.specs.Plans.{is_member, members}
 use Rattle.sd_sched.specs.Events.{is_commit}
-use Rattle.sd_history.specs.World.{Setting, Seen, is_up, window, window_is_open, has_commit, staged, staged_epoch, is_staged_member, plan_numbered}
+use Rattle.sd_history.specs.World.{Setting, Seen, is_up, window, window_is_open, has_commit, staged, staged_epoch, plan_numbered}
 use Rattle.sd_history.specs.Steps.{Answers, Step, seen_of, live_answers, has_settled, can_close}
 use Rattle.sd_history.proofs.Among.{Among, first, later, either_side}
 use Rattle.sd_history.proofs.Filters.{kept_alike, both_tests, kept_among, all_alike}
-use Rattle.sd_world.specs.Registers.{up_at, is_open, is_committed}
+use Rattle.sd_world.specs.Registers.{is_committed}
 use Rattle.sd_roster.specs.declared.Answered.{Answered}
 use Rattle.sd_roster.specs.Rosters.{Registers, staged_number, is_in_staged, is_present, has_settled_at, can_close_in}
 use Rattle.sd_roster.specs.Standing.{Stands, summary}

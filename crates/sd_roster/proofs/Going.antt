@@ -1,5 +1,5 @@
 -- A roster goes on standing for the steps: with an event after which its window stays open, and with the closing of the window.
-use Rattle.std.specs.Prelude.{◌≡◌, ℕ, ◌<◌, Bool, true, false, List, [], ◌∷◌, length, nat_eq, Option, Some, None, is_some, option_map, IfSome, IfNone, IsSome, refl, if◌then◌else◌}
+use Rattle.std.specs.Prelude.{◌≡◌, ℕ, ◌<◌, Bool, true, false, List, ◌∷◌, length, nat_eq, Option, Some, None, option_map, IfSome, IfNone, IsSome, refl, if◌then◌else◌}
 use Rattle.std.proofs.Common.{sym, ◌∙◌, ap, subst}
 use Rattle.std.proofs.lemmas.Bool.{eqb-true}
 use Rattle.sd_num.specs.Lists.{of_some, at_place, same_number}

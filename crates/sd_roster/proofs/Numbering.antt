@@ -1,15 +1,14 @@
 -- The plans are numbered one after the other.
-use Rattle.std.specs.Prelude.{◌≡◌, ℕ, ◌+◌, ◌-◌, ◌<◌, ◌≤◌, List, [], ◌∷◌, ◌++◌, length, map, slice_index_or, refl}
-use Rattle.std.proofs.Common.{ap, ◌∙◌, sym, subst, arith, get_or}
+use Rattle.std.specs.Prelude.{◌≡◌, ℕ, ◌+◌, ◌<◌, List, [], ◌∷◌, ◌++◌, length, map}
+use Rattle.std.proofs.Common.{ap, ◌∙◌, sym, get_or}
 use Rattle.sd_num.specs.Lists.{below, at_place}
 use Rattle.sd_topo.specs.Network.{Network}
 use Rattle.sd_topo.proofs.Laws.{found_at}
 use Rattle.sd_plan.specs.declared.Plan.{Plan}
-use Rattle.sd_plan.specs.Tables.{TableRow, table_of}
-use Rattle.sd_plan.proofs.Numbered.{length-numbered, at-numbered, numbered_more}
+use Rattle.sd_plan.proofs.Numbered.{numbered_more}
 use Rattle.sd_history.specs.World.{no_plan}
 use Rattle.sd_roster.specs.declared.plans.Numbered.{Numbered}
-use Rattle.sd_roster.specs.Plans.{IsNumber, numbered, numbered_as, numbered_at, table_numbered, root_numbered}
+use Rattle.sd_roster.specs.Plans.{numbered_as, numbered_at}
 
 -- one plan more
 pub plans_more : (net : Network) (plans : List Plan) (i : ℕ) (plan : Plan) → i < length plans → plan ≡ get_or plans i plan

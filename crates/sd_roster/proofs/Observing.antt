@@ -1,5 +1,5 @@
 -- What stays true of a roster when an event is observed or the window closes.
-use Rattle.std.specs.Prelude.{◌≡◌, ◌≢◌, ℕ, ◌+◌, ◌<◌, ◌≤◌, Bool, true, false, ◌&&◌, List, length, slice_get, slice_set, count_by, cond, nat_eq, Option, Some, None, IfSome, refl, if◌then◌else◌}
+use Rattle.std.specs.Prelude.{◌≡◌, ◌≢◌, ℕ, ◌+◌, ◌<◌, ◌≤◌, Bool, true, false, ◌&&◌, List, length, count_by, cond, nat_eq, Option, Some, None, IfSome, refl, if◌then◌else◌}
 use Rattle.std.proofs.Common.{ap, ◌∙◌, sym, subst, arith}
 use Rattle.std.proofs.lemmas.Bool.{ne_eqb, eqb-false}
 use Rattle.std.proofs.lemmas.List.{length-set}
@@ -14,7 +14,7 @@ use Rattle.sd_world.specs.declared.window.Window.TheVariants.{Closed, Preparing,
 use Rattle.sd_world.proofs.Slots.{length_devices, slot_other}
 use Rattle.sd_roster.specs.declared.Answered.{Answered}
 use Rattle.sd_roster.specs.declared.census.Census.{Census}
-use Rattle.sd_roster.specs.Plans.{IsNumber, is_member_numbered}
+use Rattle.sd_roster.specs.Plans.{is_member_numbered}
 use Rattle.sd_roster.specs.Rosters.{Registers, IsSound, staged_number, live_at, has_settled_at, is_present, is_in_staged, answers_after, registers_after, registers_closed}
 use Rattle.sd_roster.specs.Counts.{none_counted, both, is_settled, count_at, count_named, census_of}
 use Rattle.sd_roster.proofs.Counting.{count_same, count_but_one, count_none}

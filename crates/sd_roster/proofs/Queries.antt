@@ -1,18 +1,18 @@
 -- What is asked of a roster is what the words on histories say of the steps for which it stands.
-use Rattle.std.specs.Prelude.{◌≡◌, ℕ, ◌+◌, ◌<◌, ◌≤◌, Bool, true, false, ◌&&◌, ◌||◌, List, length, nat_eq, Option, Some, None, is_some, option_map, option_and_then, refl, if◌then◌else◌}
-use Rattle.std.proofs.Common.{arith, sym, ◌∙◌, ap, subst}
+use Rattle.std.specs.Prelude.{◌≡◌, ℕ, ◌+◌, ◌<◌, Bool, true, false, ◌&&◌, ◌||◌, List, length, nat_eq, Option, Some, None, is_some, option_map, option_and_then, refl, if◌then◌else◌}
+use Rattle.std.proofs.Common.{sym, ◌∙◌, ap, subst}
 use Rattle.sd_num.specs.Lists.{at_place, of_some, same_number}
 use Rattle.sd_plan.specs.declared.Plan.{Plan}
 use Rattle.sd_plan.specs.declared.Duty.{Duty}
 use Rattle.sd_plan.specs.Plans.{is_member}
 use Rattle.sd_plan.specs.Duties.{duty_of, ends_of}
 use Rattle.sd_plan.specs.Tables.{table_row}
-use Rattle.sd_history.specs.World.{Setting, Seen, is_up, window, window_is_open, epoch_in_force, staged_epoch, in_force, staged, is_staged_member, joined_in_window, is_counted, plan_numbered}
+use Rattle.sd_history.specs.World.{Setting, Seen, is_up, window, window_is_open, staged_epoch, in_force, staged, is_staged_member, is_counted, plan_numbered}
 use Rattle.sd_history.specs.Steps.{Answers, Step, seen_of, answers_in, live_answers, parent_in, acts_in, epoch_in, given_in}
-use Rattle.sd_world.specs.Registers.{up_at, joins_at, is_open}
+use Rattle.sd_world.specs.Registers.{joins_at, is_open}
 use Rattle.sd_world.specs.Standing as worlds
 use Rattle.sd_roster.specs.declared.Answered.{Answered}
-use Rattle.sd_roster.specs.Plans.{IsNumber, numbered, root_numbered, row_numbered, is_member_numbered}
+use Rattle.sd_roster.specs.Plans.{IsNumber, root_numbered, row_numbered, is_member_numbered}
 use Rattle.sd_roster.specs.Rosters.{Registers, staged_number, live_at, acts_at, parent_at, is_of, holds_given, is_in_force, is_in_staged, is_counted_at}
 use Rattle.sd_roster.specs.Standing.{Stands, summary}
 use Rattle.sd_roster.proofs.ByNumber.{length-plans, root_is, row_is, member_is, member_row_is}

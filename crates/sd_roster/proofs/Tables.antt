@@ -1,23 +1,22 @@
 -- The tables of plans that can be followed: their rows are sound.
-use Rattle.std.specs.Prelude.{◌≡◌, ℕ, zero, suc, ◌+◌, ◌-◌, ◌*◌, ◌/◌, ◌^◌, ◌<◌, ◌≤◌, Bool, true, false, ◌||◌, List, [], ◌∷◌, ◌++◌, length, map, filter_map, find, nat_eq, slice_get, Option, Some, None, option_map, IfSome, refl, if◌then◌else◌}
-use Rattle.std.proofs.Common.{ap, ◌∙◌, sym, subst, arith, inl, inr, ◌⊎◌, get_or}
+use Rattle.std.specs.Prelude.{◌≡◌, ℕ, zero, suc, ◌+◌, ◌-◌, ◌/◌, ◌^◌, ◌<◌, ◌≤◌, Bool, true, false, List, [], ◌∷◌, ◌++◌, length, filter_map, find, nat_eq, slice_get, Option, Some, None, option_map, IfSome, refl, if◌then◌else◌}
+use Rattle.std.proofs.Common.{ap, ◌∙◌, sym, subst, arith, inl, inr, get_or}
 use Rattle.std.proofs.lemmas.Bool.{cases_lt, or_cases, eq-eqb}
 use Rattle.std.specs.List.{cons_option}
 use Rattle.std.proofs.lemmas.List.{append-nil}
 use Rattle.std.proofs.lemmas.List.Elements.{filter_map-append}
 use Rattle.std.proofs.lemmas.Option.{slice_get-get_or, slice_get_past, same_Some}
-use Rattle.sd_num.specs.Lists.{below, of_some, at_place}
+use Rattle.sd_num.specs.Lists.{below, of_some}
 use Rattle.sd_num.proofs.Places.{at_cases}
-use Rattle.sd_topo.specs.Network.{Network, IsNetwork, IsLink, Each, device_numbers, link_of, delay_towards}
+use Rattle.sd_topo.specs.Network.{Network, IsNetwork, IsLink, Each, device_numbers, link_of}
 use Rattle.sd_topo.proofs.Laws.{found_at, rates_law, link_law, joined_end}
 use Rattle.sd_plan.specs.declared.Plan.{Plan}
 use Rattle.sd_plan.specs.declared.Hop.{Hop}
-use Rattle.sd_plan.specs.declared.Duty.{Duty}
 use Rattle.sd_plan.specs.declared.End.{End}
 use Rattle.sd_plan.specs.declared.Role.TheVariants.{Root, BackupRoot, Ordinary}
 use Rattle.sd_plan.specs.Plans.{Fits, is_member, is_backup_root, primary_of, backup_of}
 use Rattle.sd_plan.specs.Duties.{role_of, edge_of, duty_of, leads_to, follows_over, ends_of}
-use Rattle.sd_plan.specs.Tables.{TableRow, EndsAt, table_of, table_row, row_at, end_over}
+use Rattle.sd_plan.specs.Tables.{TableRow, EndsAt, table_of, row_at, end_over}
 use Rattle.sd_plan.proofs.Numbered.{length-below, found_passes}
 use Rattle.sd_plan.proofs.Rules.{KeepsRules, keeps_rules, both_led, both_end}
 use Rattle.sd_plan.proofs.TableLaws.{length-table, row_at-table}

@@ -1,5 +1,5 @@
 -- The census: of devices one after the other, of one of them, and when all have settled.
-use Rattle.std.specs.Prelude.{◌≡◌, ℕ, suc, ◌+◌, ◌<◌, ◌≤◌, ◌^◌, Bool, true, false, ◌&&◌, List, length, filter, count_by, cond, nat_eq, nat_le, Option, Some, None, IfSome, refl}
+use Rattle.std.specs.Prelude.{◌≡◌, ℕ, suc, ◌+◌, ◌<◌, ◌≤◌, ◌^◌, Bool, true, false, ◌&&◌, length, filter, count_by, cond, nat_eq, nat_le, Option, Some, None, IfSome, refl}
 use Rattle.std.specs.List.{list_all}
 use Rattle.std.proofs.Common.{ap, ◌∙◌, sym, subst, arith, add-one}
 use Rattle.std.proofs.lemmas.List.Sums.{length-filter}

@@ -1,5 +1,5 @@
 -- How many members of the staged plan are up, and how many of these have settled.
-use Rattle.std.specs.Prelude.{◌≡◌, ℕ, ◌+◌, Bool, ◌&&◌, length, count_by, cond, Option, Some, None}
+use Rattle.std.specs.Prelude.{ℕ, ◌+◌, Bool, ◌&&◌, length, count_by, cond, Option, Some, None}
 use Rattle.sd_num.specs.Lists.{below}
 use Rattle.sd_roster.specs.declared.census.Census.{Census}
 use Rattle.sd_roster.specs.declared.census.Sight.{Sight}

@@ -12,13 +12,14 @@ mod roster;
 pub use roster::Roster;
 
 /// What a device answers when it is asked of itself, once it was made or called.
+// In this order its fields have no gaps between them: it is copied at nearly every event.
 #[derive(Clone, Copy, Debug, PartialEq, Eq)]
 pub struct Answered {
     pub parent: Option<u32>,
     pub acts: bool,
+    pub sealed: bool,
     /// The number of the plan that it follows, 0 where it follows none.
     pub epoch: u32,
     /// The number of the plan whose duty was given to it and is not taken up yet.
     pub given: Option<u32>,
-    pub sealed: bool,
 }

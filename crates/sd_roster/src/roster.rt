@@ -56,13 +56,13 @@ fn no_answers(alloc: Global, count: u32) -> Result<Vec<Option<Answered>>, NoMemo
 }
 
 /// What the named device answers from now on, where it is told.
-fn note_answers(answers: &mut [Option<Answered>], device: Option<u32>, told: Option<Answered>)
+fn note_answers(answers: &mut [Option<Answered>], device: Option<u32>, told: &Option<Answered>)
     requires { IfSome device (λ d. d < length answers.old) }
-    ensures { answers.new ≡ answers_after device told answers.old }
+    ensures { answers.new ≡ answers_after device told.now answers.old }
 {
     if let Some(d) = device {
         if let Some(answered) = told {
-            answers[d as usize] = Some(answered);
+            answers[d as usize] = Some(*answered);
         }
     }
 }
@@ -157,12 +157,12 @@ impl Roster {
     }
 
     /// What the plan with this number tells a member.
-    pub fn duty(&self, epoch: u32, d: u32) -> Duty
+    pub fn duty(&self, epoch: u32, d: u32) -> &Duty
         requires number { IsNumber self.now.plans epoch }
         requires member { IsTrue (is_member_numbered self.now.plans epoch d) }
-        ensures { option_map (λ row. row.duty) (row_numbered self.now.plans epoch d) ≡ Some result }
+        ensures { option_map (λ row. row.duty) (row_numbered self.now.plans epoch d) ≡ Some result.now }
     {
-        *self.plans[epoch as usize - 1].table.row(d).duty
+        self.plans[epoch as usize - 1].table.row(d).duty
     }
 
     /// What lies below the device in the plan with this number, by ascending link; nothing where
@@ -180,11 +180,11 @@ impl Roster {
 
     /// The next event, with which the window does not close, and what its device answers from then
     /// on where it was made or called.
-    pub fn observe(&mut self, event: &Event, answers: Option<Answered>)
+    pub fn observe(&mut self, event: &Event, answers: &Option<Answered>)
         requires room { self.old.world.events < 2 ^ 63 }
         requires named { HasNamed self.old.world event.now }
         requires stage { is_stage event.now ≡ true → self.old.world.epoch < length self.old.plans }
-        ensures registers { self.new ≡ registers_after self.old event.now answers }
+        ensures registers { self.new ≡ registers_after self.old event.now answers.now }
         ensures sound { IsSound self.new }
     {
         let device = event.device();

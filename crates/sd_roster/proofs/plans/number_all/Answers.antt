@@ -1,8 +1,6 @@
 use Rattle.std.proofs.Common.{length, refl, arith}
 use Rattle.std.proofs.lemmas.Option.{slice_get_read}
 use Rattle.sd_topo.specs.Topologies.{network}
-use Rattle.sd_roster.specs.Plans.{IsFollowable}
-use Rattle.sd_roster.specs.declared.plans.Numbered.{Numbered}
 use Rattle.sd_roster.proofs.Numbering.{plans_added}
 use Rattle.sd_roster.proofs.plans.number_all.Goals as goal
 

@@ -2,7 +2,8 @@ use Rattle.std.proofs.Common.{◌∙◌, ◌≤◌, ◌^◌, sym, subst}
 use Rattle.std.specs.Vec.{with_items}
 use Rattle.std.proofs.lemmas.List.{with_items_is}
 use Rattle.sd_history.specs.Nodes.{steps_of}
-use Rattle.sd_fabric.specs.declared.Act.{Act}
+use Rattle.sd_history.specs.Steps.{Act}
+use Rattle.sd_fabric.specs.Doing.{act_seen}
 use Rattle.sd_fleet.specs.declared.crew.Moment.{Moment}
 use Rattle.sd_fleet.specs.Crew.{Acts}
 use Rattle.sd_fleet.proofs.Reporting.{outcome_limited, sent_most}
@@ -28,21 +29,21 @@ step-requires-clause-tells g c =
 
 pub invariant_of-self : goal.invariant_of-self
 invariant_of-self g c =
-    let long = length_done g.N.Node c.args.self.now.nodes.items c.deref_mut.result.now c.perform-reply.new.nodes c.moment_at-moment.result c.act-act.result c.perform-reply.result c.deref_mut.ensures.value c.perform-reply.ensures in
+    let long = length_done g.N.Node c.args.self.now.nodes.items c.deref_mut.result.now c.perform-reply.new.nodes c.moment_at-moment.result (act_seen c.act-act.result) c.perform-reply.result c.deref_mut.ensures.value c.perform-reply.ensures in
     record {
       crew =
           crew_next g.N.Node c.args.self.now.fabric c.step.new.self c.args.event.now c.args.self.now.nodes.items c.deref_mut.result.now c.perform-reply.new.nodes (with_items c.args.self.now.nodes c.perform-reply.new.nodes).items
-          c.moment_at-moment.result c.act-act.result c.perform-reply.result c.deref_mut.ensures.value c.moment_at-moment.ensures.moment c.act-act.ensures c.perform-reply.ensures
+          c.moment_at-moment.result (act_seen c.act-act.result) c.perform-reply.result c.deref_mut.ensures.value c.moment_at-moment.ensures.moment c.act-act.ensures c.perform-reply.ensures
           (with_items_is c.args.self.now.nodes c.perform-reply.new.nodes (long ∙ sym c.args.self.now.nodes.ok.0)) c.args.self.now.crew c.moment_at-moment.ensures.sound c.requires.prepared.accepted c.step.ensures.after;
     }
 
 pub returns-clause-accepted : goal.returns-clause-accepted
 returns-clause-accepted g c =
     λ setting run stands.
-    (let long = length_done g.N.Node c.args.self.now.nodes.items c.deref_mut.result.now c.perform-reply.new.nodes c.moment_at-moment.result c.act-act.result c.perform-reply.result c.deref_mut.ensures.value c.perform-reply.ensures in
+    (let long = length_done g.N.Node c.args.self.now.nodes.items c.deref_mut.result.now c.perform-reply.new.nodes c.moment_at-moment.result (act_seen c.act-act.result) c.perform-reply.result c.deref_mut.ensures.value c.perform-reply.ensures in
     let on =
     accepted_next g.N.Node c.args.self.now.fabric c.step.new.self c.args.event.now c.args.self.now.nodes.items c.deref_mut.result.now c.perform-reply.new.nodes (with_items c.args.self.now.nodes c.perform-reply.new.nodes).items
-    c.moment_at-moment.result c.act-act.result c.perform-reply.result c.step.result setting run c.deref_mut.ensures.value c.act-act.ensures c.perform-reply.ensures
+    c.moment_at-moment.result (act_seen c.act-act.result) c.perform-reply.result c.step.new.outcome setting run c.deref_mut.ensures.value c.act-act.ensures c.perform-reply.ensures
     (with_items_is c.args.self.now.nodes c.perform-reply.new.nodes (long ∙ sym c.args.self.now.nodes.ok.0)) c.args.self.now.crew.places c.requires.prepared.accepted
     stands.is_run stands.fabric stands.nodes (λ told says. c.step.ensures.stands setting (steps_of run) told says stands.fabric) (λ told says. c.step.ensures.outcome setting (steps_of run) told says stands.fabric)
     in
@@ -50,12 +51,12 @@ returns-clause-accepted g c =
 
 pub returns-clause-limited : goal.returns-clause-limited
 returns-clause-limited g c =
-    outcome_limited g.N.Node c.args.self.now.fabric c.args.event.now c.deref_mut.result.now c.perform-reply.new.nodes c.moment_at-moment.result c.act-act.result c.perform-reply.result c.step.result
+    outcome_limited g.N.Node c.args.self.now.fabric c.args.event.now c.deref_mut.result.now c.perform-reply.new.nodes c.moment_at-moment.result (act_seen c.act-act.result) c.perform-reply.result c.step.new.outcome
     (subst (λ (m : Moment). m.events ≤ 2 ^ 26) (sym c.moment_at-moment.ensures.moment) c.moment_at-moment.ensures.sound.events) c.act-act.ensures c.perform-reply.ensures c.step.ensures.comes
 
 pub returns-clause-few : goal.returns-clause-few
 returns-clause-few g c =
-    sent_most c.args.self.now.fabric c.args.event.now c.perform-reply.result c.step.result c.requires.prepared.accepted
+    sent_most c.args.self.now.fabric c.args.event.now c.perform-reply.result c.step.new.outcome c.requires.prepared.accepted
     (tells g.N.Node c.deref_mut.result.now c.perform-reply.new.nodes c.moment_at-moment.result c.perform-reply.result c.args.self.now.fabric c.args.event.now c.requires.prepared.accepted
     (subst (λ (a : Act). Acts g.N.Node c.deref_mut.result.now a c.moment_at-moment.result c.perform-reply.result c.perform-reply.new.nodes) c.act-act.ensures c.perform-reply.ensures))
     c.step.ensures.comes

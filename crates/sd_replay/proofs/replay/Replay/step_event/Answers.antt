@@ -5,14 +5,12 @@ use Rattle.sd_clock.specs.declared.Report.{Report}
 use Rattle.sd_msg.specs.Observed.{ReportAt}
 use Rattle.sd_msg.specs.Observing.{report_at}
 use Rattle.sd_sched.specs.Events.{reference_of}
-use Rattle.sd_history.specs.World.{Setting}
-use Rattle.sd_history.specs.Nodes.{NodeStep, steps_of}
+use Rattle.sd_history.specs.Nodes.{steps_of}
 use Rattle.sd_fabric.proofs.Refused.{refusal_is}
 use Rattle.sd_replay.specs.FleetFaults.{of_fleet}
-use Rattle.sd_replay.specs.Standing.{Stands}
 use Rattle.sd_replay.proofs.Causes.{if_told, told_as, told_cause, told_of_fleet, unrefused}
 use Rattle.sd_replay.proofs.Calm.{stays_calm}
-use Rattle.sd_replay.proofs.Going.{with_fleet, stands_prepared, stands_ready}
+use Rattle.sd_replay.proofs.Going.{with_fleet, stands_prepared, stands_with_room}
 use Rattle.sd_replay.proofs.Happening.{IsDone, has_step, numbers_merely, tally_merely, devices_merely, ready_merely, stands_on, run_on}
 use Rattle.sd_replay.proofs.replay.Replay.step_event.Given.{Over}
 use Rattle.sd_replay.proofs.replay.Replay.step_event.Goals as goal
@@ -24,37 +22,37 @@ invariant_of-self g c =
 pub look-findings-requires-clause-step : goal.look-findings-requires-clause-step
 look-findings-requires-clause-step g c =
     ∥∥₁_map c.ready.new.self.run
-    (has_step g.N.Node g.V.Observer c.ready.new.self.fleet c.ready.new.self.onlooker c.ready.new.self.journal c.ready.new.self.observer c.happen-outcome.new.self c.args.event.now c.happen-outcome.result c.happen-outcome.ensures.accepted)
+    (has_step g.N.Node g.V.Observer c.ready.new.self.fleet c.ready.new.self.onlooker c.ready.new.self.journal c.ready.new.self.observer c.happen.new.self c.args.event.now c.happen.new.outcome c.happen.ensures.accepted)
 
 pub look-findings-requires-clause-numbers : goal.look-findings-requires-clause-numbers
 look-findings-requires-clause-numbers g c =
-    numbers_merely g.N.Node g.V.Observer c.ready.new.self.fleet c.ready.new.self.onlooker c.ready.new.self.journal c.ready.new.self.observer c.happen-outcome.new.self c.args.event.now c.happen-outcome.result c.happen-outcome.ensures.accepted
+    numbers_merely g.N.Node g.V.Observer c.ready.new.self.fleet c.ready.new.self.onlooker c.ready.new.self.journal c.ready.new.self.observer c.happen.new.self c.args.event.now c.happen.new.outcome c.happen.ensures.accepted
     c.ready.new.self.run
 
 pub note-requires-clause-room : goal.note-requires-clause-room
 note-requires-clause-room g c =
-    tally_merely g.N.Node g.V.Observer c.ready.new.self.fleet c.ready.new.self.onlooker c.ready.new.self.journal c.ready.new.self.observer c.happen-outcome.new.self c.args.event.now c.happen-outcome.result c.happen-outcome.ensures.accepted
+    tally_merely g.N.Node g.V.Observer c.ready.new.self.fleet c.ready.new.self.onlooker c.ready.new.self.journal c.ready.new.self.observer c.happen.new.self c.args.event.now c.happen.new.outcome c.happen.ensures.accepted
     c.ready.new.self.run
 
 pub note-requires-clause-devices : goal.note-requires-clause-devices
 note-requires-clause-devices g c =
-    devices_merely g.N.Node g.V.Observer c.ready.new.self.fleet c.ready.new.self.onlooker c.ready.new.self.journal c.ready.new.self.observer c.happen-outcome.new.self c.args.event.now c.happen-outcome.result c.happen-outcome.ensures.accepted
+    devices_merely g.N.Node g.V.Observer c.ready.new.self.fleet c.ready.new.self.onlooker c.ready.new.self.journal c.ready.new.self.observer c.happen.new.self c.args.event.now c.happen.new.outcome c.happen.ensures.accepted
     c.look-findings.result c.look-findings.ensures.devices c.ready.new.self.run
 
 pub seen-requires-clause-ready : goal.seen-requires-clause-ready
 seen-requires-clause-ready g c =
-    let some : c.happen-outcome.result.report ≡ Some (c.in-Some.d, c.in-Some.report) = cc (c.in-Some.is, c.in-Some.d-is, c.in-Some.report-is) in
-    ready_merely g.N.Node g.V.Observer c.ready.new.self.fleet c.ready.new.self.onlooker c.ready.new.self.journal c.ready.new.self.observer c.happen-outcome.new.self c.args.event.now c.happen-outcome.result c.happen-outcome.ensures.accepted
+    let some : c.happen.new.outcome.report ≡ Some (c.in-Some.d, c.in-Some.report) = cc (c.in-Some.is, c.in-Some.d-is, c.in-Some.report-is) in
+    ready_merely g.N.Node g.V.Observer c.ready.new.self.fleet c.ready.new.self.onlooker c.ready.new.self.journal c.ready.new.self.observer c.happen.new.self c.args.event.now c.happen.new.outcome c.happen.ensures.accepted
     (c.in-Some.d, c.in-Some.report) some c.in-Ok.ensures.observer c.ready.new.self.run
 
 -- a report is told
 told : (g : Over) (c : goal.After-seen g)
-    → IsDone g.N.Node g.V.Observer c.ready.new.self.fleet c.happen-outcome.new.self c.ready.new.self.onlooker c.look-findings.new.self c.ready.new.self.journal c.note.new.self c.ready.new.self.observer c.seen.new.self c.args.event.now c.happen-outcome.result
+    → IsDone g.N.Node g.V.Observer c.ready.new.self.fleet c.happen.new.self c.ready.new.self.onlooker c.look-findings.new.self c.ready.new.self.journal c.note.new.self c.ready.new.self.observer c.seen.new.self c.args.event.now c.happen.new.outcome
     c.look-findings.result
 told g c =
-    let some : c.happen-outcome.result.report ≡ Some (c.in-Some.d, c.in-Some.report) = cc (c.in-Some.is, c.in-Some.d-is, c.in-Some.report-is) in
+    let some : c.happen.new.outcome.report ≡ Some (c.in-Some.d, c.in-Some.report) = cc (c.in-Some.is, c.in-Some.d-is, c.in-Some.report-is) in
     record {
-      accepts = c.happen-outcome.ensures.accepted;
+      accepts = c.happen.ensures.accepted;
       onlooks = c.look-findings.ensures.stands;
       finds = c.look-findings.ensures.found;
       report = c.look-findings.ensures.report;
@@ -73,11 +71,11 @@ told g c =
 
 -- nothing is told
 untold : (g : Over) (c : goal.In_default-report g)
-    → IsDone g.N.Node g.V.Observer c.ready.new.self.fleet c.happen-outcome.new.self c.ready.new.self.onlooker c.look-findings.new.self c.ready.new.self.journal c.note.new.self c.ready.new.self.observer c.ready.new.self.observer c.args.event.now
-    c.happen-outcome.result c.look-findings.result
+    → IsDone g.N.Node g.V.Observer c.ready.new.self.fleet c.happen.new.self c.ready.new.self.onlooker c.look-findings.new.self c.ready.new.self.journal c.note.new.self c.ready.new.self.observer c.ready.new.self.observer c.args.event.now
+    c.happen.new.outcome c.look-findings.result
 untold g c =
     record {
-      accepts = c.happen-outcome.ensures.accepted;
+      accepts = c.happen.ensures.accepted;
       onlooks = c.look-findings.ensures.stands;
       finds = c.look-findings.ensures.found;
       report = c.look-findings.ensures.report;
@@ -97,7 +95,7 @@ invariant_of-self-in-Some g c =
     record {
       run =
           ∥∥₁_map c.ready.new.self.run
-          (run_on g.N.Node g.V.Observer c.ready.new.self.fleet c.happen-outcome.new.self c.ready.new.self.onlooker c.look-findings.new.self c.ready.new.self.journal c.note.new.self c.ready.new.self.observer c.seen.new.self c.args.event.now c.happen-outcome.result
+          (run_on g.N.Node g.V.Observer c.ready.new.self.fleet c.happen.new.self c.ready.new.self.onlooker c.look-findings.new.self c.ready.new.self.journal c.note.new.self c.ready.new.self.observer c.seen.new.self c.args.event.now c.happen.new.outcome
           c.look-findings.result (told g c));
     }
 
@@ -106,42 +104,34 @@ invariant_of-self-in_default-report g c =
     record {
       run =
           ∥∥₁_map c.ready.new.self.run
-          (run_on g.N.Node g.V.Observer c.ready.new.self.fleet c.happen-outcome.new.self c.ready.new.self.onlooker c.look-findings.new.self c.ready.new.self.journal c.note.new.self c.ready.new.self.observer c.ready.new.self.observer c.args.event.now
-          c.happen-outcome.result c.look-findings.result (untold g c));
+          (run_on g.N.Node g.V.Observer c.ready.new.self.fleet c.happen.new.self c.ready.new.self.onlooker c.look-findings.new.self c.ready.new.self.journal c.note.new.self c.ready.new.self.observer c.ready.new.self.observer c.args.event.now
+          c.happen.new.outcome c.look-findings.result (untold g c));
     }
 
 pub returns-in-Some-clause-accepted : goal.returns-in-Some-clause-accepted
 unfolding told
 returns-in-Some-clause-accepted g c = λ setting run stands.
-    let prepared = stands_prepared g.N.Node g.V.Observer c.args.self.now.fleet c.prepare.new.self c.args.self.now.onlooker c.args.self.now.journal c.args.self.now.observer setting run c.prepare.ensures.stands stands in
-    let ready =
-    stands_ready g.N.Node g.V.Observer c.prepare.new.self c.ready.new.self.fleet c.args.self.now.onlooker c.ready.new.self.onlooker c.args.self.now.journal c.ready.new.self.journal c.args.self.now.observer c.ready.new.self.observer setting run
-    c.ready.ensures.fleet c.ready.ensures.journal c.ready.ensures.onlooks c.ready.ensures.told prepared
-    in
-    let accepted = c.happen-outcome.ensures.accepted setting run ready.made in
+    let ready = stands_with_room g.N.Node g.V.Observer setting run c.prepare.ensures.stands c.ready.ensures.fleet c.ready.ensures.journal c.ready.ensures.onlooks c.ready.ensures.told stands in
+    let accepted = c.happen.ensures.accepted setting run ready.made in
     record {
       next = accepted.next;
       happens = accepted.happens;
       stands =
-          stands_on g.N.Node g.V.Observer c.ready.new.self.fleet c.happen-outcome.new.self c.ready.new.self.onlooker c.look-findings.new.self c.ready.new.self.journal c.note.new.self c.ready.new.self.observer c.seen.new.self c.args.event.now c.happen-outcome.result
+          stands_on g.N.Node g.V.Observer c.ready.new.self.fleet c.happen.new.self c.ready.new.self.onlooker c.look-findings.new.self c.ready.new.self.journal c.note.new.self c.ready.new.self.observer c.seen.new.self c.args.event.now c.happen.new.outcome
           c.look-findings.result (told g c.before) setting run ready;
     }
 
 pub returns-in_default-report-clause-accepted : goal.returns-in_default-report-clause-accepted
 unfolding untold
 returns-in_default-report-clause-accepted g c = λ setting run stands.
-    let prepared = stands_prepared g.N.Node g.V.Observer c.args.self.now.fleet c.prepare.new.self c.args.self.now.onlooker c.args.self.now.journal c.args.self.now.observer setting run c.prepare.ensures.stands stands in
-    let ready =
-    stands_ready g.N.Node g.V.Observer c.prepare.new.self c.ready.new.self.fleet c.args.self.now.onlooker c.ready.new.self.onlooker c.args.self.now.journal c.ready.new.self.journal c.args.self.now.observer c.ready.new.self.observer setting run
-    c.ready.ensures.fleet c.ready.ensures.journal c.ready.ensures.onlooks c.ready.ensures.told prepared
-    in
-    let accepted = c.happen-outcome.ensures.accepted setting run ready.made in
+    let ready = stands_with_room g.N.Node g.V.Observer setting run c.prepare.ensures.stands c.ready.ensures.fleet c.ready.ensures.journal c.ready.ensures.onlooks c.ready.ensures.told stands in
+    let accepted = c.happen.ensures.accepted setting run ready.made in
     record {
       next = accepted.next;
       happens = accepted.happens;
       stands =
-          stands_on g.N.Node g.V.Observer c.ready.new.self.fleet c.happen-outcome.new.self c.ready.new.self.onlooker c.look-findings.new.self c.ready.new.self.journal c.note.new.self c.ready.new.self.observer c.ready.new.self.observer c.args.event.now
-          c.happen-outcome.result c.look-findings.result (untold g c.before) setting run ready;
+          stands_on g.N.Node g.V.Observer c.ready.new.self.fleet c.happen.new.self c.ready.new.self.onlooker c.look-findings.new.self c.ready.new.self.journal c.note.new.self c.ready.new.self.observer c.ready.new.self.observer c.args.event.now
+          c.happen.new.outcome c.look-findings.result (untold g c.before) setting run ready;
     }
 
 pub returns-in-Some-clause-calm : goal.returns-in-Some-clause-calm
@@ -168,9 +158,5 @@ returns-in_default-clause-refusal g c = λ setting run stands.
 
 pub returns-in_default-clause-refused : goal.returns-in_default-clause-refused
 returns-in_default-clause-refused g c = λ setting run stands.
-    let prepared = stands_prepared g.N.Node g.V.Observer c.args.self.now.fleet c.prepare.new.self c.args.self.now.onlooker c.args.self.now.journal c.args.self.now.observer setting run c.prepare.ensures.stands stands in
-    let ready =
-    stands_ready g.N.Node g.V.Observer c.prepare.new.self c.ready.new.self.fleet c.args.self.now.onlooker c.ready.new.self.onlooker c.args.self.now.journal c.ready.new.self.journal c.args.self.now.observer c.ready.new.self.observer setting run
-    c.ready.ensures.fleet c.ready.ensures.journal c.ready.ensures.onlooks c.ready.ensures.told prepared
-    in
+    let ready = stands_with_room g.N.Node g.V.Observer setting run c.prepare.ensures.stands c.ready.ensures.fleet c.ready.ensures.journal c.ready.ensures.onlooks c.ready.ensures.told stands in
     (ready, (sym (refusal_is setting c.prepare.new.self.fabric (steps_of run) c.args.event.now (c.prepare.ensures.stands setting run stands.made).fabric) ∙ c.in_ok-most.ensures.prepared.accepted, c.in_default.ensures.memory))

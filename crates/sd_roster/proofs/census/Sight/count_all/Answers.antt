@@ -1,4 +1,4 @@
-use Rattle.std.proofs.Common.{◌<◌, ◌+◌, ℕ, arith}
+use Rattle.std.proofs.Common.{arith}
 use Rattle.sd_roster.specs.Counts.{seen_by}
 use Rattle.sd_roster.proofs.Totals.{room_below}
 use Rattle.sd_roster.proofs.census.Sight.count_all.Goals as goal

@@ -1,4 +1,4 @@
-use Rattle.std.proofs.Common.{◌≡◌, true, subst, sym, ap, ◌∙◌, Bool}
+use Rattle.std.proofs.Common.{◌≡◌, true, sym, ap, ◌∙◌, Bool}
 use Rattle.std.specs.Prelude.{◌&&◌, nat_le, nat_eq}
 use Rattle.sd_world.specs.Registers.{is_committed}
 use Rattle.sd_roster.specs.Rosters.{Registers, can_close_in}

@@ -1,4 +1,4 @@
-use Rattle.std.proofs.Common.{◌≡◌, ◌∙◌, ap, sym, subst, length, None, replicate, ℕ, List}
+use Rattle.std.proofs.Common.{sym, subst, length, List}
 use Rattle.sd_topo.specs.Topologies.{network}
 use Rattle.sd_roster.specs.declared.plans.Numbered.{Numbered}
 use Rattle.sd_roster.specs.Plans.{AreTables}

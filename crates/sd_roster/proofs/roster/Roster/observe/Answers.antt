@@ -1,9 +1,9 @@
-use Rattle.std.proofs.Common.{◌≡◌, ◌≤◌, ℕ, List, Option, length, arith, subst, sym, ap, ◌∙◌, if◌then◌else◌}
+use Rattle.std.proofs.Common.{◌≡◌, List, Option, arith, ◌∙◌, if◌then◌else◌}
 use Rattle.std.specs.Vec.{with_items}
 use Rattle.std.proofs.lemmas.List.{with_items_is}
 use Rattle.sd_sched.specs.Events.{device_of, is_stage}
 use Rattle.sd_roster.specs.declared.Answered.{Answered}
-use Rattle.sd_roster.specs.Rosters.{Registers, IsSound, answers_after, registers_after}
+use Rattle.sd_roster.specs.Rosters.{Registers, IsSound, answers_after}
 use Rattle.sd_roster.specs.Counts.{both, count_named, census_of}
 use Rattle.sd_roster.proofs.Totals.{others_most}
 use Rattle.sd_roster.proofs.Observing.{registers_of, registers_are, roster_after}
@@ -30,7 +30,7 @@ pub invariant_of-self : goal.invariant_of-self
 invariant_of-self c =
     let r : Registers = record { plans = c.self.inside.plans.items; world = c.self.inside.world; answers = c.self.inside.answers.items } in
     let answers : List (Option Answered) = (with_items c.self.inside.answers c.note_answers.new.answers).items in
-    let noted : answers ≡ answers_after (device_of c.args.event.now) c.args.answers r.answers =
+    let noted : answers ≡ answers_after (device_of c.args.event.now) c.args.answers.now r.answers =
     with_items_is c.self.inside.answers c.note_answers.new.answers (omega (arith, c.deref_mut.ensures.len)) ∙ (rw (c.device-device.ensures, c.deref_mut.ensures.value) at c.note_answers.ensures)
     in
     let whole : both c.others-others.result (count_named r (device_of c.args.event.now)) ≡ census_of r = rw (c.deref.ensures.value, c.deref-2.ensures.value, c.device-device.ensures) at c.others-others.ensures in
@@ -39,7 +39,7 @@ invariant_of-self c =
     rw (c.deref-3.ensures.value, c.deref-4.ensures.value) at c.after-self-inside.ensures
     in
     let kept : IsSound new × (c.after-self-inside.result ≡ census_of new) =
-    roster_after c.args.self.now r new c.args.event.now c.args.answers c.others-others.result c.after-self-inside.result c.self.view_is c.requires.named c.requires.stage c.self.invariant.sound whole
-    (registers_are r c.args.event.now c.args.answers c.observe.new.self answers c.observe.ensures.registers noted) counted
+    roster_after c.args.self.now r new c.args.event.now c.args.answers.now c.others-others.result c.after-self-inside.result c.self.view_is c.requires.named c.requires.stage c.self.invariant.sound whole
+    (registers_are r c.args.event.now c.args.answers.now c.observe.new.self answers c.observe.ensures.registers noted) counted
     in
     record { sound = kept.0; counted = kept.1 }
