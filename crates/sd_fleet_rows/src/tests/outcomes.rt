@@ -6,16 +6,7 @@ use sd_msg::Flight;
 
 /// Nothing comes of it, and the named device does not act as root.
 pub(super) fn quiet() -> Outcome {
-    Outcome {
-        report: None,
-        taken: None,
-        first_sent: 0,
-        sent: 0,
-        activated: None,
-        acted: false,
-        closed: false,
-        ended: false,
-    }
+    Outcome::nothing()
 }
 
 /// Nothing comes of it, and the named device acted as root before.
