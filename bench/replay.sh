@@ -50,9 +50,7 @@ if command -v rustc >/dev/null; then
     rustc -O --edition 2021 -o "$folder/plain" "$here/plain/main.rs"
     # In turn, since the speed of a machine may change from one minute to the next.
     for _ in 1 2 3 4 5 6 7; do
-        begun=${EPOCHREALTIME//[!0-9]/}
-        "$program" "${words[@]}" >"$folder/answer"
-        took=$((${EPOCHREALTIME//[!0-9]/} - begun))
+        run_once "${words[@]}"
         plain=$("$folder/plain" "${words[@]:1}" 2>&1 >"$folder/copy")
         cmp "$folder/answer" "$folder/copy" >&2
         echo "$(((took - checking) * 1000)) $plain"

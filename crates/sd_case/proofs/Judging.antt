@@ -1,7 +1,6 @@
 -- The plans of a case are judged, and lead to what comes after them.
-use Rattle.std.specs.Prelude.{◌≡◌, ℕ, List, [], ◌∷◌, reverse, Result, Ok, Err}
-use Rattle.std.proofs.Common.{ap, ◌∙◌, subst}
-use Rattle.std.proofs.lemmas.List.{reverse-reverse}
+use Rattle.std.specs.Prelude.{◌≡◌, ℕ, List, [], ◌∷◌, Result, Ok, Err}
+use Rattle.std.proofs.Common.{subst}
 use Rattle.sd_topo.specs.Network.{Network}
 use Rattle.sd_plan.specs.declared.Absent.{Absent}
 use Rattle.sd_plan.specs.declared.Plan.{Plan}
@@ -11,11 +10,7 @@ use Rattle.sd_checker.specs.declared.Verdict.TheVariants.{Accepted, Refused}
 use Rattle.sd_planner.specs.Planning.{IsPlanned}
 use Rattle.sd_planner.specs.declared.Planned.{Planned}
 use Rattle.sd_planner.specs.declared.Planned.TheVariants as planned
-use Rattle.sd_sched.specs.declared.Event.{Event}
-use Rattle.sd_history.specs.Chronicle.{chronicle}
 use Rattle.sd_gen_fabric.specs.Fabrics.{first_absent, second_absent}
-use Rattle.sd_gen.specs.Drafts.{history_of, schedule}
-use Rattle.sd_replay.specs.Tallies.{tally_of}
 use Rattle.sd_files.specs.Answering.{May}
 use Rattle.sd_files.specs.Reasons.{refusal_line}
 use Rattle.sd_files.specs.Writes.{Makes}
@@ -79,18 +74,11 @@ module _ (net : Network) where
       (λ first. AfterGreedy net 2 1 second_absent (λ second. IsTallied (case_tally (over net (first ∷ second ∷ [])) number))) bytes status (λ first.
       greedy_more 2 1 second_absent (λ second. Nothing (first ∷ second ∷ [])) (λ second. IsTallied (case_tally (over net (first ∷ second ∷ [])) number)) bytes status (λ second none. absurd none)))
 
-  recorded : (number : ℕ) (plans : List Plan) (events : List Event) → events ≡ schedule (over net plans) number → reverse events ≡ history_of (over net plans) number
-  unfolding schedule
-  recorded number plans events is = ap reverse is ∙ reverse-reverse (history_of (over net plans) number)
-
   -- the tally of its schedule over both plans
-  pub case_told : (number : ℕ) (plans : List Plan) (events : List Event) (made : Result Answer Ended) → AreMade net plans → events ≡ schedule (over net plans) number
-      → Makes (IsTallied (tally_of (over net plans) (chronicle (over net plans) (reverse events)))) made → Makes (IsCaseOver net number) made
-  case_told number plans events made both is =
-      makes_more (IsTallied (tally_of (over net plans) (chronicle (over net plans) (reverse events)))) (IsCaseOver net number) made (λ bytes status written.
-      let told : IsTallied (case_tally (over net plans) number) bytes status =
-      subst (λ (es : List Event). IsTallied (tally_of (over net plans) (chronicle (over net plans) es)) bytes status) (recorded number plans events is) written in
+  pub case_told : (number : ℕ) (plans : List Plan) (made : Result Answer Ended) → AreMade net plans → Makes (IsTallied (case_tally (over net plans) number)) made → Makes (IsCaseOver net number) made
+  case_told number plans made both =
+      makes_more (IsTallied (case_tally (over net plans) number)) (IsCaseOver net number) made (λ bytes status written.
       let of_both : IsTallied (case_tally (over net (both.first ∷ both.second ∷ [])) number) bytes status =
-      subst (λ (ps : List Plan). IsTallied (case_tally (over net ps) number) bytes status) both.are told in
+      subst (λ (ps : List Plan). IsTallied (case_tally (over net ps) number) bytes status) both.are written in
       goes_on 1 0 first_absent (λ first. AfterGreedy net 2 1 second_absent (λ second. IsTallied (case_tally (over net (first ∷ second ∷ [])) number))) both.first bytes status both.first_made
       (goes_on 2 1 second_absent (λ second. IsTallied (case_tally (over net (both.first ∷ second ∷ [])) number)) both.second bytes status both.second_made of_both))

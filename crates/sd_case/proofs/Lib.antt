@@ -1,6 +1,5 @@
 pub mod Sized
 pub mod Judging
-pub mod Listing
-pub mod Going
+pub mod Driven
 pub mod Histories
 pub mod Lawful

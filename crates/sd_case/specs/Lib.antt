@@ -2,4 +2,4 @@ pub mod Sizes
 pub mod Cases
 pub mod Laws
 pub mod Planned
-pub mod Going
+pub mod Replayed

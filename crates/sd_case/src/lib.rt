@@ -1,8 +1,8 @@
 //! The command `case` behind its words: a network of leaves and spines is made from its sizes and
-//! planned twice, and a schedule over it, made from a number, is replayed event by event.
+//! planned twice, and a replay is driven through the schedule that a number makes over it.
 //!
-//! While it works it keeps the events of the schedule, which the replay needs one after the other,
-//! and none of the lines that a replay of them would print: the tally counts these.
+//! So it keeps no event of the schedule, and none of the lines that a replay of it would print: the
+//! tally counts these.
 #![tactic(auto)]
 
 ghost use Rattle.std.specs.Prelude.{◌≡◌, ◌≤◌, ◌∷◌, [], IsTrue, IfErr, IfOk, length};
@@ -14,13 +14,14 @@ ghost use Rattle.sd_case.specs.Sizes.{IsWithin};
 
 mod network;
 mod plans;
-mod prepared;
 mod replayed;
 mod tally;
+#[cfg(test)]
+mod tests;
 
 use network::fabric_topology;
-use prepared::prepare;
-use replayed::replay_prepared;
+use plans::greedy_plans;
+use replayed::replay_case;
 use sd_files::{Answer, Ended, Status};
 use sd_topo::Topology;
 use std::alloc::Global;
@@ -56,8 +57,8 @@ fn case_over(alloc: Global, topo: Topology, number: u64) -> Result<Answer, Ended
     ensures gives { IfOk result (λ answer. IsTrue (is_among (Status.Done ∷ Status.PlanRefused ∷ Status.Broken ∷ []) answer.status)) }
     ensures only { IfErr result (λ why. why ≡ Ended.Memory) }
 {
-    match prepare(alloc, &topo, number) {
-        Ok(prepared) => replay_prepared(alloc, topo, prepared),
+    match greedy_plans(alloc, &topo) {
+        Ok(plans) => replay_case(alloc, topo, plans, number),
         Err(early) => early.made(),
     }
 }

@@ -1,5 +1,6 @@
 -- Laws of drafts.
 mod Listing
+mod Recorded
 mod Each
 mod Sent
 mod Trying

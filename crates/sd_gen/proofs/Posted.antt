@@ -13,13 +13,12 @@ use Rattle.sd_history_flights.proofs.Sending.{step_numbered, counted}
 use Rattle.sd_history_flights.proofs.Counts.{numbers_few}
 use Rattle.sd_fabric.specs.declared.Outcome.{Outcome}
 use Rattle.sd_fabric.specs.Outcomes.{outcome_of, first_number}
-use Rattle.sd_core.specs.declared.registers.Registers.{Registers}
-use Rattle.sd_core.specs.contracts.device.DeviceNode.TheImpl.{ghosts}
-use Rattle.sd_history.specs.Nodes.{NodeStep, steps_of}
-use Rattle.sd_fleet.specs.Standing as fleet
+use Rattle.sd_history.specs.Nodes.{steps_of}
 use Rattle.sd_gen_arrivals.proofs.Widening.{stands_wider}
-use Rattle.sd_gen.specs.declared.recorder.Recorder.{Recorder}
+use Rattle.sd_gen.specs.declared.driven.Driven.{Ghosts}
+use Rattle.sd_gen.specs.declared.driver.Driver.{Driver}
 use Rattle.sd_gen.specs.Drafts.{Draft, each, when, with_message}
+use Rattle.sd_gen.specs.Driving.{Run}
 use Rattle.sd_gen.specs.Posting.{posted}
 use Rattle.sd_gen.specs.Standing.{StandsTo, StandsFor}
 use Rattle.sd_gen.proofs.Each.{each_take_more, each_reaching, steps_stay}
@@ -56,12 +55,12 @@ first_given : (n : ℕ) (fs : List Flight) → AreNumberedOn n fs → 0 < length
 first_given n [] is some = absurd (omega (arith, some))
 first_given n (f ∷ fs) is some = is.0
 
-module _ (setting : Setting) (x : Draft) (s : Step) (earlier : List Step) (steps : x.steps ≡ s ∷ earlier) (is : AreSteps setting (s ∷ earlier)) where
-  pub more : (old new : Recorder) (i number reference : ℕ) → i < length s.sent → number ≡ flight_count earlier + 1 + i → reference ≡ reference_of s.seen.event
-      → StandsTo old setting (with_first i s x) (flight_count earlier + i)
-      → ((y : Draft) (top : ℕ) → top < number → ((f : Flight) → look_in y.steps number ≡ Ok f → (f.sent_at ≡ reference) × (f.number ≡ number)) → StandsTo old setting y top
-      → StandsTo new setting (posted (look_in y.steps number) y) number)
-      → StandsTo new setting (with_first (i + 1) s x) (flight_count earlier + (i + 1))
+module _ {D : Type 0} (g : Ghosts D) (setting : Setting) (x : Draft) (s : Step) (earlier : List Step) (steps : x.steps ≡ s ∷ earlier) (is : AreSteps setting (s ∷ earlier)) where
+  pub more : (old new : Driver D) (i number reference : ℕ) → i < length s.sent → number ≡ flight_count earlier + 1 + i → reference ≡ reference_of s.seen.event
+      → StandsTo g old setting (with_first i s x) (flight_count earlier + i)
+      → ((y : Draft) (top : ℕ) → top < number → ((f : Flight) → look_in y.steps number ≡ Ok f → (f.sent_at ≡ reference) × (f.number ≡ number)) → StandsTo g old setting y top
+      → StandsTo g new setting (posted (look_in y.steps number) y) number)
+      → StandsTo g new setting (with_first (i + 1) s x) (flight_count earlier + (i + 1))
   more old new i number reference within is_number is_reference stands posts =
       let f : Flight = get_or s.sent i any_flight in
       let among = among_at s.sent i any_flight within in
@@ -73,9 +72,9 @@ module _ (setting : Setting) (x : Draft) (s : Step) (earlier : List Step) (steps
       let one : posted (look_in y.steps number) y ≡ with_first (i + 1) s x =
       ap (λ r. posted r y) found ∙ posted_found f y ∙ sym (each_take_more (λ g. when g.reaches (with_message g)) s.sent i any_flight x within) in
       let next : number ≡ flight_count earlier + (i + 1) = omega (arith, is_number) in
-      let done : StandsTo new setting (posted (look_in y.steps number) y) number =
+      let done : StandsTo g new setting (posted (look_in y.steps number) y) number =
       posts y (flight_count earlier + i) (omega (arith, is_number)) (only f f.reaches refl found its (sent_then setting s earlier is f among ∙ sym is_reference)) stands in
-      subst (λ (n : ℕ). StandsTo new setting (with_first (i + 1) s x) n) next (subst (λ z. StandsTo new setting z number) one done)
+      subst (λ (n : ℕ). StandsTo g new setting (with_first (i + 1) s x) n) next (subst (λ z. StandsTo g new setting z number) one done)
     where
       only : (f : Flight) (b : Bool) → f.reaches ≡ b → {o : Result Flight TakeFault} → o ≡ (if f.reaches then Ok f else Err fault.Spent) → f.number ≡ number → f.sent_at ≡ reference
           → (g : Flight) → o ≡ Ok g → (g.sent_at ≡ reference) × (g.number ≡ number)
@@ -87,15 +86,15 @@ module _ (setting : Setting) (x : Draft) (s : Step) (earlier : List Step) (steps
 
 -- The loop, from the first number that was sent: n is how far it came.
 
-abbrev pub Posts : (old new : Recorder) → Outcome → ℕ → ℕ → Type 0
-Posts old new outcome reference n =
+abbrev pub Posts : {D : Type 0} (g : Ghosts D) → (old new : Driver D) → Outcome → ℕ → ℕ → Type 0
+Posts g old new outcome reference n =
     (setting : Setting) (x : Draft) (s : Step) (earlier : List Step) → x.steps ≡ s ∷ earlier → outcome ≡ outcome_of s → reference ≡ reference_of s.seen.event
-    → StandsTo old setting x (flight_count earlier) → StandsTo new setting (with_first n s x) (flight_count earlier + n)
+    → StandsTo g old setting x (flight_count earlier) → StandsTo g new setting (with_first n s x) (flight_count earlier + n)
 
-pub posting_begins : (r : Recorder) (outcome : Outcome) (reference n : ℕ) → n ≡ 0 → Posts r r outcome reference n
-posting_begins r outcome reference n none setting x s earlier steps comes in_time stands =
-    subst (λ (k : ℕ). StandsTo r setting (with_first k s x) (flight_count earlier + k)) (sym none)
-    (let same : flight_count earlier ≡ flight_count earlier + 0 = omega arith in subst (λ (k : ℕ). StandsTo r setting x k) same stands)
+pub posting_begins : {D : Type 0} (g : Ghosts D) (r : Driver D) (outcome : Outcome) (reference n : ℕ) → n ≡ 0 → Posts g r r outcome reference n
+posting_begins g r outcome reference n none setting x s earlier steps comes in_time stands =
+    subst (λ (k : ℕ). StandsTo g r setting (with_first k s x) (flight_count earlier + k)) (sym none)
+    (let same : flight_count earlier ≡ flight_count earlier + 0 = omega arith in subst (λ (k : ℕ). StandsTo g r setting x k) same stands)
 
 sent_some : (setting : Setting) (s : Step) (earlier : List Step) → AreSteps setting (s ∷ earlier) → (outcome : Outcome) → outcome ≡ outcome_of s → (n : ℕ) → n < outcome.sent
     → (outcome.first_sent ≡ flight_count earlier + 1) × (n < length s.sent)
@@ -105,19 +104,19 @@ sent_some setting s earlier is outcome comes n less =
     let begins : first_number s.sent ≡ flight_count earlier + 1 = first_given (flight_count earlier + 1) s.sent (step_numbered setting s earlier is) (omega (arith, within)) in
     (ap (λ (o : Outcome). o.first_sent) comes ∙ begins, within)
 
-pub posting_goes : (r old new : Recorder) (outcome : Outcome) (reference number n : ℕ) → outcome.first_sent ≤ number → number < min (outcome.first_sent + outcome.sent) (2 ^ 64 - 1) → n ≡ number + 1 - outcome.first_sent
-    → Posts r old outcome reference (number - outcome.first_sent)
-    → ((setting : Setting) (y : Draft) (top : ℕ) → top < number → ((f : Flight) → look_in y.steps number ≡ Ok f → (f.sent_at ≡ reference) × (f.number ≡ number)) → StandsTo old setting y top
-    → StandsTo new setting (posted (look_in y.steps number) y) number)
-    → Posts r new outcome reference n
-posting_goes r old new outcome reference number n from within next before one setting x s earlier steps comes in_time stands =
+pub posting_goes : {D : Type 0} (g : Ghosts D) (r old new : Driver D) (outcome : Outcome) (reference number n : ℕ) → outcome.first_sent ≤ number → number < min (outcome.first_sent + outcome.sent) (2 ^ 64 - 1) → n ≡ number + 1 - outcome.first_sent
+    → Posts g r old outcome reference (number - outcome.first_sent)
+    → ((setting : Setting) (y : Draft) (top : ℕ) → top < number → ((f : Flight) → look_in y.steps number ≡ Ok f → (f.sent_at ≡ reference) × (f.number ≡ number)) → StandsTo g old setting y top
+    → StandsTo g new setting (posted (look_in y.steps number) y) number)
+    → Posts g r new outcome reference n
+posting_goes g r old new outcome reference number n from within next before one setting x s earlier steps comes in_time stands =
     let i : ℕ = number - outcome.first_sent in
-    let is : AreSteps setting (s ∷ earlier) = subst (AreSteps setting) steps (are_steps r setting x (flight_count earlier) stands) in
+    let is : AreSteps setting (s ∷ earlier) = subst (AreSteps setting) steps (are_steps g r setting x (flight_count earlier) stands) in
     let some = sent_some setting s earlier is outcome comes (number - outcome.first_sent) (omega (arith, from, within)) in
     let its : number ≡ flight_count earlier + 1 + (number - outcome.first_sent) = omega (arith, from, some.0) in
     let more_of : n ≡ number - outcome.first_sent + 1 = omega (arith, from, next) in
-    subst (λ (k : ℕ). StandsTo new setting (with_first k s x) (flight_count earlier + k)) (sym more_of)
-    (more setting x s earlier steps is old new (number - outcome.first_sent) number reference some.1 its in_time (before setting x s earlier steps comes in_time stands) (one setting))
+    subst (λ (k : ℕ). StandsTo g new setting (with_first k s x) (flight_count earlier + k)) (sym more_of)
+    (more g setting x s earlier steps is old new (number - outcome.first_sent) number reference some.1 its in_time (before setting x s earlier steps comes in_time stands) (one setting))
 
 take_whole : {A : Type 0} (xs : List A) (n : ℕ) → length xs ≤ n → take n xs ≡ xs
 take_whole [] zero h = refl
@@ -125,28 +124,28 @@ take_whole [] (suc n) h = refl
 take_whole (x ∷ xs) zero h = absurd (omega (arith, h))
 take_whole (x ∷ xs) (suc n) h = ap (λ ys. x ∷ ys) (take_whole xs n (omega (arith, h)))
 
-pub posting_ends : (old new : Recorder) (outcome : Outcome) (reference number : ℕ) → outcome.first_sent ≤ number → number ≤ min (outcome.first_sent + outcome.sent) (2 ^ 64 - 1)
-    → min (outcome.first_sent + outcome.sent) (2 ^ 64 - 1) ≤ number → Posts old new outcome reference (number - outcome.first_sent)
+pub posting_ends : {D : Type 0} (g : Ghosts D) (old new : Driver D) (outcome : Outcome) (reference number : ℕ) → outcome.first_sent ≤ number → number ≤ min (outcome.first_sent + outcome.sent) (2 ^ 64 - 1)
+    → min (outcome.first_sent + outcome.sent) (2 ^ 64 - 1) ≤ number → Posts g old new outcome reference (number - outcome.first_sent)
     → (setting : Setting) (x : Draft) (s : Step) (earlier : List Step) → x.steps ≡ s ∷ earlier → outcome ≡ outcome_of s → reference ≡ reference_of s.seen.event
-    → StandsTo old setting x (flight_count earlier) → StandsFor new setting (each with_message s.seen.sent x)
-posting_ends old new outcome reference number from upto end posts setting x s earlier steps comes in_time stands =
-    let is : AreSteps setting (s ∷ earlier) = subst (AreSteps setting) steps (are_steps old setting x (flight_count earlier) stands) in
+    → StandsTo g old setting x (flight_count earlier) → StandsFor g new setting (each with_message s.seen.sent x)
+posting_ends g old new outcome reference number from upto end posts setting x s earlier steps comes in_time stands =
+    let is : AreSteps setting (s ∷ earlier) = subst (AreSteps setting) steps (are_steps g old setting x (flight_count earlier) stands) in
     let count : outcome.sent ≡ length s.sent = ap (λ (o : Outcome). o.sent) comes in
     let few : flight_count (s ∷ earlier) ≤ 2 ^ 41 = numbers_few setting (s ∷ earlier) is (omega (arith, stands.net.links)) in
     let all : flight_count (s ∷ earlier) ≡ length s.sent + flight_count earlier = counted s earlier in
     let first : outcome.first_sent ≤ flight_count earlier + 1 = low setting s earlier is outcome comes in
     let whole : number - outcome.first_sent ≡ length s.sent = omega (arith, from, upto, end, count, few, all, first) in
-    let done : StandsTo new setting (with_first (number - outcome.first_sent) s x) (flight_count earlier + (number - outcome.first_sent)) = posts setting x s earlier steps comes in_time stands in
-    let here : StandsTo new setting (with_first (length s.sent) s x) (flight_count earlier + length s.sent) =
-    subst (λ (k : ℕ). StandsTo new setting (with_first k s x) (flight_count earlier + k)) whole done in
+    let done : StandsTo g new setting (with_first (number - outcome.first_sent) s x) (flight_count earlier + (number - outcome.first_sent)) = posts setting x s earlier steps comes in_time stands in
+    let here : StandsTo g new setting (with_first (length s.sent) s x) (flight_count earlier + length s.sent) =
+    subst (λ (k : ℕ). StandsTo g new setting (with_first k s x) (flight_count earlier + k)) whole done in
     let top : flight_count earlier + length s.sent ≡ flight_count (s ∷ earlier) = omega (arith, all) in
     let draft : with_first (length s.sent) s x ≡ each with_message s.seen.sent x =
     ap (λ fs. each (λ f. when f.reaches (with_message f)) fs x) (take_whole s.sent (length s.sent) (omega arith))
     ∙ sym (each_reaching s.sent x) ∙ ap (λ fs. each with_message fs x) (sym (seen_reach setting s earlier is)) in
     let same : (each with_message s.seen.sent x).steps ≡ s ∷ earlier =
     ap (λ (y : Draft). y.steps) (sym draft) ∙ steps_stay (take (length s.sent) s.sent) x ∙ steps in
-    subst (λ (k : ℕ). StandsTo new setting (each with_message s.seen.sent x) k) (top ∙ ap flight_count (sym same))
-    (subst (λ y. StandsTo new setting y (flight_count earlier + length s.sent)) draft here)
+    subst (λ (k : ℕ). StandsTo g new setting (each with_message s.seen.sent x) k) (top ∙ ap flight_count (sym same))
+    (subst (λ y. StandsTo g new setting y (flight_count earlier + length s.sent)) draft here)
   where
     low : (setting : Setting) (s : Step) (earlier : List Step) → AreSteps setting (s ∷ earlier) → (outcome : Outcome) → outcome ≡ outcome_of s → outcome.first_sent ≤ flight_count earlier + 1
     low setting s earlier is outcome comes =
@@ -157,23 +156,23 @@ posting_ends old new outcome reference number from upto end posts setting x s ea
         by (f ∷ fs) is = let same = is.0 in omega (arith, same)
 
 -- the numbers of what waits may go up to a greater one
-pub wider : (r : Recorder) (setting : Setting) (x : Draft) (top number : ℕ) → top ≤ number → StandsTo r setting x top → StandsTo r setting x number
-wider r setting x top number more_of stands =
+pub wider : {D : Type 0} (g : Ghosts D) (r : Driver D) (setting : Setting) (x : Draft) (top number : ℕ) → top ≤ number → StandsTo g r setting x top → StandsTo g r setting x number
+wider g r setting x top number more_of stands =
     record {
       net = stands.net;
       run = stands.run;
-      fleet = stands.fleet;
+      is_run = stands.is_run;
+      driven = stands.driven;
       steps = stands.steps;
       rng = stands.rng;
       leads = stands.leads;
       arrivals = stands_wider r.arrivals top number x.waiting more_of stands.arrivals;
-      events = stands.events;
     }
 
 -- where no message is found, none waits
-pub nothing_found : (r : Recorder) (setting : Setting) (x : Draft) (top number : ℕ) (found : Result Flight TakeFault) (e : TakeFault) → found ≡ Err e
-    → ((run : List (NodeStep Registers)) → fleet.StandsFor ghosts r.fleet setting run → found ≡ look_in (steps_of run) number) → top < number → StandsTo r setting x top
-    → StandsTo r setting (posted (look_in x.steps number) x) number
-nothing_found r setting x top number found e is looks above stands =
-    let none : look_in x.steps number ≡ Err e = sym (ap (λ t. look_in t number) stands.steps) ∙ sym (looks stands.run stands.fleet) ∙ is in
-    subst (λ o. StandsTo r setting (posted o x) number) (sym none) (wider r setting x top number (omega (arith, above)) stands)
+pub nothing_found : {D : Type 0} (g : Ghosts D) (r : Driver D) (setting : Setting) (x : Draft) (top number : ℕ) (found : Result Flight TakeFault) (e : TakeFault) → found ≡ Err e
+    → ((run : Run) → g.stands r.driven setting run → found ≡ look_in (steps_of run) number) → top < number → StandsTo g r setting x top
+    → StandsTo g r setting (posted (look_in x.steps number) x) number
+nothing_found g r setting x top number found e is looks above stands =
+    let none : look_in x.steps number ≡ Err e = sym (ap (λ t. look_in t number) stands.steps) ∙ sym (looks stands.run stands.driven) ∙ is in
+    subst (λ o. StandsTo g r setting (posted o x) number) (sym none) (wider g r setting x top number (omega (arith, above)) stands)

@@ -1,22 +1,29 @@
 //! Networks and schedules from a number: what the generated case happens over, and what happens.
 #![tactic(auto)]
 
-ghost use Rattle.std.specs.Prelude.{◌≡◌, ◌≤◌, ◌<◌, ◌^◌, length, reverse, IfOk};
+ghost use Rattle.std.specs.Prelude.{◌≡◌, ◌≤◌, ◌<◌, ◌^◌, [], length, reverse, IfOk};
+ghost use Rattle.sd_topo.specs.Network.{IsNetwork};
 ghost use Rattle.sd_topo.specs.Topologies.{network};
 ghost use Rattle.sd_roster.specs.Plans.{AreSound};
+ghost use Rattle.sd_history.specs.World.{Setting};
 ghost use Rattle.sd_history.specs.Chronicle.{IsHistory};
-ghost use Rattle.sd_gen.specs.Drafts.{schedule};
+ghost use Rattle.sd_gen.specs.Drafts.{history_of, schedule};
+ghost use Rattle.sd_gen.specs.Driving.{HasHappened};
 
 mod asks;
+mod driven;
+mod driver;
 mod list;
 mod posting;
 mod receipts;
-mod recorder;
+mod recording;
 mod rounds;
 mod turns;
 
+pub use driven::Driven;
+use driver::Driver;
 pub use list::EventList;
-use recorder::Recorder;
+use recording::Recording;
 pub use sd_gen_fabric::fabric_text;
 use sd_num::NoMemory;
 use sd_plan::Plan;
@@ -26,11 +33,25 @@ use std::alloc::Global;
 /// How many rounds a case has.
 const ROUNDS: u64 = 200;
 
-/// The schedule of a case: what happens over a network in 200 rounds of 50 microseconds, one device
-/// failing and a second plan being brought in meanwhile, as far as a fleet of devices accepts it.
+/// Drives a fleet of devices through the schedule of a case: what happens over a network in 200
+/// rounds of 50 microseconds, one device failing and a second plan being brought in meanwhile, as
+/// far as the fleet accepts it.
 ///
 /// The words that are drawn are those of `Pcg32`, seeded with the number. The generated case has
 /// two plans, of which the second leaves out the first device.
+pub fn drive_schedule<D: Driven>(alloc: Global, driven: D, number: u64) -> Result<D, NoMemory>
+    ensures { IfOk result (λ after. (setting : Setting) → IsNetwork setting.net → D.stands driven setting []
+        → HasHappened D.stands after setting (history_of setting number)) }
+{
+    let mut driver = Driver::new(alloc, driven, number)?;
+    driver.start_all(alloc)?;
+    for before in 0..ROUNDS {
+        driver.round(alloc, before + 1)?;
+    }
+    Ok(driver.into_driven())
+}
+
+/// The schedule of a case over a network and plans, by a fleet of their own.
 pub fn make_schedule(
     alloc: Global,
     topo: &Topology,
@@ -44,10 +65,7 @@ pub fn make_schedule(
     // a fleet of devices accepts each of them after those before it
     ensures history { IfOk result (λ events. IsHistory (record { net = network topo.now; plans = plans.now }) (reverse events)) }
 {
-    let mut recorder = Recorder::new(alloc, topo, plans, number)?;
-    recorder.start_all(alloc)?;
-    for before in 0..ROUNDS {
-        recorder.round(alloc, before + 1)?;
-    }
-    Ok(recorder.into_events())
+    let recording = Recording::new(alloc, topo, plans)?;
+    let recording = drive_schedule(alloc, recording, number)?;
+    Ok(recording.into_events())
 }

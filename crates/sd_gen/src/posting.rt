@@ -10,30 +10,29 @@ ghost use Rattle.sd_history_flights.specs.Flights.{look_in};
 ghost use Rattle.sd_gen.specs.Drafts.{Draft, each, with_message, try as try_in};
 ghost use Rattle.sd_gen.specs.Posting.{posted};
 
-use crate::recorder::Recorder;
+use crate::driven::Driven;
+use crate::driver::Driver;
 use rand_core::utils::NextWord;
-use sd_fleet::{ApplyFault, Outcome};
+use sd_fleet::Outcome;
 use sd_gen_arrivals::Arrival;
 use sd_num::NoMemory;
 use sd_sched::Event;
 use std::alloc::Global;
 
-impl Recorder {
+impl<D: Driven> Driver<D> {
     ghost use Rattle.sd_gen.specs.Standing.{StandsTo, StandsFor, Becomes};
 
-    /// Tries an event. One that the fleet refuses is left out.
+    /// Offers an event. One that is refused is left out.
     pub fn try_event(&mut self, alloc: Global, event: &Event) -> Result<(), NoMemory>
         requires within { IsTrue (is_within event.now) }
         requires early { reference_of event.now ≤ 2 ^ 40 }
         ensures leads { OnOk result (self.new.leads.items ≡ self.old.leads.items) }
-        ensures stands { OnOk result (Becomes self.old self.new (λ setting. try_in setting event.now)) }
+        ensures stands { OnOk result (Becomes D.Driven self.old self.new (λ setting. try_in setting event.now)) }
     {
-        let outcome = match self.fleet.apply(alloc, event) {
-            Ok(outcome) => outcome,
-            Err(ApplyFault::Memory) => return Err(NoMemory),
-            Err(_) => return Ok(()),
-        };
-        self.events.push(alloc, *event)?;
+        let mut outcome = Outcome::nothing();
+        if !self.driven.offer(alloc, event, &mut outcome)? {
+            return Ok(());
+        }
         self.post(event.reference(), &outcome)
     }
 
@@ -44,8 +43,8 @@ impl Recorder {
         ensures leads { OnOk result (self.new.leads.items ≡ self.old.leads.items) }
         ensures stands { OnOk result ((setting : Setting) (x : Draft) (s : Step) (earlier : List Step) → x.steps ≡ s ∷ earlier
             → outcome.now ≡ outcome_of s → reference ≡ reference_of s.seen.event
-            → StandsTo self.old setting x (flight_count earlier)
-            → StandsFor self.new setting (each with_message s.seen.sent x)) }
+            → StandsTo D.Driven self.old setting x (flight_count earlier)
+            → StandsFor D.Driven self.new setting (each with_message s.seen.sent x)) }
     {
         // the sum never reaches the greatest number: histories have fewer messages
         let end = outcome.first_sent.saturating_add(u64::from(outcome.sent));
@@ -61,10 +60,10 @@ impl Recorder {
         ensures leads { OnOk result (self.new.leads.items ≡ self.old.leads.items) }
         ensures stands { OnOk result ((setting : Setting) (x : Draft) (top : ℕ) → top < number
             → ((f : Flight) → look_in x.steps number ≡ Ok f → (f.sent_at ≡ reference) × (f.number ≡ number))
-            → StandsTo self.old setting x top
-            → StandsTo self.new setting (posted (look_in x.steps number) x) number) }
+            → StandsTo D.Driven self.old setting x top
+            → StandsTo D.Driven self.new setting (posted (look_in x.steps number) x) number) }
     {
-        let Ok(flight) = self.fleet.flight(number) else {
+        let Ok(flight) = self.driven.fleet().flight(number) else {
             return Ok(());
         };
         let word = self.random.next_word();

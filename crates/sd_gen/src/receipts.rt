@@ -5,7 +5,8 @@ ghost use Rattle.sd_gen_arrivals.specs.Waiting.{next_by};
 ghost use Rattle.sd_gen.specs.Drafts.{Draft, receive_until as receive_until_in};
 ghost use Rattle.sd_gen.specs.Receiving.{received};
 
-use crate::recorder::Recorder;
+use crate::driven::Driven;
+use crate::driver::Driver;
 use sd_gen_arrivals::Arrival;
 use sd_num::NoMemory;
 use sd_sched::Event;
@@ -14,7 +15,7 @@ use std::alloc::Global;
 /// The greatest number that a line of a schedule can say.
 const MOST: u64 = 1 << 60;
 
-impl Recorder {
+impl<D: Driven> Driver<D> {
     ghost use Rattle.sd_gen.specs.Standing.{StandsFor, Becomes};
     ghost use Rattle.sd_gen.specs.Receiving.{ReceivesNext};
 
@@ -22,7 +23,7 @@ impl Recorder {
     /// that such receipts send.
     pub fn receive_until(&mut self, alloc: Global, moment: u64) -> Result<(), NoMemory>
         requires { moment ≤ 2 ^ 40 }
-        ensures { OnOk result (Becomes self.old self.new (λ setting. receive_until_in setting moment)) }
+        ensures { OnOk result (Becomes D.Driven self.old self.new (λ setting. receive_until_in setting moment)) }
     {
         'receipts: for _ in 0..u64::MAX {
             if !self.receive_next(alloc, moment)? {
@@ -35,8 +36,8 @@ impl Recorder {
     /// The message that comes next up to the moment is received; tells whether there was one.
     fn receive_next(&mut self, alloc: Global, moment: u64) -> Result<bool, NoMemory>
         requires { moment ≤ 2 ^ 40 }
-        ensures { IfOk result (λ more. (setting : Setting) (x : Draft) → StandsFor self.old setting x
-            → ReceivesNext self.new setting x (next_by moment x.waiting) more) }
+        ensures { IfOk result (λ more. (setting : Setting) (x : Draft) → StandsFor D.Driven self.old setting x
+            → ReceivesNext D.Driven self.new setting x (next_by moment x.waiting) more) }
     {
         let Some(arrival) = self.arrivals.take_by(moment) else {
             return Ok(false);
@@ -48,7 +49,7 @@ impl Recorder {
     /// A message that waits no longer is received.
     fn receive(&mut self, alloc: Global, arrival: Arrival) -> Result<(), NoMemory>
         requires { arrival.moment ≤ 2 ^ 40 }
-        ensures { OnOk result (arrival.number ≤ 2 ^ 60 → Becomes self.old self.new (λ setting. received setting arrival)) }
+        ensures { OnOk result (arrival.number ≤ 2 ^ 60 → Becomes D.Driven self.old self.new (λ setting. received setting arrival)) }
     {
         // no message has a greater number
         if arrival.number > MOST {

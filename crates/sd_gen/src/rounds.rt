@@ -4,7 +4,8 @@ ghost use Rattle.sd_gen.specs.Drafts.{round as round_in, with_failure, with_rene
 ghost use Rattle.sd_gen.specs.Turns.{renewed, failed, ended};
 
 use crate::ROUNDS;
-use crate::recorder::Recorder;
+use crate::driven::Driven;
+use crate::driver::Driver;
 use crate::turns::Turn;
 use sd_num::NoMemory;
 use sd_sched::Event;
@@ -16,14 +17,14 @@ const PERIOD: u64 = 50_000_000;
 /// When the first device fails, in ps.
 const FAILURE: u64 = 1_025_000_000;
 
-impl Recorder {
+impl<D: Driven> Driver<D> {
     ghost use Rattle.sd_gen.specs.Standing.{Becomes};
 
     /// Round after round, from 1: the messages up to the round's reference are received, each
     /// device that is up ticks, and then comes what this round has besides.
     pub fn round(&mut self, alloc: Global, round: u64) -> Result<(), NoMemory>
         requires { round ≤ 200 }
-        ensures { OnOk result (Becomes self.old self.new (λ setting. round_in setting round)) }
+        ensures { OnOk result (Becomes D.Driven self.old self.new (λ setting. round_in setting round)) }
     {
         let reference = PERIOD * round;
         self.failure(alloc, round)?;
@@ -37,7 +38,7 @@ impl Recorder {
 
     /// In round 21 the first device fails, amid the receipts.
     fn failure(&mut self, alloc: Global, round: u64) -> Result<(), NoMemory>
-        ensures { OnOk result (Becomes self.old self.new (λ setting. with_failure setting round)) }
+        ensures { OnOk result (Becomes D.Driven self.old self.new (λ setting. with_failure setting round)) }
     {
         if round != 21 {
             return Ok(());
@@ -46,7 +47,7 @@ impl Recorder {
     }
 
     fn fail(&mut self, alloc: Global) -> Result<(), NoMemory>
-        ensures { OnOk result (Becomes self.old self.new failed) }
+        ensures { OnOk result (Becomes D.Driven self.old self.new failed) }
     {
         self.receive_until(alloc, FAILURE)?;
         let failure = Event::FailDevice {
@@ -59,7 +60,7 @@ impl Recorder {
     /// In round 150 the second plan is brought in.
     fn renewal(&mut self, alloc: Global, round: u64, reference: u64) -> Result<(), NoMemory>
         requires { reference ≤ 2 ^ 40 }
-        ensures { OnOk result (Becomes self.old self.new (λ setting. with_renewal setting round reference)) }
+        ensures { OnOk result (Becomes D.Driven self.old self.new (λ setting. with_renewal setting round reference)) }
     {
         if round != 150 {
             return Ok(());
@@ -70,7 +71,7 @@ impl Recorder {
     /// The stage, a give to each device that is up, and the commit of the second device.
     fn renew(&mut self, alloc: Global, reference: u64) -> Result<(), NoMemory>
         requires { reference ≤ 2 ^ 40 }
-        ensures { OnOk result (Becomes self.old self.new (λ setting. renewed setting reference)) }
+        ensures { OnOk result (Becomes D.Driven self.old self.new (λ setting. renewed setting reference)) }
     {
         self.try_event(alloc, &Event::Stage { reference })?;
         self.each_up(alloc, Turn::Give, reference)?;
@@ -85,7 +86,7 @@ impl Recorder {
     /// In round 160 each device that is up is sealed.
     fn seals(&mut self, alloc: Global, round: u64, reference: u64) -> Result<(), NoMemory>
         requires { reference ≤ 2 ^ 40 }
-        ensures { OnOk result (Becomes self.old self.new (λ setting. with_seals setting round reference)) }
+        ensures { OnOk result (Becomes D.Driven self.old self.new (λ setting. with_seals setting round reference)) }
     {
         if round != 160 {
             return Ok(());
@@ -96,7 +97,7 @@ impl Recorder {
     /// In the last round each device that is up is asked, and the schedule ends.
     fn end(&mut self, alloc: Global, round: u64, reference: u64) -> Result<(), NoMemory>
         requires { reference ≤ 2 ^ 40 }
-        ensures { OnOk result (Becomes self.old self.new (λ setting. with_end setting round reference)) }
+        ensures { OnOk result (Becomes D.Driven self.old self.new (λ setting. with_end setting round reference)) }
     {
         if round != ROUNDS {
             return Ok(());
@@ -106,7 +107,7 @@ impl Recorder {
 
     fn finish(&mut self, alloc: Global, reference: u64) -> Result<(), NoMemory>
         requires { reference ≤ 2 ^ 40 }
-        ensures { OnOk result (Becomes self.old self.new (λ setting. ended setting reference)) }
+        ensures { OnOk result (Becomes D.Driven self.old self.new (λ setting. ended setting reference)) }
     {
         self.each_up(alloc, Turn::Ask, reference)?;
         self.try_event(alloc, &Event::End { reference })

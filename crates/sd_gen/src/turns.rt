@@ -6,7 +6,8 @@ ghost use Rattle.sd_history.specs.World.{Setting};
 ghost use Rattle.sd_gen.specs.Drafts.{Draft, try_if_up as try_if_up_in, try_each_up, with_starts};
 ghost use Rattle.sd_gen.specs.Turns.{event_by};
 
-use crate::recorder::Recorder;
+use crate::driven::Driven;
+use crate::driver::Driver;
 use sd_num::NoMemory;
 use sd_sched::Event;
 use std::alloc::Global;
@@ -28,7 +29,7 @@ fn first_eps(device: u32) -> u64
     if device == 0 { 500 } else { 1_000_000 }
 }
 
-impl Recorder {
+impl<D: Driven> Driver<D> {
     ghost use Rattle.sd_gen.specs.Standing.{StandsFor, Becomes};
 
     /// The event of a device.
@@ -65,8 +66,8 @@ impl Recorder {
     ) -> Result<(), NoMemory>
         requires { reference ≤ 2 ^ 40 }
         ensures leads { OnOk result (self.new.leads.items ≡ self.old.leads.items) }
-        ensures stands { OnOk result ((setting : Setting) (x : Draft) → d < length setting.net.devices → StandsFor self.old setting x
-            → StandsFor self.new setting (try_if_up_in setting (event_by turn reference self.old.leads.items) d x)) }
+        ensures stands { OnOk result ((setting : Setting) (x : Draft) → d < length setting.net.devices → StandsFor D.Driven self.old setting x
+            → StandsFor D.Driven self.new setting (try_if_up_in setting (event_by turn reference self.old.leads.items) d x)) }
     {
         if !self.is_up(d) {
             return Ok(());
@@ -79,9 +80,9 @@ impl Recorder {
     pub fn each_up(&mut self, alloc: Global, turn: Turn, reference: u64) -> Result<(), NoMemory>
         requires { reference ≤ 2 ^ 40 }
         ensures leads { OnOk result (self.new.leads.items ≡ self.old.leads.items) }
-        ensures stands { OnOk result (Becomes self.old self.new (λ setting x. try_each_up setting (event_by turn reference x.leads) x)) }
+        ensures stands { OnOk result (Becomes D.Driven self.old self.new (λ setting x. try_each_up setting (event_by turn reference x.leads) x)) }
     {
-        for d in 0..self.fleet.devices() {
+        for d in 0..self.devices() {
             self.try_if_up(alloc, turn, reference, d)?;
         }
         Ok(())
@@ -89,9 +90,9 @@ impl Recorder {
 
     /// Starts each device in order.
     pub fn start_all(&mut self, alloc: Global) -> Result<(), NoMemory>
-        ensures { OnOk result (Becomes self.old self.new (λ setting. with_starts setting)) }
+        ensures { OnOk result (Becomes D.Driven self.old self.new (λ setting. with_starts setting)) }
     {
-        for device in 0..self.fleet.devices() {
+        for device in 0..self.devices() {
             let eps = first_eps(device);
             let start = Event::Start {
                 reference: 0,

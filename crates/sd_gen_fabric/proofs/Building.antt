@@ -7,11 +7,9 @@ use Rattle.toml.specs.View.{view, items_of, items_view}
 use Rattle.toml.specs.declared.value.Value.{Value}
 use Rattle.toml.proofs.Views.{items_view-push}
 use Rattle.sd_num.specs.Lists.{below}
-use Rattle.sd_topotext.specs.declared.fault.Key.TheVariants as keys
-use Rattle.sd_topotext.specs.Printed.{put}
 use Rattle.sd_gen_fabric.specs.Fabrics.{spine_name, leaf_name, link_name}
 use Rattle.sd_gen_fabric.specs.Numbered.{device_name}
-use Rattle.sd_gen_fabric.specs.Trees.{tables, strings, device_tree, link_tree, rack_tree, numbers_tree, fabric_tree}
+use Rattle.sd_gen_fabric.specs.Trees.{tables, strings, device_tree, link_tree, rack_tree, fabric_tree}
 use Rattle.sd_gen_fabric.proofs.Numbering.{numbered, one_more, alike, both, grid}
 
 items_of-push : (ds : List Data) (e : Data) → items_of (ds ++ e ∷ []) ≡ push_item (items_of ds) e
@@ -51,8 +49,8 @@ links_numbered leaves spines =
     ap tables (grid link_tree leaves spines)
     ∙ ap (λ ds. array (items_of ds)) (map_twice table (λ l. link_tree (l / spines) (l % spines)) (below (leaves * spines)))
 
-pub racks_numbered : (leaves spines : ℕ) → tables (map (rack_tree spines) (below leaves)) ≡ array (items_of (numbered (λ i. table (rack_tree spines i)) leaves))
-racks_numbered leaves spines = ap (λ ds. array (items_of ds)) (map_twice table (rack_tree spines) (below leaves))
+pub tables_numbered : (tree : ℕ → Members) (n : ℕ) → tables (map tree (below n)) ≡ array (items_of (numbered (λ k. table (tree k)) n))
+tables_numbered tree n = ap (λ ds. array (items_of ds)) (map_twice table tree (below n))
 
 pub strings_numbered : (name : ℕ → List ℕ) (n : ℕ) → strings (map name (below n)) ≡ array (items_of (numbered (λ k. string (name k)) n))
 strings_numbered name n = ap (λ ds. array (items_of ds)) (map_twice string name (below n))
@@ -97,7 +95,7 @@ fabric_depth leaves spines =
     subst (λ d. depth d ≤ 5) (sym (links_numbered leaves spines))
     (let inner = items_depth_le (λ l. table (link_tree (l / spines) (l % spines))) 3 (leaves * spines) (λ k. omega arith) in omega (arith, inner)) in
     let racks : depth (tables (map (rack_tree spines) (below leaves))) ≤ 5 =
-    subst (λ d. depth d ≤ 5) (sym (racks_numbered leaves spines))
+    subst (λ d. depth d ≤ 5) (sym (tables_numbered (rack_tree spines) leaves))
     (let inner = items_depth_le (λ i. table (rack_tree spines i)) 3 leaves (rack_depth spines) in omega (arith, inner)) in
     let roots : depth (strings (map spine_name (below spines))) ≤ 1 = subst (λ d. depth d ≤ 1) (sym (strings_numbered spine_name spines)) (strings_depth spine_name spines) in
     omega (arith, devices, links, racks, roots)
@@ -107,10 +105,3 @@ pub array_whole : (tree : ℕ → Data) (n k : ℕ) (vs : List Value) (v : Value
 array_whole tree n k vs v low high items is =
     let same : k ≡ n = omega (arith, low, high) in
     is ∙ ap (λ ds. array ds) items ∙ ap (λ m. array (items_of (numbered tree m))) same
-
--- the arrays put one by one
-pub fabric_made : (leaves spines : ℕ) (t0 t1 t2 t3 t4 : Members) (roots racks links devices : Data) → t0 ≡ numbers_tree → roots ≡ strings (map spine_name (below spines)) → racks ≡ tables (map (rack_tree spines) (below leaves))
-    → links ≡ tables (flat_map (λ i. map (link_tree i) (below spines)) (below leaves)) → devices ≡ tables (map device_tree (map spine_name (below spines) ++ map leaf_name (below leaves)))
-    → t1 ≡ put keys.Roots roots t0 → t2 ≡ put keys.Domain racks t1 → t3 ≡ put keys.Link links t2 → t4 ≡ put keys.Device devices t3 → t4 ≡ fabric_tree leaves spines
-unfolding fabric_tree
-fabric_made leaves spines t0 t1 t2 t3 t4 roots racks links devices e0 a b c d e1 e2 e3 e4 = rw (e4, e3, e2, e1, e0, a, b, c, d) refl

@@ -2,4 +2,5 @@
 mod Numbering
 mod Naming
 mod Building
+mod Paging
 pub mod Reading

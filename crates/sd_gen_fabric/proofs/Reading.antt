@@ -11,6 +11,8 @@ use Rattle.std.proofs.lemmas.Option.{slice_get-get_or}
 use Rattle.toml.specs.Data.{Data, Items, Members, members_depth, string, array, table}
 use Rattle.toml.specs.View.{items_of}
 use Rattle.toml.specs.Parse.{parse_document}
+use Rattle.toml.specs.Text.{IsDocumentText}
+use Rattle.toml.proofs.ReadBack.{parse_document-printed}
 use Rattle.sd_num.specs.Lists.{below, has, ascending}
 use Rattle.sd_num.specs.declared.Rates.{Rates}
 use Rattle.sd_topo.specs.Network.{Network, Device, Link, Domain, AreDistinct, is_name, number_in, name_at}
@@ -29,7 +31,8 @@ use Rattle.sd_gen_fabric.specs.Numbered.{device_name}
 use Rattle.sd_gen_fabric.specs.Trees.{device_tree, link_tree, rack_tree, fabric_tree}
 use Rattle.sd_gen_fabric.proofs.Numbering.{numbered, one_more, alike, both, grid, none_below, sum_alike}
 use Rattle.sd_gen_fabric.proofs.Naming.{device_is_name, link_is_name, rack_is_name, told_apart, devices_apart, racks_apart, links_same}
-use Rattle.sd_gen_fabric.proofs.Building.{map_twice, devices_numbered, links_numbered, racks_numbered, strings_numbered, roots_numbered, spine_named, leaf_named, fabric_depth}
+use Rattle.sd_gen_fabric.proofs.Building.{map_twice, devices_numbered, links_numbered, tables_numbered, strings_numbered, roots_numbered, spine_named, leaf_named, fabric_depth}
+use Rattle.sd_gen_fabric.proofs.Paging.{fabric_sorted, fabric_dated}
 
 -- Items one by one
 
@@ -196,7 +199,7 @@ module _ (leaves spines : ℕ) (some : 1 ≤ spines) (few_leaves : leaves ≤ 25
 
   at_racks : value keys.Domain tree ≡ Some (array (items_of (numbered (λ i. table (rack_tree spines i)) leaves)))
   unfolding fabric_tree
-  at_racks = ap (λ (d : Data). Some d) (racks_numbered leaves spines)
+  at_racks = ap (λ (d : Data). Some d) (tables_numbered (rack_tree spines) leaves)
 
   at_roots : value keys.Roots tree ≡ Some (array (items_of (numbered (λ k. string (device_name spines k)) spines)))
   unfolding fabric_tree
@@ -417,3 +420,7 @@ module _ (leaves spines : ℕ) (some : 1 ≤ spines) (few_leaves : leaves ≤ 25
       → (tree_of (string_bytes s) ≡ Some tree) × IsFabricText leaves spines (string_bytes s)
   printed t s is back =
       text_read (string_bytes s) (IsUtf8-string_bytes s) (back (subst (λ (m : Members). members_depth m ≤ 80) (sym is) (fabric_depth leaves spines)) ∙ ap (λ (m : Members). Some m) is)
+
+  -- a text that writes it
+  pub written : (s : String Global) → IsDocumentText false tree (string_bytes s) → (tree_of (string_bytes s) ≡ Some tree) × IsFabricText leaves spines (string_bytes s)
+  written s document = printed tree s refl (λ deep. parse_document-printed false tree (string_bytes s) document deep (fabric_dated leaves spines) (fabric_sorted leaves spines))

@@ -2,3 +2,4 @@
 pub mod Fabrics
 pub mod Numbered
 pub mod Trees
+pub mod Pages

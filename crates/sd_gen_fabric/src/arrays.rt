@@ -1,5 +1,5 @@
 //! The arrays of a fabric's tree.
-ghost use Rattle.std.specs.Prelude.{◌≡◌, ◌*◌, ◌+◌, ◌<◌, ◌^◌, ◌++◌, ◌∷◌, [], List, ℕ, map, flat_map, IfOk, string_bytes};
+ghost use Rattle.std.specs.Prelude.{◌≡◌, ◌+◌, ◌<◌, ◌^◌, ◌++◌, ◌∷◌, [], List, ℕ, map, IfOk, string_bytes};
 ghost use Rattle.toml.specs.Data.{string, table};
 ghost use Rattle.toml.specs.View.{view};
 ghost use Rattle.sd_num.specs.Lists.{below};
@@ -73,16 +73,14 @@ fn link_value(alloc: Global, spines: u32, leaf: u32, spine: u32) -> Result<Value
     Ok(of_table(members))
 }
 
-/// All links: those of the first leaf, then those of the second, and so on.
-pub(crate) fn links_value(alloc: Global, leaves: u32, spines: u32) -> Result<Value, NoMemory>
-    requires some { 0 < spines }
-    requires few { spines + leaves < 2 ^ 32 }
-    requires links { leaves * spines < 2 ^ 32 }
-    ensures { IfOk result (λ v. view v ≡ tables (flat_map (λ i. map (link_tree i) (below spines)) (below leaves))) }
+/// The links of a leaf, one to each spine.
+pub(crate) fn links_value(alloc: Global, spines: u32, leaf: u32) -> Result<Value, NoMemory>
+    requires { spines + leaf < 2 ^ 32 }
+    ensures { IfOk result (λ v. view v ≡ tables (map (link_tree leaf) (below spines))) }
 {
     let mut items = Array::new(alloc);
-    'links: for l in 0..leaves * spines {
-        let link = link_value(alloc, spines, l / spines, l % spines)?;
+    'links: for spine in 0..spines {
+        let link = link_value(alloc, spines, leaf, spine)?;
         push(&mut items, link)?;
     }
     Ok(of_array(items))
@@ -117,16 +115,14 @@ fn rack_value(alloc: Global, spines: u32, leaf: u32) -> Result<Value, NoMemory>
     Ok(of_table(members))
 }
 
-/// The racks of all leaves.
-pub(crate) fn racks_value(alloc: Global, leaves: u32, spines: u32) -> Result<Value, NoMemory>
-    requires { spines + leaves < 2 ^ 32 }
-    ensures { IfOk result (λ v. view v ≡ tables (map (rack_tree spines) (below leaves))) }
+/// An array of a leaf's rack alone.
+pub(crate) fn racks_value(alloc: Global, spines: u32, leaf: u32) -> Result<Value, NoMemory>
+    requires { spines + leaf < 2 ^ 32 }
+    ensures { IfOk result (λ v. view v ≡ tables (rack_tree spines leaf ∷ [])) }
 {
     let mut items = Array::new(alloc);
-    'racks: for leaf in 0..leaves {
-        let rack = rack_value(alloc, spines, leaf)?;
-        push(&mut items, rack)?;
-    }
+    let rack = rack_value(alloc, spines, leaf)?;
+    push(&mut items, rack)?;
     Ok(of_array(items))
 }
 

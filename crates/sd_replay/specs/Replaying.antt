@@ -8,7 +8,9 @@ use Rattle.sd_history.specs.World.{Setting}
 use Rattle.sd_history.specs.Steps.{Step}
 use Rattle.sd_history.specs.Nodes.{NodeStep}
 use Rattle.sd_history.specs.Refusals.{refusal}
+use Rattle.sd_fabric.specs.declared.Outcome.{Outcome}
 use Rattle.sd_fabric.specs.Doing.{may_send, asks}
+use Rattle.sd_fabric.specs.Outcomes.{outcome_of}
 use Rattle.sd_replay.specs.declared.replay.Replay.{Replay}
 use Rattle.sd_replay.specs.declared.faults.ReplayFault.{ReplayFault}
 use Rattle.sd_replay.specs.declared.faults.ReplayFault.TheVariants.{Line, Apply, Memory}
@@ -29,6 +31,11 @@ pub record IsStepped {N V : Type 0} (g : Ghosts N) (o : observers.Ghosts V) (rep
   pub next : NodeStep N
   pub happens : next.step.seen.event ≡ e
   pub stands : StandsFor g o replay setting (next ∷ run)
+
+-- and came to this
+pub record IsSteppedTo {N V : Type 0} (g : Ghosts N) (o : observers.Ghosts V) (replay : Replay N V g o) (setting : Setting) (run : List (NodeStep N)) (e : Event) (outcome : Outcome) : Type 0 where
+  pub stepped : IsStepped g o replay setting run e
+  pub comes : outcome ≡ outcome_of stepped.next.step
 
 -- only a tick, a receipt and an ask take memory
 abbrev pub may_take : Event → Bool

@@ -9,6 +9,7 @@ ghost use Rattle.sd_history.specs.World.{Setting};
 ghost use Rattle.sd_msg.specs.Observed.{ReportAt};
 ghost use Rattle.sd_fabric.specs.Doing.{asks};
 ghost use Rattle.sd_fabric.specs.Room.{most_sent_in};
+ghost use Rattle.sd_fleet.specs.Standing as fleets;
 ghost use Rattle.sd_history.specs.Steps.{Step, seen_of};
 ghost use Rattle.sd_history.specs.Nodes.{NodeStep, steps_of};
 ghost use Rattle.sd_history.specs.Refusals.{refusal, after_end};
@@ -43,7 +44,7 @@ pub struct Replay<N: Node, V: Observer> {
 }
 
 impl<N: Node, V: Observer> Replay<N, V> {
-    ghost use Rattle.sd_replay.specs.Replaying.{StandsFor, IsStepped, IsFault, IsLineFault, lines_in, may_take};
+    ghost use Rattle.sd_replay.specs.Replaying.{StandsFor, IsStepped, IsSteppedTo, IsFault, IsLineFault, lines_in, may_take};
     ghost use Rattle.sd_replay.specs.Calm.{StaysCalm};
 
     /// A replay before any event, with the first plan in force. It takes the room for the lines of
@@ -105,13 +106,37 @@ impl<N: Node, V: Observer> Replay<N, V> {
         ensures refused { IfErr result (λ fault. (setting : Setting) (run : List (NodeStep N)) → StandsFor N.Node V.Observer self.old setting run
             → StandsFor N.Node V.Observer self.new setting run × IsFault fault setting (steps_of run) event.now) }
     {
+        let mut outcome = Outcome::nothing();
+        self.step_outcome(alloc, event, &mut outcome)
+    }
+
+    /// As `step_event`. What the event came to is written into an outcome that the caller lends, and
+    /// that a fault leaves as it was.
+    #[inline(always)]
+    pub fn step_outcome(
+        &mut self,
+        alloc: Global,
+        event: &Event,
+        outcome: &mut Outcome,
+    ) -> Result<(), ReplayFault>
+        requires within { IsTrue (is_within event.now) }
+        // where the history refuses the event, it is refused for that cause
+        ensures refusal { (setting : Setting) (run : List (NodeStep N)) → StandsFor N.Node V.Observer self.old setting run
+            → IfSome (refusal setting (steps_of run) event.now) (λ fault. result ≡ Err (ReplayFault.Apply fault)) }
+        ensures accepted { OnOk result ((setting : Setting) (run : List (NodeStep N))
+            → StandsFor N.Node V.Observer self.old setting run → IsSteppedTo N.Node V.Observer self.new setting run event.now outcome.new) }
+        // while no premise is broken there is no alarm, where the nodes tell what devices tell
+        ensures calm { OnOk result ((setting : Setting) (run : List (NodeStep N)) → StandsFor N.Node V.Observer self.new setting run → StaysCalm setting (steps_of run)) }
+        ensures refused { IfErr result (λ fault. (setting : Setting) (run : List (NodeStep N)) → StandsFor N.Node V.Observer self.old setting run
+            → StandsFor N.Node V.Observer self.new setting run × IsFault fault setting (steps_of run) event.now) }
+        ensures same { OnErr result (outcome.new ≡ outcome.old) }
+    {
         let most = self.fleet.prepare(alloc, event)?;
         let Ok(()) = self.ready(alloc, event, most) else {
             return Err(ReplayFault::Memory);
         };
-        let mut outcome = Outcome::nothing();
-        self.fleet.happen(event, &mut outcome);
-        let findings = self.onlooker.look(&self.fleet, event, &outcome);
+        self.fleet.happen(event, outcome);
+        let findings = self.onlooker.look(&self.fleet, event, outcome);
         self.journal.note(&findings, outcome.ended);
         if let Some((d, report)) = outcome.report {
             let line = self.journal.tally.events;
@@ -162,6 +187,15 @@ impl<N: Node, V: Observer> Replay<N, V> {
             → StandsFor N.Node V.Observer self.now setting run → result ≡ tally_of setting (steps_of run) }
     {
         self.journal.tally
+    }
+
+    /// The fleet that is driven.
+    pub fn fleet(&self) -> &Fleet<N>
+        ensures lent { result.now ≡ self.now.fleet }
+        ensures stands { (setting : Setting) (run : List (NodeStep N))
+            → StandsFor N.Node V.Observer self.now setting run → fleets.StandsFor N.Node result.now setting run }
+    {
+        &self.fleet
     }
 
     /// The observer of the reports.

@@ -7,7 +7,7 @@ use Rattle.sd_case.proofs.case_over.Goals as goal
 
 pub returns-in-Ok-clause-makes : goal.returns-in-Ok-clause-makes
 returns-in-Ok-clause-makes c =
-    case_told (network c.args.topo) c.args.number c.in-Ok.prepared.plans c.in-Ok.prepared.events c.replay_prepared.result c.in-Ok.ensures.made c.in-Ok.ensures.events c.replay_prepared.ensures.makes
+    case_told (network c.args.topo) c.args.number c.in-Ok.plans c.replay_case.result c.in-Ok.ensures.made c.replay_case.ensures.makes
 
 pub returns-in-Err-clause-makes : goal.returns-in-Err-clause-makes
 returns-in-Err-clause-makes c =

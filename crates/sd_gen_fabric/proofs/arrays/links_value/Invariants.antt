@@ -1,5 +1,4 @@
 use Rattle.std.proofs.Common.{◌≡◌}
-use Rattle.std.specs.Prelude.{◌/◌, ◌%◌}
 use Rattle.toml.specs.Data.{table}
 use Rattle.toml.specs.View.{items_of, items_view}
 use Rattle.sd_gen_fabric.specs.Trees.{link_tree}
@@ -7,4 +6,4 @@ use Rattle.sd_gen_fabric.proofs.Numbering.{numbered}
 use Rattle.sd_gen_fabric.proofs.arrays.links_value.Given as goal
 
 abbrev pub invariant-links : goal.invariant-links
-invariant-links l = items_view l.items.items ≡ items_of (numbered (λ k. table (link_tree (k / l.spines) (k % l.spines))) l.l)
+invariant-links l = items_view l.items.items ≡ items_of (numbered (λ j. table (link_tree l.leaf j)) l.spine)
