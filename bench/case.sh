@@ -35,8 +35,10 @@ cp "$folder/answer" "$folder/case"
 # In turn, since the speed of a machine may change from one minute to the next.
 for _ in {1..21}; do
     run_once check "$folder/topology" "$folder/plan"
+    [ "$answered" -eq 0 ]
     checking=$took
     run_once case "$number" "$leaves" "$spines"
+    [ "$answered" -eq 0 ]
     cmp "$folder/case" "$folder/answer" >&2
     echo "$took $checking"
 done >"$folder/pairs"

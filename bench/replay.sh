@@ -51,6 +51,7 @@ if command -v rustc >/dev/null; then
     # In turn, since the speed of a machine may change from one minute to the next.
     for _ in 1 2 3 4 5 6 7; do
         run_once "${words[@]}"
+        [ "$answered" -eq 0 ]
         plain=$("$folder/plain" "${words[@]:1}" 2>&1 >"$folder/copy")
         cmp "$folder/answer" "$folder/copy" >&2
         echo "$(((took - checking) * 1000)) $plain"
