@@ -1,0 +1,108 @@
+"""The words of sundial-topology."""
+
+from __future__ import annotations
+
+import argparse
+import sys
+from typing import Dict, List
+
+from sundial_tools.network.assemble import Settings, assemble
+from sundial_tools.network.found import Found
+from sundial_tools.network.lldp import Cables, read_neighbours
+from sundial_tools.network.names import write_names
+from sundial_tools.network.netbox import Choices, Netbox
+from sundial_tools.network.tables import read_delays, read_devices, read_links, read_oscillators
+from sundial_tools.safe_write import whole_output
+from sundial_tools.times import picoseconds
+from sundial_tools.topology import MOST_PICOSECONDS, read_topology, topology_text
+
+
+def main(words: List[str]) -> int:
+    options = _parser().parse_args(words)
+    if options.source == "names":
+        topology = read_topology(options.topology)
+        with whole_output(options.output) as text:
+            write_names(topology, text)
+        return 0
+    found = _found(options)
+    settings = Settings(
+        options.period, options.tick, options.loss, options.depth, tuple(options.root_role), options.every_feed
+    )
+    topology = assemble(found, read_oscillators(options.oscillators), read_delays(options.delays), settings)
+    with whole_output(options.output) as text:
+        text.write(topology_text(topology))
+    for what, count in found.left_out.items():
+        print(f"sundial-topology: left out {count} {what}", file=sys.stderr)
+    return 0
+
+
+def _found(options: argparse.Namespace) -> Found:
+    if options.source == "netbox":
+        choices = Choices(
+            set(options.ignore), set(options.ignore_role), set(options.without_rack), set(options.without_feed),
+            options.no_racks, options.no_feeds, options.side_field,
+        )
+        return Netbox(options.devices, options.interfaces, options.cables, choices).found()
+    found = Found(read_devices(options.devices))
+    if options.source == "tables":
+        found.cables += read_links(options.links)
+        return found
+    order: Dict[str, int] = {device.name: number for number, device in enumerate(found.devices)}
+    Cables(read_neighbours(options.files), order, set(options.ignore), options.one_sided).into(found)
+    return found
+
+
+def _time(word: str) -> int:
+    value = picoseconds(word)
+    if value is None or not 1 <= value <= MOST_PICOSECONDS:
+        raise argparse.ArgumentTypeError(f"{word!r} is no time from 1ps to 1s, as 100000000 or 100us")
+    return value
+
+
+def _parser() -> argparse.ArgumentParser:
+    parser = argparse.ArgumentParser(
+        prog="sundial-topology",
+        description="Makes a topology text of version 2 from the network that is there, and a table of its names.",
+        epilog="Times are picoseconds, or a number with ps, ns, us, ms or s. docs/TOPOLOGY-FROM-A-NETWORK.md has the tables.",
+    )
+    sources = parser.add_subparsers(dest="source", required=True, metavar="lldp|netbox|tables|names")
+    lldp = sources.add_parser("lldp", help="from lldpcli show neighbors -f json, one file a host, named after it")
+    lldp.add_argument("files", nargs="+", metavar="HOST.json")
+    lldp.add_argument("--devices", required=True, help="CSV: name,kind,role,rack,feeds[,side]")
+    lldp.add_argument("--one-sided", action="store_true", help="accept what one end sees where the other has no file")
+    _add_ignore(lldp)
+    tables = sources.add_parser("tables", help="from two CSV tables")
+    tables.add_argument("--devices", required=True, help="CSV: name,kind,role,rack,feeds[,side]")
+    tables.add_argument("--links", required=True, help="CSV: name,first,second[,medium][,conduits]")
+    netbox = sources.add_parser("netbox", help="from the JSON of the REST API of NetBox 3.3 or later")
+    for kind in "devices", "interfaces", "cables":
+        netbox.add_argument(f"--{kind}", required=True, help=f"JSON of /api/dcim/{kind}/?limit=0")
+    netbox.add_argument("--without-rack", action="append", default=[], metavar="NAME", help="a device of no rack")
+    netbox.add_argument("--without-feed", action="append", default=[], metavar="NAME", help="a device of no power feed")
+    netbox.add_argument("--no-racks", action="store_true", help="list no racks")
+    netbox.add_argument("--no-feeds", action="store_true", help="list no power feeds")
+    netbox.add_argument("--side-field", metavar="FIELD", help="the custom field that says root or backup")
+    _add_ignore(netbox)
+    netbox.add_argument("--ignore-role", action="append", default=[], metavar="ROLE", help="leave devices of this role out")
+    for source in lldp, tables, netbox:
+        _add_settings(source)
+    names = sources.add_parser("names", help="the names and numbers of a topology, as CSV")
+    names.add_argument("topology")
+    names.add_argument("--output", "-o", metavar="FILE")
+    return parser
+
+
+def _add_ignore(source: argparse.ArgumentParser) -> None:
+    source.add_argument("--ignore", action="append", default=[], metavar="NAME", help="leave this device out")
+
+
+def _add_settings(source: argparse.ArgumentParser) -> None:
+    source.add_argument("--oscillators", required=True, help="CSV: kind,ppm,grain")
+    source.add_argument("--delays", required=True, help="CSV: from,to,min,max[,medium], from kind to kind")
+    source.add_argument("--period", required=True, type=_time, help="how far apart the rounds of the root are")
+    source.add_argument("--tick", required=True, type=_time, help="greatest time between two ticks of a device")
+    source.add_argument("--loss", required=True, type=int, choices=range(101), metavar="0..100", help="lost rounds")
+    source.add_argument("--depth", required=True, type=int, choices=range(1, 65), metavar="1..64", help="most links to the root")
+    source.add_argument("--root-role", required=True, action="append", metavar="ROLE", help="the role of candidates for roots")
+    source.add_argument("--every-feed", action="store_true", help="list a device under each of its power feeds")
+    source.add_argument("--output", "-o", metavar="FILE")

@@ -1,0 +1,154 @@
+"""Logs of devices, one JSON object a line: docs/RECORD.md."""
+
+from __future__ import annotations
+
+import json
+import sys
+from decimal import Context, Decimal
+from typing import Any, Dict, Iterator, NamedTuple, Optional, TextIO, Tuple
+
+from sundial_tools.errors import ToolError
+from sundial_tools.schedule import FIELDS
+from sundial_tools.times import PICOSECONDS
+from sundial_tools.topology import Topology
+
+# Which keys the line of each word needs, behind its reference.
+TIMES = {word: tuple(name for name in fields if name in ("counter", "clock", "eps")) for word, fields in FIELDS.items()}
+OF_A_DEVICE = frozenset(word for word, fields in FIELDS.items() if "device" in fields) | {"lose"}
+OF_A_MESSAGE = frozenset(("recv", "lose"))
+OF_A_THING = frozenset(("fail", "mend"))
+NONE = -1
+NO_STAMP = (NONE, NONE)
+EXACT = Context(prec=200)
+MOST_DIGITS = 40
+UNITS: Dict[str, Tuple[Tuple[str, int], ...]] = {
+    stem: tuple((f"{stem}_{unit}", factor) for unit, factor in PICOSECONDS.items())
+    for stem in ("reference", "counter", "clock", "eps")
+}
+
+
+class LogEvent(NamedTuple):
+    """One line of a log. Times are picoseconds as the log has them, before any origin.
+
+    A device, link, epoch, stamp, thing or number that its word does not have is NONE, NO_STAMP or "".
+    """
+
+    word: str
+    ref: int
+    device: int
+    counter: Optional[int]
+    clock: Optional[int]
+    eps: Optional[int]
+    link: int
+    epoch: int
+    stamp: Tuple[int, int]
+    thing: str
+    number: int
+    source: str
+    line: int
+
+    def refuse(self, reason: str) -> ToolError:
+        return ToolError(reason, self.source, self.line)
+
+
+class Log:
+    """The events of one file, one after the other, in order of their references."""
+
+    def __init__(self, path: str, topology: Topology) -> None:
+        self._path = "standard input" if path == "-" else path
+        self._topology = topology
+
+    def __iter__(self) -> Iterator[LogEvent]:
+        before: Optional[LogEvent] = None
+        with self._open() as lines:
+            for number, text in enumerate(lines, 1):
+                if not text.strip():
+                    continue
+                event = self._event(text, number)
+                if before is not None and event.ref < before.ref:
+                    raise event.refuse(
+                        f"out of order: its reference is {before.ref - event.ref} ps before that of line {before.line}"
+                    )
+                before = event
+                yield event
+
+    def _open(self) -> TextIO:
+        return sys.stdin if self._path == "standard input" else open(self._path, encoding="utf-8")
+
+    def _refuse(self, reason: str, line: int) -> ToolError:
+        return ToolError(reason, self._path, line)
+
+    def _event(self, text: str, line: int) -> LogEvent:
+        try:
+            said = json.loads(text, parse_float=Decimal)
+        except json.JSONDecodeError as fault:
+            raise self._refuse(f"no JSON, or cut short: {fault.msg} at column {fault.colno}", line) from None
+        except (ValueError, ArithmeticError, RecursionError):
+            raise self._refuse("a number is too long, or objects are too deep", line) from None
+        if not isinstance(said, dict):
+            raise self._refuse("no JSON object", line)
+        word = said.get("event")
+        if not isinstance(word, str) or word not in FIELDS:
+            raise self._refuse(f"event is {word!r}, and has to be one of {', '.join(FIELDS)}", line)
+        times = TIMES[word]
+        device, link = self._names(said, word, line)
+        epoch, stamp = self._message(said, word, line)
+        thing, number = "", NONE
+        if word in OF_A_THING:
+            thing, number = ("device", device) if device != NONE else ("link", link)
+            device = link = NONE
+        return LogEvent(
+            word, self._time(said, "reference", line), device,
+            self._time(said, "counter", line) if "counter" in times else None,
+            self._time(said, "clock", line) if "clock" in times else None,
+            self._time(said, "eps", line) if "eps" in times else None,
+            link, epoch, stamp, thing, number, self._path, line,
+        )
+
+    def _names(self, said: Dict[str, Any], word: str, line: int) -> Tuple[int, int]:
+        """The numbers of the device and of the link that the line names."""
+        device = link = NONE
+        if word in OF_A_THING and ("device" in said) == ("link" in said):
+            raise self._refuse(f"{word} needs either a device or a link", line)
+        if word in OF_A_DEVICE or (word in OF_A_THING and "device" in said):
+            device = self._number(said, "device", self._topology.device_numbers, line)
+        if word in OF_A_MESSAGE or (word in OF_A_THING and "link" in said):
+            link = self._number(said, "link", self._topology.link_numbers, line)
+        return device, link
+
+    def _number(self, said: Dict[str, Any], kind: str, numbers: Dict[str, int], line: int) -> int:
+        name = said.get(kind)
+        if not isinstance(name, str):
+            raise self._refuse(f"{said['event']} needs a {kind}", line)
+        if name not in numbers:
+            raise self._refuse(f"there is no {kind} {name} in the topology", line)
+        return numbers[name]
+
+    def _message(self, said: Dict[str, Any], word: str, line: int) -> Tuple[int, Tuple[int, int]]:
+        if word not in OF_A_MESSAGE:
+            return NONE, NO_STAMP
+        values = []
+        for key in "epoch", "term", "round":
+            value = said.get(key)
+            if not isinstance(value, int) or isinstance(value, bool) or value < 0:
+                raise self._refuse(f"{word} needs the {key} of the message, a whole number", line)
+            values.append(value)
+        return values[0], (values[1], values[2])
+
+    def _time(self, said: Dict[str, Any], stem: str, line: int) -> int:
+        """The time of `stem_ns`, or of another unit, in picoseconds."""
+        found = [(key, factor) for key, factor in UNITS[stem] if key in said]
+        if len(found) != 1:
+            reason = f"{stem} is there twice" if found else f"{said['event']} needs {stem}_ns (or _ps, _us, _ms, _s)"
+            raise self._refuse(reason, line)
+        key, factor = found[0]
+        value = said[key]
+        if isinstance(value, bool) or not isinstance(value, (int, Decimal)):
+            raise self._refuse(f"{key} is {value!r}, and has to be a number", line)
+        exact = Decimal(value)
+        if exact.adjusted() > MOST_DIGITS:
+            raise self._refuse(f"{key} is too great", line)
+        exact = EXACT.multiply(exact, factor)
+        if exact != int(exact):
+            raise self._refuse(f"{key} is {value}, which is no whole number of picoseconds", line)
+        return int(exact)

@@ -1,0 +1,73 @@
+"""One order of the events of several logs: by reference, and among equals by what can come next."""
+
+from __future__ import annotations
+
+import heapq
+from typing import Callable, Iterable, Iterator, List, Optional, Tuple
+
+from sundial_tools.record.fleet import Refusal
+from sundial_tools.record.logs import LogEvent
+
+RANKS = {
+    word: rank
+    for rank, word in enumerate(
+        ("start", "recv", "fix", "tick", "stage", "mend", "join", "give", "commit", "seal", "lose", "ask", "fail", "end")
+    )
+}
+Head = Tuple[int, int, int, int, LogEvent]
+
+
+class Merge:
+    """Offers the first events of all logs. Within a log the order of its lines stays.
+
+    Events of one reference are tried by their rank, then by device (receipts by message), then by the order of the
+    logs. One that is refused is tried again after each other one.
+    """
+
+    def __init__(self, logs: Iterable[Iterable[LogEvent]], message_of: Callable[[LogEvent], int]) -> None:
+        self._logs: List[Iterator[LogEvent]] = [iter(log) for log in logs]
+        self._message_of = message_of
+        self._heads: List[Head] = []
+        for place in range(len(self._logs)):
+            self._advance(place)
+
+    def first_reference(self) -> Optional[int]:
+        return self._heads[0][0] if self._heads else None
+
+    def drive(self, offer: Callable[[LogEvent], Optional[Refusal]]) -> None:
+        """Offers each event until all are accepted. Raises ToolError at one that cannot come."""
+        aside: List[Head] = []
+        first_refusal = Refusal()
+        while self._heads:
+            head = self._next()
+            refusal = offer(head[-1])
+            if refusal is None:
+                self._advance(head[3])
+                for waiting in aside:
+                    heapq.heappush(self._heads, waiting)
+                aside.clear()
+                continue
+            if not aside:
+                first_refusal = refusal
+            aside.append(head)
+            if not self._heads or self._heads[0][0] != head[0]:
+                raise aside[0][-1].refuse(first_refusal)
+
+    def _advance(self, place: int) -> None:
+        event = next(self._logs[place], None)
+        if event is not None:
+            heapq.heappush(self._heads, (event.ref, RANKS[event.word], event.device, place, event))
+
+    def _next(self) -> Head:
+        """The first head; of several receipts at one reference the one with the least message."""
+        head = heapq.heappop(self._heads)
+        if head[1] != RANKS["recv"] or not self._heads or self._heads[0][:2] != head[:2]:
+            return head
+        same = [head]
+        while self._heads and self._heads[0][:2] == head[:2]:
+            same.append(heapq.heappop(self._heads))
+        numbers = [(self._message_of(one[-1]) or 1 << 62, place) for place, one in enumerate(same)]
+        chosen = same.pop(min(numbers)[1])
+        for other in same:
+            heapq.heappush(self._heads, other)
+        return chosen

@@ -1,0 +1,101 @@
+"""From logs to the lines of a schedule."""
+
+from __future__ import annotations
+
+from typing import Callable, Dict, Iterable, Optional, Sequence, TextIO
+
+from sundial_tools.errors import ToolError
+from sundial_tools.plan import Plan
+from sundial_tools.record.fleet import Fleet, Refusal
+from sundial_tools.record.logs import LogEvent
+from sundial_tools.record.merge import Merge
+from sundial_tools.schedule import MOST_NUMBER, Event, event_line
+from sundial_tools.topology import Topology
+
+SECOND = 10**12
+MOST_EVENTS = 2**26
+
+
+def origin_before(reference: int) -> int:
+    """A whole second before the reference, with one more second for clocks that are behind, and at least 0."""
+    return max(0, (reference // SECOND - 1) * SECOND)
+
+
+class Recorder:
+    """Writes the schedule. `origin` is picoseconds, or None for the one before the first reference.
+
+    With `from_life` each counter counts from the latest start or join of its device.
+    """
+
+    def __init__(
+        self, topology: Topology, plans: Sequence[Plan], text: TextIO, origin: Optional[int], from_life: bool,
+        with_losses: bool, counted: Callable[[], None],
+    ) -> None:
+        self._fleet = Fleet(topology, plans)
+        self._text, self._from_life, self._with_losses, self._counted = text, from_life, with_losses, counted
+        self._bases: Dict[int, int] = {}
+        self._last: Optional[int] = None
+        self._ended = False
+        self._given_origin = origin
+        self.origin = 0
+        self.events = self.losses = 0
+
+    def record(self, logs: Iterable[Iterable[LogEvent]]) -> None:
+        merge = Merge(logs, self._fleet.message_of)
+        first = merge.first_reference()
+        if first is None:
+            raise ToolError("the logs have no event")
+        self.origin = origin_before(first) if self._given_origin is None else self._given_origin
+        merge.drive(self._offer)
+        if not self._ended:
+            self._say(Event("end", self._last or 0))
+
+    def _offer(self, event: LogEvent) -> Optional[Refusal]:
+        if self._ended:
+            raise event.refuse("AfterEnd: there was an end before")
+        ref = self._within(event, event.ref - self.origin, "the reference")
+        for lost in self._fleet.lost_before(ref):
+            if self._with_losses:
+                self._say(lost)
+                self.losses += 1
+        answer = self._fleet.apply(self._placed(event), ref, self._counter(event))
+        if isinstance(answer, Refusal):
+            return answer
+        if event.word in ("start", "join"):
+            self._bases[event.device] = event.counter or 0
+        self._last, self._ended = ref, event.word == "end"
+        self._counted()
+        self._say(answer)
+        return None
+
+    def _placed(self, event: LogEvent) -> LogEvent:
+        """The event with its clock counted from the origin."""
+        if event.clock is None or event.eps is None:
+            return event
+        clock = self._within(event, event.clock - self.origin, "the clock")
+        self._within(event, event.eps, "the eps")
+        return event._replace(clock=clock)
+
+    def _counter(self, event: LogEvent) -> Optional[int]:
+        if event.counter is None:
+            return None
+        if self._from_life:
+            base = event.counter if event.word in ("start", "join") else self._bases.get(event.device, event.counter)
+            if event.counter < base:
+                raise event.refuse(f"CounterFalls: the counter is {base - event.counter} ps less than at the start or join")
+            return self._within(event, event.counter - base, "the counter")
+        return self._within(event, event.counter, "the counter")
+
+    def _within(self, event: LogEvent, value: int, what: str) -> int:
+        if 0 <= value <= MOST_NUMBER:
+            return value
+        if what == "the counter":
+            raise event.refuse(f"the counter is {value} ps, and at most 2^60 are allowed: say --counters life")
+        place = "of the origin" if what != "the eps" else ""
+        raise event.refuse(f"{what} is {value} ps {place}".rstrip() + ", and has to be from 0 to 2^60: say another --origin")
+
+    def _say(self, event: Event) -> None:
+        if self.events == MOST_EVENTS:
+            raise ToolError(f"the logs have more than {MOST_EVENTS} events, which is as many as a schedule may have")
+        self._text.write(event_line(event))
+        self.events += 1

@@ -1,0 +1,75 @@
+"""Elements of HTML and SVG as text. Every value is escaped here, and nowhere else."""
+
+from __future__ import annotations
+
+from html import escape
+from typing import Iterable, List, Union
+
+Value = Union[str, int, float, bool, None]
+LEAST_ZOOM = 0.8
+EMPTY = frozenset(("meta", "br", "input", "link"))
+
+
+class Raw(str):
+    """Text that is markup already."""
+
+
+def _attributes(values: "dict[str, Value]") -> str:
+    parts: List[str] = []
+    for name, value in values.items():
+        if value is None or value is False:
+            continue
+        name = name.rstrip("_").replace("_", "-")
+        parts.append(f" {name}" if value is True else f' {name}="{escape(_text(value))}"')
+    return "".join(parts)
+
+
+def _text(value: Value) -> str:
+    if isinstance(value, float):
+        return f"{value:.1f}".rstrip("0").rstrip(".")
+    return str(value)
+
+
+def element(tag: str, *content: Union[str, Iterable[str]], **attributes: Value) -> Raw:
+    """An element. `class_` is the attribute class, and `data_device` the attribute data-device."""
+    inner = "".join(_inner(part) for part in content)
+    if tag in EMPTY:
+        return Raw(f"<{tag}{_attributes(attributes)}>")
+    return Raw(f"<{tag}{_attributes(attributes)}>{inner}</{tag}>")
+
+
+def _inner(part: Union[str, Iterable[str]]) -> str:
+    if isinstance(part, Raw):
+        return part
+    if isinstance(part, str):
+        return escape(part, quote=False)
+    return "".join(_inner(piece) for piece in part)
+
+
+def title(text: str) -> Raw:
+    """What a browser shows where the mouse rests."""
+    return element("title", text)
+
+
+def drawing(
+    name: str,
+    label: str,
+    width: float,
+    height: float,
+    zoom: float,
+    *content: Union[str, Iterable[str]],
+    **more: Value,
+) -> Raw:
+    """An svg that shrinks a little on a narrow page, and then scrolls."""
+    return element(
+        "svg",
+        *content,
+        class_=name,
+        viewBox=f"0 0 {width:.0f} {height:.0f}",
+        width=round(width * zoom),
+        height=round(height * zoom),
+        style=f"min-width:{width * LEAST_ZOOM:.0f}px",
+        role="img",
+        aria_label=label,
+        **more,
+    )

@@ -1,0 +1,215 @@
+"""Reads a schedule beside the output of `sundial replay` or `sundial order` over it, line by line."""
+
+from __future__ import annotations
+
+from dataclasses import dataclass, field
+from typing import Dict, Iterable, Iterator, List, NamedTuple, Optional, Sequence, Tuple
+
+from sundial_tools.errors import ToolError
+from sundial_tools.outputs import OutputLine, read_output
+from sundial_tools.plan import Plan
+from sundial_tools.report.fleet import Fleet
+from sundial_tools.report.series import Peaks, Percentiles, Report, Reports
+from sundial_tools.safe_write import Progress
+from sundial_tools.schedule import Event, event_line, read_schedule
+from sundial_tools.topology import Topology
+
+MOST_MARKS = 4000
+LANES = ("failure", "move", "takeover", "plan", "broken", "alarm")
+LANE_OF = {
+    "fail": "failure",
+    "mend": "failure",
+    "join": "failure",
+    "move": "move",
+    "takeover": "takeover",
+    "stage": "plan",
+    "commit": "plan",
+    "close": "plan",
+    "broken": "broken",
+    "alarm": "alarm",
+    "disorder": "alarm",
+}
+
+
+class Mark(NamedTuple):
+    """Something that happened at a line of the schedule."""
+
+    kind: str
+    ref: int
+    line: int
+    text: str
+
+
+@dataclass
+class Replay:
+    """`marks` and `mark_counts` are by lane; of very many marks in a lane the first ones are kept."""
+
+    peaks: Peaks = field(default_factory=Peaks)
+    reports: Reports = field(default_factory=Reports)
+    percentiles: Dict[int, Percentiles] = field(default_factory=dict)
+    worst_off: Dict[int, Report] = field(default_factory=dict)
+    marks: Dict[str, List[Mark]] = field(default_factory=lambda: {lane: [] for lane in LANES})
+    mark_counts: Dict[str, int] = field(default_factory=lambda: dict.fromkeys(LANES, 0))
+    events: int = 0
+    first: Optional[int] = None
+    last: int = 0
+    refusal: Optional[str] = None
+    refused_plan: Optional[OutputLine] = None
+    refused_text: str = ""
+
+
+class ReplayReader:
+    def __init__(self, topology: Topology, plans: Sequence[Plan], schedule: str, output: str) -> None:
+        self._topology, self._schedule, self._output = topology, schedule, output
+        self._names = [device.name for device in topology.devices]
+        self._fleet = Fleet(topology, plans)
+        self._replay = Replay()
+        self._lines: Iterator[Tuple[int, OutputLine]] = iter(())
+        self._next: Optional[Tuple[int, OutputLine]] = None
+        self._text_read = ""
+
+    def read(self, schedule: Iterable[str], output: Iterable[str]) -> Replay:
+        self._lines = enumerate(read_output(self._kept(output), self._output), 1)
+        self._advance()
+        if self._next is None:
+            raise ToolError("the output is empty", self._output)
+        if self._next[1].kind.startswith("refused"):
+            self._replay.refused_plan, self._replay.refused_text = self._next[1], self._text_read
+            return self._replay
+        with Progress(self._schedule) as progress:
+            for number, event in read_schedule(schedule, self._schedule):
+                if self._stops_at(number):
+                    return self._replay
+                self._event(number, event)
+                progress.step()
+        self._ends()
+        return self._replay
+
+    def _kept(self, output: Iterable[str]) -> Iterator[str]:
+        for line in output:
+            self._text_read = line.rstrip("\n")
+            yield line
+
+    def _advance(self) -> None:
+        self._next = next(self._lines, None)
+
+    def _wrong(self, reason: str) -> ToolError:
+        return ToolError(reason, self._output, self._next[0] if self._next else None)
+
+    def _stops_at(self, number: int) -> bool:
+        """Whether the output says that this line of the schedule was refused."""
+        if self._next is None or self._next[1].kind != "input schedule" or self._next[1].fields["line"] != number:
+            return False
+        self._replay.refusal = f"input schedule {number} {self._next[1].fields['reason']}"
+        self._advance()
+        if self._next is not None:
+            raise self._wrong("a line behind the refusal of the schedule")
+        return True
+
+    def _event(self, number: int, event: Event) -> None:
+        for kind, value in ("device", event.device), (event.thing, event.number):
+            most = {"device": len(self._names), "link": len(self._topology.links)}.get(kind or "", 0)
+            if value is not None and value >= most:
+                raise ToolError(f"the topology has no {kind} {value}", self._schedule, number)
+        replay = self._replay
+        if event.ref < replay.last:
+            raise self._not_accepted(number, event)
+        replay.events, replay.last = number, event.ref
+        if replay.first is None:
+            replay.first = event.ref
+        said = None
+        if event.counter is not None and event.device is not None:
+            said = self._fleet.report(event.device, event.counter)
+        if event.word in ("fail", "mend", "join", "stage", "commit"):
+            self._mark(event.word, number, event.ref, self._text(event))
+        try:
+            happened = self._fleet.happen(event)
+        except (KeyError, IndexError):
+            raise self._not_accepted(number, event) from None
+        self._drawn(event, said)
+        for kind, device in happened:
+            if kind in LANE_OF:
+                text = "the window closes" if device is None else f"{kind} {self._names[device]}"
+                self._mark(kind, number, event.ref, text)
+        self._told(number, event, said)
+
+    def _not_accepted(self, number: int, event: Event) -> ToolError:
+        reason = f"no replay accepts this line here, and {self._output} does not refuse it: {event_line(event)[:-1]}"
+        return ToolError(reason, self._schedule, number)
+
+    def _drawn(self, event: Event, said: Optional[Tuple[int, int]]) -> None:
+        """Keeps the eps before and after an event for the curve of its device."""
+        if event.counter is None or event.device is None:
+            return
+        after = self._fleet.report(event.device, event.counter)
+        if after is not None:
+            before = after if said is None or event.word in ("start", "join") else said
+            self._replay.peaks.add(event.device, event.ref, before[1], after[1])
+
+    def _text(self, event: Event) -> str:
+        if event.number is not None:
+            is_device = event.thing == "device"
+            name = self._names[event.number] if is_device else self._topology.links[event.number].name
+            return f"{event.word} {event.thing} {name}"
+        return event.word if event.device is None else f"{event.word} {self._names[event.device]}"
+
+    def _mark(self, kind: str, line: int, ref: int, text: str) -> None:
+        lane = LANE_OF[kind]
+        self._replay.mark_counts[lane] += 1
+        if len(self._replay.marks[lane]) < MOST_MARKS:
+            self._replay.marks[lane].append(Mark(kind, ref, line, text))
+
+    def _told(self, number: int, event: Event, said: Optional[Tuple[int, int]]) -> None:
+        """The lines of the output that belong to this line of the schedule."""
+        reported = False
+        while (
+            self._next is not None
+            and self._next[1].fields.get("line") == number
+            and self._next[1].kind != "input schedule"
+        ):
+            line = self._next[1]
+            if line.kind == "report":
+                self._report(number, event, said, line)
+                reported = True
+            elif line.kind == "broken":
+                self._mark("broken", number, event.ref, f"broken {number} {line.fields['premise']}")
+            elif line.kind.startswith("alarm"):
+                self._mark("alarm", number, event.ref, _alarm(line))
+            elif line.kind == "disorder":
+                self._mark("disorder", number, event.ref, f"disorder {number} {line.fields['begin']}")
+            self._advance()
+        if event.word == "ask" and not reported:
+            raise ToolError(
+                "the output has no report of this ask: is it the output of this schedule?", self._schedule, number
+            )
+
+    def _report(self, number: int, event: Event, said: Optional[Tuple[int, int]], line: OutputLine) -> None:
+        if event.word != "ask" or event.device is None or self._names[event.device] != line.fields["device"]:
+            raise self._wrong(f"line {number} of the schedule is no ask of {line.fields['device']}")
+        clock, eps = line.fields["clock"], line.fields["eps"]
+        if said != (clock, eps):
+            raise self._wrong(f"the report is not that of these plans and this schedule: {said} was expected")
+        report = Report(number, event.device, event.ref, clock, eps)
+        self._replay.reports.add(report)
+        self._replay.percentiles.setdefault(event.device, Percentiles()).add(eps)
+        worst = self._replay.worst_off.get(event.device)
+        if worst is None or abs(report.off) * max(1, worst.eps) > abs(worst.off) * max(1, eps):
+            self._replay.worst_off[event.device] = report
+
+    def _ends(self) -> None:
+        if self._next is None:
+            raise ToolError("the output is cut short: it has no line done", self._output)
+        if self._stops_at(self._replay.events + 1):
+            return
+        line = self._next[1]
+        found = (self._replay.events, self._replay.reports.count)
+        if line.kind != "done" or (line.fields["first"], line.fields["second"]) != found:
+            raise self._wrong(
+                f"the schedule has {found[0]} events and {found[1]} reports: is it the output of this schedule?"
+            )
+
+
+def _alarm(line: OutputLine) -> str:
+    kind, fields = line.kind.split(" ")[1], line.fields
+    more = fields.get("other", fields.get("ref"))
+    return f"alarm {fields['line']} {kind} {fields['device']}" + (f" {more}" if more is not None else "")

@@ -1,0 +1,83 @@
+"""Lines of schedules: docs/RULES.md, Schedules, and docs/FLEET.md. References and counters are picoseconds."""
+
+from __future__ import annotations
+
+import re
+from typing import Any, Dict, Iterable, Iterator, NamedTuple, Optional, TextIO, Tuple
+
+from sundial_tools.errors import ToolError
+
+MOST_NUMBER = 2**60
+MOST_DEVICE = 2**32 - 1
+NUMBER = re.compile(r"0|[1-9][0-9]*")
+
+# The fields of each word, behind REF.
+FIELDS: Dict[str, Tuple[str, ...]] = {
+    "start": ("device", "counter", "clock", "eps"),
+    "tick": ("device", "counter"),
+    "recv": ("device", "counter", "message"),
+    "lose": ("message",),
+    "fail": ("thing", "number"),
+    "fix": ("device", "counter", "clock", "eps"),
+    "ask": ("device", "counter"),
+    "stage": (),
+    "give": ("device",),
+    "commit": ("device", "counter"),
+    "seal": ("device",),
+    "join": ("device", "counter", "clock", "eps"),
+    "mend": ("thing", "number"),
+    "end": (),
+}
+
+
+class Event(NamedTuple):
+    """One line of a schedule. What its word has no field for is None."""
+
+    word: str
+    ref: int
+    device: Optional[int] = None
+    counter: Optional[int] = None
+    clock: Optional[int] = None
+    eps: Optional[int] = None
+    message: Optional[int] = None
+    thing: Optional[str] = None
+    number: Optional[int] = None
+
+
+def event_line(event: Event) -> str:
+    """The line of an event, with its newline."""
+    fields = [event.word, str(event.ref)]
+    fields += [str(getattr(event, name)) for name in FIELDS[event.word]]
+    return " ".join(fields) + "\n"
+
+
+def parse_event(line: str, source: Optional[str] = None, number: Optional[int] = None) -> Event:
+    """The event of a line without its newline. Raises ToolError where it is none."""
+    words = line.split(" ")
+    names = FIELDS.get(words[0])
+    if names is None:
+        raise ToolError(f"UnknownWord: {words[0]!r} is no event of a schedule", source, number)
+    if len(words) != len(names) + 2:
+        raise ToolError(f"FieldCount: {words[0]} has {len(names) + 1} fields", source, number)
+    values: Dict[str, Any] = {}
+    for place, (name, word) in enumerate(zip(("ref",) + names, words[1:]), 1):
+        if name == "thing":
+            if word not in ("device", "link"):
+                raise ToolError(f"UnknownWord: {word!r} is neither device nor link", source, number)
+            values[name] = word
+            continue
+        most = MOST_DEVICE if name in ("device", "number") else MOST_NUMBER
+        if not NUMBER.fullmatch(word) or int(word) > most:
+            raise ToolError(f"Number {place}: {word!r} is no number up to {most}", source, number)
+        values[name] = int(word)
+    return Event(words[0], **values)
+
+
+def read_schedule(lines: Iterable[str], source: Optional[str] = None) -> Iterator[Tuple[int, Event]]:
+    """The events of a schedule with the numbers of their lines, from 1, one after the other."""
+    for number, line in enumerate(lines, 1):
+        yield number, parse_event(line[:-1] if line.endswith("\n") else line, source, number)
+
+
+def open_schedule(path: str) -> TextIO:
+    return open(path, encoding="utf-8", newline="\n")

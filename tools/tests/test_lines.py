@@ -1,0 +1,188 @@
+"""sundial-lines: the output of any command as JSON lines and as CSV."""
+
+import csv
+import io
+import json
+import unittest
+
+from support import DATA, directory, needs_sundial, run, sundial
+from test_record import RENEWAL
+
+from sundial_tools.lines.main import main
+from sundial_tools.topology import read_topology, topology_text
+
+RENEWED = "report 22 b 215700000 345500\nreport 23 x 215400000 345440\ndone 30 2\n"
+KINDS = {
+    "accepted 5 6 11\n": {"kind": "accepted", "devices": 5, "links": 6, "domains": 11},
+    "case 3102 30 3202950 0 0\n": {"kind": "case", "events": 3102, "reports": 30, "eps": 3202950, "broken": 0, "alarms": 0},
+    "refused plan 1 structure 3 device l3\n": {"kind": "refused structure", "plan": 1, "rule": 3, "device": "l3"},
+    "refused plan 1 ancestor device s2\n": {"kind": "refused ancestor", "plan": 1, "device": "s2"},
+    "refused plan 1 timing 4 3499299000 3576668000\n":
+        {"kind": "refused timing", "plan": 1, "rule": 4, "left": 3499299000, "right": 3576668000},
+    "refused plan 1 reach link k chain x y\n":
+        {"kind": "refused reach", "plan": 1, "domain": {"kind": "link", "name": "k"}, "chain": ["x", "y"]},
+    "input topology TwiceNamed domain.devices 1\n": {"kind": "input topology", "reason": "TwiceNamed domain.devices 1"},
+    "input plan 2 NotJson\n": {"kind": "input plan", "plan": 2, "reason": "NotJson"},
+    "input absent WrongKind absent 0\n": {"kind": "input absent", "reason": "WrongKind absent 0"},
+    "input exchanges 2 Backwards\n": {"kind": "input exchanges", "line": 2, "reason": "Backwards"},
+    "broken 5 start\n": {"kind": "broken", "line": 5, "premise": "start"},
+    "alarm 6 interval b 1004000\n": {"kind": "alarm interval", "line": 6, "device": "b", "ref": 1004000},
+    "ended 6 4\n": {"kind": "ended", "line": 6, "begin": 4},
+    "disorder 6 3\n": {"kind": "disorder", "line": 6, "begin": 3},
+    "begin 6 b 1500\n": {"kind": "begin", "line": 6, "device": "b", "stamp": 1500},
+    "waits 3 1 1\n": {"kind": "waits", "begun": 3, "ended": 1, "disorders": 1},
+    "nobound device x x\n": {"kind": "nobound", "domain": {"kind": "device", "name": "x"}, "device": "x"},
+    "usage: sundial solo SCHEDULE\n": {"kind": "usage", "text": "usage: sundial solo SCHEDULE"},
+}
+
+
+class Lines(unittest.TestCase):
+    def convert(self, text, *more, files=None):
+        with directory() as path:
+            (path / "output").write_text(text)
+            words = [path / "output"]
+            for option, content in (files or {}).items():
+                (path / option).write_text(content)
+                words += [f"--{option}", path / option]
+            return run("sundial-lines", main, words + list(more))
+
+    def rows(self, text, *more, files=None):
+        status, out, err = self.convert(text, *more, files=files)
+        self.assertEqual((status, err), (0, ""))
+        return [json.loads(line) for line in out.splitlines()]
+
+    def renewed(self, text=RENEWED, *more, schedule=RENEWAL):
+        files = {"schedule": schedule, "topology": (DATA / "triangle.toml").read_text()}
+        return self.convert(text, *more, files=files)
+
+    def test_each_form(self):
+        for text, row in KINDS.items():
+            self.assertEqual(self.rows(text), [row])
+
+    def test_events_and_names(self):
+        status, out, _ = self.renewed()
+        rows = [json.loads(line) for line in out.splitlines()]
+        self.assertEqual(status, 0)
+        self.assertEqual(rows[1], {
+            "kind": "report", "line": 23, "device": "x", "clock": 215400000, "eps": 345440, "ref": 215700000,
+            "event": {"word": "ask", "device": "x", "counter": 215700000}, "off": -300000, "inside": True,
+        })
+        self.assertEqual(rows[2], {"kind": "done", "events": 30, "reports": 2})
+
+    def test_things_that_fail_have_names(self):
+        schedule = "start 0 0 0 0 500\nfail 5 link 2\nfail 6 device 1\nend 7\n"
+        out = self.renewed("broken 2 tick\nbroken 3 domain\ndone 4 0\n", schedule=schedule)[1]
+        rows = [json.loads(line) for line in out.splitlines()]
+        self.assertEqual(rows[0]["event"], {"word": "fail", "thing": "link", "number": 2, "name": "bx"})
+        self.assertEqual(rows[1]["event"]["name"], "b")
+
+    def test_a_refused_line_has_its_text(self):
+        out = self.renewed("input schedule 2 UnknownWord\n", schedule="start 0 0 0 0 500\nstrat 1\n")[1]
+        self.assertEqual(json.loads(out)["text"], "strat 1")
+        out = self.renewed("input schedule 2 NoEnd\n", schedule="start 0 0 0 0 500\n")[1]
+        self.assertNotIn("text", json.loads(out))
+        rows = self.rows("input exchanges 2 Backwards\n", files={"exchanges": "exchange 0 0 0 0 0 0 0\nexchange 0 0 0 5 1 1 4\n"})
+        self.assertEqual(rows[0]["text"], "exchange 0 0 0 5 1 1 4")
+
+    def test_what_done_counts(self):
+        self.assertEqual(self.rows("link rb 1 2 3 inside\ndone 4 1\n")[1], {"kind": "done", "lines": 4, "links": 1})
+        self.assertEqual(self.rows("bound device x r 5\ndone 1 1\n")[1], {"kind": "done", "domains": 1, "members": 1})
+        self.assertEqual(self.rows("done 4 0\n", "--command", "twoway")[0], {"kind": "done", "lines": 4, "links": 0})
+        self.assertIn("say --command", self.convert("done 4 0\n")[2])
+
+    def test_csv(self):
+        status, out, _ = self.renewed(RENEWED, "--csv")
+        rows = list(csv.DictReader(io.StringIO(out)))
+        self.assertEqual(status, 0)
+        self.assertEqual([row["kind"] for row in rows], ["report", "report", "done"])
+        self.assertEqual((rows[1]["event.device"], rows[1]["off"], rows[1]["inside"]), ("x", "-300000", "true"))
+        self.assertEqual((rows[2]["events"], rows[2]["clock"]), ("30", ""))
+
+    def test_csv_of_each_form(self):
+        for text, row in KINDS.items():
+            status, out, err = self.convert(text, "--csv")
+            self.assertEqual((status, err), (0, ""), text)
+            self.assertEqual(next(csv.DictReader(io.StringIO(out)))["kind"], row["kind"])
+
+    def test_numbers_that_a_float_does_not_hold(self):
+        text = "report 1 b 9007199254740993 9007199254740992\n"
+        self.assertEqual(self.rows(text)[0]["clock"], 9007199254740993)
+        row = self.rows(text, "--strings")[0]
+        self.assertEqual((row["clock"], row["eps"]), ("9007199254740993", 9007199254740992))
+
+    def test_a_plan(self):
+        text = (DATA / "triangle-1.json").read_text()
+        rows = self.rows(text, files={"topology": (DATA / "triangle.toml").read_text()})
+        self.assertEqual(rows[0]["wait_first"], 1345000000)
+        self.assertEqual(rows[2], {
+            "kind": "plan row", "device": "x", "parent": "r", "link": "rx", "backup": "b", "backup_link": "bx"
+        })
+        self.assertIn("the output is a plan: say --topology", self.convert(text)[2])
+
+    def test_a_topology(self):
+        text = topology_text(read_topology(str(DATA / "triangle.toml")))
+        rows = self.rows(text)
+        self.assertEqual([row["kind"] for row in rows[:2]], ["topology", "topology device"])
+        self.assertEqual((rows[4]["first"], rows[4]["back_max"]), ("r", 1000000))
+        self.assertEqual(self.convert(text, "--csv")[0], 0)
+
+    def test_bad_outputs(self):
+        for text, reason in (
+            (RENEWED[:-5], "output:3: no line that sundial prints: 'done '"),
+            (RENEWED[:-1], "output:3: the output is cut short: its last line has no newline"),
+            (RENEWED.replace("report 23", "raport 23"), "output:2: no line that sundial prints: 'raport 23 x 215400000 345440'"),
+            ("", "the output is empty"),
+            (RENEWED.replace("report 23", "report 2"), "the output is out of order: line 2 comes behind line 22"),
+            (RENEWED.replace("report 22", "report 21"), "schedule:21: line 21 is no ask"),
+            (RENEWED.replace("report 22 b", "report 22 x"), "schedule:22: the ask is of b, and the report of x"),
+            (RENEWED.replace("report 23", "report 31"), "the schedule has no line 31"),
+            ("link rb 1 2 3 inside\nbound device x r 5\n", "does not stand in the output of this command"),
+        ):
+            with self.subTest(reason):
+                text = text + "\n" if text == RENEWED[:-5] else text
+                status, out, err = self.renewed(text, "--csv")
+                self.assertEqual((status, out), (1, ""))
+                self.assertIn(reason, err)
+
+    def test_a_bad_line_of_the_schedule(self):
+        for bad, reason in ("ask 215700000 7 215700000", "no device 7"), ("ask 215700000 1 0215", "Number 3"):
+            schedule = RENEWAL.replace("ask 215700000 1 215700000", bad)
+            status, out, err = self.renewed(RENEWED, schedule=schedule)
+            self.assertEqual((status, out), (1, ""))
+            self.assertIn("schedule:22: ", err)
+            self.assertIn(reason, err)
+
+    def test_nothing_half_written(self):
+        with directory() as path:
+            (path / "output").write_text(RENEWED + "half")
+            status = run("sundial-lines", main, [path / "output", "--output", path / "rows"])[0]
+            self.assertEqual(status, 1)
+            self.assertFalse((path / "rows").exists())
+
+
+@needs_sundial
+class Program(unittest.TestCase):
+    """What the program itself prints is understood."""
+
+    def test_commands(self):
+        topology, plan, other = DATA / "triangle.toml", DATA / "triangle-1.json", DATA / "triangle-2.json"
+        with directory() as path:
+            (path / "schedule").write_text(RENEWAL)
+            (path / "absent").write_text('{"absent_devices":["x"],"absent_links":[]}')
+            (path / "exchanges").write_text("exchange 0 0 0 0 5000000 6000000 2400000\nend\n")
+            for words in (
+                ("migrate", topology), ("plan", topology), ("check", topology, plan), ("renew", topology, plan, path / "absent"),
+                ("replay", topology, plan, other, path / "schedule"), ("replay", topology, plan, path / "schedule"),
+                ("order", topology, plan, other, path / "schedule"), ("twoway", topology, path / "exchanges"),
+                ("drill", topology, plan, 1000000, 3000000000), ("case", 1, 2, 3), ("solo", path / "schedule"), ("sum",),
+            ):
+                out = sundial(*words)[1]
+                (path / "output").write_text(out)
+                for more in [], ["--csv"]:
+                    command = ["--command", words[0]] if out.startswith("done") else []
+                    answer = run("sundial-lines", main, [path / "output", "--topology", topology, *more, *command])
+                    self.assertEqual((answer[0], answer[2]), (0, ""), words)
+
+
+if __name__ == "__main__":
+    unittest.main()

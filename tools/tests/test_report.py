@@ -1,0 +1,635 @@
+"""sundial-report: what its pages show, asked of the tree of the page, over the examples and over bad inputs."""
+
+import json
+import shutil
+import subprocess
+import sys
+import unittest
+
+from examples import EXAMPLES, outputs
+from page_tree import parse
+from support import TOOLS, directory, run
+
+from sundial_tools.plan import read_plan
+from sundial_tools.report.effects import Effects, fault_domains
+from sundial_tools.report.main import main
+from sundial_tools.report.series import MOST_INTERVALS, MOST_REPORTS, Interval, Peaks, Percentiles, Report, Reports
+from sundial_tools.report.units import exact, human, round_steps
+from sundial_tools.topology import parse_topology, read_topology
+
+HAS_DOT = shutil.which("dot") is not None
+REPLAY = "sundial replay topology.toml plan.json plan-2.json schedule.txt"
+DRILL = "sundial drill topology.toml plan.json 1000000 3000000000"
+
+
+def tool(*words):
+    return run("sundial-report", main, list(words))
+
+
+def page(*words):
+    status, out, err = tool(*words)
+    if status:
+        raise AssertionError(err)
+    return parse(out)
+
+
+def whole(name, path, *words):
+    """The page of an example with its plans, its drill and its replay."""
+    said, here = outputs(name), EXAMPLES / name
+    (path / "drill").write_text(said[DRILL])
+    (path / "replay").write_text(said[REPLAY])
+    return page(
+        here / "topology.toml",
+        here / "plan.json",
+        here / "plan-2.json",
+        "--drill",
+        path / "drill",
+        "--replay",
+        here / "schedule.txt",
+        path / "replay",
+        *words,
+    )
+
+
+def replayed(name, schedule, command, path, plans=1):
+    """The page of a replay of an example by this command."""
+    (path / "output").write_text(outputs(name)[command])
+    here = EXAMPLES / name
+    return page(here / "topology.toml", *[here / "plan.json"] * plans, "--replay", here / schedule, path / "output")
+
+
+def names(nodes, topology):
+    return {topology.devices[int(node["data-device"])].name for node in nodes}
+
+
+class Trees(unittest.TestCase):
+    def check_plan(self, section, topology, plan):
+        members = plan.members(topology)
+        devices = section.all("g", "device")
+        self.assertEqual(sorted(int(node["data-device"]) for node in devices), members)
+        for kind in "primary", "backup":
+            drawn = {
+                (int(device), int(link))
+                for edge in section.all("path", "edge", kind)
+                for device, link in zip(edge["data-devices"].split(), edge["data-links"].split())
+            }
+            hops = ((row.device, row.primary if kind == "primary" else row.backup) for row in plan.rows.values())
+            self.assertEqual(drawn, {(device, hop.link) for device, hop in hops if hop is not None})
+        self.assertEqual(names(section.all("g", "device", "root"), topology), {topology.devices[plan.root].name})
+        self.assertEqual(names(section.all("g", "backup-root"), topology), {topology.devices[plan.backup_root].name})
+
+    def test_each_device_and_each_hop_is_drawn_once(self):
+        for name in "triangle", "fabric":
+            for layout in ["rows"] + ["dot"] * HAS_DOT:
+                with self.subTest(name=name, layout=layout):
+                    here = EXAMPLES / name
+                    topology = read_topology(str(here / "topology.toml"))
+                    tree = page(here / "topology.toml", here / "plan.json", here / "plan-2.json", "--layout", layout)
+                    sections = tree.all("section", "plan")
+                    self.assertEqual([node["data-plan"] for node in sections], ["1", "2"])
+                    self.assertEqual({node["data-layout"] for node in tree.all("svg", "tree")}, {layout})
+                    for section, file in zip(sections, ("plan.json", "plan-2.json")):
+                        self.check_plan(section, topology, read_plan(str(here / file), topology))
+
+    def test_ranks_are_depths(self):
+        here = EXAMPLES / "fabric"
+        topology = read_topology(str(here / "topology.toml"))
+        plan = read_plan(str(here / "plan.json"), topology)
+        for layout in ["rows"] + ["dot"] * HAS_DOT:
+            tree = page(here / "topology.toml", here / "plan.json", "--layout", layout)
+            heights = {int(node["data-device"]): float(node.all("rect")[0]["y"]) for node in tree.all("g", "device")}
+            for row in plan.rows.values():
+                self.assertGreater(heights[row.device], heights[row.primary.parent])
+            self.assertEqual(len(set(heights.values())), 3)
+
+    def test_colours_are_those_of_the_legend(self):
+        here = EXAMPLES / "fabric"
+        topology = read_topology(str(here / "topology.toml"))
+        tree = page(here / "topology.toml", here / "plan.json")
+        legend = {node.text: node.one("i")["style"][len("background:") :] for node in tree.all("span", "domain")}
+        self.assertEqual(set(legend), {domain.name for domain in topology.domains})
+        self.assertEqual(len(set(legend.values())), len(legend))
+        domain_of = {device: domain.name for domain in reversed(topology.domains) for device in domain.devices}
+        for node in tree.all("g", "device"):
+            self.assertEqual(node.all("rect")[0]["fill"], legend[domain_of[int(node["data-device"])]])
+
+    def test_the_rows_stand_in_a_table(self):
+        here = EXAMPLES / "triangle"
+        tree = page(here / "topology.toml", here / "plan.json")
+        rows = [[cell.text for cell in row.all("td")] for row in tree.one("table", "rows").one("tbody").all("tr")]
+        self.assertEqual(
+            rows, [["r", "0", "", "", "", ""], ["b", "1", "r", "rb1", "r", "rb2"], ["x", "1", "r", "rx1", "b", "bx1"]]
+        )
+
+    def test_a_large_fabric_shares_boxes_and_stays_small(self):
+        topology_text, plan_text, drill_text = large(256, 32)
+        with directory() as path:
+            for file, text in ("topology", topology_text), ("plan", plan_text), ("drill", drill_text):
+                (path / file).write_text(text)
+            status, out, err = tool(path / "topology", path / "plan", "--drill", path / "drill")
+            self.assertEqual(status, 0, err)
+            self.assertLess(len(out.encode()), 5_000_000)
+            tree = parse(out)
+            topology = parse_topology(topology_text)
+            self.check_plan(tree.one("section", "plan"), topology, read_plan(str(path / "plan"), topology))
+        self.assertLess(len(tree.all("path", "edge")), 40)
+        self.assertLessEqual(max(float(node["width"]) for node in tree.all("svg")), 1400)
+        self.assertEqual(len(tree.one("table", "by-domain").one("tbody").all("tr")), 257)
+
+
+def large(leaves, spines):
+    """A topology of leaves and spines, a plan of it, and a drill in which each rack has a row of its own."""
+    text = subprocess.run(
+        [sys.executable, TOOLS.parent / "bench" / "schedule.py", "--network", str(leaves), str(spines)],
+        stdout=subprocess.PIPE,
+        text=True,
+        check=True,
+    ).stdout
+    rows = [{"device": "s1", "parent": "l0", "link": "k0-1", "backup": "l1", "backup_link": "k1-1"}]
+    rows += [
+        {"device": f"s{n}", "parent": "l0", "link": f"k0-{n}", "backup": "l1", "backup_link": f"k1-{n}"}
+        for n in range(2, spines)
+    ]
+    rows += [
+        {"device": f"l{n}", "parent": "s0", "link": f"k{n}-0", "backup": "s1", "backup_link": f"k{n}-1"}
+        for n in range(leaves)
+    ]
+    plan = {
+        "version": 1,
+        "root": "s0",
+        "backup_root": "s1",
+        "wait_first": 1,
+        "wait_second": 1,
+        "wait": 1,
+        "absent_devices": [],
+        "absent_links": [],
+        "rows": rows,
+    }
+    devices = [f"s{n}" for n in range(spines)] + [f"l{n}" for n in range(leaves)]
+    domains = [f"listed rack{n}" for n in range(leaves)] + ["link k0-0", "link k1-0"]
+    lines = []
+    for domain in domains:
+        gone = domain.replace("listed rack", "l")
+        lines += [
+            f"nobound {domain} {name}" if name == gone else f"bound {domain} {name} {10**6 + len(name)}"
+            for name in devices
+        ]
+    return text, json.dumps(plan), "\n".join(lines + [f"done {len(domains)} {len(devices)}"]) + "\n"
+
+
+class UnderADomain(unittest.TestCase):
+    def test_who_moves_is_marked(self):
+        here = EXAMPLES / "triangle"
+        topology = read_topology(str(here / "topology.toml"))
+        tree = page(here / "topology.toml", here / "plan.json", "--domain", "device r")
+        for state, expected in ("failed", {"r"}), ("moves", {"b", "x"}), ("acts", {"b"}), ("cut", set()):
+            self.assertEqual(names(tree.all("g", "device", state), topology), expected, state)
+        self.assertEqual(len(tree.all("path", "backup", "taken")), 2)
+        self.assertEqual(len(tree.all("path", "primary", "left")), 2)
+        (chosen,) = [node for node in tree.all("option") if "selected" in node.attributes]
+        self.assertEqual(chosen.text, "device r")
+        self.assertIn("2 of 2 devices may move to their backups. b takes over as root.", tree.one("p", "effect").text)
+
+    def test_a_failed_link(self):
+        here = EXAMPLES / "triangle"
+        tree = page(here / "topology.toml", here / "plan.json", "--domain", "link rx1")
+        (failed,) = tree.all("path", "edge", "failed")
+        self.assertEqual((failed["data-devices"], "primary" in failed.classes), ("2", True))
+        self.assertEqual([node["data-device"] for node in tree.all("g", "moves")], ["2"])
+
+    def test_without_script_a_table_says_who_moves_where(self):
+        here = EXAMPLES / "triangle"
+        tree = page(here / "topology.toml", here / "plan.json")
+        rows = [[cell.text for cell in row.all("td")] for row in tree.one("table", "moves").one("tbody").all("tr")]
+        self.assertIn(["device r", "2", "r: b; b: x", "b", "", ""], rows)
+        self.assertIn(["link rx1", "1", "b: x", "r", "", ""], rows)
+        self.assertIn("hidden", tree.one("div", "chooser").attributes)
+
+    def test_the_script_has_the_same_marks(self):
+        here = EXAMPLES / "fabric"
+        tree = page(here / "topology.toml", here / "plan.json", "--domain", "listed feed-a")
+        said = json.loads(tree.one("script", "effects").text)
+        (chosen,) = [node for node in tree.all("option") if "selected" in node.attributes]
+        sentence, states, _ = said[chosen["value"]]
+        self.assertEqual(sentence, tree.one("p", "effect").text)
+        for state, devices in states.items():
+            self.assertEqual(sorted(int(node["data-device"]) for node in tree.all("g", "device", state)), devices)
+
+    def test_a_domain_that_is_not_there(self):
+        here = EXAMPLES / "triangle"
+        status, out, err = tool(here / "topology.toml", here / "plan.json", "--domain", "listed nowhere")
+        self.assertEqual((status, out), (1, ""))
+        self.assertIn("there is no fault domain 'listed nowhere'", err)
+
+    def test_effects_are_those_of_the_conditions(self):
+        for name, file, plan_file in (
+            ("fabric", "topology.toml", "plan.json"),
+            ("fabric", "topology.toml", "plan-2.json"),
+            ("triangle", "topology.toml", "plan.json"),
+            ("refused", "topology.toml", "reach.json"),
+            ("refused", "topology.toml", "loop.json"),
+            ("refused", "tray-domain.toml", "domain.json"),
+        ):
+            topology = read_topology(str(EXAMPLES / name / file))
+            plan = read_plan(str(EXAMPLES / name / plan_file), topology)
+            effects = Effects(topology, plan)
+            for domain in fault_domains(topology):
+                with self.subTest(plan=plan_file, domain=domain.label):
+                    effect = effects.of(domain)
+                    found = {move.device for move in effect.moves}, set(effect.cut), set(effect.silent)
+                    self.assertEqual(found, slow_effect(topology, plan, domain))
+
+
+def slow_effect(topology, plan, domain):
+    """Who is hit, cut off, or joined and never fed, as docs/CONDITIONS.md says it."""
+    members = set(plan.members(topology))
+    acts = plan.root if plan.root not in domain.devices else plan.backup_root
+    hit = {device for device in members - domain.devices if device in plan.rows and is_hit(plan, domain, device)}
+    joined = {acts} - domain.devices
+    usable = [
+        link
+        for link in topology.links
+        if link.number not in plan.absent_links
+        and link.number not in domain.links
+        and not members.isdisjoint(link.ends)
+        and set(link.ends) <= members - domain.devices
+    ]
+    fed = {device for device in members - domain.devices if device in (acts, plan.backup_root) or device not in hit}
+    for _ in members:
+        for link in usable:
+            if joined.intersection(link.ends):
+                joined.update(link.ends)
+        for device in hit:
+            hop = plan.rows[device].backup or plan.rows[device].primary
+            if hop.link not in domain.links and hop.parent in fed:
+                fed.add(device)
+    return (
+        hit,
+        {device for device in hit - fed if device not in joined},
+        {device for device in hit - fed if device in joined},
+    )
+
+
+def is_hit(plan, domain, device):
+    seen = 0
+    while device in plan.rows and seen <= len(plan.rows):
+        hop = plan.rows[device].primary
+        if hop.link in domain.links or hop.parent in domain.devices:
+            return True
+        if hop.parent in (plan.root, plan.backup_root):
+            return False
+        device, seen = hop.parent, seen + 1
+    return False
+
+
+class Refused(unittest.TestCase):
+    def refused(self, condition, topology="topology.toml"):
+        here = EXAMPLES / "refused"
+        text = outputs("refused")[f"sundial check {topology} {condition}.json"]
+        with directory() as path:
+            (path / "check").write_text(text)
+            tree = page(here / topology, here / f"{condition}.json", "--check", path / "check")
+        said = tree.one("p", "refused")
+        self.assertEqual((said["data-condition"], said.one("code").text + "\n"), (condition, text))
+        marked = names(tree.all("g", "device", "breach"), read_topology(str(here / topology)))
+        edges = [edge for edge in tree.all("path", "edge", "breach")]
+        return tree, marked, edges
+
+    def test_a_cycle(self):
+        tree, marked, edges = self.refused("loop")
+        self.assertEqual((marked, len(edges)), ({"l2", "l3"}, 2))
+        self.assertEqual(
+            {edge["data-parent"] for edge in edges},
+            {device for edge in edges for device in edge["data-devices"].split()},
+        )
+        self.assertIn("Under device s1", tree.one("p", "effect").text)
+
+    def test_a_chain(self):
+        _, marked, _ = self.refused("reach")
+        self.assertEqual(marked, {"l3"})
+
+    def test_devices(self):
+        for condition, topology in (
+            ("structure", "topology.toml"),
+            ("ancestor", "topology.toml"),
+            ("domain", "tray-domain.toml"),
+        ):
+            with self.subTest(condition):
+                text = outputs("refused")[f"sundial check {topology} {condition}.json"]
+                _, marked, edges = self.refused(condition, topology)
+                self.assertEqual((marked, edges), ({text.split()[-1]}, []))
+
+    def test_a_link(self):
+        _, marked, edges = self.refused("root", "tray-root.toml")
+        self.assertEqual(marked, set())
+        self.assertTrue(edges and all("b2:" in edge.title or " b2," in edge.title for edge in edges))
+
+    def test_timing_marks_nothing(self):
+        _, marked, edges = self.refused("timing")
+        self.assertEqual((marked, edges), (set(), []))
+
+    def test_a_refusal_in_a_drill_or_a_replay(self):
+        here = EXAMPLES / "refused"
+        with directory() as path:
+            (path / "out").write_text("refused plan 1 loop device s1 cycle l2 l3\n")
+            (path / "schedule").write_text("end 0\n")
+            for words in ("--drill", path / "out"), ("--replay", path / "schedule", path / "out"):
+                tree = page(here / "topology.toml", here / "loop.json", *words)
+                self.assertEqual(len(tree.all("g", "device", "breach")), 2)
+
+    def test_bad_refusals(self):
+        here = EXAMPLES / "triangle"
+        for text, reason in (
+            ("refused plan 1 loop device s1 cycle l2 l3\n", "no such thing"),
+            ("refused plan 3 ancestor device b\n", "the refusal is of plan 3, and there are 1"),
+            ("refused plan 1 loop", "cut short"),
+            ("done 3 1\n", "no line of a check"),
+            ("refused\n", "no line that sundial prints"),
+        ):
+            with self.subTest(reason), directory() as path:
+                (path / "check").write_text(text)
+                status, out, err = tool(here / "topology.toml", here / "plan.json", "--check", path / "check")
+                self.assertEqual((status, out), (1, ""))
+                self.assertIn(reason, err)
+
+
+class Drills(unittest.TestCase):
+    def setUp(self):
+        self.lines = [line.split() for line in outputs("fabric")[DRILL].splitlines()]
+        with directory() as path:
+            self.tree = whole("fabric", path).one("section", "drill")
+
+    def rows(self, name):
+        return [[cell.text for cell in row.all("td")] for row in self.tree.one("table", name).one("tbody").all("tr")]
+
+    def test_the_heat_map_has_a_cell_for_each_row_and_device(self):
+        heat = self.tree.one("svg", "heat")
+        rows = heat.all("g", "row")
+        self.assertEqual(len(rows), len(self.rows("by-domain")))
+        self.assertEqual({len(row.all("rect", "cell")) for row in rows}, {11})
+        alike = {}
+        for line in self.lines[:-1]:
+            alike.setdefault(f"{line[1]} {line[2]}", []).append(line[4] if line[0] == "bound" else None)
+        groups = {tuple(bounds) for bounds in alike.values()}
+        self.assertEqual(len(rows), len(groups))
+        unbounded = sum(bound is None for bounds in groups for bound in bounds)
+        self.assertEqual(len(heat.all("rect", "cell", "hx")), unbounded)
+
+    def test_the_greatest_come_first(self):
+        most = max(int(line[4]) for line in self.lines if line[0] == "bound")
+        for name, column in ("by-domain", 2), ("by-device", 1):
+            values = [int(row[column][:-3].replace(",", "")) for row in self.rows(name)]
+            self.assertEqual(values, sorted(values, reverse=True))
+            self.assertEqual(values[0], most)
+        first = self.tree.one("svg", "heat").all("g", "row")[0].all("rect", "cell")[0]
+        self.assertIn(f"({most} ps)", first.title)
+        self.assertIn("h8", first.classes)
+
+    def test_each_device_has_its_worst(self):
+        worst = {}
+        for line in self.lines:
+            if line[0] == "bound":
+                worst[line[3]] = max(worst.get(line[3], 0), int(line[4]))
+        self.assertEqual(
+            {row[0]: row[1] for row in self.rows("by-device")}, {name: exact(bound) for name, bound in worst.items()}
+        )
+
+    def test_all_domains_are_counted(self):
+        self.assertEqual(sum(int(row[1]) for row in self.rows("by-domain")), int(self.lines[-1][1]))
+
+    def test_bad_drills(self):
+        here, text = EXAMPLES / "fabric", outputs("fabric")[DRILL]
+        lines = text.splitlines(keepends=True)
+        for bad, reason in (
+            (text[:-1], "cut short"),
+            ("".join(lines[:-1]), "it has no line done"),
+            ("", "cut short"),
+            ("".join(lines[:20] + lines[21:]), "out of order"),
+            ("".join(lines[:10] + lines[11:]), "out of order"),
+            (text.replace(lines[-1], "done 1 1\n"), "done says 1 1"),
+            (text + lines[0], "a line behind the last one"),
+            ("".join(lines[:5]) + "bound listed\n", "no line of a drill"),
+            ("input plan 1 NotJson\n", "sundial refused its input"),
+            (
+                lines[0].replace("leaf1", "leaf99").replace("spine1", "spine99") + "done 1 1\n",
+                "the topology has no device",
+            ),
+        ):
+            with self.subTest(reason), directory() as path:
+                (path / "drill").write_text(bad)
+                status, _, err = tool(
+                    here / "topology.toml", here / "plan.json", "--drill", path / "drill", "--output", path / "page"
+                )
+                self.assertEqual(status, 1)
+                self.assertIn(reason, err)
+                self.assertEqual([file.name for file in path.iterdir()], ["drill"])
+
+
+class Replays(unittest.TestCase):
+    def lanes(self, tree):
+        return {lane["data-lane"]: int(lane["data-count"]) for lane in tree.all("g", "lane")}
+
+    def test_each_report_is_a_dot_in_both_charts(self):
+        for name in "triangle", "fabric":
+            with self.subTest(name), directory() as path:
+                tree = whole(name, path)
+                reports = [line for line in outputs(name)[REPLAY].splitlines() if line.startswith("report")]
+                for chart in "eps", "off":
+                    dots = tree.one("svg", "chart", chart).all("circle", "report")
+                    self.assertEqual(sorted(dot.title.split(", at ")[0] for dot in dots), sorted(reports))
+                self.assertEqual(tree.all("circle", "wrong"), [])
+
+    def test_what_happened_is_marked_at_its_line(self):
+        with directory() as path:
+            tree = whole("triangle", path)
+        self.assertEqual(
+            self.lanes(tree), {"failure": 1, "move": 1, "takeover": 1, "plan": 3, "broken": 0, "alarm": 0}
+        )
+        schedule = (EXAMPLES / "triangle" / "schedule.txt").read_text().splitlines()
+        failed = next(place for place, line in enumerate(schedule, 1) if line.startswith("fail"))
+        (mark,) = tree.all("path", "mark", "fail")
+        self.assertEqual((mark["data-line"], mark["data-count"]), (str(failed), "1"))
+        moved, taken = (int(tree.one("path", "mark", kind)["data-line"]) for kind in ("move", "takeover"))
+        self.assertTrue(failed < moved < taken)
+        self.assertTrue(schedule[moved - 1].startswith("tick") and schedule[taken - 1].startswith("tick"))
+        self.assertEqual(tree.one("path", "mark", "takeover").title.split(": ")[1], "takeover b")
+
+    def test_each_device_has_a_line_and_percentiles(self):
+        with directory() as path:
+            tree = whole("fabric", path)
+        self.assertEqual(len(tree.one("svg", "eps").all("path", "line")), 11)
+        rows = tree.one("table", "percentiles").one("tbody").all("tr")
+        eps = {}
+        for line in outputs("fabric")[REPLAY].splitlines():
+            if line.startswith("report"):
+                eps.setdefault(line.split()[2], []).append(int(line.split()[4]))
+        self.assertEqual(
+            {row.all("td")[0].text: int(row.all("td")[1].text) for row in rows},
+            {name: len(found) for name, found in eps.items()},
+        )
+        for row in rows:
+            cells = row.all("td")
+            self.assertEqual(int(cells[2]["data-value"]), min(eps[cells[0].text]))
+            self.assertEqual(int(cells[6]["data-value"]), max(eps[cells[0].text]))
+
+    def test_broken_premises_and_alarms(self):
+        command = "sundial replay topology.toml plan.json plan.json schedule.txt"
+        with directory() as path:
+            tree = replayed("incident", "schedule.txt", command, path, plans=2)
+        said = outputs("incident")[command].splitlines()
+        lanes = self.lanes(tree)
+        self.assertEqual(lanes["broken"], sum(line.startswith("broken") for line in said))
+        self.assertEqual(lanes["alarm"], sum(line.startswith("alarm") for line in said))
+        titles = " ".join(mark.title for mark in tree.all("path", "mark"))
+        listed = [
+            [cell.text for cell in row.all("td")][3] for row in tree.one("table", "marks").one("tbody").all("tr")
+        ]
+        for line in said:
+            if line.startswith(("broken", "alarm")):
+                self.assertIn(line, titles)
+                self.assertIn(line, listed)
+        wrong = sum(" interval " in line for line in said)
+        self.assertEqual(len(tree.all("circle", "report", "wrong")), 2 * wrong)
+
+    def test_outputs_of_order(self):
+        for schedule in "schedule.txt", "lying.txt":
+            command = f"sundial order topology.toml plan.json {schedule}"
+            said = outputs("commit-wait")[command].splitlines()
+            with self.subTest(schedule), directory() as path:
+                tree = replayed("commit-wait", schedule, command, path)
+                marks = sum(line.startswith(("alarm", "disorder")) for line in said)
+                self.assertEqual(self.lanes(tree)["alarm"], marks)
+
+    def test_a_replay_that_ends_at_a_refused_line(self):
+        here = EXAMPLES / "triangle"
+        lines = (here / "schedule.txt").read_text().splitlines(keepends=True)
+        with directory() as path:
+            (path / "schedule").write_text("".join(lines[:7]) + lines[0] + lines[8])
+            (path / "output").write_text("input schedule 8 StartedTwice\n")
+            tree = page(here / "topology.toml", here / "plan.json", "--replay", path / "schedule", path / "output")
+            self.assertIn("input schedule 8 StartedTwice", tree.one("section", "replay").one("p", "refused").text)
+            self.assertIn("7 events", tree.one("section", "replay").one("p", "facts").text)
+            (path / "schedule").write_text("".join(lines[:7]))
+            (path / "output").write_text("input schedule 8 NoEnd\n")
+            tree = page(here / "topology.toml", here / "plan.json", "--replay", path / "schedule", path / "output")
+            self.assertIn("NoEnd", tree.one("section", "replay").one("p", "refused").text)
+
+    def test_bad_replays(self):
+        here, said = EXAMPLES / "triangle", outputs("triangle")[REPLAY]
+        schedule = (here / "schedule.txt").read_text()
+        report = next(line for line in said.splitlines(keepends=True) if line.startswith("report"))
+        other = (
+            report.replace(" r ", " b ") if " r " in report else report.replace(" b ", " r ").replace(" x ", " r ")
+        )
+        eps = report.split()[4]
+        for events, output, reason in (
+            (schedule, said[:-1], "cut short"),
+            (schedule, said.replace("done", "report"), "no line that sundial prints"),
+            (schedule, "", "the output is empty"),
+            (schedule, said.replace(report, ""), "no report of this ask"),
+            (schedule, said.replace(report, other), "is no ask of"),
+            (schedule, said.replace(eps, eps + "0"), "not that of these plans"),
+            (schedule[:-5], said, "no replay accepts this line here"),
+            (schedule.replace("tick", "tock"), said, ":4: UnknownWord"),
+            (schedule.replace("fail", "fails", 1), said, "UnknownWord"),
+            ("\n".join(schedule.splitlines()[:-1]) + "\n", said, "is it the output of this schedule"),
+            (schedule.replace("start 0 2", "start 0 9"), said, "the topology has no device 9"),
+            (schedule.replace("start 0 1", "start 0 2"), said, "no replay accepts this line here"),
+        ):
+            with self.subTest(reason), directory() as path:
+                (path / "schedule").write_text(events)
+                (path / "output").write_text(output)
+                status, _, err = tool(
+                    here / "topology.toml",
+                    here / "plan.json",
+                    here / "plan-2.json",
+                    "--replay",
+                    path / "schedule",
+                    path / "output",
+                    "--output",
+                    path / "page",
+                )
+                self.assertEqual(status, 1)
+                self.assertIn(reason, err)
+                self.assertFalse((path / "page").exists())
+
+
+class Pages(unittest.TestCase):
+    def test_nothing_outside_is_read(self):
+        with directory() as path:
+            tree = whole("fabric", path)
+        for node in tree.walk():
+            self.assertNotIn(node.tag, ("link", "img", "iframe", "base", "object", "embed"))
+            for name, value in node.attributes.items():
+                self.assertNotIn(name, ("src", "href", "action", "onclick"))
+                self.assertNotIn("http", value or "")
+        for node in tree.all("style") + tree.all("script"):
+            for word in "http", "url(", "@import", "fetch", "XMLHttp", "import(":
+                self.assertNotIn(word, node.text)
+
+    def test_names_are_escaped_and_the_heading_too(self):
+        here = EXAMPLES / "triangle"
+        tree = page(here / "topology.toml", here / "plan.json", "--title", '<b>&"</b>')
+        self.assertEqual(tree.one("h1").text, '<b>&"</b>')
+
+    def test_parts_alone(self):
+        with directory() as path:
+            self.assertEqual(len(whole("triangle", path, "--only", "replay").all("section")), 1)
+            self.assertEqual(len(whole("triangle", path, "--only", "drill", "--only", "tree").all("section")), 3)
+
+    def test_bad_topologies_and_plans(self):
+        here = EXAMPLES / "triangle"
+        for words, reason in (
+            ((here / "none.toml", here / "plan.json"), "No such file"),
+            ((here / "plan.json", here / "plan.json"), "no TOML"),
+            ((here / "topology.toml", here / "topology.toml"), "no JSON"),
+            ((here / "topology.toml", EXAMPLES / "fabric" / "plan.json"), "no such"),
+        ):
+            with self.subTest(reason):
+                status, out, err = tool(*words)
+                self.assertEqual((status, out), (1, ""))
+                self.assertIn(reason, err)
+                self.assertEqual(len(err.splitlines()), 1)
+
+
+class Series(unittest.TestCase):
+    def test_intervals_double_and_keep_peaks(self):
+        peaks = Peaks()
+        for ref in range(10 * MOST_INTERVALS):
+            peaks.add(0, 1000 + ref, ref, ref // 2)
+        self.assertLessEqual(len(peaks.of[0]), MOST_INTERVALS)
+        self.assertEqual(peaks.step, 16)
+        self.assertEqual(peaks.of[0][:2], [Interval(15, 7), Interval(31, 15)])
+
+    def test_reports_are_thinned_to_the_widest(self):
+        reports = Reports()
+        for line in range(5 * MOST_REPORTS):
+            reports.add(Report(line, line % 3, line, line, line % 97))
+        kept = reports.kept()
+        self.assertEqual(reports.count, 5 * MOST_REPORTS)
+        self.assertLessEqual(len(kept), MOST_REPORTS)
+        self.assertEqual(max(report.eps for report in kept), 96)
+        self.assertEqual(kept, sorted(kept))
+
+    def test_percentiles(self):
+        few, many = Percentiles(), Percentiles()
+        for value in range(1, 101):
+            few.add(value)
+        self.assertEqual([few.at(percent) for percent in (50, 90, 99, 100)], [50, 90, 99, 100])
+        for value in range(1, 100001):
+            many.add(value)
+        self.assertTrue(many.is_rounded)
+        for percent in 50, 90, 99:
+            self.assertTrue(percent * 1000 <= many.at(percent) <= percent * 1010)
+
+    def test_units(self):
+        self.assertEqual(
+            [human(value) for value in (0, 999, 3202950, 10**9, 1345000000)],
+            ["0 ps", "999 ps", "3.203 us", "1 ms", "1.345 ms"],
+        )
+        self.assertEqual(exact(3202950), "3,202,950 ps")
+        self.assertEqual(round_steps(0, 3.2, 8), [0, 0.5, 1, 1.5, 2, 2.5, 3])
+
+
+if __name__ == "__main__":
+    unittest.main()
