@@ -1,6 +1,6 @@
 //! Replays a schedule of bench/schedule.py as plainly and as fast as Rust does it, to be timed
-//! beside `sundial replay`.
-//! usage: plain TOPOLOGY PLAN.. SCHEDULE
+//! beside `sundial replay`; with the word `--order` in front, beside `sundial order`.
+//! usage: plain [--order] TOPOLOGY PLAN.. SCHEDULE
 //! It does what docs/RULES.md says, with no proof and for such schedules alone: it reads their lines
 //! as they come, refuses events, drives the devices, judges all seven premises, and looks for loops
 //! and several roots. It knows texts in the forms in which bench/schedule.py and `sundial plan`
@@ -13,7 +13,9 @@ mod events;
 mod premises;
 mod refusals;
 mod replay;
+#[allow(dead_code)]
 mod texts;
+mod waits;
 
 use events::{event_of, quick_event_of, Event};
 use replay::Replay;
@@ -21,6 +23,7 @@ use std::fs::{read_to_string, File};
 use std::io::{stdout, BufWriter, Read, Write};
 use std::time::Instant;
 use texts::{Network, Plan};
+use waits::Waits;
 
 /// Goes through a schedule to its end, or to an event that is refused.
 fn go_through(replay: &mut Replay, mut file: File, out: &mut impl Write) -> std::io::Result<()> {
@@ -28,7 +31,11 @@ fn go_through(replay: &mut Replay, mut file: File, out: &mut impl Write) -> std:
     loop {
         let count = file.read(&mut buffer[held..])?;
         if count == 0 {
-            return writeln!(out, "done {} {}", replay.events, replay.reports);
+            writeln!(out, "done {} {}", replay.events, replay.reports)?;
+            if let Some(waits) = &replay.waits {
+                waits.finish(out);
+            }
+            return Ok(());
         }
         held += count;
         let whole = buffer[..held].iter().rposition(|byte| *byte == b'\n').map_or(0, |at| at + 1);
@@ -51,13 +58,17 @@ fn go_through(replay: &mut Replay, mut file: File, out: &mut impl Write) -> std:
 }
 
 fn main() {
-    let words: Vec<String> = std::env::args().skip(1).collect();
+    let mut words: Vec<String> = std::env::args().skip(1).collect();
+    let orders = words[0] == "--order";
+    words.drain(..usize::from(orders));
     let net = Network::read(&read_to_string(&words[0]).unwrap());
     let (schedule, plans) = words[1..].split_last().unwrap();
     let plans: Vec<Plan> = plans.iter().map(|file| Plan::read(&net, &read_to_string(file).unwrap())).collect();
     let mut out = BufWriter::new(stdout().lock());
     let begin = Instant::now();
-    go_through(&mut Replay::new(&net, &plans), File::open(schedule).unwrap(), &mut out).unwrap();
+    let mut replay = Replay::new(&net, &plans);
+    replay.waits = orders.then(|| Waits::new(net.names.len()));
+    go_through(&mut replay, File::open(schedule).unwrap(), &mut out).unwrap();
     out.flush().unwrap();
     eprintln!("{}", begin.elapsed().as_nanos());
 }

@@ -2,6 +2,7 @@
 use crate::device::{Device, Heard, Message};
 use crate::events::Event;
 use crate::texts::{End, Network, Params, Plan};
+use crate::waits::Waits;
 use std::collections::{HashSet, VecDeque};
 use std::io::Write;
 
@@ -80,6 +81,8 @@ pub struct Replay<'a> {
     pub broken: u8,
     pub events: u64,
     pub reports: u64,
+    /// Commit wait, where it is asked for.
+    pub waits: Option<Waits>,
 }
 
 /// What an event brings.
@@ -140,6 +143,7 @@ impl<'a> Replay<'a> {
             broken: 0,
             events: 0,
             reports: 0,
+            waits: None,
         }
     }
 
@@ -411,6 +415,9 @@ impl<'a> Replay<'a> {
         writeln!(out, "report {} {name} {clock} {eps}", self.events).unwrap();
         if clock.abs_diff(reference.into()) > eps {
             writeln!(out, "alarm {} interval {name} {reference}", self.events).unwrap();
+        }
+        if let Some(waits) = &mut self.waits {
+            waits.report(self.events, d, name, clock, eps, out);
         }
     }
 }

@@ -11,6 +11,8 @@ pub struct Link {
 pub struct Network {
     pub names: Vec<String>,
     pub links: Vec<Link>,
+    pub link_names: Vec<String>,
+    pub domain_names: Vec<String>,
     /// The devices and the links of each domain.
     pub domains: Vec<(HashSet<u32>, HashSet<u32>)>,
     pub numbers: HashMap<String, u64>,
@@ -50,7 +52,9 @@ impl Network {
                     net.names.push(name);
                 }
                 ("[[link]]", "name") => {
-                    links.insert(quoted(value).next().unwrap().to_string(), net.links.len() as u32 - 1);
+                    let name = quoted(value).next().unwrap().to_string();
+                    links.insert(name.clone(), net.links.len() as u32 - 1);
+                    net.link_names.push(name);
                 }
                 ("[[link]]", _) => {
                     let link = net.links.last_mut().unwrap();
@@ -60,6 +64,7 @@ impl Network {
                         _ => quoted(value).zip(&mut link.ends).for_each(|(name, end)| *end = devices[name]),
                     }
                 }
+                ("[[domain]]", "name") => net.domain_names.push(quoted(value).next().unwrap().to_string()),
                 ("[[domain]]", "devices") => {
                     net.domains.last_mut().unwrap().0 = quoted(value).map(|x| devices[x]).collect()
                 }
@@ -113,9 +118,11 @@ pub struct Plan {
     pub waits: [u64; 3],
     pub members: Vec<bool>,
     pub absent_links: HashSet<u32>,
-    /// The parents of each device.
+    /// The parents of each device, and the links to them.
     pub primary: Vec<Option<u32>>,
     pub backup: Vec<Option<u32>>,
+    pub primary_link: Vec<Option<u32>>,
+    pub backup_link: Vec<Option<u32>>,
     /// Below each device: links ascending.
     pub ends: Vec<Vec<End>>,
 }
@@ -151,6 +158,8 @@ impl Plan {
             absent_links: list(text, "absent_links").into_iter().map(|name| net.link(name)).collect(),
             primary: vec![None; count],
             backup: vec![None; count],
+            primary_link: vec![None; count],
+            backup_link: vec![None; count],
             ends: Vec::new(),
         };
         for name in list(text, "absent_devices") {
@@ -163,13 +172,16 @@ impl Plan {
             let edge = |parent, link| Some((net.device(word(row.1, parent)?), net.link(word(row.1, link)?)));
             let both = [edge("parent", "link"), edge("backup", "backup_link")];
             [plan.primary[device as usize], plan.backup[device as usize]] = both.map(|edge| Some(edge?.0));
+            [plan.primary_link[device as usize], plan.backup_link[device as usize]] = both.map(|edge| Some(edge?.1));
             let hears = |link| both.map(|edge| edge.is_some_and(|edge| edge.1 == link));
             edges.extend(both.into_iter().flatten().map(|(parent, link)| (parent, link, device, hears(link))));
         }
         edges.sort();
+        let mut left = &edges[..];
         for parent in 0..count as u32 {
-            let below = edges.iter().filter(|edge| edge.0 == parent);
-            plan.ends.push(below.map(|&(_, link, receiver, hears)| End::new(net, link, receiver, hears)).collect());
+            let (below, behind) = left.split_at(left.partition_point(|edge| edge.0 == parent));
+            plan.ends.push(below.iter().map(|&(_, link, receiver, hears)| End::new(net, link, receiver, hears)).collect());
+            left = behind;
         }
         plan
     }

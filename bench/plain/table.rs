@@ -1,11 +1,14 @@
 //! Writes the lines of a drill from a table, as plainly and as fast as Rust does it, to be timed
 //! beside `sundial drill`.
-//! usage: lines ANSWER >COPY
+//! usage: table ANSWER [--read] >COPY
 //! ANSWER is what `drill` wrote. Its lines are read into a table of numbers first; then they are
-//! printed again, and the microseconds that the printing took go to standard error.
+//! printed again. With `--read` nothing is printed, so that the time of reading can be taken off.
+#[allow(dead_code)]
+mod input;
+
+use input::put_number;
 use std::collections::HashMap;
 use std::io::{stdout, Write};
-use std::time::Instant;
 
 /// A line: its words before the bound by number, and the bound, where there is one.
 struct Row {
@@ -29,21 +32,6 @@ impl<'a> Names<'a> {
             names.len() as u32 - 1
         })
     }
-}
-
-/// Puts a number in decimal digits.
-fn put_number(bytes: &mut Vec<u8>, mut number: u64) {
-    let mut digits = [0u8; 20];
-    let mut at = digits.len();
-    loop {
-        at -= 1;
-        digits[at] = b'0' + (number % 10) as u8;
-        number /= 10;
-        if number == 0 {
-            break;
-        }
-    }
-    bytes.extend_from_slice(&digits[at..]);
 }
 
 fn put_row(bytes: &mut Vec<u8>, domains: &[&[u8]], devices: &[&[u8]], row: &Row) {
@@ -96,7 +84,9 @@ fn main() {
         });
     }
     drop(domains.numbers);
-    let begun = Instant::now();
+    if std::env::args().nth(2).is_some() {
+        return;
+    }
     let mut out = stdout().lock();
     let mut bytes = Vec::with_capacity(1 << 16);
     for row in &rows {
@@ -107,5 +97,4 @@ fn main() {
         }
     }
     out.write_all(&bytes).expect("to be written");
-    eprintln!("{}", begun.elapsed().as_micros());
 }

@@ -1,7 +1,7 @@
 #!/usr/bin/env bash
 # Refuses each allocation of some small runs in turn: each such run has to end with status 6 behind whole lines of what the
 # run writes when it gets its memory, or as that run does.
-# usage: bench/refused.sh PROGRAM
+# usage: bench/parts/refused.sh PROGRAM, or bench/all --only refused PROGRAM
 # PROGRAM is the proved program, as `rt run` in crates/sundial leaves it below crates/sundial/out/. cc makes a library that
 # stands before the C library's and answers the call with the number REFUSE with no memory.
 set -eu
@@ -52,6 +52,10 @@ row() {
     whole_status=$status
     cp answer whole
     calls=$(tail -n 1 count)
+    if ! [ "$calls" -gt 0 ] 2>/dev/null; then
+        echo "$name: no allocation was counted: the library does not stand before the program's own"
+        exit 1
+    fi
     for number in $(seq "$calls"); do
         run "$number" "$@"
         if [ "$status" = "$whole_status" ] && cmp -s answer whole; then continue; fi

@@ -1,0 +1,1 @@
+"""The parts of bench/all: what is timed, beside what, and how."""
