@@ -1,6 +1,6 @@
 #!/usr/bin/env bash
 # Refuses each allocation of some small runs in turn: each such run has to end with status 6 behind whole lines of what the
-# run writes when it gets its memory, or as that run does.
+# run writes when it gets its memory, and with one line on standard error, or as that run does.
 # usage: bench/parts/refused.sh PROGRAM, or bench/all --only refused PROGRAM
 # PROGRAM is the proved program, as `rt run` in crates/sundial leaves it below crates/sundial/out/. cc makes a library that
 # stands before the C library's and answers the call with the number REFUSE with no memory.
@@ -36,13 +36,15 @@ __attribute__((destructor)) static void tell(void) {
 END
 cc -O1 -shared -fPIC -o refuse.so refuse.c -ldl
 
-# runs the words with the allocation of this number refused; 0 refuses none and writes how many there are to `count`
+# runs the words with the allocation of this number refused; 0 refuses none, and `told` ends with how many there are
 run() {
     local number=$1
     shift
     status=0
-    REFUSE=$number LD_PRELOAD=$folder/refuse.so "$program" "$@" >answer 2>count || status=$?
+    REFUSE=$number LD_PRELOAD=$folder/refuse.so "$program" "$@" >answer 2>told || status=$?
 }
+
+complaint="sundial: out of memory"
 
 # a row: its name, then the words
 row() {
@@ -51,20 +53,20 @@ row() {
     run 0 "$@"
     whole_status=$status
     cp answer whole
-    calls=$(tail -n 1 count)
+    calls=$(tail -n 1 told)
     if ! [ "$calls" -gt 0 ] 2>/dev/null; then
         echo "$name: no allocation was counted: the library does not stand before the program's own"
         exit 1
     fi
     for number in $(seq "$calls"); do
         run "$number" "$@"
-        if [ "$status" = "$whole_status" ] && cmp -s answer whole; then continue; fi
-        if [ "$status" = 6 ] && head -n "$(wc -l <answer)" whole | cmp -s - answer; then
+        if [ "$status" = "$whole_status" ] && cmp -s answer whole && [ ! -s told ]; then continue; fi
+        if [ "$status" = 6 ] && head -n "$(wc -l <answer)" whole | cmp -s - answer && [ "$(cat told)" = "$complaint" ]; then
             memory=$((memory + 1))
             continue
         fi
         echo "$name: allocation $number ends with status $status and"
-        cat answer
+        cat answer told
         exit 1
     done
     echo "$name: $calls allocations, status $whole_status; $memory of them refused end with status 6"

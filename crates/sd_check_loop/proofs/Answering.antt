@@ -9,7 +9,7 @@ use Rattle.sd_domain.specs.declared.DomainId.{DomainId}
 use Rattle.sd_plan.specs.declared.Plan.{Plan}
 use Rattle.sd_plan.specs.Plans.{Fits}
 use Rattle.sd_plan.specs.Structure.{structure_breach}
-use Rattle.sd_hit.specs.Hit.{hit_by}
+use Rattle.sd_check_hit.specs.Hit.{hit_by}
 use Rattle.sd_check_loop.specs.Graphs.{place_in, successors_of, graph_of}
 use Rattle.sd_check_loop.specs.Loops.{IsChain, IsFirstOf, IsLeast, IsEndless, IsNextShown, LoopShown, ShowsCycle}
 use Rattle.sd_check_loop.specs.Markings.{mark_at, IsMarked}
@@ -34,7 +34,8 @@ first_map P Q each (x ∷ xs) first = each x first
 ending_endless : mark.Ending ≡ mark.Endless → ⊥
 ending_endless same = cc
 
-module _ (net : Network) (plan : Plan) (domain : DomainId) (fits : Fits net plan) (structured : structure_breach net plan ≡ None) (hit : List ℕ) (is : hit ≡ hit_by net plan domain) where
+module _ (net : Network) (plan : Plan) (domain : DomainId) (fits : Fits net plan) (structured : structure_breach net plan ≡ None) (hit : List ℕ)
+    (is : hit ≡ hit_by net plan domain) where
   -- the place of a device that stands there
   place_at : (d i : ℕ) → slice_get hit i ≡ Some d → place_in hit d ≡ Some i
   place_at d i at =
@@ -44,18 +45,21 @@ module _ (net : Network) (plan : Plan) (domain : DomainId) (fits : Fits net plan
   module _ (marks : List Mark) (marked : IsMarked (graph_of plan hit) marks) where
     goes : (d e : ℕ) → IsStep hit (graph_of plan hit) marks d e → IsNextShown net plan domain d e
     goes d e step =
-        next_shown net plan domain fits structured hit is (graph_of plan hit) refl marks marked d e step.here step.there (place_at d step.here step.from) (place_at e step.there step.to) step.next
+        next_shown net plan domain fits structured hit is (graph_of plan hit) refl marks marked d e step.here step.there (place_at d step.here step.from)
+        (place_at e step.there step.to) step.next
 
     shows : (begin : ℕ) → begin < length hit → mark_at marks begin ≡ mark.Endless → ((k : ℕ) → k < begin → mark_at marks k ≢ mark.Endless)
         → (cycle : List ℕ) → CycleIs hit (graph_of plan hit) marks (get_or hit begin 0) cycle → ShowsCycle net plan domain cycle
     shows begin within endless before [] none = none
     shows begin within endless before (first ∷ others) c =
         let at = place_in-at hit begin (hit_ascends net plan domain hit is) within in
-        let least : IsLeast (IsEndless net plan domain) (get_or hit begin 0) = first_least net plan domain fits structured hit is (graph_of plan hit) refl marks marked (get_or hit begin 0) begin at endless before in
+        let least : IsLeast (IsEndless net plan domain) (get_or hit begin 0) =
+        first_least net plan domain fits structured hit is (graph_of plan hit) refl marks marked (get_or hit begin 0) begin at endless before in
         record {
           lead = c.lead;
           begins =
-              first_map (λ d. d ≡ get_or hit begin 0) (IsLeast (IsEndless net plan domain)) (λ d same. subst (λ (x : ℕ). IsLeast (IsEndless net plan domain) x) (sym same) least)
+              first_map (λ d. d ≡ get_or hit begin 0) (IsLeast (IsEndless net plan domain))
+              (λ d same. subst (λ (x : ℕ). IsLeast (IsEndless net plan domain) x) (sym same) least)
               (c.lead ++ first ∷ others) c.begins;
           goes_on = chain_map (IsStep hit (graph_of plan hit) marks) (IsNextShown net plan domain) goes (c.lead ++ (first ∷ others) ++ first ∷ []) c.goes_on;
           once = c.once;
@@ -76,7 +80,8 @@ module _ (net : Network) (plan : Plan) (domain : DomainId) (fits : Fits net plan
   answered shown a = by_answer a.0 a.1 shown a.2
 
 -- where nobody is hit, nothing is endless
-pub none_hit : (net : Network) (plan : Plan) (domain : DomainId) → Fits net plan → structure_breach net plan ≡ None → (hit : List ℕ) → hit ≡ hit_by net plan domain → hit ≡ [] → LoopShown net plan domain None
+pub none_hit : (net : Network) (plan : Plan) (domain : DomainId) → Fits net plan → structure_breach net plan ≡ None → (hit : List ℕ)
+    → hit ≡ hit_by net plan domain → hit ≡ [] → LoopShown net plan domain None
 none_hit net plan domain fits structured hit is none =
     answered net plan domain fits structured [] (sym none ∙ is) None (
       [],
@@ -90,13 +95,16 @@ none_hit net plan domain fits structured hit is none =
     )
 
 -- what a first endless place leads to, as the code has it
-pub found_cycle : (plan : Plan) (hit : List ℕ) (made read later : List Successors) (marks seen after : List Mark) (begin : ℕ) (cycle : List ℕ) → made ≡ graph_of plan hit → read ≡ made → later ≡ made → seen ≡ marks → after ≡ marks
-    → IsMarked read marks → begin < length seen → mark_at seen begin ≡ mark.Endless → ((k : ℕ) → k < begin → mark_at seen k ≢ mark.Endless) → CycleIs hit later after (get_or hit begin 0) cycle
+pub found_cycle : (plan : Plan) (hit : List ℕ) (made read later : List Successors) (marks seen after : List Mark) (begin : ℕ) (cycle : List ℕ)
+    → made ≡ graph_of plan hit → read ≡ made → later ≡ made → seen ≡ marks → after ≡ marks
+    → IsMarked read marks → begin < length seen → mark_at seen begin ≡ mark.Endless → ((k : ℕ) → k < begin → mark_at seen k ≢ mark.Endless)
+    → CycleIs hit later after (get_or hit begin 0) cycle
     → AnswersFor plan hit (Some cycle)
 found_cycle plan hit made read later marks seen after begin cycle is read_is later_is seen_is after_is marked within endless before shown =
     let marked_so : IsMarked (graph_of plan hit) marks = subst (λ (g : List Successors). IsMarked g marks) (read_is ∙ is) marked in
     let shown_so : CycleIs hit (graph_of plan hit) marks (get_or hit begin 0) cycle =
-    subst (λ (m : List Mark). CycleIs hit (graph_of plan hit) m (get_or hit begin 0) cycle) after_is (subst (λ (g : List Successors). CycleIs hit g after (get_or hit begin 0) cycle) (later_is ∙ is) shown) in
+    subst (λ (m : List Mark). CycleIs hit (graph_of plan hit) m (get_or hit begin 0) cycle) after_is
+    (subst (λ (g : List Successors). CycleIs hit g after (get_or hit begin 0) cycle) (later_is ∙ is) shown) in
     let size : length seen ≡ length hit = ap (λ (m : List Mark). length m) seen_is ∙ marked_so.size ∙ length-map hit (successors_of plan hit) in (
       marks,
       marked_so,

@@ -20,7 +20,8 @@ abbrev pub IsParent : Option Hop → ℕ → Type 0
 IsParent o e = (hop : Hop) × (o ≡ Some hop) × (hop.parent ≡ e)
 
 -- of hops, one that leads to the device
-pub any_parent : (hs : List Hop) (e : ℕ) → list_any (λ hop. nat_eq hop.parent e) hs ≡ true → (hop : Hop) × (list_any (same_hop hop) hs ≡ true) × (hop.parent ≡ e)
+pub any_parent : (hs : List Hop) (e : ℕ) → list_any (λ hop. nat_eq hop.parent e) hs ≡ true
+    → (hop : Hop) × (list_any (same_hop hop) hs ≡ true) × (hop.parent ≡ e)
 any_parent [] e some = cc
 any_parent (hop ∷ hs) e some =
     elim (or_cases (nat_eq hop.parent e) (list_any (λ h. nat_eq h.parent e) hs) some) [
@@ -44,7 +45,8 @@ parent_any (h ∷ hs) hop some =
 -- a list of the one hop that is there
 one_parent : (o : Option Hop) (e : ℕ) → list_any (λ hop. nat_eq hop.parent e) (option_to_list o) ≡ true → IsParent o e
 one_parent None e some = cc
-one_parent (Some hop) e some = elim (or_cases (nat_eq hop.parent e) false some) [ inl here ↦ (hop, refl, eqb-true hop.parent e here) | inr none ↦ absurd (wrong none) ]
+one_parent (Some hop) e some =
+    elim (or_cases (nat_eq hop.parent e) false some) [ inl here ↦ (hop, refl, eqb-true hop.parent e here) | inr none ↦ absurd (wrong none) ]
   where
     wrong : false ≡ true → ⊥
     wrong same = cc
@@ -69,7 +71,8 @@ pub record Led (member ends hit : Bool) (primary backup : Option Hop) (e : ℕ) 
   pub ends_not : ends ≡ false
   pub parent : OneLeads hit primary backup e
 
-led_by : (member ends hit : Bool) (primary backup : Option Hop) (e : ℕ) → list_any (λ hop. nat_eq hop.parent e) (hops_by member ends hit primary backup) ≡ true → Led member ends hit primary backup e
+led_by : (member ends hit : Bool) (primary backup : Option Hop) (e : ℕ) → list_any (λ hop. nat_eq hop.parent e) (hops_by member ends hit primary backup) ≡ true
+    → Led member ends hit primary backup e
 led_by false ends hit primary backup e some = cc
 led_by true true hit primary backup e some = cc
 led_by true false true primary backup e some =
@@ -88,14 +91,18 @@ led_by true false false primary backup e some =
     wrong : false ≡ true → ⊥
     wrong same = cc
 
-by_led : (member ends hit : Bool) (primary backup : Option Hop) (e : ℕ) → Led member ends hit primary backup e → list_any (λ hop. nat_eq hop.parent e) (hops_by member ends hit primary backup) ≡ true
+by_led : (member ends hit : Bool) (primary backup : Option Hop) (e : ℕ) → Led member ends hit primary backup e
+    → list_any (λ hop. nat_eq hop.parent e) (hops_by member ends hit primary backup) ≡ true
 by_led member ends hit primary backup e led =
     subst (λ (b : Bool). list_any (λ hop. nat_eq hop.parent e) (hops_by b ends hit primary backup) ≡ true) (sym led.member_is)
     (subst (λ (b : Bool). list_any (λ hop. nat_eq hop.parent e) (hops_by true b hit primary backup) ≡ true) (sym led.ends_not)
     (list_any-append (λ hop. nat_eq hop.parent e) (option_to_list primary) (if hit then option_to_list backup else []) ∙ elim led.parent [
-      | inl here ↦ or_left (list_any (λ hop. nat_eq hop.parent e) (option_to_list primary)) (list_any (λ hop. nat_eq hop.parent e) (if hit then option_to_list backup else [])) (parent_one primary e here)
-      | inr there ↦ or_right (list_any (λ hop. nat_eq hop.parent e) (option_to_list primary)) (list_any (λ hop. nat_eq hop.parent e) (if hit then option_to_list backup else []))
-          (subst (λ (b : Bool). list_any (λ hop. nat_eq hop.parent e) (if b then option_to_list backup else []) ≡ true) (sym there.0) (parent_one backup e there.1))
+      | inl here ↦ or_left (list_any (λ hop. nat_eq hop.parent e) (option_to_list primary))
+          (list_any (λ hop. nat_eq hop.parent e) (if hit then option_to_list backup else [])) (parent_one primary e here)
+      | inr there ↦ or_right (list_any (λ hop. nat_eq hop.parent e) (option_to_list primary))
+          (list_any (λ hop. nat_eq hop.parent e) (if hit then option_to_list backup else []))
+          (subst (λ (b : Bool). list_any (λ hop. nat_eq hop.parent e) (if b then option_to_list backup else []) ≡ true) (sym there.0)
+          (parent_one backup e there.1))
     ]))
 
 module _ (net : Network) (plan : Plan) (domain : DomainId) where

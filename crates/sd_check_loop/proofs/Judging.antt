@@ -13,7 +13,7 @@ use Rattle.sd_plan.specs.Plans.{Fits, is_member, is_root, has_row, primary_of, b
 use Rattle.sd_plan.specs.Structure.{structure_breach}
 use Rattle.sd_plan.specs.Walks.{is_end, is_hit, short_walk}
 use Rattle.sd_plan.proofs.Rules.{keeps_rules, other_member}
-use Rattle.sd_hit.specs.Hit.{hit_by}
+use Rattle.sd_check_hit.specs.Hit.{hit_by}
 use Rattle.sd_check_loop.specs.Graphs.{place_in, parent_place, no_successors, successors_of, graph_of, successors_at, leads, IsGraph, BothAre}
 use Rattle.sd_check_loop.specs.Loops.{hops_of, same_hop, is_walk, HasNoCycle, IsEndless, IsLeast, LeadsTo, IsNextShown}
 use Rattle.sd_check_loop.specs.Markings.{mark_at, EndsBelow, IsMarked}
@@ -42,21 +42,25 @@ at_parent hit None j at = cc
 at_parent hit (Some hop) j at = (hop.parent, (hop, refl, refl), at)
 
 -- the hit devices of a domain, as the graph has them
-module _ (net : Network) (plan : Plan) (domain : DomainId) (fits : Fits net plan) (structured : structure_breach net plan ≡ None) (hit : List ℕ) (is : hit ≡ hit_by net plan domain) where
+module _ (net : Network) (plan : Plan) (domain : DomainId) (fits : Fits net plan) (structured : structure_breach net plan ≡ None) (hit : List ℕ)
+    (is : hit ≡ hit_by net plan domain) where
   -- what is listed is hit
   hit_here : (d i : ℕ) → place_in hit d ≡ Some i → is_hit net plan domain d ≡ true
   hit_here d i at =
       let place = place_in-some hit d i at in
       subst (λ (x : ℕ). is_hit net plan domain x ≡ true) place.1
-      (subst (λ (xs : List ℕ). i < length xs → is_hit net plan domain (get_or xs i 0) ≡ true) (sym is) (λ within. passing_at (is_hit net plan domain) (length net.devices) i within) place.0)
+      (subst (λ (xs : List ℕ). i < length xs → is_hit net plan domain (get_or xs i 0) ≡ true) (sym is)
+      (λ within. passing_at (is_hit net plan domain) (length net.devices) i within) place.0)
 
   -- what is hit is listed
   unplaced : (d : ℕ) → d < length net.devices → place_in hit d ≡ None → is_hit net plan domain d ≡ false
   unplaced d within none =
       false_from_ne_true (is_hit net plan domain d) (λ hits.
-      let listed : has hit d ≡ true = subst (λ (xs : List ℕ). has xs d ≡ true) (sym is) (passing_has (is_hit net plan domain) (length net.devices) d within hits) in
+      let listed : has hit d ≡ true =
+      subst (λ (xs : List ℕ). has xs d ≡ true) (sym is) (passing_has (is_hit net plan domain) (length net.devices) d within hits) in
       let place = place_of hit d listed in
-      let there : place_in hit d ≡ Some place.0 = subst (λ (x : ℕ). place_in hit x ≡ Some place.0) place.2 (place_in-at hit place.0 (hit_ascends net plan domain hit is) place.1) in
+      let there : place_in hit d ≡ Some place.0 =
+      subst (λ (x : ℕ). place_in hit x ≡ Some place.0) place.2 (place_in-at hit place.0 (hit_ascends net plan domain hit is) place.1) in
       differ place.0 (sym none ∙ there))
     where
       differ : (i : ℕ) → ◌≡◌ {A = Option ℕ} None (Some i) → ⊥
@@ -70,14 +74,16 @@ module _ (net : Network) (plan : Plan) (domain : DomainId) (fits : Fits net plan
   row_member : (d : ℕ) → has_row plan d ≡ true → is_end plan d ≡ false → is_member plan d ≡ true
   row_member d row other =
       let within = row_within plan d row in
-      sym (other_member net plan d (keeps_rules net plan structured) (omega (arith, within, fits.entries)) (λ same. both_ways (is_root plan d) (not_root plan d other) (eq-eqb plan.root d same))) ∙ row
+      sym (other_member net plan d (keeps_rules net plan structured) (omega (arith, within, fits.entries))
+      (λ same. both_ways (is_root plan d) (not_root plan d other) (eq-eqb plan.root d same))) ∙ row
 
   module _ (graph : List Successors) (made : graph ≡ graph_of plan hit) where
     -- the successors at a place are those of its device
     successors_there : (d i : ℕ) → place_in hit d ≡ Some i → successors_at graph i ≡ successors_of plan hit d
     successors_there d i at =
         let place = place_in-some hit d i at in
-        ap (λ (g : List Successors). successors_at g i) made ∙ get_or-map (successors_of plan hit) hit i 0 no_successors place.0 ∙ ap (successors_of plan hit) place.1
+        ap (λ (g : List Successors). successors_at g i) made ∙ get_or-map (successors_of plan hit) hit i 0 no_successors place.0
+        ∙ ap (successors_of plan hit) place.1
 
     -- those of a device that ends no walk
     abbrev of_parents : ℕ → Successors
@@ -101,8 +107,12 @@ module _ (net : Network) (plan : Plan) (domain : DomainId) (fits : Fits net plan
         same o some = subst (λ (found : Option ℕ). same_number found j ≡ true) (sym some) (eq-eqb j j refl)
 
         by : OneLeads (is_hit net plan domain d) (primary_of plan d) (backup_of plan d) e → leads_by (of_parents d) j ≡ true
-        by (inl here) = or_left (same_number (parent_place hit (primary_of plan d)) j) (same_number (parent_place hit (backup_of plan d)) j) (same (parent_place hit (primary_of plan d)) (parent_at hit (primary_of plan d) e j here at_e))
-        by (inr there) = or_right (same_number (parent_place hit (primary_of plan d)) j) (same_number (parent_place hit (backup_of plan d)) j) (same (parent_place hit (backup_of plan d)) (parent_at hit (backup_of plan d) e j there.1 at_e))
+        by (inl here) =
+            or_left (same_number (parent_place hit (primary_of plan d)) j) (same_number (parent_place hit (backup_of plan d)) j)
+            (same (parent_place hit (primary_of plan d)) (parent_at hit (primary_of plan d) e j here at_e))
+        by (inr there) =
+            or_right (same_number (parent_place hit (primary_of plan d)) j) (same_number (parent_place hit (backup_of plan d)) j)
+            (same (parent_place hit (backup_of plan d)) (parent_at hit (backup_of plan d) e j there.1 at_e))
 
     -- where a place leads to another, so do their devices
     led_on : (d i j : ℕ) → place_in hit d ≡ Some i → leads graph i j ≡ true → (e : ℕ) × (place_in hit e ≡ Some j) × LeadsTo net plan domain d e
@@ -116,7 +126,8 @@ module _ (net : Network) (plan : Plan) (domain : DomainId) (fits : Fits net plan
         none : leads_by no_successors j ≡ true → ⊥
         none same = cc
 
-        by : is_end plan d ≡ false → (same_number (parent_place hit (primary_of plan d)) j ≡ true) ⊎ (same_number (parent_place hit (backup_of plan d)) j ≡ true) → (e : ℕ) × (place_in hit e ≡ Some j) × LeadsTo net plan domain d e
+        by : is_end plan d ≡ false → (same_number (parent_place hit (primary_of plan d)) j ≡ true)
+            ⊎ (same_number (parent_place hit (backup_of plan d)) j ≡ true) → (e : ℕ) × (place_in hit e ≡ Some j) × LeadsTo net plan domain d e
         by other (inl here) =
             let found = at_parent hit (primary_of plan d) j (same_number-some (parent_place hit (primary_of plan d)) j here) in (
               found.0,
@@ -129,7 +140,11 @@ module _ (net : Network) (plan : Plan) (domain : DomainId) (fits : Fits net plan
               found.0,
               found.2,
               leads_to net plan domain d found.0
-                  (record { member_is = row_member d (has_backup_row plan d found.0 found.1) other; ends_not = other; parent = inr (hit_here d i at_d, found.1) }),
+                  (record {
+                    member_is = row_member d (has_backup_row plan d found.0 found.1) other;
+                    ends_not = other;
+                    parent = inr (hit_here d i at_d, found.1);
+                  }),
             )
 
     module _ (marks : List Mark) (marked : IsMarked graph marks) where
@@ -168,7 +183,8 @@ module _ (net : Network) (plan : Plan) (domain : DomainId) (fits : Fits net plan
           let within = led_within d e known in
           let unhit = unplaced d within none in
           elim known.parent [
-            | inl here ↦ subst (λ (x : ℕ). GoesUnhit net plan domain d x) here.2 (goes_unhit net plan domain d here.0 structured within known.member_is known.ends_not here.1 unhit)
+            | inl here ↦ subst (λ (x : ℕ). GoesUnhit net plan domain d x) here.2
+                (goes_unhit net plan domain d here.0 structured within known.member_is known.ends_not here.1 unhit)
             | inr there ↦ absurd (both_ways (is_hit net plan domain d) unhit there.0)
           ]
 
@@ -179,7 +195,8 @@ module _ (net : Network) (plan : Plan) (domain : DomainId) (fits : Fits net plan
           by (place_in hit d) refl
         where
           by : (place : Option ℕ) → place_in hit d ≡ place → mark_at marks j ≡ mark.Ending
-          by (Some i) at_d = (both_at (EndsBelow marks marked.ranked.rank i) graph i j (leads_on d e i j at_d at_e leads_e) (marked.ranked.falls i (ends i at_d))).0
+          by (Some i) at_d =
+              (both_at (EndsBelow marks marked.ranked.rank i) graph i j (leads_on d e i j at_d at_e leads_e) (marked.ranked.falls i (ends i at_d))).0
           by None none =
               elim (cases_Bool (is_end plan e)) [
                 | inl last ↦ ends_end e last j at_e
@@ -199,7 +216,8 @@ module _ (net : Network) (plan : Plan) (domain : DomainId) (fits : Fits net plan
           by (Some i) here false more None there =
               rw (rank_is d false (Some i) open_here here, rank_is e false None more there) (omega (arith, short_count net plan e))
           by (Some i) here false more (Some j) there =
-              let below = both_at (EndsBelow marks marked.ranked.rank i) graph i j (leads_on d e i j here there leads_e) (marked.ranked.falls i (ends i here)) in
+              let below = both_at (EndsBelow marks marked.ranked.rank i) graph i j (leads_on d e i j here there leads_e)
+              (marked.ranked.falls i (ends i here)) in
               rw (rank_is d false (Some i) open_here here, rank_is e false (Some j) more there) (omega (arith, below.1))
           by None none true last at_e there =
               rw (rank_is d false None open_here none, rank_is e true at_e last there) (omega (arith, (unlisted d e none leads_e).fewer))
@@ -228,7 +246,8 @@ module _ (net : Network) (plan : Plan) (domain : DomainId) (fits : Fits net plan
           omega (arith, bounded d walk.0 ends walk.2, walk.1)
 
       -- walks of each length begin at an endless place
-      endless_walk : (n d i : ℕ) → place_in hit d ≡ Some i → mark_at marks i ≡ mark.Endless → (hs : List Hop) × (length hs ≡ n) × IsTrue (is_walk net plan domain d hs)
+      endless_walk : (n d i : ℕ) → place_in hit d ≡ Some i → mark_at marks i ≡ mark.Endless
+          → (hs : List Hop) × (length hs ≡ n) × IsTrue (is_walk net plan domain d hs)
       endless_walk zero d i at endless = ([], refl, refl)
       endless_walk (suc n) d i at endless =
           let next = marked.goes_on i endless in
@@ -264,7 +283,8 @@ module _ (net : Network) (plan : Plan) (domain : DomainId) (fits : Fits net plan
           differ_ending : mark.Ending ≡ mark.Endless → ⊥
           differ_ending same = cc
 
-          by_mark : (i : ℕ) → place_in hit d ≡ Some i → (m : Mark) → mark_at marks i ≡ m → ((j : ℕ) → place_in hit d ≡ Some j → mark_at marks j ≡ mark.Ending) ⊎ IsMarkedEndless d
+          by_mark : (i : ℕ) → place_in hit d ≡ Some i → (m : Mark) → mark_at marks i ≡ m
+              → ((j : ℕ) → place_in hit d ≡ Some j → mark_at marks j ≡ mark.Ending) ⊎ IsMarkedEndless d
           by_mark i at mark.Endless is_m = inr (i, at, is_m)
           by_mark i at mark.New is_m = inl (λ j there. ended i j at there (λ e. differ_new (sym is_m ∙ e)))
           by_mark i at mark.Entered is_m = inl (λ j there. ended i j at there (λ e. differ_entered (sym is_m ∙ e)))
@@ -288,7 +308,8 @@ module _ (net : Network) (plan : Plan) (domain : DomainId) (fits : Fits net plan
       none_endless none = no_cycle net plan domain rank (λ d hop some. falls d hop.parent (λ i at. marked.done i (none i)) (hop_leads d hop some))
 
       -- the device of the first endless place is the least endless one
-      pub first_least : (d i : ℕ) → place_in hit d ≡ Some i → mark_at marks i ≡ mark.Endless → ((k : ℕ) → k < i → mark_at marks k ≢ mark.Endless) → IsLeast (IsEndless net plan domain) d
+      pub first_least : (d i : ℕ) → place_in hit d ≡ Some i → mark_at marks i ≡ mark.Endless → ((k : ℕ) → k < i → mark_at marks k ≢ mark.Endless)
+          → IsLeast (IsEndless net plan domain) d
       first_least d i at endless before = (
         marked_endless d (i, at, endless),
         λ e less is_endless.
@@ -326,7 +347,8 @@ module _ (net : Network) (plan : Plan) (domain : DomainId) (fits : Fits net plan
     is_graph i within =
         let before : i < length hit = omega (arith, ap (λ (g : List Successors). length g) made, length-map hit (successors_of plan hit)) in
         let at = place_in-at hit i (hit_ascends net plan domain hit is) before in
-        subst (λ (s : Successors). BothAre (λ j. j < length graph) s) (sym (successors_there (get_or hit i 0) i at)) (by (cases_Bool (is_end plan (get_or hit i 0))))
+        subst (λ (s : Successors). BothAre (λ j. j < length graph) s) (sym (successors_there (get_or hit i 0) i at))
+        (by (cases_Bool (is_end plan (get_or hit i 0))))
       where
         size : length graph ≡ length hit
         size = ap (λ (g : List Successors). length g) made ∙ length-map hit (successors_of plan hit)
@@ -335,8 +357,12 @@ module _ (net : Network) (plan : Plan) (domain : DomainId) (fits : Fits net plan
         one o None none = tt
         one o (Some j) some = let found = at_parent hit o j some in let place = place_in-some hit found.0 j found.2 in omega (arith, place.0, size)
 
-        by : (is_end plan (get_or hit i 0) ≡ true) ⊎ (is_end plan (get_or hit i 0) ≡ false) → BothAre (λ j. j < length graph) (successors_of plan hit (get_or hit i 0))
+        by : (is_end plan (get_or hit i 0) ≡ true) ⊎ (is_end plan (get_or hit i 0) ≡ false)
+            → BothAre (λ j. j < length graph) (successors_of plan hit (get_or hit i 0))
         by (inl ends) = subst (λ (s : Successors). BothAre (λ j. j < length graph) s) (sym (successors_end (get_or hit i 0) ends)) (tt, tt)
         by (inr other) =
-            subst (λ (s : Successors). BothAre (λ j. j < length graph) s) (sym (successors_on (get_or hit i 0) other))
-            (one (primary_of plan (get_or hit i 0)) (parent_place hit (primary_of plan (get_or hit i 0))) refl, one (backup_of plan (get_or hit i 0)) (parent_place hit (backup_of plan (get_or hit i 0))) refl)
+            subst (λ (s : Successors). BothAre (λ j. j < length graph) s) (sym (successors_on (get_or hit i 0) other)) (
+              one (primary_of plan (get_or hit i 0)) (parent_place hit (primary_of plan (get_or hit i 0))) refl,
+              one (backup_of plan (get_or hit i 0))
+                  (parent_place hit (backup_of plan (get_or hit i 0))) refl,
+            )

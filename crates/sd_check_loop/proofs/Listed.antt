@@ -11,8 +11,8 @@ use Rattle.sd_plan.specs.declared.Plan.{Plan}
 use Rattle.sd_plan.specs.Plans.{Fits, IsHop, primary_of, backup_of}
 use Rattle.sd_plan.specs.Walks.{is_hit}
 use Rattle.sd_plan.proofs.Rules.{hops_within}
-use Rattle.sd_hit.specs.Hit.{hit_by}
-use Rattle.sd_hit.proofs.HitList.{hit_at}
+use Rattle.sd_check_hit.specs.Hit.{hit_by}
+use Rattle.sd_check_hit.proofs.HitList.{hit_at}
 use Rattle.sd_check_loop.specs.Graphs.{place_in}
 use Rattle.sd_check_loop.proofs.Places.{place_in-none, place_in-at, passing_ascend}
 

@@ -18,7 +18,8 @@ kept marks x i new was m at_x at_i differ =
     get_or-set_other marks x i new mark.Ending apart ∙ at_i
 
 -- where a mark comes from
-pub from_before : (marks : List Mark) (x i : ℕ) (new m : Mark) → x < length marks → mark_at (put marks x new) i ≡ m → ((i ≡ x) × (new ≡ m)) ⊎ ((i ≢ x) × (mark_at marks i ≡ m))
+pub from_before : (marks : List Mark) (x i : ℕ) (new m : Mark) → x < length marks → mark_at (put marks x new) i ≡ m
+    → ((i ≡ x) × (new ≡ m)) ⊎ ((i ≢ x) × (mark_at marks i ≡ m))
 from_before marks x i new m within at_i =
     elim (cases_eq i x) [
       | inl same ↦ inl (same, sym (get_or-set_same marks x new mark.Ending within) ∙ ap (mark_at (put marks x new)) (sym same) ∙ at_i)

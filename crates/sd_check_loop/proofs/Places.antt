@@ -29,7 +29,8 @@ rise_over xs up i j order within =
 abbrev IsPlace : List ℕ → ℕ → ℕ → Type 0
 IsPlace xs x i = (i < length xs) × (get_or xs i 0 ≡ x)
 
-further_place : (y : ℕ) (ys : List ℕ) (x : ℕ) (o : Option ℕ) (i : ℕ) → ((k : ℕ) → o ≡ Some k → IsPlace ys x k) → option_map (λ k. suc k) o ≡ Some i → IsPlace (y ∷ ys) x i
+further_place : (y : ℕ) (ys : List ℕ) (x : ℕ) (o : Option ℕ) (i : ℕ) → ((k : ℕ) → o ≡ Some k → IsPlace ys x k) → option_map (λ k. suc k) o ≡ Some i
+    → IsPlace (y ∷ ys) x i
 further_place y ys x None i rest is = cc
 further_place y ys x (Some k) i rest is =
     let at = rest k refl in
@@ -44,7 +45,8 @@ place_in-some (y ∷ ys) x i is = by (nat_eq y x) refl is (λ k at. place_in-som
     first : nat_eq y x ≡ true → (0 ≡ i) → IsPlace (y ∷ ys) x i
     first same start = subst (λ (n : ℕ). IsPlace (y ∷ ys) x n) start (omega arith, eqb-true y x same)
 
-    by : (b : Bool) → nat_eq y x ≡ b → cond b (Some 0) (option_map (λ k. suc k) (place_in ys x)) ≡ Some i → ((k : ℕ) → place_in ys x ≡ Some k → IsPlace ys x k) → IsPlace (y ∷ ys) x i
+    by : (b : Bool) → nat_eq y x ≡ b → cond b (Some 0) (option_map (λ k. suc k) (place_in ys x)) ≡ Some i → ((k : ℕ) → place_in ys x ≡ Some k → IsPlace ys x k)
+        → IsPlace (y ∷ ys) x i
     by true same found rest = let start : 0 ≡ i = cc in first same start
     by false other found rest = further_place y ys x (place_in ys x) i rest found
 
@@ -84,7 +86,8 @@ module _ (test : ℕ → Bool) (bound : ℕ) where
   has_passing [] x passes there = there
   has_passing (y ∷ ys) x passes there = by (test y) refl (or_cases (nat_eq x y) (has ys x) there) (λ later. has_passing ys x passes later)
     where
-      by : (b : Bool) → test y ≡ b → (nat_eq x y ≡ true) ⊎ (has ys x ≡ true) → (has ys x ≡ true → has (filter test ys) x ≡ true) → has (cond b (y ∷ filter test ys) (filter test ys)) x ≡ true
+      by : (b : Bool) → test y ≡ b → (nat_eq x y ≡ true) ⊎ (has ys x ≡ true) → (has ys x ≡ true → has (filter test ys) x ≡ true)
+          → has (cond b (y ∷ filter test ys) (filter test ys)) x ≡ true
       by true is (inl here) rest = or_left (nat_eq x y) (has (filter test ys) x) here
       by true is (inr later) rest = or_right (nat_eq x y) (has (filter test ys) x) (rest later)
       by false is (inl here) rest = absurd (both_ways (test y) is (subst (λ (z : ℕ). test z ≡ true) (eqb-true x y here) passes))

@@ -26,13 +26,17 @@ module _ (net : Network) (plan : Plan) (domain : DomainId) (rank : ℕ → ℕ) 
   no_higher : (d : ℕ) (hs : List Hop) → IsTrue (is_walk net plan domain d hs) → rank (end_of d hs) ≤ rank d
   no_higher d [] walked = omega arith
   no_higher d (hop ∷ hs) walked =
-      let step : rank hop.parent < rank d = falls d hop (and_first (list_any (same_hop hop) (hops_of net plan domain d)) (is_walk net plan domain hop.parent hs) walked) in
-      let rest : rank (end_of hop.parent hs) ≤ rank hop.parent = no_higher hop.parent hs (and_second (list_any (same_hop hop) (hops_of net plan domain d)) (is_walk net plan domain hop.parent hs) walked) in
+      let step : rank hop.parent < rank d =
+      falls d hop (and_first (list_any (same_hop hop) (hops_of net plan domain d)) (is_walk net plan domain hop.parent hs) walked) in
+      let rest : rank (end_of hop.parent hs) ≤ rank hop.parent =
+      no_higher hop.parent hs (and_second (list_any (same_hop hop) (hops_of net plan domain d)) (is_walk net plan domain hop.parent hs) walked) in
       omega (arith, step, rest)
 
   pub no_cycle : HasNoCycle net plan domain
   no_cycle d hop hs walked same =
-      let step : rank hop.parent < rank d = falls d hop (and_first (list_any (same_hop hop) (hops_of net plan domain d)) (is_walk net plan domain hop.parent hs) walked) in
-      let rest : rank (end_of hop.parent hs) ≤ rank hop.parent = no_higher hop.parent hs (and_second (list_any (same_hop hop) (hops_of net plan domain d)) (is_walk net plan domain hop.parent hs) walked) in
+      let step : rank hop.parent < rank d =
+      falls d hop (and_first (list_any (same_hop hop) (hops_of net plan domain d)) (is_walk net plan domain hop.parent hs) walked) in
+      let rest : rank (end_of hop.parent hs) ≤ rank hop.parent =
+      no_higher hop.parent hs (and_second (list_any (same_hop hop) (hops_of net plan domain d)) (is_walk net plan domain hop.parent hs) walked) in
       let back : rank (end_of hop.parent hs) ≡ rank d = ap rank same in
       omega (arith, step, rest, back)

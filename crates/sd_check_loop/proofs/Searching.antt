@@ -34,7 +34,8 @@ module _ (graph : List Successors) (marks : List Mark) (stack : List ℕ) (s : I
           falls = λ i ending.
               elim (from_before marks x i mark.Entered mark.Ending there ending) [
                 | inl here ↦ absurd (not_ending here.1)
-                | inr before ↦ both_map (successors_at graph i) (λ j ends. (kept marks x j mark.Entered mark.New mark.Ending new ends.0 new_differs, ends.1)) (s.ranked.falls i before.1)
+                | inr before ↦ both_map (successors_at graph i) (λ j ends. (kept marks x j mark.Entered mark.New mark.Ending new ends.0 new_differs, ends.1))
+                    (s.ranked.falls i before.1)
               ];
         }
       where
@@ -63,7 +64,8 @@ module _ (graph : List Successors) (marks : List Mark) (stack : List ℕ) (s : I
     fresh : (k : ℕ) → k < length stack → get_or stack k 0 ≢ x
     fresh k before same = new_entered (sym new ∙ ap (mark_at marks) (sym same) ∙ s.entered k before)
 
-    pub search_entered : ((k : ℕ) → k + 1 ≡ length stack → leads graph (get_or stack k 0) x ≡ true) → IsSearch graph (put marks x mark.Entered) (stack ++ x ∷ [])
+    pub search_entered : ((k : ℕ) → k + 1 ≡ length stack → leads graph (get_or stack k 0) x ≡ true)
+        → IsSearch graph (put marks x mark.Entered) (stack ++ x ∷ [])
     search_entered led =
         record {
           size = length-set marks x mark.Entered ∙ s.size;
@@ -82,12 +84,14 @@ module _ (graph : List Successors) (marks : List Mark) (stack : List ℕ) (s : I
           apart = λ k l order below.
               elim (cases_lt l (length stack)) [
                 | inl before ↦ (let first : k < length stack = omega arith in rw (early k first, early l before) (s.apart k l order before))
-                | inr after ↦ (let first : k < length stack = omega (arith, at_end l below after) in rw (early k first, late l (at_end l below after)) (fresh k first))
+                | inr after ↦ (let first : k < length stack = omega (arith, at_end l below after) in
+                    rw (early k first, late l (at_end l below after)) (fresh k first))
               ];
           chain = λ k below.
               elim (cases_lt (k + 1) (length stack)) [
                 | inl before ↦ (let first : k < length stack = omega arith in rw (early k first, early (k + 1) before) (s.chain k before))
-                | inr after ↦ (let first : k < length stack = omega (arith, at_end (k + 1) below after) in rw (early k first, late (k + 1) (at_end (k + 1) below after)) (led k (at_end (k + 1) below after)))
+                | inr after ↦ (let first : k < length stack = omega (arith, at_end (k + 1) below after) in
+                    rw (early k first, late (k + 1) (at_end (k + 1) below after)) (led k (at_end (k + 1) below after)))
               ];
           stacked = λ i entered.
               elim (from_before marks x i mark.Entered mark.Entered there entered) [
@@ -148,7 +152,8 @@ module _ (graph : List Successors) (marks : List Mark) (stack : List ℕ) (s : I
     ends_still : (j : ℕ) → mark_at marks j ≡ mark.Ending → mark_at (put marks top mark.Ending) j ≡ mark.Ending
     ends_still j ending = kept marks top j mark.Ending mark.Entered mark.Ending top_entered ending entered_ending
 
-    below_one : (o : Option ℕ) (i : ℕ) → i ≡ top → rank_of s.ranked.rank o < high → IfSome o (λ j. mark_at marks j ≡ mark.Ending) → IfSome o (EndsBelow (put marks top mark.Ending) (raised s.ranked.rank top high) i)
+    below_one : (o : Option ℕ) (i : ℕ) → i ≡ top → rank_of s.ranked.rank o < high → IfSome o (λ j. mark_at marks j ≡ mark.Ending)
+        → IfSome o (EndsBelow (put marks top mark.Ending) (raised s.ranked.rank top high) i)
     below_one None i same below ending = tt
     below_one (Some j) i same below ending =
         (ends_still j ending, rw (same_rank s.ranked.rank high j (other_ends j ending), top_rank s.ranked.rank high i same) below)
@@ -172,7 +177,11 @@ module _ (graph : List Successors) (marks : List Mark) (stack : List ℕ) (s : I
               elim (from_before marks top i mark.Ending mark.Ending top_there ending) [
                 | inl here ↦ at_top i here.0
                 | inr before ↦ both_map (successors_at graph i)
-                    (λ j below. (ends_still j below.0, rw (same_rank s.ranked.rank high j (other_ends j below.0), same_rank s.ranked.rank high i before.0) below.1))
+                    (λ j below. (
+                      ends_still j below.0,
+                      rw (same_rank s.ranked.rank high j (other_ends j below.0), same_rank s.ranked.rank high i before.0)
+                          below.1,
+                    ))
                     (s.ranked.falls i before.1)
               ];
         }
@@ -181,7 +190,8 @@ module _ (graph : List Successors) (marks : List Mark) (stack : List ℕ) (s : I
     finished_goes_on i endless =
         elim (from_before marks top i mark.Ending mark.Endless top_there endless) [
           | inl here ↦ absurd (ending_endless here.1)
-          | inr before ↦ (let next = s.goes_on i before.1 in (next.0, next.1, kept marks top next.0 mark.Ending mark.Entered mark.Endless top_entered next.2 entered_endless))
+          | inr before ↦ (let next = s.goes_on i before.1 in
+              (next.0, next.1, kept marks top next.0 mark.Ending mark.Entered mark.Endless top_entered next.2 entered_endless))
         ]
 
     front : (k : ℕ) → k < n → get_or (take n stack) k 0 ≡ get_or stack k 0
@@ -221,21 +231,26 @@ module _ (graph : List Successors) (marks : List Mark) (stack : List ℕ) (s : I
               ];
         }
       where
-        still_there : (i : ℕ) → i ≢ top → ((k : ℕ) × (k < length stack) × (get_or stack k 0 ≡ i)) → (k : ℕ) × (k < length (take n stack)) × (get_or (take n stack) k 0 ≡ i)
+        still_there : (i : ℕ) → i ≢ top → ((k : ℕ) × (k < length stack) × (get_or stack k 0 ≡ i))
+            → (k : ℕ) × (k < length (take n stack)) × (get_or (take n stack) k 0 ≡ i)
         still_there i apart old =
-            let below : old.0 < n = elim (cases_eq old.0 n) [ inl last ↦ absurd (apart (sym old.2 ∙ ap (λ (k : ℕ). get_or stack k 0) last)) | inr other ↦ omega (arith, old.1) ] in
+            let below : old.0 < n =
+            elim (cases_eq old.0 n) [ inl last ↦ absurd (apart (sym old.2 ∙ ap (λ (k : ℕ). get_or stack k 0) last)) | inr other ↦ omega (arith, old.1) ] in
             (old.0, omega (arith, size_front), front old.0 below ∙ old.2)
 
 -- the same, as the code has it
-pub finished_at : (graph : List Successors) (marks : List Mark) (stack left : List ℕ) (size x : ℕ) → IsSearch graph marks stack → size ≡ length stack → 0 < length stack
-    → ((k : ℕ) → k + 1 ≡ length stack → get_or stack k 0 ≡ x) → BothAre (λ j. mark_at marks j ≡ mark.Ending) (successors_at graph x) → left ≡ take (size - 1) stack
+pub finished_at : (graph : List Successors) (marks : List Mark) (stack left : List ℕ) (size x : ℕ) → IsSearch graph marks stack → size ≡ length stack
+    → 0 < length stack
+    → ((k : ℕ) → k + 1 ≡ length stack → get_or stack k 0 ≡ x) → BothAre (λ j. mark_at marks j ≡ mark.Ending) (successors_at graph x)
+    → left ≡ take (size - 1) stack
     → IsSearch graph (put marks x mark.Ending) left
 finished_at graph marks stack left size x s sized some at ends is =
     let last : size - 1 + 1 ≡ length stack = omega arith in
     let here : get_or stack (size - 1) 0 ≡ x = at (size - 1) last in
     subst (λ (rest : List ℕ). IsSearch graph (put marks x mark.Ending) rest) (sym is)
     (subst (λ (y : ℕ). IsSearch graph (put marks y mark.Ending) (take (size - 1) stack)) here
-    (search_finished graph marks stack s (size - 1) last (subst (λ (y : ℕ). BothAre (λ j. mark_at marks j ≡ mark.Ending) (successors_at graph y)) (sym here) ends)))
+    (search_finished graph marks stack s (size - 1) last
+    (subst (λ (y : ℕ). BothAre (λ j. mark_at marks j ≡ mark.Ending) (successors_at graph y)) (sym here) ends)))
 
 -- one of the two marks that condemn
 condemns : (j : ℕ) (m : Mark) → step_by j m ≡ step.Condemn → (m ≡ mark.Entered) ⊎ (m ≡ mark.Endless)
@@ -282,8 +297,14 @@ module _ (graph : List Successors) (marks after : List Mark) (stack : List ℕ) 
   goes_on_from : (i k : ℕ) → k < length stack → get_or stack k 0 ≡ i → (j : ℕ) × (leads graph i j ≡ true) × (mark_at after j ≡ mark.Endless)
   goes_on_from i k below at =
       elim (cases_eq (k + 1) (length stack)) [
-        | inl last ↦ (let next = endless k last in (next.0, subst (λ (x : ℕ). leads graph x next.0 ≡ true) at next.1, now_endless next.0 (condemns next.0 (mark_at marks next.0) next.2)))
-        | inr more ↦ (let before : k + 1 < length stack = omega arith in (get_or stack (k + 1) 0, subst (λ (x : ℕ). leads graph x (get_or stack (k + 1) 0) ≡ true) at (s.chain k before), now_endless (get_or stack (k + 1) 0) (inl (s.entered (k + 1) before))))
+        | inl last ↦ (let next = endless k last in
+            (next.0, subst (λ (x : ℕ). leads graph x next.0 ≡ true) at next.1, now_endless next.0 (condemns next.0 (mark_at marks next.0) next.2)))
+        | inr more ↦ (let before : k + 1 < length stack = omega arith in (
+          get_or stack (k + 1) 0,
+          subst (λ (x : ℕ). leads graph x (get_or stack (k + 1) 0) ≡ true) at (s.chain k before),
+          now_endless
+              (get_or stack (k + 1) 0) (inl (s.entered (k + 1) before)),
+        ))
       ]
 
   pub search_condemned : IsSearch graph after []
@@ -294,7 +315,8 @@ module _ (graph : List Successors) (marks after : List Mark) (stack : List ℕ) 
           rank = s.ranked.rank;
           falls = λ i ending.
               let before = not_changed i mark.Ending endless_ending ending in
-              both_map (successors_at graph i) (λ j below. (off_stack j (is_off j mark.Ending entered_ends below.0) ∙ below.0, below.1)) (s.ranked.falls i before.1);
+              both_map (successors_at graph i) (λ j below. (off_stack j (is_off j mark.Ending entered_ends below.0) ∙ below.0, below.1))
+              (s.ranked.falls i before.1);
         };
         goes_on = λ i at.
             elim (cases_Bool (has stack i)) [
@@ -368,7 +390,8 @@ pub leads_second : (graph : List Successors) (i j : ℕ) → (successors_at grap
 leads_second graph i j is = or_right (same_number (successors_at graph i).primary j) (same_number (successors_at graph i).backup j) (rw is (eq-eqb j j refl))
 
 -- what a step at a place says
-pub enters : (graph : List Successors) (marks : List Mark) (i j : ℕ) → step_at graph marks i ≡ step.Enter j → (leads graph i j ≡ true) × (mark_at marks j ≡ mark.New)
+pub enters : (graph : List Successors) (marks : List Mark) (i j : ℕ) → step_at graph marks i ≡ step.Enter j
+    → (leads graph i j ≡ true) × (mark_at marks j ≡ mark.New)
 enters graph marks i j is =
     let s = successors_at graph i in
     elim (is_entered_by (step_to marks s.primary) (step_to marks s.backup) j is) [
@@ -376,13 +399,15 @@ enters graph marks i j is =
       | inr here ↦ (let new = to_new marks s.backup j here in (leads_second graph i j new.0, new.1))
     ]
 
-pub finishes : (graph : List Successors) (marks : List Mark) (i : ℕ) → step_at graph marks i ≡ step.Finish → BothAre (λ j. mark_at marks j ≡ mark.Ending) (successors_at graph i)
+pub finishes : (graph : List Successors) (marks : List Mark) (i : ℕ) → step_at graph marks i ≡ step.Finish
+    → BothAre (λ j. mark_at marks j ≡ mark.Ending) (successors_at graph i)
 finishes graph marks i is =
     let s = successors_at graph i in
     let both = are_finished (step_to marks s.primary) (step_to marks s.backup) is in
     (to_end marks s.primary both.0, to_end marks s.backup both.1)
 
-pub is_condemned : (graph : List Successors) (marks : List Mark) (i : ℕ) → step_at graph marks i ≡ step.Condemn → (j : ℕ) × (leads graph i j ≡ true) × (step_by j (mark_at marks j) ≡ step.Condemn)
+pub is_condemned : (graph : List Successors) (marks : List Mark) (i : ℕ) → step_at graph marks i ≡ step.Condemn
+    → (j : ℕ) × (leads graph i j ≡ true) × (step_by j (mark_at marks j) ≡ step.Condemn)
 is_condemned graph marks i is =
     let s = successors_at graph i in
     elim (is_condemned_by (step_to marks s.primary) (step_to marks s.backup) is) [
@@ -410,7 +435,8 @@ fewer_new (x ∷ xs) (y ∷ ys) size newer =
     omega (arith, first, rest, here, there)
 
 -- what comes of the whole stack, as the code has it
-module _ (graph : List Successors) (marks seen after : List Mark) (stack listed : List ℕ) (n : ℕ) (is : seen ≡ marks) (are : listed ≡ stack) (sized : n ≡ length marks) (kept_size : length after ≡ length seen)
+module _ (graph : List Successors) (marks seen after : List Mark) (stack listed : List ℕ) (n : ℕ) (is : seen ≡ marks) (are : listed ≡ stack)
+    (sized : n ≡ length marks) (kept_size : length after ≡ length seen)
     (made : (i : ℕ) → mark_at after i ≡ (if has listed i then mark.Endless else mark_at seen i)) where
   size_kept : length after ≡ length marks
   size_kept = kept_size ∙ ap (λ (xs : List Mark). length xs) is
@@ -423,7 +449,8 @@ module _ (graph : List Successors) (marks seen after : List Mark) (stack listed 
   written : take n (after ++ drop (length after) marks) ≡ after
   written = take_at after (drop (length after) marks) n (size_kept ∙ sym sized)
 
-  pub condemned_at : IsSearch graph marks stack → ((k : ℕ) → k + 1 ≡ length stack → (j : ℕ) × (leads graph (get_or stack k 0) j ≡ true) × (step_by j (mark_at marks j) ≡ step.Condemn))
+  pub condemned_at : IsSearch graph marks stack
+      → ((k : ℕ) → k + 1 ≡ length stack → (j : ℕ) × (leads graph (get_or stack k 0) j ≡ true) × (step_by j (mark_at marks j) ≡ step.Condemn))
       → (left : List ℕ) → left ≡ [] → IsSearch graph (take n (after ++ drop (length after) marks)) left
   condemned_at s endless left none =
       subst (λ (xs : List Mark). IsSearch graph xs left) (sym written)

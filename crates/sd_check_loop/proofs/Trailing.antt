@@ -52,12 +52,14 @@ module _ (hit : List ℕ) (graph : List Successors) (marks : List Mark) (up : as
       other equal
 
   -- one more step of a trail
-  pub trail_more : (begin : ℕ) (path : List ℕ) (passed : List (Option ℕ)) (here next : ℕ) → IsTrail hit graph marks begin path passed here → IsGraph graph → passed_at passed here ≡ None
+  pub trail_more : (begin : ℕ) (path : List ℕ) (passed : List (Option ℕ)) (here next : ℕ) → IsTrail hit graph marks begin path passed here → IsGraph graph
+      → passed_at passed here ≡ None
       → next_endless graph marks here ≡ Some next → IsTrail hit graph marks begin (path ++ device_at hit here ∷ []) (put passed here (Some (length path))) next
   trail_more begin path passed here next t graphs open_here step =
       let d = device_at hit here in
       let parts = next_parts graph marks here next step in
-      let there : next < length hit = (let below = both_at (λ j. j < length graph) graph here next parts.0 (graphs here (omega (arith, t.within, size))) in omega (arith, below, size)) in
+      let there : next < length hit =
+      (let below = both_at (λ j. j < length graph) graph here next parts.0 (graphs here (omega (arith, t.within, size))) in omega (arith, below, size)) in
       let known : here < length passed = omega (arith, t.within, t.size) in
       record {
         size = length-set passed here (Some (length path)) ∙ t.size;
@@ -77,7 +79,8 @@ module _ (hit : List ℕ) (graph : List Successors) (marks : List Mark) (up : as
         places = λ i k at.
             elim (cases_eq i here) [
               | inl same ↦
-                  (let found : Some k ≡ Some (length path) = sym at ∙ ap (λ (x : ℕ). passed_at (put passed here (Some (length path))) x) same ∙ get_or-set_same passed here (Some (length path)) None known in
+                  (let found : Some k ≡ Some (length path) = sym at ∙ ap (λ (x : ℕ). passed_at (put passed here (Some (length path))) x) same
+                  ∙ get_or-set_same passed here (Some (length path)) None known in
                   let last : k ≡ length path = cc in
                   (omega (arith, last, length_push path d), get_or_push path d 0 k (sym last) ∙ ap (device_at hit) (sym same)))
               | inr other ↦
@@ -86,7 +89,9 @@ module _ (hit : List ℕ) (graph : List Successors) (marks : List Mark) (up : as
             ];
         new = λ i within none.
             elim (cases_eq i here) [
-              | inl same ↦ absurd (differ (sym none ∙ ap (λ (x : ℕ). passed_at (put passed here (Some (length path))) x) same ∙ get_or-set_same passed here (Some (length path)) None known))
+              | inl same ↦ absurd
+                  (differ (sym none ∙ ap (λ (x : ℕ). passed_at (put passed here (Some (length path))) x) same
+                  ∙ get_or-set_same passed here (Some (length path)) None known))
               | inr other ↦
                   has_more path d (device_at hit i) (t.new i within (sym (get_or-set_other passed here i (Some (length path)) None other) ∙ none))
                   (apart_at i here within t.within other)
@@ -97,7 +102,8 @@ module _ (hit : List ℕ) (graph : List Successors) (marks : List Mark) (up : as
       differ same = cc
 
   -- a trail that comes to a place again ends in a cycle
-  pub trail_ends : (begin : ℕ) (path : List ℕ) (passed : List (Option ℕ)) (here k : ℕ) → IsTrail hit graph marks begin path passed here → passed_at passed here ≡ Some k → CycleIs hit graph marks (device_at hit begin) (drop k path)
+  pub trail_ends : (begin : ℕ) (path : List ℕ) (passed : List (Option ℕ)) (here k : ℕ) → IsTrail hit graph marks begin path passed here
+      → passed_at passed here ≡ Some k → CycleIs hit graph marks (device_at hit begin) (drop k path)
   trail_ends begin path passed here k t again =
       let place = t.places here k again in
       let d = device_at hit here in
@@ -106,7 +112,8 @@ module _ (hit : List ℕ) (graph : List Successors) (marks : List Mark) (up : as
       subst (λ (xs : List ℕ). CycleIs hit graph marks (device_at hit begin) xs) (sym tail)
       (record {
         lead = take k path;
-        begins = subst (λ (xs : List ℕ). IsFirstOf xs (λ x. x ≡ device_at hit begin)) whole (first_less (λ x. x ≡ device_at hit begin) path (d ∷ []) (omega (arith, place.0)) t.begins);
+        begins = subst (λ (xs : List ℕ). IsFirstOf xs (λ x. x ≡ device_at hit begin)) whole
+            (first_less (λ x. x ≡ device_at hit begin) path (d ∷ []) (omega (arith, place.0)) t.begins);
         goes_on = subst (λ (xs : List ℕ). IsChain (IsStep hit graph marks) (xs ++ d ∷ [])) whole t.goes_on;
         once = subst AreDifferent whole t.once;
       })

@@ -58,7 +58,8 @@ stable plan (suc n) e other comes = by (primary_of plan e) comes (λ x. stable p
         → ((x : ℕ) → is_root plan x ≡ false → Comes plan n x → hops (is_end plan) plan (suc n) x ≡ hops (is_end plan) plan n x)
         → onward (is_end plan) (hops (is_end plan) plan (suc n)) found ≡ onward (is_end plan) (hops (is_end plan) plan n) found
     by None ends rest = refl
-    by (Some hop) ends rest = ap (λ (hs : List Hop). hop ∷ hs) (over hop.parent (is_root plan hop.parent) (is_backup_root plan hop.parent) refl ends (rest hop.parent))
+    by (Some hop) ends rest =
+        ap (λ (hs : List Hop). hop ∷ hs) (over hop.parent (is_root plan hop.parent) (is_backup_root plan hop.parent) refl ends (rest hop.parent))
 
 -- a device that ends no walk is not the root
 pub not_root : (plan : Plan) (d : ℕ) → is_end plan d ≡ false → is_root plan d ≡ false
@@ -84,18 +85,22 @@ pub record GoesUnhit (net : Network) (plan : Plan) (domain : DomainId) (d e : �
   pub unhit : is_end plan e ≡ false → is_hit net plan domain e ≡ false
 
 -- the step where the count is n + 1
-step_at : (net : Network) (plan : Plan) (domain : DomainId) (d n : ℕ) (hop : Hop) → net.params.depth ≡ suc n → is_end plan d ≡ false → primary_of plan d ≡ Some hop
+step_at : (net : Network) (plan : Plan) (domain : DomainId) (d n : ℕ) (hop : Hop) → net.params.depth ≡ suc n → is_end plan d ≡ false
+    → primary_of plan d ≡ Some hop
     → Comes plan net.params.depth d → is_hit net plan domain d ≡ false → GoesUnhit net plan domain d hop.parent
 step_at net plan domain d n hop depth other primary comes none =
     let e = hop.parent in
     let whole : short_walk net plan d ≡ hop ∷ after (is_end plan) (hops (is_end plan) plan n) e =
-    short_walk-is net plan d other ∙ ap (λ (m : ℕ). hops (is_end plan) plan m d) depth ∙ ap (λ (found : Option Hop). onward (is_end plan) (hops (is_end plan) plan n) found) primary in
+    short_walk-is net plan d other ∙ ap (λ (m : ℕ). hops (is_end plan) plan m d) depth
+    ∙ ap (λ (found : Option Hop). onward (is_end plan) (hops (is_end plan) plan n) found) primary in
     let path_is : short_path net plan d ≡ hop ∷ after (is_end plan) (hops (is_end plan) plan n) e =
     sym (cond-false (is_end plan d) [] (short_path net plan d) other) ∙ whole in
     let free : hits net domain (things_of (hop ∷ after (is_end plan) (hops (is_end plan) plan n) e)) ≡ false =
     subst (λ (hs : List Hop). hits net domain (things_of hs) ≡ false) path_is none in
     let rest_free : hits net domain (things_of (after (is_end plan) (hops (is_end plan) plan n) e)) ≡ false =
-    (or_parts (holds_device net domain e) (hits net domain (things_of (after (is_end plan) (hops (is_end plan) plan n) e))) (or_parts (holds_link net domain hop.link) (holds_device net domain e || hits net domain (things_of (after (is_end plan) (hops (is_end plan) plan n) e))) free).1).1 in
+    (or_parts (holds_device net domain e) (hits net domain (things_of (after (is_end plan) (hops (is_end plan) plan n) e)))
+    (or_parts (holds_link net domain hop.link) (holds_device net domain e
+    || hits net domain (things_of (after (is_end plan) (hops (is_end plan) plan n) e))) free).1).1 in
     let arrives : is_root plan (end_of e (after (is_root plan) (hops (is_root plan) plan n) e)) ≡ true =
     subst (λ (found : Option Hop). is_root plan (end_of d (onward (is_root plan) (hops (is_root plan) plan n) found)) ≡ true) primary
     (subst (λ (m : ℕ). Comes plan m d) depth comes) in
@@ -108,13 +113,16 @@ step_at net plan domain d n hop depth other primary comes none =
     ]
   where
     goes : (e : ℕ) → is_end plan e ≡ false → short_walk net plan d ≡ hop ∷ after (is_end plan) (hops (is_end plan) plan n) e
-        → hits net domain (things_of (after (is_end plan) (hops (is_end plan) plan n) e)) ≡ false → is_root plan (end_of e (after (is_root plan) (hops (is_root plan) plan n) e)) ≡ true
+        → hits net domain (things_of (after (is_end plan) (hops (is_end plan) plan n) e)) ≡ false
+        → is_root plan (end_of e (after (is_root plan) (hops (is_root plan) plan n) e)) ≡ true
         → GoesUnhit net plan domain d e
     goes e on whole free arrives =
         let here : is_root plan e ≡ false = not_root plan e on in
         let comes_on : Comes plan n e = subst (λ (b : Bool). is_root plan (end_of e (cut b (hops (is_root plan) plan n e))) ≡ true) here arrives in
-        let rest_is : after (is_end plan) (hops (is_end plan) plan n) e ≡ hops (is_end plan) plan n e = ap (λ (b : Bool). cut b (hops (is_end plan) plan n e)) on in
-        let same : hops (is_end plan) plan net.params.depth e ≡ hops (is_end plan) plan n e = ap (λ (m : ℕ). hops (is_end plan) plan m e) depth ∙ stable plan n e here comes_on in
+        let rest_is : after (is_end plan) (hops (is_end plan) plan n) e ≡ hops (is_end plan) plan n e =
+        ap (λ (b : Bool). cut b (hops (is_end plan) plan n e)) on in
+        let same : hops (is_end plan) plan net.params.depth e ≡ hops (is_end plan) plan n e =
+        ap (λ (m : ℕ). hops (is_end plan) plan m e) depth ∙ stable plan n e here comes_on in
         let short_is : short_walk net plan e ≡ hops (is_end plan) plan n e = short_walk-is net plan e on ∙ same in
         let path_is : short_path net plan e ≡ hops (is_end plan) plan n e = sym (cond-false (is_end plan e) [] (short_path net plan e) on) ∙ short_is in
         record {
@@ -123,11 +131,13 @@ step_at net plan domain d n hop depth other primary comes none =
         }
 
 -- the primary hop of a member that is not hit leads to a device that is not hit, with a shorter walk
-pub goes_unhit : (net : Network) (plan : Plan) (domain : DomainId) (d : ℕ) (hop : Hop) → structure_breach net plan ≡ None → d < length net.devices → is_member plan d ≡ true → is_end plan d ≡ false
+pub goes_unhit : (net : Network) (plan : Plan) (domain : DomainId) (d : ℕ) (hop : Hop) → structure_breach net plan ≡ None → d < length net.devices
+    → is_member plan d ≡ true → is_end plan d ≡ false
     → primary_of plan d ≡ Some hop → is_hit net plan domain d ≡ false → GoesUnhit net plan domain d hop.parent
 goes_unhit net plan domain d hop structured within member other primary none =
     by net.params.depth refl
-    (subst (λ (hs : List Hop). is_root plan (end_of d hs) ≡ true) (cond-false (is_root plan d) [] (hops (is_root plan) plan net.params.depth d) (not_root plan d other))
+    (subst (λ (hs : List Hop). is_root plan (end_of d hs) ≡ true)
+    (cond-false (is_root plan d) [] (hops (is_root plan) plan net.params.depth d) (not_root plan d other))
     (right (is_member plan d) (is_root plan (end_of d (walk net plan d))) member ((keeps_rules net plan structured).reaches d within)))
   where
     right : (a b : Bool) → a ≡ true → (not a || b) ≡ true → b ≡ true

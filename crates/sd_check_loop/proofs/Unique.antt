@@ -34,7 +34,11 @@ run_of R one Seen x (y ∷ ys) again chain different apart there =
     let here : has (y ∷ ys) y ≡ true = or_left (nat_eq y y) (has ys y) (eq-eqb y y refl) in
     let whole : has (x ∷ y ∷ ys) y ≡ true = or_right (nat_eq y x) (has (y ∷ ys) y) here in (
       chain.0,
-      λ seen. elim seen [ inl before ↦ (let not_there = apart y before in cc) | inr same ↦ (let gone : has (y ∷ ys) y ≡ false = ap (has (y ∷ ys)) (sym same) ∙ new in cc) ],
+      λ seen. elim seen [
+        | inl before ↦ (let not_there = apart y before in
+            cc)
+        | inr same ↦ (let gone : has (y ∷ ys) y ≡ false = ap (has (y ∷ ys)) (sym same) ∙ new in cc)
+      ],
       run_of R one (SeenWith Seen x) y ys again chain.1 different.1
           (λ z seen. elim seen [ inl before ↦ later z (apart z before) | inr same ↦ ap (has (y ∷ ys)) (sym same) ∙ new ])
           (elim there [
@@ -51,7 +55,8 @@ run_of R one Seen x (y ∷ ys) again chain different apart there =
         by false b none = none
 
 -- a chain goes from its last element but one to its last
-last_of : (R : ℕ → ℕ → Type 0) → ((x y z : ℕ) → R x y → R x z → y ≡ z) → (x : ℕ) (xs : List ℕ) (a b : ℕ) → IsChain R (x ∷ (xs ++ a ∷ [])) → IsChain R (x ∷ (xs ++ b ∷ [])) → a ≡ b
+last_of : (R : ℕ → ℕ → Type 0) → ((x y z : ℕ) → R x y → R x z → y ≡ z) → (x : ℕ) (xs : List ℕ) (a b : ℕ) → IsChain R (x ∷ (xs ++ a ∷ []))
+    → IsChain R (x ∷ (xs ++ b ∷ [])) → a ≡ b
 last_of R one x [] a b to_a to_b = one x a b to_a.0 to_b.0
 last_of R one x (y ∷ ys) a b to_a to_b = last_of R one y ys a b to_a.1 to_b.1
 
@@ -88,14 +93,23 @@ record IsWay (R : ℕ → ℕ → Type 0) (P : ℕ → Type 0) (lead : List ℕ)
   run : IsRun R (λ z. ⊥) (begin ∷ rest)
 
 way_of : (R : ℕ → ℕ → Type 0) → ((x y z : ℕ) → R x y → R x z → y ≡ z) → (P : ℕ → Type 0) (lead : List ℕ) (first : ℕ) (others : List ℕ)
-    → IsFirstOf (lead ++ first ∷ others) P → IsChain R (lead ++ (first ∷ others) ++ first ∷ []) → AreDifferent (lead ++ first ∷ others) → IsWay R P lead first others
+    → IsFirstOf (lead ++ first ∷ others) P → IsChain R (lead ++ (first ∷ others) ++ first ∷ []) → AreDifferent (lead ++ first ∷ others)
+    → IsWay R P lead first others
 way_of R one P lead first others begins goes_on once =
     by_whole (lead ++ first ∷ others) refl begins goes_on once (has_later lead others first)
   where
-    by_whole : (xs : List ℕ) → lead ++ first ∷ others ≡ xs → IsFirstOf xs P → IsChain R (xs ++ first ∷ []) → AreDifferent xs → has xs first ≡ true → IsWay R P lead first others
+    by_whole : (xs : List ℕ) → lead ++ first ∷ others ≡ xs → IsFirstOf xs P → IsChain R (xs ++ first ∷ []) → AreDifferent xs → has xs first ≡ true
+        → IsWay R P lead first others
     by_whole [] is begins chain different there = absurd begins
     by_whole (x ∷ xs) is begins chain different there =
-        record { begin = x; rest = xs; whole = is; least = begins; chain = chain; run = run_of R one (λ z. ⊥) x xs first chain different (λ z seen. absurd seen) (inr there) }
+        record {
+          begin = x;
+          rest = xs;
+          whole = is;
+          least = begins;
+          chain = chain;
+          run = run_of R one (λ z. ⊥) x xs first chain different (λ z seen. absurd seen) (inr there);
+        }
 
 -- there is at most one cycle to be shown
 pub one_cycle : (net : Network) (plan : Plan) (domain : DomainId) (a b : List ℕ) → ShowsCycle net plan domain a → ShowsCycle net plan domain b → a ≡ b
@@ -109,9 +123,12 @@ one_cycle net plan domain (x ∷ xs) (y ∷ ys) shown other =
     let begin : way'.begin ≡ way.begin = one_least (IsEndless net plan domain) way'.begin way.begin way'.least way.least in
     let run' : IsRun R (λ z. ⊥) (way.begin ∷ way'.rest) = subst (λ (v : ℕ). IsRun R (λ z. ⊥) (v ∷ way'.rest)) begin way'.run in
     let rest : way.rest ≡ way'.rest = same_run R one (λ z. ⊥) way.begin way.rest way'.rest way.run run' in
-    let chain' : IsChain R (way.begin ∷ (way.rest ++ y ∷ [])) = subst (λ (v : ℕ). IsChain R (v ∷ (way.rest ++ y ∷ []))) begin (subst (λ (vs : List ℕ). IsChain R (way'.begin ∷ (vs ++ y ∷ []))) (sym rest) way'.chain) in
+    let chain' : IsChain R (way.begin ∷ (way.rest ++ y ∷ [])) =
+    subst (λ (v : ℕ). IsChain R (v ∷ (way.rest ++ y ∷ []))) begin
+    (subst (λ (vs : List ℕ). IsChain R (way'.begin ∷ (vs ++ y ∷ []))) (sym rest) way'.chain) in
     let first : y ≡ x = last_of R one way.begin way.rest y x chain' way.chain in
-    let whole : shown.lead ++ x ∷ xs ≡ other.lead ++ y ∷ ys = way.whole ∙ ap (λ (v : ℕ). v ∷ way.rest) (sym begin) ∙ ap (λ (vs : List ℕ). way'.begin ∷ vs) rest ∙ sym way'.whole in
+    let whole : shown.lead ++ x ∷ xs ≡ other.lead ++ y ∷ ys =
+    way.whole ∙ ap (λ (v : ℕ). v ∷ way.rest) (sym begin) ∙ ap (λ (vs : List ℕ). way'.begin ∷ vs) rest ∙ sym way'.whole in
     let alike : shown.lead ++ x ∷ xs ≡ other.lead ++ x ∷ ys = subst (λ (v : ℕ). shown.lead ++ x ∷ xs ≡ other.lead ++ v ∷ ys) first whole in
     let others = one_part x shown.lead other.lead xs ys alike shown.once in
     cc

@@ -7,7 +7,8 @@ use Rattle.sd_plan.specs.declared.Plan.{Plan}
 use Rattle.sd_check_loop.specs.Loops.{IsShownCycle, ShowsCycle}
 
 module _ (v w : ℕ) (net : Network) (plan : Plan) (domain : DomainId) where
-  pub IsShownCycle-with_version : (first : ℕ) (others : List ℕ) → IsShownCycle (with_version v net) plan domain first others → IsShownCycle (with_version w net) plan domain first others
+  pub IsShownCycle-with_version : (first : ℕ) (others : List ℕ) → IsShownCycle (with_version v net) plan domain first others
+      → IsShownCycle (with_version w net) plan domain first others
   IsShownCycle-with_version first others shown = record { lead = shown.lead; begins = shown.begins; goes_on = shown.goes_on; once = shown.once }
 
   pub ShowsCycle-with_version : (cycle : List ℕ) → ShowsCycle (with_version v net) plan domain cycle → ShowsCycle (with_version w net) plan domain cycle

@@ -53,7 +53,8 @@ CycleIs hit graph marks begin (first ∷ others) = IsCycle hit graph marks begin
 abbrev pub IsAnswer : List ℕ → List Successors → List Mark → Option (List ℕ) → Type 0
 IsAnswer hit graph marks None = (k : ℕ) → k < length marks → mark_at marks k ≢ mark.Endless
 IsAnswer hit graph marks (Some cycle) =
-    (begin : ℕ) × (begin < length hit) × (mark_at marks begin ≡ mark.Endless) × ((k : ℕ) → k < begin → mark_at marks k ≢ mark.Endless) × CycleIs hit graph marks (slice_index_or hit begin 0) cycle
+    (begin : ℕ) × (begin < length hit) × (mark_at marks begin ≡ mark.Endless) × ((k : ℕ) → k < begin → mark_at marks k ≢ mark.Endless)
+    × CycleIs hit graph marks (slice_index_or hit begin 0) cycle
 
 abbrev pub AnswersFor : Plan → List ℕ → Option (List ℕ) → Type 0
 AnswersFor plan hit shown = (marks : List Mark) × IsMarked (graph_of plan hit) marks × IsAnswer hit (graph_of plan hit) marks shown

@@ -17,7 +17,8 @@ use std::alloc::Global;
 
 /// The first place from which some way never ends.
 pub(crate) fn first_endless(marks: &[Mark]) -> Option<usize>
-    ensures { MatchOption result ((k : ℕ) → k < length marks.now → mark_at marks.now k ≢ mark.Endless)
+    ensures { MatchOption result ((k : ℕ) → k < length marks.now
+        → mark_at marks.now k ≢ mark.Endless)
         (λ i. (i < length marks.now) × (mark_at marks.now i ≡ mark.Endless) × ((k : ℕ) → k < i → mark_at marks.now k ≢ mark.Endless)) }
 {
     for i in 0..marks.len() {
@@ -80,7 +81,8 @@ fn pass(
     requires sized { length passed.old.items ≡ length hit.now }
     requires endless { mark_at marks.now here ≡ mark.Endless }
     requires new { passed_at passed.old.items here ≡ None }
-    ensures trail { OnOk result ((begin : ℕ) → IsTrail hit.now graph.now marks.now begin path.old passed.old.items here
+    ensures trail { OnOk result ((begin : ℕ)
+        → IsTrail hit.now graph.now marks.now begin path.old passed.old.items here
         → IfOk result (IsTrail hit.now graph.now marks.now begin path.new passed.new.items)) }
     ensures left { OnOk result (count_by is_open passed.new.items < count_by is_open passed.old.items) }
 {

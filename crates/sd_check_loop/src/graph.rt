@@ -1,9 +1,9 @@
 //! The hit devices as a graph: each leads to those of its parents that are hit too.
 ghost use Rattle.std.specs.Prelude.{◌≡◌, ◌<◌, length, IfOk, IfSome};
 ghost use Rattle.sd_check_loop.specs.Graphs as graphs;
-ghost use Rattle.sd_hit.specs.Outages.{net_of, plan_of};
+ghost use Rattle.sd_check_hit.specs.Outages.{net_of, plan_of};
 
-use sd_hit::Outage;
+use sd_check_hit::Outage;
 use sd_num::NoMemory;
 use sd_plan::{Hop, backup_of, primary_of};
 use std::alloc::Global;
@@ -49,7 +49,8 @@ fn successors_of(outage: &Outage<'_>, d: u32) -> Successors
 
 /// Where each hit device leads.
 pub(crate) fn graph_of(alloc: Global, outage: &Outage<'_>) -> Result<Vec<Successors>, NoMemory>
-    ensures { IfOk result (λ graph. graph.items ≡ graphs.graph_of (plan_of outage.now) outage.now.hit.now) }
+    ensures { IfOk result (λ graph. graph.items
+        ≡ graphs.graph_of (plan_of outage.now) outage.now.hit.now) }
 {
     let Ok(mut graph) = Vec::with_capacity(alloc, outage.hit.len()) else {
         return Err(NoMemory);

@@ -73,10 +73,13 @@ fn enter(
     requires searched { IsSearch graph.now marks.old.items stack.old.items }
     requires place { next < length graph.now }
     requires new { mark_at marks.old.items next ≡ mark.New }
-    requires led { (k : ℕ) → k + 1 ≡ length stack.old.items → IsTrue (leads graph.now (slice_index_or stack.old.items k 0) next) }
+    requires led { (k : ℕ) → k + 1 ≡ length stack.old.items
+        → IsTrue (leads graph.now (slice_index_or stack.old.items k 0) next) }
     ensures searched { OnOk result (IsSearch graph.now marks.new.items stack.new.items) }
     ensures newer { OnOk result (NoneNewer marks.old.items marks.new.items) }
-    ensures left { OnOk result (search_left marks.new.items stack.new.items < search_left marks.old.items stack.old.items) }
+    ensures left { OnOk result
+        (search_left marks.new.items stack.new.items < search_left marks.old.items
+        stack.old.items) }
     ensures entered { OnOk result (mark_at marks.new.items next ≡ mark.Entered) }
 {
     let Ok(()) = stack.push(next) else {
@@ -89,12 +92,14 @@ fn enter(
 /// Takes the top off the stack, since all that it leads to ends.
 fn finish(graph: &[Successors], marks: &mut Vec<Mark>, stack: &mut Vec<usize>, top: usize)
     requires searched { IsSearch graph.now marks.old.items stack.old.items }
-    requires top { (k : ℕ) → k + 1 ≡ length stack.old.items → slice_index_or stack.old.items k 0 ≡ top }
+    requires top { (k : ℕ) → k + 1 ≡ length stack.old.items
+        → slice_index_or stack.old.items k 0 ≡ top }
     requires some { 0 < length stack.old.items }
     requires ends { BothAre (λ j. mark_at marks.old.items j ≡ mark.Ending) (successors_at graph.now top) }
     ensures searched { IsSearch graph.now marks.new.items stack.new.items }
     ensures newer { NoneNewer marks.old.items marks.new.items }
-    ensures left { search_left marks.new.items stack.new.items < search_left marks.old.items stack.old.items }
+    ensures left { search_left marks.new.items stack.new.items < search_left marks.old.items
+        stack.old.items }
 {
     marks[top] = Mark::Ending;
     let _ = stack.pop();
@@ -103,7 +108,8 @@ fn finish(graph: &[Successors], marks: &mut Vec<Mark>, stack: &mut Vec<usize>, t
 /// Marks places as those from which some way never ends.
 fn mark_endless(marks: &mut [Mark], places: &[usize])
     requires { All (λ i. i < length marks.old) places.now }
-    ensures { (i : ℕ) → mark_at marks.new i ≡ (if has places.now i then mark.Endless else mark_at marks.old i) }
+    ensures { (i : ℕ)
+        → mark_at marks.new i ≡ (if has places.now i then mark.Endless else mark_at marks.old i) }
 {
     for i in places {
         marks[*i] = Mark::Endless;
@@ -115,10 +121,12 @@ fn condemn(graph: &[Successors], marks: &mut Vec<Mark>, stack: &mut Vec<usize>)
     requires searched { IsSearch graph.now marks.old.items stack.old.items }
     requires some { 0 < length stack.old.items }
     requires endless { (k : ℕ) → k + 1 ≡ length stack.old.items
-        → (j : ℕ) × IsTrue (leads graph.now (slice_index_or stack.old.items k 0) j) × (markings.step_by j (mark_at marks.old.items j) ≡ step.Condemn) }
+        → (j : ℕ) × IsTrue (leads graph.now (slice_index_or stack.old.items k 0) j)
+        × (markings.step_by j (mark_at marks.old.items j) ≡ step.Condemn) }
     ensures searched { IsSearch graph.now marks.new.items stack.new.items }
     ensures newer { NoneNewer marks.old.items marks.new.items }
-    ensures left { search_left marks.new.items stack.new.items < search_left marks.old.items stack.old.items }
+    ensures left { search_left marks.new.items stack.new.items < search_left marks.old.items
+        stack.old.items }
 {
     mark_endless(marks, stack);
     stack.clear();
@@ -133,11 +141,14 @@ fn turn(
 ) -> Result<(), NoMemory>
     requires graph { IsGraph graph.now }
     requires searched { IsSearch graph.now marks.old.items stack.old.items }
-    requires top { (k : ℕ) → k + 1 ≡ length stack.old.items → slice_index_or stack.old.items k 0 ≡ top }
+    requires top { (k : ℕ) → k + 1 ≡ length stack.old.items
+        → slice_index_or stack.old.items k 0 ≡ top }
     requires some { 0 < length stack.old.items }
     ensures searched { OnOk result (IsSearch graph.now marks.new.items stack.new.items) }
     ensures newer { OnOk result (NoneNewer marks.old.items marks.new.items) }
-    ensures left { OnOk result (search_left marks.new.items stack.new.items < search_left marks.old.items stack.old.items) }
+    ensures left { OnOk result
+        (search_left marks.new.items stack.new.items < search_left marks.old.items
+        stack.old.items) }
 {
     match step_at(graph, marks, top) {
         Step::Enter(next) => return enter(graph, marks, stack, next),

@@ -21,26 +21,33 @@ module _ (net : Network) (plan : Plan) (domain : DomainId) where
   onward_hop None next is = cc
   onward_hop (Some hop) next is = by (is_left net domain hop.link hop.parent) refl is
     where
-      by : (b : Bool) → is_left net domain hop.link hop.parent ≡ b → (if b then Some hop.parent else None) ≡ Some next → (h : Hop) × (Some hop ≡ Some h) × (is_left net domain h.link h.parent ≡ true) × (h.parent ≡ next)
+      by : (b : Bool) → is_left net domain hop.link hop.parent ≡ b → (if b then Some hop.parent else None) ≡ Some next
+          → (h : Hop) × (Some hop ≡ Some h) × (is_left net domain h.link h.parent ≡ true) × (h.parent ≡ next)
       by true left is = (hop, refl, left, same_Some hop.parent next is)
       by false taken is = cc
 
   -- it turns there
   pub onward_turns : (d next : ℕ) → onward net plan domain d ≡ Some next → turns_to net plan domain d next ≡ true
   onward_turns d next is =
-      let found : (hop : Hop) × (next_hop plan d ≡ Some hop) × (is_left net domain hop.link hop.parent ≡ true) × (hop.parent ≡ next) = onward_hop (next_hop plan d) next is in
+      let found : (hop : Hop) × (next_hop plan d ≡ Some hop) × (is_left net domain hop.link hop.parent ≡ true) × (hop.parent ≡ next) =
+      onward_hop (next_hop plan d) next is in
       let hop : Hop = found.0 in
-      let parts : (not (holds_link net domain hop.link) ≡ true) × (not (holds_device net domain hop.parent) ≡ true) = and_parts (not (holds_link net domain hop.link)) (not (holds_device net domain hop.parent)) found.2 in
-      subst (λ (o : Option Hop). of_some o false (λ h. nat_eq h.parent next && not (holds_link net domain h.link) && not (holds_device net domain h.parent)) ≡ true) (sym found.1)
+      let parts : (not (holds_link net domain hop.link) ≡ true) × (not (holds_device net domain hop.parent) ≡ true) =
+      and_parts (not (holds_link net domain hop.link)) (not (holds_device net domain hop.parent)) found.2 in
+      subst (λ (o : Option Hop). of_some o false (λ h. nat_eq h.parent next && not (holds_link net domain h.link) && not (holds_device net domain h.parent))
+      ≡ true) (sym found.1)
       (and_from (nat_eq hop.parent next && not (holds_link net domain hop.link)) (not (holds_device net domain hop.parent))
       (and_from (nat_eq hop.parent next) (not (holds_link net domain hop.link)) (eq-eqb hop.parent next found.3) parts.0) parts.1)
 
   -- whether a next hop goes on to a device that the chain has not
   pub goes : Option Hop → List ℕ → Bool
-  goes o chain = of_some o false (λ hop. of_some o false (λ h. nat_eq h.parent hop.parent && not (holds_link net domain h.link) && not (holds_device net domain h.parent)) && not (has chain hop.parent))
+  goes o chain =
+      of_some o false (λ hop. of_some o false (λ h. nat_eq h.parent hop.parent && not (holds_link net domain h.link) && not (holds_device net domain h.parent))
+      && not (has chain hop.parent))
 
   -- no hop is left to go on
-  pub stops : (o : Option Hop) (chain : List ℕ) → of_some o None (λ hop. if is_left net domain hop.link hop.parent then Some hop.parent else None) ≡ None → goes o chain ≡ false
+  pub stops : (o : Option Hop) (chain : List ℕ) → of_some o None (λ hop. if is_left net domain hop.link hop.parent then Some hop.parent else None) ≡ None
+      → goes o chain ≡ false
   unfolding goes
   stops None chain none = refl
   stops (Some hop) chain none = by (is_left net domain hop.link hop.parent) refl none
@@ -50,13 +57,17 @@ module _ (net : Network) (plan : Plan) (domain : DomainId) where
       taken false l d t = refl
 
       by : (b : Bool) → is_left net domain hop.link hop.parent ≡ b → (if b then Some hop.parent else None) ≡ None
-          → ((nat_eq hop.parent hop.parent && not (holds_link net domain hop.link) && not (holds_device net domain hop.parent)) && not (has chain hop.parent)) ≡ false
+          → ((nat_eq hop.parent hop.parent && not (holds_link net domain hop.link) && not (holds_device net domain hop.parent)) && not (has chain hop.parent))
+          ≡ false
       by true left none = cc
       by false out none =
-          ap (λ (b : Bool). b && not (has chain hop.parent)) (taken (nat_eq hop.parent hop.parent) (holds_link net domain hop.link) (holds_device net domain hop.parent) out)
+          ap (λ (b : Bool). b && not (has chain hop.parent))
+          (taken (nat_eq hop.parent hop.parent) (holds_link net domain hop.link) (holds_device net domain hop.parent) out)
 
   -- the hop that is left leads back
-  pub comes_round : (o : Option Hop) (chain : List ℕ) (next : ℕ) → of_some o None (λ hop. if is_left net domain hop.link hop.parent then Some hop.parent else None) ≡ Some next → has chain next ≡ true → goes o chain ≡ false
+  pub comes_round : (o : Option Hop) (chain : List ℕ) (next : ℕ)
+      → of_some o None (λ hop. if is_left net domain hop.link hop.parent then Some hop.parent else None) ≡ Some next → has chain next ≡ true
+      → goes o chain ≡ false
   unfolding goes
   comes_round None chain next is there = refl
   comes_round (Some hop) chain next is there =
@@ -66,16 +77,20 @@ module _ (net : Network) (plan : Plan) (domain : DomainId) where
       (not_from_true (has chain hop.parent) (subst (λ x. has chain x ≡ true) (sym same) there))
 
   -- one element more
-  along_more : (chain : List ℕ) (here next : ℕ) → turns_along net plan domain chain ≡ true → ends_with chain here → turns_to net plan domain here next ≡ true → has chain next ≡ false → turns_along net plan domain (chain ++ next ∷ []) ≡ true
+  along_more : (chain : List ℕ) (here next : ℕ) → turns_along net plan domain chain ≡ true → ends_with chain here → turns_to net plan domain here next ≡ true
+      → has chain next ≡ false → turns_along net plan domain (chain ++ next ∷ []) ≡ true
   along_more [] here next along ends turns new = absurd ends
   along_more (d ∷ []) here next along ends turns new =
-      and_from (turns_to net plan domain d next && not (has [] next)) true (and_from (turns_to net plan domain d next) (not (has [] next)) (subst (λ x. turns_to net plan domain x next ≡ true) (sym ends) turns) refl) refl
+      and_from (turns_to net plan domain d next && not (has [] next)) true
+      (and_from (turns_to net plan domain d next) (not (has [] next)) (subst (λ x. turns_to net plan domain x next ≡ true) (sym ends) turns) refl) refl
   along_more (d ∷ e ∷ es) here next along ends turns new =
-      let parts : ((turns_to net plan domain d e && not (has es e)) ≡ true) × (turns_along net plan domain (e ∷ es) ≡ true) = and_parts (turns_to net plan domain d e && not (has es e)) (turns_along net plan domain (e ∷ es)) along in
+      let parts : ((turns_to net plan domain d e && not (has es e)) ≡ true) × (turns_along net plan domain (e ∷ es) ≡ true) =
+      and_parts (turns_to net plan domain d e && not (has es e)) (turns_along net plan domain (e ∷ es)) along in
       let first : (turns_to net plan domain d e ≡ true) × (not (has es e) ≡ true) = and_parts (turns_to net plan domain d e) (not (has es e)) parts.0 in
       let out : (nat_eq next d ≡ false) × (has (e ∷ es) next ≡ false) = or_parts (nat_eq next d) (has (e ∷ es) next) new in
       and_from (turns_to net plan domain d e && not (has (es ++ next ∷ []) e)) (turns_along net plan domain (e ∷ (es ++ next ∷ [])))
-      (and_from (turns_to net plan domain d e) (not (has (es ++ next ∷ []) e)) first.0 (not_from_false (has (es ++ next ∷ []) e) (still es next e (not-true (has es e) first.1) out.1)))
+      (and_from (turns_to net plan domain d e) (not (has (es ++ next ∷ []) e)) first.0
+      (not_from_false (has (es ++ next ∷ []) e) (still es next e (not-true (has es e) first.1) out.1)))
       (along_more (e ∷ es) here next parts.1 ends turns out.1)
     where
       still : (es : List ℕ) (next e : ℕ) → has es e ≡ false → has (e ∷ es) next ≡ false → has (es ++ next ∷ []) e ≡ false
@@ -89,7 +104,8 @@ module _ (net : Network) (plan : Plan) (domain : DomainId) where
   ends_more (d ∷ []) next = refl
   ends_more (d ∷ e ∷ es) next = ends_more (e ∷ es) next
 
-  begins_more : (chain : List ℕ) (first next here : ℕ) → begins_with chain first ≡ true → ends_with chain here → has chain next ≡ false → begins_with (chain ++ next ∷ []) first ≡ true
+  begins_more : (chain : List ℕ) (first next here : ℕ) → begins_with chain first ≡ true → ends_with chain here → has chain next ≡ false
+      → begins_with (chain ++ next ∷ []) first ≡ true
   begins_more [] first next here begins ends new = absurd ends
   begins_more (e ∷ es) first next here begins ends new =
       let parts : (nat_eq e first ≡ true) × (not (has es first) ≡ true) = and_parts (nat_eq e first) (not (has es first)) begins in
@@ -102,7 +118,8 @@ module _ (net : Network) (plan : Plan) (domain : DomainId) where
   pub chain_first : (first : ℕ) → IsChainTo net plan domain first first (first ∷ [])
   chain_first first = record { begins = and_from (nat_eq first first) true (eq-eqb first first refl) refl; along = refl; ends = refl }
 
-  pub chain_more : (first here next : ℕ) (chain : List ℕ) → IsChainTo net plan domain first here chain → onward net plan domain here ≡ Some next → has chain next ≡ false → IsChainTo net plan domain first next (chain ++ next ∷ [])
+  pub chain_more : (first here next : ℕ) (chain : List ℕ) → IsChainTo net plan domain first here chain → onward net plan domain here ≡ Some next
+      → has chain next ≡ false → IsChainTo net plan domain first next (chain ++ next ∷ [])
   chain_more first here next chain known is new =
       record {
         begins = begins_more chain first next here known.begins known.ends new;
@@ -111,15 +128,19 @@ module _ (net : Network) (plan : Plan) (domain : DomainId) where
       }
 
   -- a chain that goes no further is the one to be shown
-  follows : (chain xs : List ℕ) (here : ℕ) → turns_along net plan domain xs ≡ true → ends_with xs here → goes (next_hop plan here) chain ≡ false → follows_turns net plan domain chain xs ≡ true
+  follows : (chain xs : List ℕ) (here : ℕ) → turns_along net plan domain xs ≡ true → ends_with xs here → goes (next_hop plan here) chain ≡ false
+      → follows_turns net plan domain chain xs ≡ true
   unfolding goes
   follows chain [] here along ends stopped = refl
   follows chain (d ∷ []) here along ends stopped =
       subst (λ x. follows_turns net plan domain chain (x ∷ []) ≡ true) (sym ends)
       (not_from_false (of_some (next_hop plan here) false (λ hop. turns_to net plan domain here hop.parent && not (has chain hop.parent))) stopped)
   follows chain (d ∷ e ∷ es) here along ends stopped =
-      let parts : ((turns_to net plan domain d e && not (has es e)) ≡ true) × (turns_along net plan domain (e ∷ es) ≡ true) = and_parts (turns_to net plan domain d e && not (has es e)) (turns_along net plan domain (e ∷ es)) along in
-      and_from (turns_to net plan domain d e && not (has es e)) (follows_turns net plan domain chain (e ∷ es)) parts.0 (follows chain (e ∷ es) here parts.1 ends stopped)
+      let parts : ((turns_to net plan domain d e && not (has es e)) ≡ true) × (turns_along net plan domain (e ∷ es) ≡ true) =
+      and_parts (turns_to net plan domain d e && not (has es e)) (turns_along net plan domain (e ∷ es)) along in
+      and_from (turns_to net plan domain d e && not (has es e)) (follows_turns net plan domain chain (e ∷ es)) parts.0
+      (follows chain (e ∷ es) here parts.1 ends stopped)
 
-  pub chain_stopped : (first here : ℕ) (chain : List ℕ) → IsChainTo net plan domain first here chain → goes (next_hop plan here) chain ≡ false → IsChainOf net plan domain first chain
+  pub chain_stopped : (first here : ℕ) (chain : List ℕ) → IsChainTo net plan domain first here chain → goes (next_hop plan here) chain ≡ false
+      → IsChainOf net plan domain first chain
   chain_stopped first here chain known stopped = record { begins = known.begins; goes_on = follows chain chain here known.along known.ends stopped }

@@ -1,4 +1,5 @@
--- Every set that is closed under the rules of being fed has each device that is fed, and every set that is closed under usable links each device that is joined.
+-- Every set that is closed under the rules of being fed has each device that is fed, and every set that is closed under usable links each device that is
+-- joined.
 use Rattle.std.specs.Prelude.{◌≡◌, ℕ, ◌<◌, Bool, not, length, IsTrue, Some}
 use Rattle.sd_topo.specs.Network.{Network, joins}
 use Rattle.sd_topo.specs.Joined.{Joined, here, over}
@@ -28,7 +29,8 @@ abbrev pub IsClosedUnderLinks : Network → (ℕ → Bool) → (ℕ → Bool) �
 IsClosedUnderLinks net may_pass may_cross S =
     (d e l : ℕ) → l < length net.links → IsTrue (may_cross l) → IsTrue (joins net l d e) → IsTrue (may_pass e) → S d → S e
 
-pub joined_within_set : {net : Network} {may_pass may_cross : ℕ → Bool} {d x : ℕ} (S : ℕ → Type 0) → IsClosedUnderLinks net may_pass may_cross S → Joined net may_pass may_cross d x → S d → S x
+pub joined_within_set : {net : Network} {may_pass may_cross : ℕ → Bool} {d x : ℕ} (S : ℕ → Type 0) → IsClosedUnderLinks net may_pass may_cross S
+    → Joined net may_pass may_cross d x → S d → S x
 joined_within_set S closed here inside = inside
 joined_within_set {d = d} S closed (over {e = e} l in_range crosses joined passes rest) inside =
     joined_within_set S closed rest (closed d e l in_range crosses joined passes inside)

@@ -55,11 +55,13 @@ module _ (net : Network) (plan : Plan) (domain : DomainId) (hit : List ℕ) wher
       record {
         size = right.size;
         fed = right.fed;
-        unfed = λ i d at unfed. held_more (λ e. IsUnfed hit marks e ⊎ S e) (λ e. IsUnfed hit marks e ⊎ T e) d (λ e side. elim side [ inl a ↦ inl a | inr b ↦ inr (more e b) ]) (right.unfed i d at unfed);
+        unfed = λ i d at unfed. held_more (λ e. IsUnfed hit marks e ⊎ S e) (λ e. IsUnfed hit marks e ⊎ T e) d
+            (λ e side. elim side [ inl a ↦ inl a | inr b ↦ inr (more e b) ]) (right.unfed i d at unfed);
       }
 
   -- no marks are wrong where all are unseen
-  pub unseen_right : (marks : List Mark) → length marks ≡ length hit → ((i : ℕ) → i < length hit → slice_get marks i ≡ Some mark.Unseen) → AreMarks net plan domain hit (λ e. ⊥) marks
+  pub unseen_right : (marks : List Mark) → length marks ≡ length hit → ((i : ℕ) → i < length hit → slice_get marks i ≡ Some mark.Unseen)
+      → AreMarks net plan domain hit (λ e. ⊥) marks
   unseen_right marks size unseen =
       record {
         size = size;
@@ -75,20 +77,23 @@ module _ (net : Network) (plan : Plan) (domain : DomainId) (hit : List ℕ) wher
           place = unfed.place;
           at = unfed.at;
           marked = elim (cases_eq unfed.place place) [
-            | inl same ↦ subst (λ j. slice_get (set marks place mark.Unfed) j ≡ Some mark.Unfed) (sym same) (at_written marks place mark.Unfed (slice_get_within marks place mark.Unseen unseen))
+            | inl same ↦ subst (λ j. slice_get (set marks place mark.Unfed) j ≡ Some mark.Unfed) (sym same)
+                (at_written marks place mark.Unfed (slice_get_within marks place mark.Unseen unseen))
             | inr apart ↦ at_unwritten marks place unfed.place mark.Unfed apart ∙ unfed.marked
           ];
         }
 
     -- the place that was looked at is marked
-    pub looked_at : (T : ℕ → Type 0) → AreMarks net plan domain hit (λ e. slice_get hit place ≡ Some e) marks → IsHeld net plan domain T d → AreMarks net plan domain hit T (set marks place mark.Unfed)
+    pub looked_at : (T : ℕ → Type 0) → AreMarks net plan domain hit (λ e. slice_get hit place ≡ Some e) marks → IsHeld net plan domain T d
+        → AreMarks net plan domain hit T (set marks place mark.Unfed)
     looked_at T right held =
         let inside : place < length marks = slice_get_within marks place mark.Unseen unseen in
         let written : slice_get (set marks place mark.Unfed) place ≡ Some mark.Unfed = at_written marks place mark.Unfed inside in
         record {
           size = length-set marks place mark.Unfed ∙ right.size;
           fed = λ i x there fed. elim (cases_eq i place) [
-            | inl same ↦ two_marks (slice_get (set marks place mark.Unfed) i) fed (subst (λ j. slice_get (set marks place mark.Unfed) j ≡ Some mark.Unfed) (sym same) written) (λ equal. cc)
+            | inl same ↦ two_marks (slice_get (set marks place mark.Unfed) i) fed
+                (subst (λ j. slice_get (set marks place mark.Unfed) j ≡ Some mark.Unfed) (sym same) written) (λ equal. cc)
             | inr apart ↦ right.fed i x there (sym (at_unwritten marks place i mark.Unfed apart) ∙ fed)
           ];
           unfed = λ i x there unfed. elim (cases_eq i place) [
@@ -108,7 +113,8 @@ module _ (net : Network) (plan : Plan) (domain : DomainId) (hit : List ℕ) wher
     trail_more old trail so_far =
         let inside : place < length marks = slice_get_within marks place mark.Unseen unseen in
         let written : slice_get (set marks place mark.Unfed) place ≡ Some mark.Unfed = at_written marks place mark.Unfed inside in
-        let new : has trail place ≡ false = false_from_ne_true (has trail place) (λ there. two_marks (slice_get marks place) unseen (so_far.is_unfed place there) (λ same. cc)) in
+        let new : has trail place ≡ false =
+        false_from_ne_true (has trail place) (λ there. two_marks (slice_get marks place) unseen (so_far.is_unfed place there) (λ same. cc)) in
         record {
           was_unseen = λ i there. elim (has_cases trail place i there) [
             | inl before ↦ so_far.was_unseen i before
@@ -143,11 +149,13 @@ module _ (net : Network) (plan : Plan) (domain : DomainId) (hit : List ℕ) wher
         → (i x : ℕ) → has (trail ++ place ∷ []) i ≡ true → slice_get hit i ≡ Some x → T → Fed net plan domain x
     leads_more trail T turns leads i x there is t = elim (has_cases trail place i there) [
       | inl before ↦ leads i x before is d at (turns t)
-      | inr same ↦ (let equal : d ≡ x = same_Some d x (sym at ∙ subst (λ j. slice_get hit j ≡ Some x) same is) in subst (λ y. Fed net plan domain y) equal (turns t))
+      | inr same ↦ (let equal : d ≡ x = same_Some d x (sym at ∙ subst (λ j. slice_get hit j ≡ Some x) same is) in
+          subst (λ y. Fed net plan domain y) equal (turns t))
     ]
 
   -- a trail that ends at a device that is marked as not fed
-  pub ends_unfed : (place d : ℕ) (marks : List Mark) → slice_get hit place ≡ Some d → slice_get marks place ≡ Some mark.Unfed → AreMarks net plan domain hit (λ e. slice_get hit place ≡ Some e) marks → AreMarks net plan domain hit (λ e. ⊥) marks
+  pub ends_unfed : (place d : ℕ) (marks : List Mark) → slice_get hit place ≡ Some d → slice_get marks place ≡ Some mark.Unfed
+      → AreMarks net plan domain hit (λ e. slice_get hit place ≡ Some e) marks → AreMarks net plan domain hit (λ e. ⊥) marks
   ends_unfed place d marks at marked right =
       record {
         size = right.size;
@@ -158,7 +166,8 @@ module _ (net : Network) (plan : Plan) (domain : DomainId) (hit : List ℕ) wher
       }
 
   -- where the trail ends at what is fed, all of it is marked as fed
-  pub fed_right : (start : ℕ) (old marks new : List Mark) (trail : List ℕ) → AreMarks net plan domain hit (λ e. ⊥) old → IsFollowed net plan domain hit start old marks trail true → IsMarkedFed trail marks new
+  pub fed_right : (start : ℕ) (old marks new : List Mark) (trail : List ℕ) → AreMarks net plan domain hit (λ e. ⊥) old
+      → IsFollowed net plan domain hit start old marks trail true → IsMarkedFed trail marks new
       → AreMarks net plan domain hit (λ e. ⊥) new
   fed_right start old marks new trail right followed marked =
       record {
@@ -178,22 +187,28 @@ module _ (net : Network) (plan : Plan) (domain : DomainId) (hit : List ℕ) wher
     where
       kept : (e : ℕ) → IsUnfed hit old e → IsUnfed hit new e
       kept e was =
-          let out : has trail was.place ≡ false = false_from_ne_true (has trail was.place) (λ there. two_marks (slice_get old was.place) was.marked (followed.followed.was_unseen was.place there) (λ same. cc)) in
+          let out : has trail was.place ≡ false =
+          false_from_ne_true (has trail was.place)
+          (λ there. two_marks (slice_get old was.place) was.marked (followed.followed.was_unseen was.place there) (λ same. cc)) in
           record { place = was.place; at = was.at; marked = marked.off was.place out ∙ followed.followed.rest was.place out ∙ was.marked }
 
   -- what was marked before a trail stands
-  pub trail_settles : (start : ℕ) (old marks : List Mark) (trail : List ℕ) (fed : Bool) → IsFollowed net plan domain hit start old marks trail fed → AreSettled start old marks
+  pub trail_settles : (start : ℕ) (old marks : List Mark) (trail : List ℕ) (fed : Bool) → IsFollowed net plan domain hit start old marks trail fed
+      → AreSettled start old marks
   trail_settles start old marks trail fed followed =
       record {
-        stands = λ i m was seen. followed.followed.rest i (false_from_ne_true (has trail i) (λ there. seen (same_Some m mark.Unseen (sym was ∙ followed.followed.was_unseen i there)))) ∙ was;
+        stands = λ i m was seen. followed.followed.rest i
+            (false_from_ne_true (has trail i) (λ there. seen (same_Some m mark.Unseen (sym was ∙ followed.followed.was_unseen i there)))) ∙ was;
         marked = followed.marked;
       }
 
-  pub fed_settles : (start : ℕ) (old marks new : List Mark) (trail : List ℕ) → IsFollowed net plan domain hit start old marks trail true → IsMarkedFed trail marks new → AreSettled start old new
+  pub fed_settles : (start : ℕ) (old marks new : List Mark) (trail : List ℕ) → IsFollowed net plan domain hit start old marks trail true
+      → IsMarkedFed trail marks new → AreSettled start old new
   fed_settles start old marks new trail followed marked =
       record {
         stands = λ i m was seen.
-            let out : has trail i ≡ false = false_from_ne_true (has trail i) (λ there. seen (same_Some m mark.Unseen (sym was ∙ followed.followed.was_unseen i there))) in
+            let out : has trail i ≡ false =
+            false_from_ne_true (has trail i) (λ there. seen (same_Some m mark.Unseen (sym was ∙ followed.followed.was_unseen i there))) in
             marked.off i out ∙ followed.followed.rest i out ∙ was;
         marked = λ unseen. elim (cases_Bool (has trail start)) [
           | inl there ↦ two_marks (slice_get new start) unseen (marked.on start there) (λ same. cc)
@@ -202,7 +217,8 @@ module _ (net : Network) (plan : Plan) (domain : DomainId) (hit : List ℕ) wher
       }
 
 -- places before the next one are marked
-pub seen_more : (old new : List Mark) (k : ℕ) → AreSettled k old new → k < length old → ((i : ℕ) → i < k → slice_get old i ≡ Some mark.Unseen → ⊥) → (i : ℕ) → i < k + 1 → slice_get new i ≡ Some mark.Unseen → ⊥
+pub seen_more : (old new : List Mark) (k : ℕ) → AreSettled k old new → k < length old → ((i : ℕ) → i < k → slice_get old i ≡ Some mark.Unseen → ⊥) → (i : ℕ)
+    → i < k + 1 → slice_get new i ≡ Some mark.Unseen → ⊥
 seen_more old new k settled within seen i before lost =
     elim (cases_lt i k) [
       | inl less ↦

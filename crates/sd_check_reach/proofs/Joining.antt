@@ -25,7 +25,8 @@ use Rattle.sd_num.proofs.Places.{has_at, at_has, has_last, has_before, has_cases
 use Rattle.sd_check_reach.proofs.Walked.{Ends, unhit_ends}
 
 -- two ways make one
-joined_on : {net : Network} {may_pass may_cross : ℕ → Bool} {d e x : ℕ} → Joined net may_pass may_cross d e → Joined net may_pass may_cross e x → Joined net may_pass may_cross d x
+joined_on : {net : Network} {may_pass may_cross : ℕ → Bool} {d e x : ℕ} → Joined net may_pass may_cross d e → Joined net may_pass may_cross e x
+    → Joined net may_pass may_cross d x
 joined_on here rest = rest
 joined_on (over l in_range crosses joined passes more) rest = over l in_range crosses joined passes (joined_on more rest)
 
@@ -34,17 +35,22 @@ module _ (net : Network) (plan : Plan) (domain : DomainId) where
   root_acts : (d : ℕ) → is_root plan d ≡ true → is_sound net plan domain d ≡ true → acting_end net plan domain ≡ d
   root_acts d root sound =
       let same : plan.root ≡ d = eqb-true plan.root d root in
-      let out : holds_device net domain plan.root ≡ false = subst (λ x. holds_device net domain x ≡ false) (sym same) (not-true (holds_device net domain d) (and_parts (is_member plan d) (not (holds_device net domain d)) sound).1) in
+      let out : holds_device net domain plan.root ≡ false =
+      subst (λ x. holds_device net domain x ≡ false) (sym same)
+      (not-true (holds_device net domain d) (and_parts (is_member plan d) (not (holds_device net domain d)) sound).1) in
       ap (λ (b : Bool). if b then plan.backup_root else plan.root) out ∙ same
 
   -- a sound device that is not hit is joined to the acting end where the backup root is, if that is sound
-  pub sure_reaches : (d : ℕ) → Fits net plan → structure_breach net plan ≡ None → KeepsRules net plan → d < length net.devices → is_sound net plan domain d ≡ true → is_hit net plan domain d ≡ false
+  pub sure_reaches : (d : ℕ) → Fits net plan → structure_breach net plan ≡ None → KeepsRules net plan → d < length net.devices
+      → is_sound net plan domain d ≡ true → is_hit net plan domain d ≡ false
       → BackupReaches net plan domain → Reaches net plan domain d
   sure_reaches d fits structured rules within sound spared trust =
-      let ends : Ends net plan domain d = unhit_ends net plan domain d fits structured rules within (and_parts (is_member plan d) (not (holds_device net domain d)) sound).0 spared in
+      let ends : Ends net plan domain d =
+      unhit_ends net plan domain d fits structured rules within (and_parts (is_member plan d) (not (holds_device net domain d)) sound).0 spared in
       let sound_end : is_sound net plan domain ends.at ≡ true = ends.arrives.sound sound in
       elim (or_cases (is_root plan ends.at) (is_backup_root plan ends.at) ends.is_end) [
-        | inl root ↦ subst (λ x. Joined net (is_sound net plan domain) (is_sound_link net plan domain) d x) (sym (root_acts ends.at root sound_end)) ends.arrives.way
+        | inl root ↦ subst (λ x. Joined net (is_sound net plan domain) (is_sound_link net plan domain) d x)
+            (sym (root_acts ends.at root sound_end)) ends.arrives.way
         | inr backup ↦
             (let same : plan.backup_root ≡ ends.at = eqb-true plan.backup_root ends.at backup in
             let on : Reaches net plan domain plan.backup_root = trust.reaches (subst (λ x. is_sound net plan domain x ≡ true) (sym same) sound_end) in
@@ -54,19 +60,28 @@ module _ (net : Network) (plan : Plan) (domain : DomainId) where
   -- a backup root that the domain has is not sound
   pub held_backup : holds_device net domain plan.backup_root ≡ true → BackupReaches net plan domain
   held_backup held = record {
-    reaches = λ sound. absurd (both_ways (holds_device net domain plan.backup_root) (not-true (holds_device net domain plan.backup_root) (and_parts (is_member plan plan.backup_root) (not (holds_device net domain plan.backup_root)) sound).1) held);
+    reaches = λ sound. absurd
+        (both_ways (holds_device net domain plan.backup_root)
+        (not-true (holds_device net domain plan.backup_root)
+        (and_parts (is_member plan plan.backup_root) (not (holds_device net domain plan.backup_root)) sound).1) held);
   }
 
   -- a backup root that is not hit is joined to the acting end
-  pub unhit_backup : Fits net plan → structure_breach net plan ≡ None → KeepsRules net plan → is_hit net plan domain plan.backup_root ≡ false → BackupReaches net plan domain
+  pub unhit_backup : Fits net plan → structure_breach net plan ≡ None → KeepsRules net plan → is_hit net plan domain plan.backup_root ≡ false
+      → BackupReaches net plan domain
   unhit_backup fits structured rules spared = record { reaches = by_root (is_root plan plan.backup_root) refl }
     where
       by_root : (b : Bool) → is_root plan plan.backup_root ≡ b → is_sound net plan domain plan.backup_root ≡ true → Reaches net plan domain plan.backup_root
-      by_root true root sound = subst (λ x. Joined net (is_sound net plan domain) (is_sound_link net plan domain) plan.backup_root x) (sym (root_acts plan.backup_root root sound)) here
+      by_root true root sound =
+          subst (λ x. Joined net (is_sound net plan domain) (is_sound_link net plan domain) plan.backup_root x)
+          (sym (root_acts plan.backup_root root sound)) here
       by_root false other sound =
-          let ends : Ends net plan domain plan.backup_root = unhit_ends net plan domain plan.backup_root fits structured rules fits.backup_root (and_parts (is_member plan plan.backup_root) (not (holds_device net domain plan.backup_root)) sound).0 spared in
+          let ends : Ends net plan domain plan.backup_root =
+          unhit_ends net plan domain plan.backup_root fits structured rules fits.backup_root
+          (and_parts (is_member plan plan.backup_root) (not (holds_device net domain plan.backup_root)) sound).0 spared in
           elim (or_cases (is_root plan ends.at) (is_backup_root plan ends.at) ends.is_end) [
-            | inl root ↦ subst (λ x. Joined net (is_sound net plan domain) (is_sound_link net plan domain) plan.backup_root x) (sym (root_acts ends.at root (ends.arrives.sound sound))) ends.arrives.way
+            | inl root ↦ subst (λ x. Joined net (is_sound net plan domain) (is_sound_link net plan domain) plan.backup_root x)
+                (sym (root_acts ends.at root (ends.arrives.sound sound))) ends.arrives.way
             | inr backup ↦ absurd (ends.apart refl other (sym (eqb-true plan.backup_root ends.at backup)))
           ]
 
@@ -74,10 +89,12 @@ module _ (net : Network) (plan : Plan) (domain : DomainId) where
   pub dry_cut : (visited : List ℕ) (d : ℕ) → IsDry net plan domain visited → has visited d ≡ true → ¬ Reaches net plan domain d
   dry_cut visited d dry there reaches =
       both_ways (has visited (acting_end net plan domain)) dry.lacks
-      (joined_within_set (λ x. has visited x ≡ true) (λ x e l in_range crosses joined passes inside. (dry.closed x inside).into e l in_range crosses joined passes) reaches there)
+      (joined_within_set (λ x. has visited x ≡ true)
+      (λ x e l in_range crosses joined passes inside. (dry.closed x inside).into e l in_range crosses joined passes) reaches there)
 
   -- more visited
-  pub leads_into_more : (old new : List ℕ) (d : ℕ) → ((x : ℕ) → has old x ≡ true → has new x ≡ true) → LeadsInto net plan domain old d → LeadsInto net plan domain new d
+  pub leads_into_more : (old new : List ℕ) (d : ℕ) → ((x : ℕ) → has old x ≡ true → has new x ≡ true) → LeadsInto net plan domain old d
+      → LeadsInto net plan domain new d
   leads_into_more old new d more leads = record { into = λ e l in_range crosses joined passes. more e (leads.into e l in_range crosses joined passes) }
 
   -- no search has visited anybody yet
@@ -128,7 +145,8 @@ has_insert xs y = by (has xs y) refl
     by false out = has_last xs y
 
 -- what a filter_map has of a number
-pub mapped_at : {X : Type 0} (h : ℕ → Option X) (xs : List ℕ) (x : ℕ) (y : X) → has xs x ≡ true → h x ≡ Some y → (j : ℕ) × (slice_get (filter_map h xs) j ≡ Some y)
+pub mapped_at : {X : Type 0} (h : ℕ → Option X) (xs : List ℕ) (x : ℕ) (y : X) → has xs x ≡ true → h x ≡ Some y
+    → (j : ℕ) × (slice_get (filter_map h xs) j ≡ Some y)
 mapped_at h [] x y there is = cc
 mapped_at {X} h (z ∷ zs) x y there is = by (h z) refl (or_cases (nat_eq x z) (has zs x) there) (λ later. mapped_at h zs x y later is)
   where
@@ -139,16 +157,19 @@ mapped_at {X} h (z ∷ zs) x y there is = by (h z) refl (or_cases (nat_eq x z) (
     by (Some v) it (inl same) rest = (0, sym it ∙ ap h (sym (eqb-true x z same)) ∙ is)
     by (Some v) it (inr later) rest = let more : (j : ℕ) × (slice_get (filter_map h zs) j ≡ Some y) = rest later in (suc more.0, more.1)
 
-pub mapped_from : {X : Type 0} (h : ℕ → Option X) (xs : List ℕ) (j : ℕ) (y : X) → slice_get (filter_map h xs) j ≡ Some y → (x : ℕ) × (has xs x ≡ true) × (h x ≡ Some y)
+pub mapped_from : {X : Type 0} (h : ℕ → Option X) (xs : List ℕ) (j : ℕ) (y : X) → slice_get (filter_map h xs) j ≡ Some y
+    → (x : ℕ) × (has xs x ≡ true) × (h x ≡ Some y)
 mapped_from h [] j y at = cc
 mapped_from {X} h (z ∷ zs) j y at = by (h z) refl j at (mapped_from h zs)
   where
     by : (o : Option X) → h z ≡ o → (j : ℕ) → slice_get (cons_option o (filter_map h zs)) j ≡ Some y
         → ((j : ℕ) (y : X) → slice_get (filter_map h zs) j ≡ Some y → (x : ℕ) × (has zs x ≡ true) × (h x ≡ Some y))
         → (x : ℕ) × (has (z ∷ zs) x ≡ true) × (h x ≡ Some y)
-    by None it j at rest = let more : (x : ℕ) × (has zs x ≡ true) × (h x ≡ Some y) = rest j y at in (more.0, or_right (nat_eq more.0 z) (has zs more.0) more.1, more.2)
+    by None it j at rest = let more : (x : ℕ) × (has zs x ≡ true) × (h x ≡ Some y) = rest j y at in
+        (more.0, or_right (nat_eq more.0 z) (has zs more.0) more.1, more.2)
     by (Some v) it zero at rest = (z, or_left (nat_eq z z) (has zs z) (eq-eqb z z refl), it ∙ at)
-    by (Some v) it (suc j) at rest = let more : (x : ℕ) × (has zs x ≡ true) × (h x ≡ Some y) = rest j y at in (more.0, or_right (nat_eq more.0 z) (has zs more.0) more.1, more.2)
+    by (Some v) it (suc j) at rest = let more : (x : ℕ) × (has zs x ≡ true) × (h x ≡ Some y) = rest j y at in
+        (more.0, or_right (nat_eq more.0 z) (has zs more.0) more.1, more.2)
 
 -- a usable link of a device, with its other end
 pub record IsUsable (net : Network) (plan : Plan) (d : ℕ) (end : End) : Type 0 where
@@ -165,30 +186,41 @@ module _ (net : Network) (plan : Plan) (d : ℕ) where
     where
       by : (b : Bool) → nat_eq d (link_of net l).end_a ≡ b → joins net l d (if b then (link_of net l).end_b else (link_of net l).end_a) ≡ true
       by true first =
-          or_left (nat_eq (link_of net l).end_a d && nat_eq (link_of net l).end_b (link_of net l).end_b) (nat_eq (link_of net l).end_a (link_of net l).end_b && nat_eq (link_of net l).end_b d)
-          (and_from (nat_eq (link_of net l).end_a d) (nat_eq (link_of net l).end_b (link_of net l).end_b) (eq-eqb (link_of net l).end_a d (sym (eqb-true d (link_of net l).end_a first))) (eq-eqb (link_of net l).end_b (link_of net l).end_b refl))
+          or_left (nat_eq (link_of net l).end_a d && nat_eq (link_of net l).end_b (link_of net l).end_b)
+          (nat_eq (link_of net l).end_a (link_of net l).end_b && nat_eq (link_of net l).end_b d)
+          (and_from (nat_eq (link_of net l).end_a d) (nat_eq (link_of net l).end_b (link_of net l).end_b)
+          (eq-eqb (link_of net l).end_a d (sym (eqb-true d (link_of net l).end_a first))) (eq-eqb (link_of net l).end_b (link_of net l).end_b refl))
       by false other = elim (or_cases (nat_eq d (link_of net l).end_a) (nat_eq d (link_of net l).end_b) ends) [
         | inl first ↦ absurd (both_ways (nat_eq d (link_of net l).end_a) other first)
         | inr second ↦
-            or_right (nat_eq (link_of net l).end_a d && nat_eq (link_of net l).end_b (link_of net l).end_a) (nat_eq (link_of net l).end_a (link_of net l).end_a && nat_eq (link_of net l).end_b d)
-            (and_from (nat_eq (link_of net l).end_a (link_of net l).end_a) (nat_eq (link_of net l).end_b d) (eq-eqb (link_of net l).end_a (link_of net l).end_a refl) (eq-eqb (link_of net l).end_b d (sym (eqb-true d (link_of net l).end_b second))))
+            or_right (nat_eq (link_of net l).end_a d && nat_eq (link_of net l).end_b (link_of net l).end_a)
+            (nat_eq (link_of net l).end_a (link_of net l).end_a && nat_eq (link_of net l).end_b d)
+            (and_from (nat_eq (link_of net l).end_a (link_of net l).end_a) (nat_eq (link_of net l).end_b d)
+            (eq-eqb (link_of net l).end_a (link_of net l).end_a refl) (eq-eqb (link_of net l).end_b d (sym (eqb-true d (link_of net l).end_b second))))
       ]
 
   -- the other end is the device that the link joins it to
   joined_other : (l e : ℕ) → joins net l d e ≡ true → other_end (link_of net l) d ≡ e
-  joined_other l e joined = by (nat_eq d (link_of net l).end_a) refl (or_cases (nat_eq (link_of net l).end_a d && nat_eq (link_of net l).end_b e) (nat_eq (link_of net l).end_a e && nat_eq (link_of net l).end_b d) joined)
+  joined_other l e joined =
+      by (nat_eq d (link_of net l).end_a) refl
+      (or_cases (nat_eq (link_of net l).end_a d && nat_eq (link_of net l).end_b e) (nat_eq (link_of net l).end_a e && nat_eq (link_of net l).end_b d) joined)
     where
       by : (b : Bool) → nat_eq d (link_of net l).end_a ≡ b
-          → ((nat_eq (link_of net l).end_a d && nat_eq (link_of net l).end_b e) ≡ true) ⊎ ((nat_eq (link_of net l).end_a e && nat_eq (link_of net l).end_b d) ≡ true)
+          → ((nat_eq (link_of net l).end_a d && nat_eq (link_of net l).end_b e) ≡ true)
+          ⊎ ((nat_eq (link_of net l).end_a e && nat_eq (link_of net l).end_b d) ≡ true)
           → (if b then (link_of net l).end_b else (link_of net l).end_a) ≡ e
-      by true first (inl forth) = let p : (nat_eq (link_of net l).end_a d ≡ true) × (nat_eq (link_of net l).end_b e ≡ true) = and_parts (nat_eq (link_of net l).end_a d) (nat_eq (link_of net l).end_b e) forth in eqb-true (link_of net l).end_b e p.1
+      by true first (inl forth) = let p : (nat_eq (link_of net l).end_a d ≡ true) × (nat_eq (link_of net l).end_b e ≡ true) =
+          and_parts (nat_eq (link_of net l).end_a d) (nat_eq (link_of net l).end_b e) forth in eqb-true (link_of net l).end_b e p.1
       by true first (inr back) =
-          let p : (nat_eq (link_of net l).end_a e ≡ true) × (nat_eq (link_of net l).end_b d ≡ true) = and_parts (nat_eq (link_of net l).end_a e) (nat_eq (link_of net l).end_b d) back in
+          let p : (nat_eq (link_of net l).end_a e ≡ true) × (nat_eq (link_of net l).end_b d ≡ true) =
+          and_parts (nat_eq (link_of net l).end_a e) (nat_eq (link_of net l).end_b d) back in
           eqb-true (link_of net l).end_b d p.1 ∙ eqb-true d (link_of net l).end_a first ∙ eqb-true (link_of net l).end_a e p.0
       by false other (inl forth) =
-          let p : (nat_eq (link_of net l).end_a d ≡ true) × (nat_eq (link_of net l).end_b e ≡ true) = and_parts (nat_eq (link_of net l).end_a d) (nat_eq (link_of net l).end_b e) forth in
+          let p : (nat_eq (link_of net l).end_a d ≡ true) × (nat_eq (link_of net l).end_b e ≡ true) =
+          and_parts (nat_eq (link_of net l).end_a d) (nat_eq (link_of net l).end_b e) forth in
           absurd (both_ways (nat_eq d (link_of net l).end_a) other (eq-eqb d (link_of net l).end_a (sym (eqb-true (link_of net l).end_a d p.0))))
-      by false other (inr back) = let p : (nat_eq (link_of net l).end_a e ≡ true) × (nat_eq (link_of net l).end_b d ≡ true) = and_parts (nat_eq (link_of net l).end_a e) (nat_eq (link_of net l).end_b d) back in eqb-true (link_of net l).end_a e p.0
+      by false other (inr back) = let p : (nat_eq (link_of net l).end_a e ≡ true) × (nat_eq (link_of net l).end_b d ≡ true) =
+          and_parts (nat_eq (link_of net l).end_a e) (nat_eq (link_of net l).end_b d) back in eqb-true (link_of net l).end_a e p.0
 
   other_within : (l : ℕ) → IsLink (length net.devices) (link_of net l) → other_end (link_of net l) d < length net.devices
   other_within l law = by (nat_eq d (link_of net l).end_a)
@@ -200,10 +232,13 @@ module _ (net : Network) (plan : Plan) (d : ℕ) where
   -- each usable link of the list is one
   pub usable_from : IsNetwork net → (j : ℕ) (end : End) → slice_get (usable_ends net plan d) j ≡ Some end → IsUsable net plan d end
   usable_from law j end at =
-      let found : (l : ℕ) × (has (link_numbers net) l ≡ true) × (usable_end net plan d l ≡ Some end) = mapped_from (usable_end net plan d) (link_numbers net) j end at in
+      let found : (l : ℕ) × (has (link_numbers net) l ≡ true) × (usable_end net plan d l ≡ Some end) =
+      mapped_from (usable_end net plan d) (link_numbers net) j end at in
       let l : ℕ = found.0 in
       let within : l < length net.links = below_has (length net.links) l found.1 in
-      let tested = cond_some (is_end (link_of net l) d && is_present plan l && is_member plan (other_end (link_of net l) d)) (record { link = l; device = other_end (link_of net l) d }) end found.2 in
+      let tested =
+      cond_some (is_end (link_of net l) d && is_present plan l && is_member plan (other_end (link_of net l) d))
+      (record { link = l; device = other_end (link_of net l) d }) end found.2 in
       let first : ((is_end (link_of net l) d && is_present plan l) ≡ true) × (is_member plan (other_end (link_of net l) d) ≡ true) =
       and_parts (is_end (link_of net l) d && is_present plan l) (is_member plan (other_end (link_of net l) d)) tested.0 in
       let second : (is_end (link_of net l) d ≡ true) × (is_present plan l ≡ true) = and_parts (is_end (link_of net l) d) (is_present plan l) first.0 in
@@ -216,14 +251,17 @@ module _ (net : Network) (plan : Plan) (d : ℕ) where
       })
 
   -- each usable link is in the list
-  pub usable_to : (l e : ℕ) → l < length net.links → is_present plan l ≡ true → is_member plan e ≡ true → joins net l d e ≡ true → (j : ℕ) × (slice_get (usable_ends net plan d) j ≡ Some (record { link = l; device = e }))
+  pub usable_to : (l e : ℕ) → l < length net.links → is_present plan l ≡ true → is_member plan e ≡ true → joins net l d e ≡ true
+      → (j : ℕ) × (slice_get (usable_ends net plan d) j ≡ Some (record { link = l; device = e }))
   usable_to l e within present member joined =
       let other : other_end (link_of net l) d ≡ e = joined_other l e joined in
       let tests : (is_end (link_of net l) d && is_present plan l && is_member plan (other_end (link_of net l) d)) ≡ true =
       and_from (is_end (link_of net l) d && is_present plan l) (is_member plan (other_end (link_of net l) d))
-      (and_from (is_end (link_of net l) d) (is_present plan l) (joined_end net l d e joined) present) (subst (λ x. is_member plan x ≡ true) (sym other) member) in
+      (and_from (is_end (link_of net l) d) (is_present plan l) (joined_end net l d e joined) present)
+      (subst (λ x. is_member plan x ≡ true) (sym other) member) in
       let is : usable_end net plan d l ≡ Some (record { link = l; device = e }) =
-      ap (λ (b : Bool). if b then Some (record { link = l; device = other_end (link_of net l) d }) else None) tests ∙ ap (λ (x : ℕ). Some (record { link = l; device = x })) other in
+      ap (λ (b : Bool). if b then Some (record { link = l; device = other_end (link_of net l) d }) else None) tests
+      ∙ ap (λ (x : ℕ). Some (record { link = l; device = x })) other in
       mapped_at (usable_end net plan d) (link_numbers net) l (record { link = l; device = e }) (has_below (length net.links) l within) is
 
 -- the acting end is joined to itself
@@ -232,23 +270,30 @@ itself net plan domain d same = subst (λ x. Joined net (is_sound net plan domai
 
 module _ (net : Network) (plan : Plan) (domain : DomainId) where
   -- a hop that is left leads from a device to one that is joined
-  pub over_left : (d : ℕ) (end : End) → IsUsable net plan d end → is_left net domain end.link end.device ≡ true → Reaches net plan domain end.device → Reaches net plan domain d
+  pub over_left : (d : ℕ) (end : End) → IsUsable net plan d end → is_left net domain end.link end.device ≡ true → Reaches net plan domain end.device
+      → Reaches net plan domain d
   over_left d end usable left reaches =
-      let parts : (not (holds_link net domain end.link) ≡ true) × (not (holds_device net domain end.device) ≡ true) = and_parts (not (holds_link net domain end.link)) (not (holds_device net domain end.device)) left in
+      let parts : (not (holds_link net domain end.link) ≡ true) × (not (holds_device net domain end.device) ≡ true) =
+      and_parts (not (holds_link net domain end.link)) (not (holds_device net domain end.device)) left in
       over end.link usable.link (and_from (is_present plan end.link) (not (holds_link net domain end.link)) usable.present parts.0) usable.joined
       (and_from (is_member plan end.device) (not (holds_device net domain end.device)) usable.member parts.1) reaches
 
   -- the end of a usable link that is left is a step
   pub passed_step : (d : ℕ) (end : End) (x : ℕ) → IsUsable net plan d end → IsPassed net plan domain end.link end.device x → IsStep net plan domain d x
   passed_step d end x usable passed =
-      subst (λ y. IsStep net plan domain d y) (sym passed.same) (record { within = usable.device; other = passed.other; back = over_left d end usable passed.left })
+      subst (λ y. IsStep net plan domain d y) (sym passed.same)
+      (record { within = usable.device; other = passed.other; back = over_left d end usable passed.left })
 
   -- one end more was looked at
   pub looked_more : (d k : ℕ) (items : List End) (end : End) (old visited new : List ℕ) → slice_get items k ≡ Some end → IsUsable net plan d end
-      → Grows old visited (IsStep net plan domain d) → Grows visited new (IsPassed net plan domain end.link end.device) → Grows old new (IsStep net plan domain d)
-  looked_more d k items end old visited new at usable before after = grows_on old visited new (IsStep net plan domain d) (IsPassed net plan domain end.link end.device) (IsStep net plan domain d) before after (λ x step. step) (λ x passed. passed_step d end x usable passed)
+      → Grows old visited (IsStep net plan domain d) → Grows visited new (IsPassed net plan domain end.link end.device)
+      → Grows old new (IsStep net plan domain d)
+  looked_more d k items end old visited new at usable before after =
+      grows_on old visited new (IsStep net plan domain d) (IsPassed net plan domain end.link end.device) (IsStep net plan domain d) before after
+      (λ x step. step) (λ x passed. passed_step d end x usable passed)
 
-  pub passed_more : (k : ℕ) (items : List End) (end : End) (visited new : List ℕ) → slice_get items k ≡ Some end → ((x : ℕ) → has visited x ≡ true → has new x ≡ true)
+  pub passed_more : (k : ℕ) (items : List End) (end : End) (visited new : List ℕ) → slice_get items k ≡ Some end
+      → ((x : ℕ) → has visited x ≡ true → has new x ≡ true)
       → (is_left net domain end.link end.device ≡ true → has new end.device ≡ true)
       → ((j : ℕ) (e : End) → j < k → slice_get items j ≡ Some e → is_left net domain e.link e.device ≡ true → has visited e.device ≡ true)
       → (j : ℕ) (e : End) → j < k + 1 → slice_get items j ≡ Some e → is_left net domain e.link e.device ≡ true → has new e.device ≡ true
@@ -263,17 +308,22 @@ module _ (net : Network) (plan : Plan) (domain : DomainId) where
 
   -- all ends were looked at
   pub all_around : (d : ℕ) (items : List End) (visited : List ℕ) → items ≡ usable_ends net plan d
-      → ((j : ℕ) (e : End) → j < length items → slice_get items j ≡ Some e → is_left net domain e.link e.device ≡ true → has visited e.device ≡ true) → LeadsInto net plan domain visited d
+      → ((j : ℕ) (e : End) → j < length items → slice_get items j ≡ Some e → is_left net domain e.link e.device ≡ true → has visited e.device ≡ true)
+      → LeadsInto net plan domain visited d
   all_around d items visited are each = record { into = λ e l within crosses joined passes. by e l within crosses joined passes }
     where
-      by : (e l : ℕ) → l < length net.links → is_sound_link net plan domain l ≡ true → joins net l d e ≡ true → is_sound net plan domain e ≡ true → has visited e ≡ true
+      by : (e l : ℕ) → l < length net.links → is_sound_link net plan domain l ≡ true → joins net l d e ≡ true → is_sound net plan domain e ≡ true
+          → has visited e ≡ true
       by e l within crosses joined passes =
-          let link : (is_present plan l ≡ true) × (not (holds_link net domain l) ≡ true) = and_parts (is_present plan l) (not (holds_link net domain l)) crosses in
-          let device : (is_member plan e ≡ true) × (not (holds_device net domain e) ≡ true) = and_parts (is_member plan e) (not (holds_device net domain e)) passes in
+          let link : (is_present plan l ≡ true) × (not (holds_link net domain l) ≡ true) =
+          and_parts (is_present plan l) (not (holds_link net domain l)) crosses in
+          let device : (is_member plan e ≡ true) × (not (holds_device net domain e) ≡ true) =
+          and_parts (is_member plan e) (not (holds_device net domain e)) passes in
           let end : End = record { link = l; device = e } in
           let place : (j : ℕ) × (slice_get (usable_ends net plan d) j ≡ Some end) = usable_to net plan d l e within link.0 device.0 joined in
           let there : slice_get items place.0 ≡ Some end = subst (λ (xs : List End). slice_get xs place.0 ≡ Some end) (sym are) place.1 in
-          each place.0 end (slice_get_within items place.0 end there) there (and_from (not (holds_link net domain l)) (not (holds_device net domain e)) link.1 device.1)
+          each place.0 end (slice_get_within items place.0 end there) there
+          (and_from (not (holds_link net domain l)) (not (holds_device net domain e)) link.1 device.1)
 
 -- a search from a device, of which the first places are done
 pub record IsSearching (net : Network) (plan : Plan) (domain : DomainId) (from done : ℕ) (old visited : List ℕ) : Type 0 where
@@ -286,7 +336,8 @@ pub record IsSearching (net : Network) (plan : Plan) (domain : DomainId) (from d
 
 module _ (net : Network) (plan : Plan) (domain : DomainId) (from : ℕ) (old : List ℕ) where
   -- it begins with what earlier searches visited
-  pub search_begins : IsDry net plan domain old → from < length net.devices → (from ≡ acting_end net plan domain → ⊥) → IsSearching net plan domain from (length old) old (with_number old from)
+  pub search_begins : IsDry net plan domain old → from < length net.devices → (from ≡ acting_end net plan domain → ⊥)
+      → IsSearching net plan domain from (length old) old (with_number old from)
   search_begins dry inside other =
       let grown : Grows old (with_number old from) (λ x. x ≡ from) = grows_insert old from (λ x. x ≡ from) refl in
       record {
@@ -308,7 +359,8 @@ module _ (net : Network) (plan : Plan) (domain : DomainId) (from : ℕ) (old : L
       }
 
   -- one place more is done
-  pub search_more : (done d : ℕ) (visited new : List ℕ) → IsSearching net plan domain from done old visited → done < length visited → slice_get visited done ≡ Some d → Grows visited new (IsStep net plan domain d) → LeadsInto net plan domain new d
+  pub search_more : (done d : ℕ) (visited new : List ℕ) → IsSearching net plan domain from done old visited → done < length visited
+      → slice_get visited done ≡ Some d → Grows visited new (IsStep net plan domain d) → LeadsInto net plan domain new d
       → IsSearching net plan domain from (done + 1) old new
   search_more done d visited new known inside at grown around =
       record {

@@ -24,10 +24,12 @@ pub one_device : (net : Network) (plan : Plan) (domain : DomainId) (d e : ℕ) �
 one_device net plan domain d e shown other = one_least _ d e shown.0 shown.1 other.0 other.1
 
 -- the device turns to the parent of its next hop
-turned : (net : Network) (plan : Plan) (domain : DomainId) (d e : ℕ) → turns_to net plan domain d e ≡ true → (hop : Hop) × (next_hop plan d ≡ Some hop) × (hop.parent ≡ e)
+turned : (net : Network) (plan : Plan) (domain : DomainId) (d e : ℕ) → turns_to net plan domain d e ≡ true
+    → (hop : Hop) × (next_hop plan d ≡ Some hop) × (hop.parent ≡ e)
 turned net plan domain d e turns = by (next_hop plan d) refl turns
   where
-    by : (o : Option Hop) → next_hop plan d ≡ o → of_some o false (λ hop. nat_eq hop.parent e && not (holds_link net domain hop.link) && not (holds_device net domain hop.parent)) ≡ true
+    by : (o : Option Hop) → next_hop plan d ≡ o
+        → of_some o false (λ hop. nat_eq hop.parent e && not (holds_link net domain hop.link) && not (holds_device net domain hop.parent)) ≡ true
         → (hop : Hop) × (next_hop plan d ≡ Some hop) × (hop.parent ≡ e)
     by None is turns = cc
     by (Some hop) is turns =
@@ -44,13 +46,15 @@ one_turn net plan domain d e g to also =
 
 -- where the last device of a chain turns to another, this is in the chain
 ends : (net : Network) (plan : Plan) (domain : DomainId) (chain : List ℕ) (d e : ℕ)
-    → not (of_some (next_hop plan d) false (λ hop. turns_to net plan domain d hop.parent && not (has chain hop.parent))) ≡ true → turns_to net plan domain d e ≡ true → has chain e ≡ true
+    → not (of_some (next_hop plan d) false (λ hop. turns_to net plan domain d hop.parent && not (has chain hop.parent))) ≡ true
+    → turns_to net plan domain d e ≡ true → has chain e ≡ true
 ends net plan domain chain d e stops turns =
     let (hop, is, here) = turned net plan domain d e turns in
     let at : not (turns_to net plan domain d hop.parent && not (has chain hop.parent)) ≡ true =
     subst (λ (o : Option Hop). not (of_some o false (λ hop. turns_to net plan domain d hop.parent && not (has chain hop.parent))) ≡ true) is stops
     in
-    let to_e : not (turns_to net plan domain d e && not (has chain e)) ≡ true = subst (λ (x : ℕ). not (turns_to net plan domain d x && not (has chain x)) ≡ true) here at in
+    let to_e : not (turns_to net plan domain d e && not (has chain e)) ≡ true =
+    subst (λ (x : ℕ). not (turns_to net plan domain d x && not (has chain x)) ≡ true) here at in
     by (turns_to net plan domain d e) (has chain e) to_e turns
   where
     by : (a b : Bool) → not (a && not b) ≡ true → a ≡ true → b ≡ true
@@ -59,7 +63,8 @@ ends net plan domain chain d e stops turns =
     by false b is turns = cc
 
 -- what follows in a chain is a run
-run_of : (net : Network) (plan : Plan) (domain : DomainId) (chain : List ℕ) (Seen : ℕ → Type 0) (x : ℕ) (xs : List ℕ) → follows_turns net plan domain chain (x ∷ xs) ≡ true
+run_of : (net : Network) (plan : Plan) (domain : DomainId) (chain : List ℕ) (Seen : ℕ → Type 0) (x : ℕ) (xs : List ℕ)
+    → follows_turns net plan domain chain (x ∷ xs) ≡ true
     → has xs x ≡ false → ((z : ℕ) → Seen z → has (x ∷ xs) z ≡ false) → ((z : ℕ) → has chain z ≡ true → Seen z ⊎ (has (x ∷ xs) z ≡ true))
     → IsRun (λ d e. turns_to net plan domain d e ≡ true) Seen (x ∷ xs)
 run_of net plan domain chain Seen x [] follows new apart whole = λ e turns. elim (whole e (ends net plan domain chain x e follows turns)) [
@@ -72,7 +77,11 @@ run_of net plan domain chain Seen x (e ∷ es) follows new apart whole =
     let here : has (e ∷ es) e ≡ true = or_left (nat_eq e e) (has es e) (eq-eqb e e refl) in
     let there : has (x ∷ e ∷ es) e ≡ true = or_right (nat_eq e x) (has (e ∷ es) e) here in (
       turns,
-      λ seen. elim seen [ inl before ↦ (let not_there = apart e before in cc) | inr same ↦ (let gone : has (e ∷ es) e ≡ false = ap (has (e ∷ es)) (sym same) ∙ new in cc) ],
+      λ seen. elim seen [
+        | inl before ↦ (let not_there = apart e before in
+            cc)
+        | inr same ↦ (let gone : has (e ∷ es) e ≡ false = ap (has (e ∷ es)) (sym same) ∙ new in cc)
+      ],
       run_of net plan domain chain (SeenWith Seen x) e es rest (not-true (has es e) once)
           (λ z seen. elim seen [ inl before ↦ later (nat_eq z x) (has (e ∷ es) z) (apart z before) | inr same ↦ ap (has (e ∷ es)) (sym same) ∙ new ])
           (λ z found. elim (whole z found) [
@@ -86,7 +95,8 @@ run_of net plan domain chain Seen x (e ∷ es) follows new apart whole =
     later false b none = none
 
 -- a chain from a device, as a run
-chain_run : (net : Network) (plan : Plan) (domain : DomainId) (first : ℕ) (chain : List ℕ) → begins_with chain first ≡ true → follows_turns net plan domain chain chain ≡ true
+chain_run : (net : Network) (plan : Plan) (domain : DomainId) (first : ℕ) (chain : List ℕ) → begins_with chain first ≡ true
+    → follows_turns net plan domain chain chain ≡ true
     → (xs : List ℕ) × (chain ≡ first ∷ xs) × IsRun (λ d e. turns_to net plan domain d e ≡ true) (λ z. ⊥) (first ∷ xs)
 chain_run net plan domain first [] begins follows = cc
 chain_run net plan domain first (x ∷ xs) begins follows =

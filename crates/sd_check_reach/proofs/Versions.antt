@@ -36,16 +36,19 @@ module _ (v w : ℕ) (net : Network) (plan : Plan) (domain : DomainId) where
   DomainHolds-with_version holds d loses = holds d (LosesBackup-with_version w v net plan domain d loses)
 
   pub ShowsDevice-with_version : (d : ℕ) → ShowsDevice (with_version v net) plan domain d → ShowsDevice (with_version w net) plan domain d
-  ShowsDevice-with_version d shown = (LosesBackup-with_version v w net plan domain d shown.0, λ e less loses. shown.1 e less (LosesBackup-with_version w v net plan domain e loses))
+  ShowsDevice-with_version d shown =
+      (LosesBackup-with_version v w net plan domain d shown.0, λ e less loses. shown.1 e less (LosesBackup-with_version w v net plan domain e loses))
 
   pub IsCut-with_version : (d : ℕ) → IsCut (with_version v net) plan domain d → IsCut (with_version w net) plan domain d
   IsCut-with_version d cut reaches = cut (CanReach-with_version w v net plan domain d reaches)
 
   pub ReachHolds-with_version : ReachHolds (with_version v net) plan domain → ReachHolds (with_version w net) plan domain
-  ReachHolds-with_version holds d sound = elim (holds d sound) [ inl fed ↦ inl (Fed-with_version v w net plan domain fed) | inr cut ↦ inr (IsCut-with_version d cut) ]
+  ReachHolds-with_version holds d sound =
+      elim (holds d sound) [ inl fed ↦ inl (Fed-with_version v w net plan domain fed) | inr cut ↦ inr (IsCut-with_version d cut) ]
 
   pub IsStarved-with_version : (d : ℕ) → IsStarved (with_version v net) plan domain d → IsStarved (with_version w net) plan domain d
-  IsStarved-with_version d starved = (starved.0, (λ fed. starved.1 (Fed-with_version w v net plan domain fed)), CanReach-with_version v w net plan domain d starved.2)
+  IsStarved-with_version d starved =
+      (starved.0, (λ fed. starved.1 (Fed-with_version w v net plan domain fed)), CanReach-with_version v w net plan domain d starved.2)
 
 module _ (v w : ℕ) (net : Network) (plan : Plan) (domain : DomainId) where
   pub IsShownChain-with_version : (chain : List ℕ) → IsShownChain (with_version v net) plan domain chain → IsShownChain (with_version w net) plan domain chain

@@ -38,7 +38,8 @@ reach_rule net plan d structured within =
     let from_fifth = (both_none (first_failing net 4 (links_differ plan)) fifth from_fourth).1 in
     let here_none = (both_none (first_failing net 5 (reaches_root net plan)) last from_fifth).0 in
     not-false (reaches_root net plan d)
-    (none_found (λ x. not (reaches_root net plan x)) (length net.devices) d (none_mapped (λ x. (5, x)) (find (λ x. not (reaches_root net plan x)) (device_numbers net)) here_none) within)
+    (none_found (λ x. not (reaches_root net plan x)) (length net.devices) d
+    (none_mapped (λ x. (5, x)) (find (λ x. not (reaches_root net plan x)) (device_numbers net)) here_none) within)
 
 -- the hops from a first one on
 abbrev next : (ℕ → Bool) → (ℕ → List Hop) → Option Hop → List Hop
@@ -81,13 +82,15 @@ goes plan n e false true other root_is backup_is ends rest = (root_is, (0, ends)
 goes plan n e false false other root_is backup_is ends rest = (root_is, rest ends)
 
 -- hops that end at the backup root, which is not the root, lead to it
-leads_back : (plan : Plan) (n d : ℕ) → is_root plan plan.backup_root ≡ false → end_of d (hops (is_end plan) plan n d) ≡ plan.backup_root → (k : ℕ) × Leads plan k d plan.backup_root
+leads_back : (plan : Plan) (n d : ℕ) → is_root plan plan.backup_root ≡ false → end_of d (hops (is_end plan) plan n d) ≡ plan.backup_root
+    → (k : ℕ) × Leads plan k d plan.backup_root
 unfolding Leads
 leads_back plan zero d other ends = (0, ends)
 leads_back plan (suc n) d other ends = by (primary_of plan d) refl ends (leads_back plan n)
   where
     by : (found : Option Hop) → primary_of plan d ≡ found → end_of d (next (is_end plan) (hops (is_end plan) plan n) found) ≡ plan.backup_root
-        → ((e : ℕ) → is_root plan plan.backup_root ≡ false → end_of e (hops (is_end plan) plan n e) ≡ plan.backup_root → (k : ℕ) × Leads plan k e plan.backup_root)
+        → ((e : ℕ) → is_root plan plan.backup_root ≡ false → end_of e (hops (is_end plan) plan n e) ≡ plan.backup_root
+        → (k : ℕ) × Leads plan k e plan.backup_root)
         → (k : ℕ) × Leads plan k d plan.backup_root
     by None is ends rest = (0, ends)
     by (Some hop) is ends rest =
@@ -122,12 +125,14 @@ no_return plan (suc bound) n k d within leads other comes =
     no_return plan bound rest.0 k d (omega (arith, rest.1)) leads other rest.2
 
 -- a cut path of the backup root, from which a walk comes to the root, does not end at it
-comes_back : (plan : Plan) (n : ℕ) → is_root plan plan.backup_root ≡ false → end_of plan.backup_root (hops (is_end plan) plan n plan.backup_root) ≡ plan.backup_root → Comes plan n plan.backup_root → ⊥
+comes_back : (plan : Plan) (n : ℕ) → is_root plan plan.backup_root ≡ false
+    → end_of plan.backup_root (hops (is_end plan) plan n plan.backup_root) ≡ plan.backup_root → Comes plan n plan.backup_root → ⊥
 unfolding Leads
 comes_back plan zero other ends comes = both_ways (is_root plan plan.backup_root) other comes
 comes_back plan (suc n) other ends comes = by (primary_of plan plan.backup_root) refl ends comes
   where
-    by : (found : Option Hop) → primary_of plan plan.backup_root ≡ found → end_of plan.backup_root (next (is_end plan) (hops (is_end plan) plan n) found) ≡ plan.backup_root
+    by : (found : Option Hop) → primary_of plan plan.backup_root ≡ found
+        → end_of plan.backup_root (next (is_end plan) (hops (is_end plan) plan n) found) ≡ plan.backup_root
         → is_root plan (end_of plan.backup_root (next (is_root plan) (hops (is_root plan) plan n) found)) ≡ true → ⊥
     by None is ends root = both_ways (is_root plan plan.backup_root) other root
     by (Some hop) is ends root =
@@ -145,7 +150,8 @@ arrives : (net : Network) (plan : Plan) (domain : DomainId) (ends : ℕ → Bool
     → hits net domain (things_of (hops ends plan n d)) ≡ false → Arrives net plan domain d (end_of d (hops ends plan n d))
 arrives net plan domain ends zero d fits rules within free = record { way = here; sound = λ s. s }
 arrives net plan domain ends (suc n) d fits rules within free =
-    by (primary_of plan d) (hops_within net plan d fits).0 (and_parts (hop_is_right net plan d (primary_of plan d)) (hop_is_right net plan d (backup_of plan d)) (rules.hops d within)).0 free
+    by (primary_of plan d) (hops_within net plan d fits).0
+    (and_parts (hop_is_right net plan d (primary_of plan d)) (hop_is_right net plan d (backup_of plan d)) (rules.hops d within)).0 free
     (λ e inside. arrives net plan domain ends n e fits rules inside)
   where
     after : (e : ℕ) (b : Bool) → hits net domain (things_of (elim b [ true ↦ [] | false ↦ hops ends plan n e ])) ≡ false
@@ -154,20 +160,27 @@ arrives net plan domain ends (suc n) d fits rules within free =
     after e true none rest = record { way = here; sound = λ s. s }
     after e false none rest = rest none
 
-    by : (found : Option Hop) → IfSome found (IsHop net) → hop_is_right net plan d found ≡ true → hits net domain (things_of (next ends (hops ends plan n) found)) ≡ false
-        → ((e : ℕ) → e < length net.devices → hits net domain (things_of (hops ends plan n e)) ≡ false → Arrives net plan domain e (end_of e (hops ends plan n e)))
+    by : (found : Option Hop) → IfSome found (IsHop net) → hop_is_right net plan d found ≡ true
+        → hits net domain (things_of (next ends (hops ends plan n) found)) ≡ false
+        → ((e : ℕ) → e < length net.devices → hits net domain (things_of (hops ends plan n e)) ≡ false
+        → Arrives net plan domain e (end_of e (hops ends plan n e)))
         → Arrives net plan domain d (end_of d (next ends (hops ends plan n) found))
     by None known right none rest = record { way = here; sound = λ s. s }
     by (Some hop) known right none rest =
         let onward : List Hop = elim (ends hop.parent) [ true ↦ [] | false ↦ hops ends plan n hop.parent ] in
         let first : (holds_link net domain hop.link ≡ false) × ((holds_device net domain hop.parent || hits net domain (things_of onward)) ≡ false) =
         or_parts (holds_link net domain hop.link) (holds_device net domain hop.parent || hits net domain (things_of onward)) none in
-        let second : (holds_device net domain hop.parent ≡ false) × (hits net domain (things_of onward) ≡ false) = or_parts (holds_device net domain hop.parent) (hits net domain (things_of onward)) first.1 in
+        let second : (holds_device net domain hop.parent ≡ false) × (hits net domain (things_of onward) ≡ false) =
+        or_parts (holds_device net domain hop.parent) (hits net domain (things_of onward)) first.1 in
         let rule : ((is_member plan hop.parent && is_present plan hop.link) ≡ true) × (joins net hop.link d hop.parent ≡ true) =
         and_parts (is_member plan hop.parent && is_present plan hop.link) (joins net hop.link d hop.parent) right in
-        let usable : (is_member plan hop.parent ≡ true) × (is_present plan hop.link ≡ true) = and_parts (is_member plan hop.parent) (is_present plan hop.link) rule.0 in
-        let link : is_sound_link net plan domain hop.link ≡ true = and_from (is_present plan hop.link) (not (holds_link net domain hop.link)) usable.1 (not_from_false (holds_link net domain hop.link) first.0) in
-        let parent : is_sound net plan domain hop.parent ≡ true = and_from (is_member plan hop.parent) (not (holds_device net domain hop.parent)) usable.0 (not_from_false (holds_device net domain hop.parent) second.0) in
+        let usable : (is_member plan hop.parent ≡ true) × (is_present plan hop.link ≡ true) =
+        and_parts (is_member plan hop.parent) (is_present plan hop.link) rule.0 in
+        let link : is_sound_link net plan domain hop.link ≡ true =
+        and_from (is_present plan hop.link) (not (holds_link net domain hop.link)) usable.1 (not_from_false (holds_link net domain hop.link) first.0) in
+        let parent : is_sound net plan domain hop.parent ≡ true =
+        and_from (is_member plan hop.parent) (not (holds_device net domain hop.parent)) usable.0
+        (not_from_false (holds_device net domain hop.parent) second.0) in
         let more : Arrives net plan domain hop.parent (end_of hop.parent onward) = after hop.parent (ends hop.parent) second.1 (rest hop.parent known.0) in
         record { way = over hop.link known.1 link rule.1 parent more.way; sound = λ s. more.sound parent }
 
@@ -178,16 +191,19 @@ pub record Ends (net : Network) (plan : Plan) (domain : DomainId) (d : ℕ) : Ty
   pub is_end : is_end plan at ≡ true
   pub apart : (d ≡ plan.backup_root) → is_root plan d ≡ false → (at ≡ plan.backup_root) → ⊥
 
-pub unhit_ends : (net : Network) (plan : Plan) (domain : DomainId) (d : ℕ) → Fits net plan → structure_breach net plan ≡ None → KeepsRules net plan → d < length net.devices
+pub unhit_ends : (net : Network) (plan : Plan) (domain : DomainId) (d : ℕ) → Fits net plan → structure_breach net plan ≡ None → KeepsRules net plan
+    → d < length net.devices
     → is_member plan d ≡ true → is_hit net plan domain d ≡ false → Ends net plan domain d
 unhit_ends net plan domain d fits structured rules within member spared = by (is_root plan d) refl spared (reach_rule net plan d structured within)
   where
     wrong : {b : Bool} → b ≡ true → b ≡ false → ⊥
     wrong right not_so = cc
 
-    turned : (d : ℕ) → d ≡ plan.backup_root → is_root plan d ≡ false → Comes plan net.params.depth d → (end_of d (hops (is_end plan) plan net.params.depth d) ≡ plan.backup_root) → ⊥
+    turned : (d : ℕ) → d ≡ plan.backup_root → is_root plan d ≡ false → Comes plan net.params.depth d
+        → (end_of d (hops (is_end plan) plan net.params.depth d) ≡ plan.backup_root) → ⊥
     turned d is not_root root_comes same =
-        let P : ℕ → Type 0 = λ x. is_root plan x ≡ false → Comes plan net.params.depth x → (end_of x (hops (is_end plan) plan net.params.depth x) ≡ plan.backup_root) → ⊥ in
+        let P : ℕ → Type 0 = λ x. is_root plan x ≡ false → Comes plan net.params.depth x
+        → (end_of x (hops (is_end plan) plan net.params.depth x) ≡ plan.backup_root) → ⊥ in
         subst P (sym is) (λ other comes ends. comes_back plan net.params.depth other ends comes) not_root root_comes same
 
     comes : (m r : Bool) → m ≡ true → (not m || r) ≡ true → r ≡ true
@@ -196,7 +212,13 @@ unhit_ends net plan domain d fits structured rules within member spared = by (is
 
     by : (b : Bool) → is_root plan d ≡ b → hits net domain (things_of (if b then [] else hops (is_end plan) plan net.params.depth d)) ≡ false
         → (not (is_member plan d) || is_root plan (end_of d (if b then [] else hops (is_root plan) plan net.params.depth d))) ≡ true → Ends net plan domain d
-    by true root free reaches = record { at = d; arrives = record { way = here; sound = λ s. s }; is_end = or_left (is_root plan d) (is_backup_root plan d) root; apart = λ is other same. wrong root other }
+    by true root free reaches =
+        record {
+          at = d;
+          arrives = record { way = here; sound = λ s. s };
+          is_end = or_left (is_root plan d) (is_backup_root plan d) root;
+          apart = λ is other same. wrong root other;
+        }
     by false other free reaches =
         let root_comes : Comes plan net.params.depth d = comes (is_member plan d) _ member reaches in
         record {
@@ -214,10 +236,13 @@ pub record IsHitDevice (net : Network) (plan : Plan) (d : ℕ) : Type 0 where
   pub no_root : is_root plan d ≡ false
   pub member : is_member plan d ≡ true
 
-pub hit_device : (net : Network) (plan : Plan) (domain : DomainId) (d : ℕ) → Fits net plan → KeepsRules net plan → is_hit net plan domain d ≡ true → IsHitDevice net plan d
+pub hit_device : (net : Network) (plan : Plan) (domain : DomainId) (d : ℕ) → Fits net plan → KeepsRules net plan → is_hit net plan domain d ≡ true
+    → IsHitDevice net plan d
 hit_device net plan domain d fits rules hit = by_root (is_root plan d) refl hit
   where
-    by_length : (n : ℕ) (found : Option Hop) → hits net domain (things_of (elim n [ zero ↦ [] | suc m ↦ next (is_end plan) (hops (is_end plan) plan m) found ])) ≡ true → (hop : Hop) × (found ≡ Some hop)
+    by_length : (n : ℕ) (found : Option Hop)
+        → hits net domain (things_of (elim n [ zero ↦ [] | suc m ↦ next (is_end plan) (hops (is_end plan) plan m) found ])) ≡ true
+        → (hop : Hop) × (found ≡ Some hop)
     by_length zero found hit = cc
     by_length (suc n) None hit = cc
     by_length (suc n) (Some hop) hit = (hop, refl)
@@ -226,7 +251,8 @@ hit_device net plan domain d fits rules hit = by_root (is_root plan d) refl hit
     first_hop zero hit = cc
     first_hop (suc n) hit = by_length (suc n) (primary_of plan d) hit
 
-    has_entry : (o : Option (Option PlanRow)) (hop : Hop) → option_map (λ row. row.primary) (of_some o None (λ row. row)) ≡ Some hop → of_some (of_some o None (λ row. row)) false (λ row. true) ≡ true
+    has_entry : (o : Option (Option PlanRow)) (hop : Hop) → option_map (λ row. row.primary) (of_some o None (λ row. row)) ≡ Some hop
+        → of_some (of_some o None (λ row. row)) false (λ row. true) ≡ true
     has_entry None hop is = cc
     has_entry (Some None) hop is = cc
     has_entry (Some (Some row)) hop is = refl
@@ -238,11 +264,13 @@ hit_device net plan domain d fits rules hit = by_root (is_root plan d) refl hit
           (let beyond : length plan.rows ≤ d = omega (arith, fits.entries) in
           let none : slice_get plan.rows d ≡ None = slice_get_past plan.rows d beyond in
           let lost : option_map (λ row. row.primary) (of_some (slice_get plan.rows d) None (λ row. row)) ≡ Some hop = is in
-          let nothing : ◌≡◌ {A = Option Hop} None (Some hop) = subst (λ (o : Option (Option PlanRow)). option_map (λ row. row.primary) (of_some o None (λ row. row)) ≡ Some hop) none lost in
+          let nothing : ◌≡◌ {A = Option Hop} None (Some hop) =
+          subst (λ (o : Option (Option PlanRow)). option_map (λ row. row.primary) (of_some o None (λ row. row)) ≡ Some hop) none lost in
           cc)
     ]
 
-    by_root : (b : Bool) → is_root plan d ≡ b → hits net domain (things_of (if b then [] else hops (is_end plan) plan net.params.depth d)) ≡ true → IsHitDevice net plan d
+    by_root : (b : Bool) → is_root plan d ≡ b → hits net domain (things_of (if b then [] else hops (is_end plan) plan net.params.depth d)) ≡ true
+        → IsHitDevice net plan d
     by_root true root hit = cc
     by_root false other hit =
         let found : (hop : Hop) × (primary_of plan d ≡ Some hop) = first_hop net.params.depth hit in

@@ -5,7 +5,7 @@ use Rattle.sd_domain.specs.Domains.{holds_device}
 use Rattle.sd_domain.specs.declared.DomainId.{DomainId}
 use Rattle.sd_plan.specs.Walks.{is_hit}
 use Rattle.sd_plan.specs.declared.Plan.{Plan}
-use Rattle.sd_hit.specs.Outages as outages
+use Rattle.sd_check_hit.specs.Outages as outages
 use Rattle.sd_check_reach.specs.Reach.{acting_end}
 use Rattle.sd_check_reach.specs.declared.aftermath.Aftermath.{Aftermath}
 

@@ -43,7 +43,8 @@ pub data Fed (net : Network) (plan : Plan) (domain : DomainId) : ℕ → Type 0 
   stands_by : {d : ℕ} → IsTrue (is_sound net plan domain d) → d ≡ plan.backup_root → Fed net plan domain d
   spared : {d : ℕ} → IsTrue (is_sound net plan domain d) → IsTrue (not (is_hit net plan domain d)) → Fed net plan domain d
   turns : {d : ℕ} (hop : Hop) → IsTrue (is_sound net plan domain d) → IsTrue (is_hit net plan domain d) → next_hop plan d ≡ Some hop
-      → IsTrue (not (holds_link net domain hop.link)) → IsTrue (not (holds_device net domain hop.parent)) → Fed net plan domain hop.parent → Fed net plan domain d
+      → IsTrue (not (holds_link net domain hop.link)) → IsTrue (not (holds_device net domain hop.parent)) → Fed net plan domain hop.parent
+      → Fed net plan domain d
 
 -- the device breaks the domain condition: it is sound, no root, hit and not cut off, and the domain has its backup link or backup parent
 pub record LosesBackup (net : Network) (plan : Plan) (domain : DomainId) (d : ℕ) : Type 0 where
@@ -68,12 +69,14 @@ IsStarved net plan domain d = IsTrue (is_sound net plan domain d) × (¬ Fed net
 
 -- the next hop of d leads to e over what the domain leaves
 abbrev pub turns_to : Network → Plan → DomainId → ℕ → ℕ → Bool
-turns_to net plan domain d e = of_some (next_hop plan d) false (λ hop. nat_eq hop.parent e && not (holds_link net domain hop.link) && not (holds_device net domain hop.parent))
+turns_to net plan domain d e =
+    of_some (next_hop plan d) false (λ hop. nat_eq hop.parent e && not (holds_link net domain hop.link) && not (holds_device net domain hop.parent))
 
 -- the chain goes on along next hops and ends before a hop over the domain, or to a device that is in the chain already
 abbrev pub follows_turns : Network → Plan → DomainId → List ℕ → List ℕ → Bool
 follows_turns net plan domain chain [] = true
-follows_turns net plan domain chain (d ∷ []) = not (of_some (next_hop plan d) false (λ hop. turns_to net plan domain d hop.parent && not (has chain hop.parent)))
+follows_turns net plan domain chain (d ∷ []) =
+    not (of_some (next_hop plan d) false (λ hop. turns_to net plan domain d hop.parent && not (has chain hop.parent)))
 follows_turns net plan domain chain (d ∷ e ∷ es) = turns_to net plan domain d e && not (has es e) && follows_turns net plan domain chain (e ∷ es)
 
 abbrev pub begins_with : List ℕ → ℕ → Bool

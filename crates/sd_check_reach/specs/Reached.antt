@@ -28,7 +28,8 @@ pub record Grows (old new : List ℕ) (P : ℕ → Type 0) : Type 0 where
 
 -- each sound device that a sound link joins to d has been visited
 pub record LeadsInto (net : Network) (plan : Plan) (domain : DomainId) (visited : List ℕ) (d : ℕ) : Type 0 where
-  pub into : (e l : ℕ) → l < length net.links → IsTrue (is_sound_link net plan domain l) → IsTrue (joins net l d e) → IsTrue (is_sound net plan domain e) → has visited e ≡ true
+  pub into : (e l : ℕ) → l < length net.links → IsTrue (is_sound_link net plan domain l) → IsTrue (joins net l d e) → IsTrue (is_sound net plan domain e)
+      → has visited e ≡ true
 
 -- what a search that has run dry has visited: sound links lead to nothing else, and not to the acting end
 pub record IsDry (net : Network) (plan : Plan) (domain : DomainId) (visited : List ℕ) : Type 0 where
@@ -46,7 +47,8 @@ pub record IsStep (net : Network) (plan : Plan) (domain : DomainId) (d e : ℕ) 
 abbrev pub FirstReached : Network → Plan → DomainId → List ℕ → Option ℕ → Type 0
 FirstReached net plan domain candidates None = (i d : ℕ) → slice_get candidates i ≡ Some d → ¬ Reaches net plan domain d
 FirstReached net plan domain candidates (Some d) =
-    (i : ℕ) × (slice_get candidates i ≡ Some d) × Reaches net plan domain d × ((j e : ℕ) → j < i → slice_get candidates j ≡ Some e → ¬ Reaches net plan domain e)
+    (i : ℕ) × (slice_get candidates i ≡ Some d) × Reaches net plan domain d
+    × ((j e : ℕ) → j < i → slice_get candidates j ≡ Some e → ¬ Reaches net plan domain e)
 
 -- the list has, ascending, just the devices with the property
 pub record AreAll (Q : ℕ → Type 0) (candidates : List ℕ) : Type 0 where

@@ -21,7 +21,8 @@ pub record IsHeld (net : Network) (plan : Plan) (domain : DomainId) (S : ℕ →
 abbrev pub IsTurn : Network → Plan → DomainId → List ℕ → ℕ → Turn → Type 0
 IsTurn net plan domain hit d turn.Fed = Fed net plan domain d
 IsTurn net plan domain hit d turn.Lost = IsHeld net plan domain (λ e. ⊥) d
-IsTurn net plan domain hit d (turn.To place) = (e : ℕ) × (slice_get hit place ≡ Some e) × (Fed net plan domain e → Fed net plan domain d) × IsHeld net plan domain (λ x. x ≡ e) d
+IsTurn net plan domain hit d (turn.To place) = (e : ℕ) × (slice_get hit place ≡ Some e) × (Fed net plan domain e → Fed net plan domain d)
+    × IsHeld net plan domain (λ x. x ≡ e) d
 
 -- the devices that are marked as not fed
 pub record IsUnfed (hit : List ℕ) (marks : List Mark) (d : ℕ) : Type 0 where
@@ -59,7 +60,8 @@ pub record IsTrail (hit : List ℕ) (old new : List Mark) (trail : List ℕ) : T
   pub rest : (i : ℕ) → has trail i ≡ false → slice_get new i ≡ slice_get old i
 
 -- what following from a place gives: where it ends at what is fed, all of the trail is fed; else the marks are right as they are
-pub record IsFollowed (net : Network) (plan : Plan) (domain : DomainId) (hit : List ℕ) (start : ℕ) (old new : List Mark) (trail : List ℕ) (fed : Bool) : Type 0 where
+pub record IsFollowed (net : Network) (plan : Plan) (domain : DomainId) (hit : List ℕ) (start : ℕ) (old new : List Mark) (trail : List ℕ)
+    (fed : Bool) : Type 0 where
   pub size : length new ≡ length old
   pub followed : IsTrail hit old new trail
   pub all_fed : fed ≡ true → (i d : ℕ) → has trail i ≡ true → slice_get hit i ≡ Some d → Fed net plan domain d

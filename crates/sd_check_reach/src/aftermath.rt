@@ -4,7 +4,7 @@ ghost use Rattle.sd_topo.specs.Topologies.{network};
 ghost use Rattle.sd_domain.specs.Domains.{holds_device};
 ghost use Rattle.sd_check_reach.specs.Reach.{acting_end};
 
-use sd_hit::Outage;
+use sd_check_hit::Outage;
 use sd_plan::Hop;
 
 /// A plan under an outage that hits some devices and leaves an end that acts.
@@ -19,7 +19,7 @@ pub(crate) struct Aftermath<'a> {
 
 impl<'a> Aftermath<'a> {
     ghost use Rattle.std.specs.Prelude.{◌<◌, length, MatchOption};
-    ghost use Rattle.sd_hit.specs.Outages as outages;
+    ghost use Rattle.sd_check_hit.specs.Outages as outages;
     ghost use Rattle.sd_check_reach.specs.Aftermaths.{net_of, plan_of, domain_of, IsHarmless};
     ghost use Rattle.sd_check_reach.specs.Candidates.{loses};
     ghost use Rattle.sd_check_reach.specs.Chains.{onward};
@@ -29,7 +29,9 @@ impl<'a> Aftermath<'a> {
     /// None where the domain hits nobody or has the acting end, so that nobody can be starved by it
     /// or lose a backup.
     pub(crate) fn of(outage: Outage<'a>) -> Option<Aftermath<'a>>
-        ensures { MatchOption result (IsHarmless (outages.net_of outage.entry) (outages.plan_of outage.entry) outage.entry.domain)
+        ensures { MatchOption result
+            (IsHarmless (outages.net_of outage.entry)
+            (outages.plan_of outage.entry) outage.entry.domain)
             (λ a. a.outage ≡ outage.entry) }
     {
         let plan = outage.planned.plan;

@@ -2,7 +2,7 @@
 
 use crate::aftermath::Aftermath;
 use crate::search::Search;
-use sd_hit::Outage;
+use sd_check_hit::Outage;
 use sd_num::NoMemory;
 use sd_plan::DeviceList;
 use std::alloc::Global;
@@ -18,7 +18,8 @@ impl Aftermath<'_> {
         requires search { IsSearchOf (net_of self.now) (plan_of self.now) (domain_of self.now) search.old }
         requires room { HasRoom (net_of self.now) search.old }
         ensures shown { IfOk result (DomainShown (net_of self.now) (plan_of self.now) (domain_of self.now)) }
-        ensures search { IfOk result (λ breach. breach ≡ None → IsSearchOf (net_of self.now) (plan_of self.now) (domain_of self.now) search.new) }
+        ensures search { IfOk result (λ breach. breach ≡ None
+            → IsSearchOf (net_of self.now) (plan_of self.now) (domain_of self.now) search.new) }
         ensures room { HasRoom (net_of self.now) search.new }
     {
         let losing = self.losing(alloc)?;
@@ -47,7 +48,7 @@ impl Aftermath<'_> {
 
 impl Search {
     ghost use Rattle.std.specs.Prelude.{◌≡◌, None, IfOk};
-    ghost use Rattle.sd_hit.specs.Outages.{net_of, plan_of};
+    ghost use Rattle.sd_check_hit.specs.Outages.{net_of, plan_of};
     ghost use Rattle.sd_check_reach.specs.Reach.{DomainShown, ReachShown};
     ghost use Rattle.sd_check_reach.specs.Searches.{HasRoom, IsSearchOf};
 
@@ -61,7 +62,8 @@ impl Search {
         requires search { IsSearchOf (net_of outage.now) (plan_of outage.now) outage.now.domain self.old }
         requires room { HasRoom (net_of outage.now) self.old }
         ensures shown { IfOk result (DomainShown (net_of outage.now) (plan_of outage.now) outage.now.domain) }
-        ensures search { IfOk result (λ breach. breach ≡ None → IsSearchOf (net_of outage.now) (plan_of outage.now) outage.now.domain self.new) }
+        ensures search { IfOk result (λ breach. breach ≡ None
+            → IsSearchOf (net_of outage.now) (plan_of outage.now) outage.now.domain self.new) }
         ensures room { HasRoom (net_of outage.now) self.new }
     {
         match Aftermath::of(*outage) {

@@ -28,7 +28,8 @@ impl Aftermath<'_> {
         requires device { first < length (net_of self.now).devices }
         requires none { chain.old.numbers ≡ [] }
         requires room { chain.old.bound ≡ length (net_of self.now).devices }
-        ensures { IsChainOf (net_of self.now) (plan_of self.now) (domain_of self.now) first chain.new.numbers }
+        ensures { IsChainOf (net_of self.now) (plan_of self.now)
+            (domain_of self.now) first chain.new.numbers }
     {
         let _: bool = chain.insert(first);
         let mut here = first;
@@ -43,7 +44,8 @@ impl Aftermath<'_> {
     /// The chain of next hops from a device to before one that is over the domain or leads back.
     pub(crate) fn chain(&self, alloc: Global, first: u32) -> Result<DeviceList, NoMemory>
         requires { first < length (net_of self.now).devices }
-        ensures { IfOk result (IsChainOf (net_of self.now) (plan_of self.now) (domain_of self.now) first) }
+        ensures { IfOk result
+            (IsChainOf (net_of self.now) (plan_of self.now) (domain_of self.now) first) }
     {
         let mut chain = NumberSet::new(alloc, self.outage.planned.topo.devices())?;
         self.walk(&mut chain, first);

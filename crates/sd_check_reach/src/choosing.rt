@@ -13,7 +13,8 @@ impl Aftermath<'_> {
 
     /// The sound devices, no roots, that the domain hits and whose backup it takes, ascending.
     pub(crate) fn losing(&self, alloc: Global) -> Result<DeviceList, NoMemory>
-        ensures { IfOk result (AreAll (IsLosing (net_of self.now) (plan_of self.now) (domain_of self.now))) }
+        ensures { IfOk result
+            (AreAll (IsLosing (net_of self.now) (plan_of self.now) (domain_of self.now))) }
     {
         let mut losing = DeviceList::new(alloc);
         for d in self.outage.hit {
@@ -26,7 +27,8 @@ impl Aftermath<'_> {
 
     /// The sound devices that do not come to hear the acting end, ascending.
     pub(crate) fn unheard(&self, alloc: Global) -> Result<DeviceList, NoMemory>
-        ensures all { IfOk result (AreAll (IsUnheard (net_of self.now) (plan_of self.now) (domain_of self.now))) }
+        ensures all { IfOk result
+            (AreAll (IsUnheard (net_of self.now) (plan_of self.now) (domain_of self.now))) }
         ensures decided { IfOk result (AreDecided (net_of self.now) (plan_of self.now) (domain_of self.now)) }
     {
         let marks = self.marks(alloc)?;

@@ -18,8 +18,8 @@ mod marks;
 mod search;
 mod turn;
 
+use sd_check_hit::Impact;
 use sd_domain::DomainId;
-use sd_hit::Impact;
 use sd_num::NoMemory;
 use sd_plan::{DeviceList, Indexed, Plan, WalkIndex};
 use sd_topo::Topology;

@@ -30,7 +30,8 @@ impl Mark {
 
 /// Marks for so many devices.
 fn unseen(alloc: Global, count: usize) -> Result<Vec<Mark>, NoMemory>
-    ensures { IfOk result (λ marks. (length marks.items ≡ count) × ((i : ℕ) → i < count → slice_get marks.items i ≡ Some Mark.Unseen)) }
+    ensures { IfOk result (λ marks. (length marks.items ≡ count)
+        × ((i : ℕ) → i < count → slice_get marks.items i ≡ Some Mark.Unseen)) }
 {
     let mut marks = Vec::new(alloc);
     for _ in 0..count {
@@ -66,10 +67,13 @@ impl Aftermath<'_> {
         marks: &mut [Mark],
         start: usize,
     ) -> Result<bool, NoMemory>
-        requires marks { AreMarks (net_of self.now) (plan_of self.now) (domain_of self.now) (hit_of self.now) (λ _. ⊥) marks.old }
+        requires marks { AreMarks (net_of self.now) (plan_of self.now) (domain_of self.now) (hit_of self.now)
+            (λ _. ⊥) marks.old }
         requires place { start < length (hit_of self.now) }
         requires none { trail.old.items ≡ [] }
-        ensures { IfOk result (λ fed. IsFollowed (net_of self.now) (plan_of self.now) (domain_of self.now) (hit_of self.now) start marks.old marks.new trail.new.items fed) }
+        ensures { IfOk result
+            (λ fed. IsFollowed (net_of self.now) (plan_of self.now) (domain_of self.now)
+            (hit_of self.now) start marks.old marks.new trail.new.items fed) }
     {
         let mut place = start;
         while let Mark::Unseen = marks[place] {
@@ -94,9 +98,12 @@ impl Aftermath<'_> {
         marks: &mut [Mark],
         start: usize,
     ) -> Result<(), NoMemory>
-        requires marks { AreMarks (net_of self.now) (plan_of self.now) (domain_of self.now) (hit_of self.now) (λ _. ⊥) marks.old }
+        requires marks { AreMarks (net_of self.now) (plan_of self.now) (domain_of self.now) (hit_of self.now)
+            (λ _. ⊥) marks.old }
         requires place { start < length (hit_of self.now) }
-        ensures marks { OnOk result (AreMarks (net_of self.now) (plan_of self.now) (domain_of self.now) (hit_of self.now) (λ _. ⊥) marks.new) }
+        ensures marks { OnOk result
+            (AreMarks (net_of self.now) (plan_of self.now) (domain_of self.now) (hit_of self.now)
+            (λ _. ⊥) marks.new) }
         ensures settled { OnOk result (AreSettled start marks.old marks.new) }
     {
         trail.clear();
@@ -108,8 +115,11 @@ impl Aftermath<'_> {
 
     /// The marks of all hit devices.
     pub(crate) fn marks(&self, alloc: Global) -> Result<Vec<Mark>, NoMemory>
-        ensures right { IfOk result (λ marks. AreMarks (net_of self.now) (plan_of self.now) (domain_of self.now) (hit_of self.now) (λ _. ⊥) marks.items) }
-        ensures all { IfOk result (λ marks. (i : ℕ) → i < length (hit_of self.now) → slice_get marks.items i ≡ Some Mark.Unseen → ⊥) }
+        ensures right { IfOk result
+            (λ marks. AreMarks (net_of self.now) (plan_of self.now) (domain_of self.now)
+            (hit_of self.now) (λ _. ⊥) marks.items) }
+        ensures all { IfOk result (λ marks. (i : ℕ) → i < length (hit_of self.now)
+            → slice_get marks.items i ≡ Some Mark.Unseen → ⊥) }
     {
         let mut marks = unseen(alloc, self.outage.hit.len())?;
         let mut trail = Vec::new(alloc);

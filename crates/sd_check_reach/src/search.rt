@@ -29,7 +29,8 @@ impl Search {
     /// A search with room for the devices of a topology.
     pub fn new(alloc: Global, topo: &Topology) -> Result<Search, NoMemory>
         ensures room { IfOk result (HasRoom (network topo.now)) }
-        ensures fresh { IfOk result (λ search. (net : Network) (plan : PlanSeen) (domain : DomainSeen) → IsSearchOf net plan domain search) }
+        ensures fresh { IfOk result (λ search. (net : Network) (plan : PlanSeen) (domain : DomainSeen)
+            → IsSearchOf net plan domain search) }
     {
         let visited = NumberSet::new(alloc, topo.devices())?;
         Ok(Search {
@@ -41,7 +42,8 @@ impl Search {
     /// Forgets all, so that another domain can be searched.
     pub fn clear(&mut self)
         ensures room { (net : Network) → HasRoom net self.old → HasRoom net self.new }
-        ensures fresh { (net : Network) (plan : PlanSeen) (domain : DomainSeen) → IsSearchOf net plan domain self.new }
+        ensures fresh { (net : Network) (plan : PlanSeen) (domain : DomainSeen)
+            → IsSearchOf net plan domain self.new }
     {
         self.visited.clear();
         self.trusted = None;
@@ -60,11 +62,14 @@ impl Aftermath<'_> {
     /// Whether a sound device is joined to the acting end for sure. One that is not hit is so where
     /// the backup root is, if that is sound: its cut path leads to the root or the backup root.
     fn is_sure(&self, trusted: bool, d: u32) -> bool
-        requires trust { IsTrue trusted → BackupReaches (net_of self.now) (plan_of self.now) (domain_of self.now) }
+        requires trust { IsTrue trusted
+            → BackupReaches (net_of self.now) (plan_of self.now) (domain_of self.now) }
         requires device { d < length (net_of self.now).devices }
         requires sound { IsTrue (is_sound (net_of self.now) (plan_of self.now) (domain_of self.now) d) }
-        ensures sure { IsTrue result → Reaches (net_of self.now) (plan_of self.now) (domain_of self.now) d }
-        ensures other { result ≡ false → d ≡ acting_end (net_of self.now) (plan_of self.now) (domain_of self.now) → ⊥ }
+        ensures sure { IsTrue result
+            → Reaches (net_of self.now) (plan_of self.now) (domain_of self.now) d }
+        ensures other { result ≡ false
+            → d ≡ acting_end (net_of self.now) (plan_of self.now) (domain_of self.now) → ⊥ }
     {
         d == self.acting || trusted && !self.outage.hits(d)
     }
@@ -72,14 +77,21 @@ impl Aftermath<'_> {
     /// Looks at the other end of a link, which is a member, and whether it is left and joined to
     /// the acting end for sure. An end that is left and not sure is added to what is visited.
     fn visit(&self, trusted: bool, end: End, visited: &mut NumberSet) -> bool
-        requires trust { IsTrue trusted → BackupReaches (net_of self.now) (plan_of self.now) (domain_of self.now) }
+        requires trust { IsTrue trusted
+            → BackupReaches (net_of self.now) (plan_of self.now) (domain_of self.now) }
         requires device { end.device < length (net_of self.now).devices }
         requires member { IsTrue (is_member (plan_of self.now) end.device) }
         requires room { visited.old.bound ≡ length (net_of self.now).devices }
-        ensures left { result ≡ true → is_left (net_of self.now) (domain_of self.now) end.link end.device ≡ true }
-        ensures met { result ≡ true → Reaches (net_of self.now) (plan_of self.now) (domain_of self.now) end.device }
-        ensures passed { result ≡ false → is_left (net_of self.now) (domain_of self.now) end.link end.device ≡ true → has visited.new.numbers end.device ≡ true }
-        ensures grown { Grows visited.old.numbers visited.new.numbers (IsPassed (net_of self.now) (plan_of self.now) (domain_of self.now) end.link end.device) }
+        ensures left { result ≡ true
+            → is_left (net_of self.now) (domain_of self.now) end.link end.device ≡ true }
+        ensures met { result ≡ true
+            → Reaches (net_of self.now) (plan_of self.now) (domain_of self.now) end.device }
+        ensures passed { result ≡ false
+            → is_left (net_of self.now) (domain_of self.now) end.link end.device ≡ true
+            → has visited.new.numbers end.device ≡ true }
+        ensures grown { Grows visited.old.numbers visited.new.numbers
+            (IsPassed (net_of self.now) (plan_of self.now)
+            (domain_of self.now) end.link end.device) }
         ensures room { visited.new.bound ≡ visited.old.bound }
     {
         if visited.contains(end.device) || !self.leaves(end.link, end.device) {
@@ -95,12 +107,17 @@ impl Aftermath<'_> {
     /// Looks at all ends of the links of a device, and whether one is joined to the acting end for
     /// sure, over what the domain leaves. What may be is added to what is visited.
     fn look_around(&self, trusted: bool, d: u32, visited: &mut NumberSet) -> bool
-        requires trust { IsTrue trusted → BackupReaches (net_of self.now) (plan_of self.now) (domain_of self.now) }
+        requires trust { IsTrue trusted
+            → BackupReaches (net_of self.now) (plan_of self.now) (domain_of self.now) }
         requires device { d < length (net_of self.now).devices }
         requires room { visited.old.bound ≡ length (net_of self.now).devices }
-        ensures met { result ≡ true → Reaches (net_of self.now) (plan_of self.now) (domain_of self.now) d }
-        ensures around { result ≡ false → LeadsInto (net_of self.now) (plan_of self.now) (domain_of self.now) visited.new.numbers d }
-        ensures grown { Grows visited.old.numbers visited.new.numbers (IsStep (net_of self.now) (plan_of self.now) (domain_of self.now) d) }
+        ensures met { result ≡ true
+            → Reaches (net_of self.now) (plan_of self.now) (domain_of self.now) d }
+        ensures around { result ≡ false
+            → LeadsInto (net_of self.now) (plan_of self.now)
+            (domain_of self.now) visited.new.numbers d }
+        ensures grown { Grows visited.old.numbers visited.new.numbers
+            (IsStep (net_of self.now) (plan_of self.now) (domain_of self.now) d) }
         ensures room { visited.new.bound ≡ visited.old.bound }
     {
         for end in self.outage.planned.index.links_at(d) {
@@ -114,14 +131,18 @@ impl Aftermath<'_> {
     /// Whether a device is joined to the acting end. The set has what earlier searches visited, which
     /// is cut off; where this one runs dry, all that it visited is added.
     fn finds(&self, trusted: bool, from: u32, visited: &mut NumberSet) -> bool
-        requires trust { IsTrue trusted → BackupReaches (net_of self.now) (plan_of self.now) (domain_of self.now) }
+        requires trust { IsTrue trusted
+            → BackupReaches (net_of self.now) (plan_of self.now) (domain_of self.now) }
         requires device { from < length (net_of self.now).devices }
         requires dry { IsDry (net_of self.now) (plan_of self.now) (domain_of self.now) visited.old.numbers }
         requires room { visited.old.bound ≡ length (net_of self.now).devices }
-        ensures met { result ≡ true → Reaches (net_of self.now) (plan_of self.now) (domain_of self.now) from }
-        ensures dry { result ≡ false → IsDry (net_of self.now) (plan_of self.now) (domain_of self.now) visited.new.numbers }
+        ensures met { result ≡ true
+            → Reaches (net_of self.now) (plan_of self.now) (domain_of self.now) from }
+        ensures dry { result ≡ false
+            → IsDry (net_of self.now) (plan_of self.now) (domain_of self.now) visited.new.numbers }
         ensures among { result ≡ false → has visited.new.numbers from ≡ true }
-        ensures had { (x : ℕ) → has visited.old.numbers x ≡ true → has visited.new.numbers x ≡ true }
+        ensures had { (x : ℕ) → has visited.old.numbers x ≡ true
+            → has visited.new.numbers x ≡ true }
         ensures room { visited.new.bound ≡ visited.old.bound }
     {
         if from == self.acting {
@@ -144,8 +165,10 @@ impl Aftermath<'_> {
     fn backup_reaches(&self, visited: &mut NumberSet) -> bool
         requires dry { IsDry (net_of self.now) (plan_of self.now) (domain_of self.now) visited.old.numbers }
         requires room { visited.old.bound ≡ length (net_of self.now).devices }
-        ensures reaches { IsTrue result → BackupReaches (net_of self.now) (plan_of self.now) (domain_of self.now) }
-        ensures dry { IsDry (net_of self.now) (plan_of self.now) (domain_of self.now) visited.new.numbers }
+        ensures reaches { IsTrue result
+            → BackupReaches (net_of self.now) (plan_of self.now) (domain_of self.now) }
+        ensures dry { IsDry (net_of self.now) (plan_of self.now)
+            (domain_of self.now) visited.new.numbers }
         ensures room { visited.new.bound ≡ visited.old.bound }
     {
         let backup = self.outage.planned.plan.backup_root;
@@ -163,7 +186,8 @@ impl Aftermath<'_> {
     fn trusts_backup(&self, search: &mut Search) -> bool
         requires search { IsSearchOf (net_of self.now) (plan_of self.now) (domain_of self.now) search.old }
         requires room { HasRoom (net_of self.now) search.old }
-        ensures trust { IsTrue result → BackupReaches (net_of self.now) (plan_of self.now) (domain_of self.now) }
+        ensures trust { IsTrue result
+            → BackupReaches (net_of self.now) (plan_of self.now) (domain_of self.now) }
         ensures search { IsSearchOf (net_of self.now) (plan_of self.now) (domain_of self.now) search.new }
         ensures room { HasRoom (net_of self.now) search.new }
     {
@@ -177,11 +201,14 @@ impl Aftermath<'_> {
 
     /// The first of some devices that is not cut off from the acting end.
     pub(crate) fn first_uncut(&self, search: &mut Search, candidates: &[u32]) -> Option<u32>
-        requires devices { (i d : ℕ) → slice_get candidates.now i ≡ Some d → d < length (net_of self.now).devices }
+        requires devices { (i d : ℕ) → slice_get candidates.now i ≡ Some d
+            → d < length (net_of self.now).devices }
         requires search { IsSearchOf (net_of self.now) (plan_of self.now) (domain_of self.now) search.old }
         requires room { HasRoom (net_of self.now) search.old }
-        ensures first { FirstReached (net_of self.now) (plan_of self.now) (domain_of self.now) candidates.now result }
-        ensures search { result ≡ None → IsSearchOf (net_of self.now) (plan_of self.now) (domain_of self.now) search.new }
+        ensures first { FirstReached (net_of self.now) (plan_of self.now)
+            (domain_of self.now) candidates.now result }
+        ensures search { result ≡ None
+            → IsSearchOf (net_of self.now) (plan_of self.now) (domain_of self.now) search.new }
         ensures room { HasRoom (net_of self.now) search.new }
     {
         if candidates.is_empty() {

@@ -23,7 +23,8 @@ impl Aftermath<'_> {
     /// root waits for it or acts itself.
     pub(crate) fn turn(&self, d: u32) -> Turn
         requires { IsTrue (is_hit (net_of self.now) (plan_of self.now) (domain_of self.now) d) }
-        ensures { IsTurn (net_of self.now) (plan_of self.now) (domain_of self.now) (hit_of self.now) d result }
+        ensures { IsTurn (net_of self.now) (plan_of self.now) (domain_of self.now)
+            (hit_of self.now) d result }
     {
         if self.outage.holds_device(d) {
             return Turn::Lost;

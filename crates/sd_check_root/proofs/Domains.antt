@@ -15,7 +15,9 @@ use Rattle.sd_plan.specs.Indexed.{has_device, has_link}
 use Rattle.sd_check_root.specs.Parts.{devices_in, links_in}
 
 pub same_ways : (a b : ℕ) → nat_eq a b ≡ nat_eq b a
-same_ways a b = elim (cases_eq a b) [ inl same ↦ (eq-eqb a b same ∙ sym (eq-eqb b a (sym same))) | inr other ↦ (ne_eqb a b other ∙ sym (ne_eqb b a (λ same. other (sym same)))) ]
+same_ways a b =
+    elim (cases_eq a b)
+    [ inl same ↦ (eq-eqb a b same ∙ sym (eq-eqb b a (sym same))) | inr other ↦ (ne_eqb a b other ∙ sym (ne_eqb b a (λ same. other (sym same)))) ]
 
 or_none : (t : Bool) → (t || false) ≡ t
 or_none true = refl
@@ -97,8 +99,12 @@ hits_lists net f (thing.Link l ∷ ts) there =
     regroup false b c = refl
 
 -- an element of these lists is in range
-pub device_at : (net : Network) (f : DomainId) (xs : List ℕ) (i : ℕ) → IsNetwork net → IsDomain net f → xs ≡ devices_in net f → i < length xs → get_or xs i 0 < length net.devices
-device_at net f xs i law there is within = All-get_or (λ d. d < length net.devices) xs i 0 within (All-same (λ d. d < length net.devices) xs (devices_in net f) is (devices_within net f law there))
+pub device_at : (net : Network) (f : DomainId) (xs : List ℕ) (i : ℕ) → IsNetwork net → IsDomain net f → xs ≡ devices_in net f → i < length xs
+    → get_or xs i 0 < length net.devices
+device_at net f xs i law there is within =
+    All-get_or (λ d. d < length net.devices) xs i 0 within (All-same (λ d. d < length net.devices) xs (devices_in net f) is (devices_within net f law there))
 
-pub link_at : (net : Network) (f : DomainId) (xs : List ℕ) (i : ℕ) → IsNetwork net → IsDomain net f → xs ≡ links_in net f → i < length xs → get_or xs i 0 < length net.links
-link_at net f xs i law there is within = All-get_or (λ l. l < length net.links) xs i 0 within (All-same (λ l. l < length net.links) xs (links_in net f) is (links_within net f law there))
+pub link_at : (net : Network) (f : DomainId) (xs : List ℕ) (i : ℕ) → IsNetwork net → IsDomain net f → xs ≡ links_in net f → i < length xs
+    → get_or xs i 0 < length net.links
+link_at net f xs i law there is within =
+    All-get_or (λ l. l < length net.links) xs i 0 within (All-same (λ l. l < length net.links) xs (links_in net f) is (links_within net f law there))

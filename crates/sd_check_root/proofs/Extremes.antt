@@ -27,7 +27,8 @@ lows net x k = map (λ device. low device.rates x) (take k net.devices)
 abbrev pub ups : Network → ℕ → ℕ → List ℕ
 ups net x k = map (λ device. up device.rates x) (take k net.devices)
 
-first_low : (devices : List Device) (x : ℕ) → 1 ≤ length devices → least (map (λ device. low device.rates x) (take 1 devices)) ≡ low (at_place devices 0 no_rates (λ device. device.rates)) x
+first_low : (devices : List Device) (x : ℕ) → 1 ≤ length devices
+    → least (map (λ device. low device.rates x) (take 1 devices)) ≡ low (at_place devices 0 no_rates (λ device. device.rates)) x
 first_low [] x some = absurd (omega arith)
 first_low (v ∷ vs) x some = refl
 

@@ -28,7 +28,8 @@ links_of_hops [] l = refl
 links_of_hops (h ∷ hs) l = ap (λ t. t || has_link (things_of hs) l) (same_ways h.link l) ∙ ap (λ t. nat_eq l h.link || t) (links_of_hops hs l)
 
 -- a device is not on its own path
-not_itself : (net : Network) (plan : Plan) (d : ℕ) → Fits net plan → structure_breach net plan ≡ None → d < length net.devices → has_device (path net plan d) d ≡ false
+not_itself : (net : Network) (plan : Plan) (d : ℕ) → Fits net plan → structure_breach net plan ≡ None → d < length net.devices
+    → has_device (path net plan d) d ≡ false
 not_itself net plan d fits structured within =
     let forest = forest_of net plan fits structured in
     devices_of_hops (walk net plan d) d
@@ -75,18 +76,22 @@ backup_root_member net plan structured =
     by_tests true true e none = refl
 
 -- a backup parent is a member
-pub backup_member : (net : Network) (plan : Plan) (d : ℕ) (hop : Hop) → structure_breach net plan ≡ None → d < length net.devices → backup_of plan d ≡ Some hop → is_member plan hop.parent ≡ true
+pub backup_member : (net : Network) (plan : Plan) (d : ℕ) (hop : Hop) → structure_breach net plan ≡ None → d < length net.devices → backup_of plan d ≡ Some hop
+    → is_member plan hop.parent ≡ true
 backup_member net plan d hop structured within is =
     let after_first = rest_none (option_map (λ d. (1, d)) (roots_breach plan)) _ structured in
     let after_second = rest_none (first_failing net 2 (row_is_right plan)) _ after_first in
-    let third = none_mapped (λ d. (3, d)) (find (λ d. not (hops_are_right net plan d)) (device_numbers net)) (first_none (first_failing net 3 (hops_are_right net plan)) _ after_second) in
+    let third = none_mapped (λ d. (3, d)) (find (λ d. not (hops_are_right net plan d)) (device_numbers net))
+    (first_none (first_failing net 3 (hops_are_right net plan)) _ after_second) in
     let right : hops_are_right net plan d ≡ true =
-    not-false (hops_are_right net plan d) (none_found (λ x. not (hops_are_right net plan x)) (device_numbers net) d third (has-below (length net.devices) d within))
+    not-false (hops_are_right net plan d)
+    (none_found (λ x. not (hops_are_right net plan x)) (device_numbers net) d third (has-below (length net.devices) d within))
     in
     let both : (hop_is_right net plan d (primary_of plan d) ≡ true) × (hop_is_right net plan d (backup_of plan d) ≡ true) =
     and_parts (hop_is_right net plan d (primary_of plan d)) (hop_is_right net plan d (backup_of plan d)) right
     in
-    let tests : (is_member plan hop.parent && is_present plan hop.link && joins net hop.link d hop.parent) ≡ true = subst (λ (o : Option Hop). hop_is_right net plan d o ≡ true) is both.1 in
+    let tests : (is_member plan hop.parent && is_present plan hop.link && joins net hop.link d hop.parent) ≡ true =
+    subst (λ (o : Option Hop). hop_is_right net plan d o ≡ true) is both.1 in
     let two = and_parts (is_member plan hop.parent && is_present plan hop.link) (joins net hop.link d hop.parent) tests in
     (and_parts (is_member plan hop.parent) (is_present plan hop.link) two.0).0
 
@@ -94,7 +99,8 @@ backup_member net plan d hop structured within is =
 pub backup_within : (net : Network) (plan : Plan) (d : ℕ) (hop : Hop) → Fits net plan → backup_of plan d ≡ Some hop → IsHop net hop
 backup_within net plan d hop fits is = by_place (slice_get plan.rows d) (λ row at. fits.rows d row at) is
   where
-    by_place : (o : Option (Option PlanRow)) → ((row : Option PlanRow) → o ≡ Some row → IsRow net row) → of_some (of_some o None (λ row. row)) None (λ row. row.backup) ≡ Some hop → IsHop net hop
+    by_place : (o : Option (Option PlanRow)) → ((row : Option PlanRow) → o ≡ Some row → IsRow net row)
+        → of_some (of_some o None (λ row. row)) None (λ row. row.backup) ≡ Some hop → IsHop net hop
     by_place None rows is = cc
     by_place (Some None) rows is = cc
     by_place (Some (Some row)) rows is = (rows (Some row) refl).1 hop is

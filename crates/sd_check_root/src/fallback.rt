@@ -22,7 +22,10 @@ use std::alloc::Global;
 /// Whether the backup root's path has a device.
 fn path_has_device(planned: Indexed<'_>, d: u32) -> bool
     requires { d < length (network planned.topo.now).devices }
-    ensures { result ≡ has_device (walks.path (network planned.entry.topo.now) planned.entry.plan.now planned.entry.plan.now.backup_root) d }
+    ensures { result
+        ≡ has_device
+        (walks.path (network planned.entry.topo.now) planned.entry.plan.now
+        planned.entry.plan.now.backup_root) d }
 {
     let backup_root = planned.plan.backup_root;
     d != backup_root && planned.index.on_walk(backup_root, d)
@@ -31,7 +34,9 @@ fn path_has_device(planned: Indexed<'_>, d: u32) -> bool
 /// Whether the backup root's path has a link.
 fn path_has_link(planned: Indexed<'_>, l: u32) -> bool
     requires { l < length (network planned.topo.now).links }
-    ensures { result ≡ has_link (walks.path (network planned.entry.topo.now) planned.entry.plan.now planned.entry.plan.now.backup_root) l }
+    ensures { result
+        ≡ has_link (walks.path (network planned.entry.topo.now) planned.entry.plan.now
+        planned.entry.plan.now.backup_root) l }
 {
     planned.index.walk_has_link(planned.plan.backup_root, l)
 }
@@ -41,7 +46,9 @@ fn needs_device(planned: Indexed<'_>, from: u32, d: u32) -> bool
     requires device { d < length (network planned.topo.now).devices }
     requires from { from < length (network planned.topo.now).devices }
     requires member { IsTrue (is_member planned.plan.now from) }
-    ensures { result ≡ (not (is_root planned.entry.plan.now d) && walks.on_walk (network planned.entry.topo.now) planned.entry.plan.now from d) }
+    ensures { result
+        ≡ (not (is_root planned.entry.plan.now d)
+        && walks.on_walk (network planned.entry.topo.now) planned.entry.plan.now from d) }
 {
     d != planned.plan.root && planned.index.on_walk(from, d)
 }
@@ -51,7 +58,10 @@ fn needs_link(planned: Indexed<'_>, hop: Hop, l: u32) -> bool
     requires link { l < length (network planned.topo.now).links }
     requires from { hop.parent < length (network planned.topo.now).devices }
     requires member { IsTrue (is_member planned.plan.now hop.parent) }
-    ensures { result ≡ (nat_eq l hop.link || has_link (walks.path (network planned.entry.topo.now) planned.entry.plan.now hop.parent) l) }
+    ensures { result
+        ≡ (nat_eq l hop.link
+        || has_link (walks.path (network planned.entry.topo.now) planned.entry.plan.now hop.parent)
+        l) }
 {
     l == hop.link || planned.index.walk_has_link(hop.parent, l)
 }
@@ -59,7 +69,10 @@ fn needs_link(planned: Indexed<'_>, hop: Hop, l: u32) -> bool
 /// Whether the backup root's path has a device of a domain.
 fn hits_device(planned: Indexed<'_>, domain: DomainId) -> bool
     requires { IsDomain (network planned.topo.now) domain }
-    ensures { result ≡ list_any (has_device (walks.path (network planned.entry.topo.now) planned.entry.plan.now planned.entry.plan.now.backup_root))
+    ensures { result
+        ≡ list_any (has_device
+        (walks.path (network planned.entry.topo.now) planned.entry.plan.now
+        planned.entry.plan.now.backup_root))
         (parts.devices_in (network planned.entry.topo.now) domain) }
 {
     for d in devices_in(planned.topo, &domain) {
@@ -73,7 +86,10 @@ fn hits_device(planned: Indexed<'_>, domain: DomainId) -> bool
 /// Whether the backup root's path has a link of a domain.
 fn hits_link(planned: Indexed<'_>, domain: DomainId) -> bool
     requires { IsDomain (network planned.topo.now) domain }
-    ensures { result ≡ list_any (has_link (walks.path (network planned.entry.topo.now) planned.entry.plan.now planned.entry.plan.now.backup_root))
+    ensures { result
+        ≡ list_any (has_link
+        (walks.path (network planned.entry.topo.now) planned.entry.plan.now
+        planned.entry.plan.now.backup_root))
         (parts.links_in (network planned.entry.topo.now) domain) }
 {
     for l in links_in(planned.topo, &domain) {
@@ -89,7 +105,9 @@ fn first_device(planned: Indexed<'_>, domain: DomainId, from: u32) -> Option<u32
     requires domain { IsDomain (network planned.topo.now) domain }
     requires range { from < length (network planned.topo.now).devices }
     requires member { IsTrue (is_member planned.plan.now from) }
-    ensures { result ≡ find (λ d. not (is_root planned.entry.plan.now d) && walks.on_walk (network planned.entry.topo.now) planned.entry.plan.now from d)
+    ensures { result
+        ≡ find (λ d. not (is_root planned.entry.plan.now d)
+        && walks.on_walk (network planned.entry.topo.now) planned.entry.plan.now from d)
         (parts.devices_in (network planned.entry.topo.now) domain) }
 {
     for d in devices_in(planned.topo, &domain) {
@@ -105,7 +123,9 @@ fn first_link(planned: Indexed<'_>, domain: DomainId, hop: Hop) -> Option<u32>
     requires domain { IsDomain (network planned.topo.now) domain }
     requires from { hop.parent < length (network planned.topo.now).devices }
     requires member { IsTrue (is_member planned.plan.now hop.parent) }
-    ensures { result ≡ find (λ l. nat_eq l hop.link || has_link (walks.path (network planned.entry.topo.now) planned.entry.plan.now hop.parent) l)
+    ensures { result
+        ≡ find (λ l. nat_eq l hop.link || has_link
+        (walks.path (network planned.entry.topo.now) planned.entry.plan.now hop.parent) l)
         (parts.links_in (network planned.entry.topo.now) domain) }
 {
     for l in links_in(planned.topo, &domain) {
@@ -119,7 +139,8 @@ fn first_link(planned: Indexed<'_>, domain: DomainId, hop: Hop) -> Option<u32>
 /// What a domain has of what the backup root falls back on.
 fn fallback_breach(planned: Indexed<'_>, domain: DomainId) -> Option<Thing>
     requires { IsDomain (network planned.topo.now) domain }
-    ensures { result ≡ roots.fallback_breach (network planned.entry.topo.now) planned.entry.plan.now domain }
+    ensures { result ≡ roots.fallback_breach
+        (network planned.entry.topo.now) planned.entry.plan.now domain }
 {
     match backup_of(planned.plan, planned.plan.backup_root) {
         Some(hop) => match first_device(planned, domain, hop.parent) {
@@ -156,7 +177,8 @@ fn is_hit(planned: Indexed<'_>, domain: DomainId) -> bool
 /// the domain is long.
 pub fn root_breach_in(planned: Indexed<'_>, domain: DomainId) -> Option<Thing>
     requires { IsDomain (network planned.topo.now) domain }
-    ensures { result ≡ roots.root_breach (network planned.entry.topo.now) planned.entry.plan.now domain }
+    ensures { result ≡ roots.root_breach
+        (network planned.entry.topo.now) planned.entry.plan.now domain }
 {
     if has_both_roots(planned.topo, planned.plan, domain) {
         Some(Thing::Device(planned.plan.backup_root))
@@ -177,7 +199,8 @@ pub fn root_breach(
     requires fits { Fits (network topo.now) plan.now }
     requires structured { structure_breach (network topo.now) plan.now ≡ None }
     requires domain { IsDomain (network topo.now) domain }
-    ensures { IfOk result (λ breach. breach ≡ roots.root_breach (network topo.now) plan.now domain) }
+    ensures { IfOk result (λ breach. breach
+        ≡ roots.root_breach (network topo.now) plan.now domain) }
 {
     let index = WalkIndex::new(alloc, topo, plan)?;
     let planned = Indexed {

@@ -79,7 +79,8 @@ pub fn silence_and_tick(topo: &Topology) -> u128
 
 /// What the time between two emissions must exceed.
 fn round_trip(topo: &Topology) -> u128
-    ensures { result ≡ 2 * ((network topo.now).params.depth + 1) * network_words.greatest_delay (network topo.now) + (network topo.now).params.tick }
+    ensures { result ≡ 2 * ((network topo.now).params.depth + 1) * network_words.greatest_delay
+        (network topo.now) + (network topo.now).params.tick }
 {
     let params = topo.params();
     let delay = u128::from(topo.greatest_delay());
@@ -104,7 +105,11 @@ impl Rule {
 impl Inequality {
     /// An inequality whose left side is the least reference time of a counter time.
     fn of_time(topo: &Topology, rule: Rule, time: u64, right: u128) -> Inequality
-        ensures { result ≡ record { rule = rule; left = network_words.least_low (network topo.now) time; right = right } }
+        ensures { result ≡ record {
+          rule = rule;
+          left = network_words.least_low (network topo.now) time;
+          right = right;
+        } }
     {
         Inequality {
             rule,

@@ -25,7 +25,8 @@ has_parents [] d = refl
 has_parents (hop ∷ hs) d = ap (λ b. b || has_device (things_of hs) d) (eq_swap hop.parent d) ∙ ap (λ b. nat_eq d hop.parent || b) (has_parents hs d)
 
 -- a device that is no root has its short walk from its cut path
-pub above_other : (net : Network) (plan : Plan) (x d : ℕ) → is_end plan x ≡ false → has_device (things_of (short_path net plan x)) d ≡ has (map (λ hop. hop.parent) (short_walk net plan x)) d
+pub above_other : (net : Network) (plan : Plan) (x d : ℕ) → is_end plan x ≡ false
+    → has_device (things_of (short_path net plan x)) d ≡ has (map (λ hop. hop.parent) (short_walk net plan x)) d
 above_other net plan x d other =
     has_parents (short_path net plan x) d
     ∙ sym (ap (λ (b : Bool). has (map (λ hop. hop.parent) (if b then [] else short_path net plan x)) d) other)
@@ -44,18 +45,25 @@ above_by net plan x d apart no_root no_backup_root =
     ∙ sym (ap (λ b. b || has (map (λ hop. hop.parent) (short_walk net plan x)) d) (ne_eqb d x apart))
 
 -- the backup parent is a member of the network
-pub backup_right : (net : Network) (plan : Plan) (d : ℕ) (hop : Hop) → Fits net plan → structure_breach net plan ≡ None → d < length net.devices → backup_of plan d ≡ Some hop
+pub backup_right : (net : Network) (plan : Plan) (d : ℕ) (hop : Hop) → Fits net plan → structure_breach net plan ≡ None → d < length net.devices
+    → backup_of plan d ≡ Some hop
     → (hop.parent < length net.devices) × (is_member plan hop.parent ≡ true)
 backup_right net plan d hop fits structured within is =
-    let (first, second) = and_parts (hop_is_right net plan d (primary_of plan d)) (hop_is_right net plan d (backup_of plan d)) ((keeps_rules net plan structured).hops d within) in
-    let right : (is_member plan hop.parent && is_present plan hop.link && joins net hop.link d hop.parent) ≡ true = subst (λ (o : Option Hop). hop_is_right net plan d o ≡ true) is second in
+    let (first, second) =
+    and_parts (hop_is_right net plan d (primary_of plan d)) (hop_is_right net plan d (backup_of plan d))
+    ((keeps_rules net plan structured).hops d within) in
+    let right : (is_member plan hop.parent && is_present plan hop.link && joins net hop.link d hop.parent) ≡ true =
+    subst (λ (o : Option Hop). hop_is_right net plan d o ≡ true) is second in
     let (front, joined) = and_parts (is_member plan hop.parent && is_present plan hop.link) (joins net hop.link d hop.parent) right in
     let (member, present) = and_parts (is_member plan hop.parent) (is_present plan hop.link) front in
     let known : IfSome (Some hop) (IsHop net) = subst (λ (o : Option Hop). IfSome o (IsHop net)) is (hops_within net plan d fits).1 in
     (known.0, member)
 
 -- of the backup root the whole walk is asked
-pub root_ancestor : (net : Network) (plan : Plan) (d : ℕ) (hop : Hop) → backup_of plan d ≡ Some hop → d ≡ plan.backup_root → is_no_ancestor net plan d ≡ not (on_walk net plan hop.parent d)
+pub root_ancestor : (net : Network) (plan : Plan) (d : ℕ) (hop : Hop) → backup_of plan d ≡ Some hop → d ≡ plan.backup_root
+    → is_no_ancestor net plan d ≡ not (on_walk net plan hop.parent d)
 root_ancestor net plan d hop is here =
-    ap (λ (o : Option Hop). of_some o true (λ hop. if is_backup_root plan d then not (on_walk net plan hop.parent d) else not (has (devices_of hop.parent (short_walk net plan hop.parent)) d))) is
-    ∙ ap (λ (b : Bool). if b then not (on_walk net plan hop.parent d) else not (has (devices_of hop.parent (short_walk net plan hop.parent)) d)) (eq-eqb plan.backup_root d (sym here))
+    ap (λ (o : Option Hop). of_some o true
+    (λ hop. if is_backup_root plan d then not (on_walk net plan hop.parent d) else not (has (devices_of hop.parent (short_walk net plan hop.parent)) d))) is
+    ∙ ap (λ (b : Bool). if b then not (on_walk net plan hop.parent d) else not (has (devices_of hop.parent (short_walk net plan hop.parent)) d))
+    (eq-eqb plan.backup_root d (sym here))

@@ -21,21 +21,24 @@ use Rattle.sd_checker.specs.declared.Breach.{Breach}
 use Rattle.sd_checker.specs.declared.Breach.TheVariants as breach
 
 -- no condition comes before the first
-pub structure_breaks : (net : Network) (plan : Plan) (rule device : ℕ) → structure_breach net plan ≡ Some (rule, device) → IsBreach net plan (breach.Structure rule device)
+pub structure_breaks : (net : Network) (plan : Plan) (rule device : ℕ) → structure_breach net plan ≡ Some (rule, device)
+    → IsBreach net plan (breach.Structure rule device)
 structure_breaks net plan rule device is = record { before = earlier; shows = is }
   where
     earlier : (c : Condition) → is_before c condition.structure ≡ true → Holds net plan c
     earlier condition.structure before = cc
     earlier c before = cc
 
-pub ancestor_breaks : (net : Network) (plan : Plan) (device : ℕ) → structure_breach net plan ≡ None → ancestor_breach net plan ≡ Some device → IsBreach net plan (breach.Ancestor device)
+pub ancestor_breaks : (net : Network) (plan : Plan) (device : ℕ) → structure_breach net plan ≡ None → ancestor_breach net plan ≡ Some device
+    → IsBreach net plan (breach.Ancestor device)
 ancestor_breaks net plan device structure is = record { before = earlier; shows = is }
   where
     earlier : (c : Condition) → is_before c condition.ancestor ≡ true → Holds net plan c
     earlier condition.structure before = structure
     earlier c before = cc
 
-pub timing_breaks : (net : Network) (plan : Plan) (t : TimingBreach) → structure_breach net plan ≡ None → ancestor_breach net plan ≡ None → timing_breach net plan ≡ Some t → IsBreach net plan (breach.Timing t)
+pub timing_breaks : (net : Network) (plan : Plan) (t : TimingBreach) → structure_breach net plan ≡ None → ancestor_breach net plan ≡ None
+    → timing_breach net plan ≡ Some t → IsBreach net plan (breach.Timing t)
 timing_breaks net plan t structure ancestor is = record { before = earlier; shows = is }
   where
     earlier : (c : Condition) → is_before c condition.timing ≡ true → Holds net plan c
@@ -43,7 +46,8 @@ timing_breaks net plan t structure ancestor is = record { before = earlier; show
     earlier condition.ancestor before = ancestor
     earlier c before = cc
 
-pub root_breaks : (net : Network) (plan : Plan) (f : DomainId) (at : Thing) → structure_breach net plan ≡ None → ancestor_breach net plan ≡ None → timing_breach net plan ≡ None → Shows net plan (breach.Root f at) → IsBreach net plan (breach.Root f at)
+pub root_breaks : (net : Network) (plan : Plan) (f : DomainId) (at : Thing) → structure_breach net plan ≡ None → ancestor_breach net plan ≡ None
+    → timing_breach net plan ≡ None → Shows net plan (breach.Root f at) → IsBreach net plan (breach.Root f at)
 root_breaks net plan f at structure ancestor timing shows = record { before = earlier; shows = shows }
   where
     earlier : (c : Condition) → is_before c condition.root ≡ true → Holds net plan c
@@ -53,7 +57,8 @@ root_breaks net plan f at structure ancestor timing shows = record { before = ea
     earlier c before = cc
 
 -- what was found of all domains is the verdict
-pub found_of_all : (net : Network) (plan : Plan) (found : Option Breach) → IsSound net plan → IsFoundAmong net plan (length (domains net)) found → Finds net plan found
+pub found_of_all : (net : Network) (plan : Plan) (found : Option Breach) → IsSound net plan → IsFoundAmong net plan (length (domains net)) found
+    → Finds net plan found
 found_of_all net plan None sound among =
     record {
       structure = sound.structure;
@@ -80,7 +85,8 @@ pub found_of_none : (net : Network) (plan : Plan) → IsFoundAmong net plan 0 No
 found_of_none net plan = record { hold = λ c asked j g before at. absurd (omega arith); shows = tt; later = tt }
 
 -- what holds of the first domains and of the next holds of one more
-pub one_more : (net : Network) (P : DomainId → Type 0) (k : ℕ) (f : DomainId) → ((j : ℕ) (g : DomainId) → j < k → slice_get (domains net) j ≡ Some g → P g) → slice_get (domains net) k ≡ Some f → P f
+pub one_more : (net : Network) (P : DomainId → Type 0) (k : ℕ) (f : DomainId) → ((j : ℕ) (g : DomainId) → j < k → slice_get (domains net) j ≡ Some g → P g)
+    → slice_get (domains net) k ≡ Some f → P f
     → (j : ℕ) (g : DomainId) → j < k + 1 → slice_get (domains net) j ≡ Some g → P g
 one_more net P k f earlier at here j g before there =
     elim (cases_lt j k) [
@@ -93,7 +99,8 @@ one_more net P k f earlier at here j g before there =
     ]
 
 -- the next domain meets each open condition
-pub found_no_more : (net : Network) (plan : Plan) (k : ℕ) (found : Option Breach) (f : DomainId) → IsFoundAmong net plan k found → slice_get (domains net) k ≡ Some f → Judges net plan found f None
+pub found_no_more : (net : Network) (plan : Plan) (k : ℕ) (found : Option Breach) (f : DomainId) → IsFoundAmong net plan k found
+    → slice_get (domains net) k ≡ Some f → Judges net plan found f None
     → IsFoundAmong net plan (k + 1) found
 found_no_more net plan k found f among at holds =
     record { hold = λ c asked. one_more net (λ g. HoldsOf net plan g c) k f (among.hold c asked) at (holds c asked); shows = among.shows; later = among.later }
@@ -102,13 +109,16 @@ found_no_more net plan k found f among at holds =
 still_open : (found : Option Breach) (c later : Condition) → is_before c later ≡ true → is_open found later ≡ true → is_open found c ≡ true
 still_open None c later before asked = refl
 still_open (Some b) c later before asked =
-    lt-ltb (place_of c) (place_of (condition_of b)) (omega (arith, ltb-true (place_of c) (place_of later) before, ltb-true (place_of later) (place_of (condition_of b)) asked))
+    lt-ltb (place_of c) (place_of (condition_of b))
+    (omega (arith, ltb-true (place_of c) (place_of later) before, ltb-true (place_of later) (place_of (condition_of b)) asked))
 
 -- the breach that the next domain shows is shown of the plan
-shown_next : (net : Network) (plan : Plan) (k : ℕ) (found : Option Breach) (f : DomainId) (b : Breach) → IsFoundAmong net plan k found → slice_get (domains net) k ≡ Some f → Judges net plan found f (Some b) → Shows net plan b
+shown_next : (net : Network) (plan : Plan) (k : ℕ) (found : Option Breach) (f : DomainId) (b : Breach) → IsFoundAmong net plan k found
+    → slice_get (domains net) k ≡ Some f → Judges net plan found f (Some b) → Shows net plan b
 shown_next net plan k found f b among at judged = shown b judged.0 judged.2
   where
-    first : (g : DomainId) (P : DomainId → Type 0) → g ≡ f → ((j : ℕ) (h : DomainId) → j < k → slice_get (domains net) j ≡ Some h → P h) → IsFirstSuspect net P g
+    first : (g : DomainId) (P : DomainId → Type 0) → g ≡ f → ((j : ℕ) (h : DomainId) → j < k → slice_get (domains net) j ≡ Some h → P h)
+        → IsFirstSuspect net P g
     first g P same earlier = (k, at ∙ sym (let some : Some g ≡ Some f = cc in some), earlier)
 
     shown : (b : Breach) → is_open found (condition_of b) ≡ true → ShowsOf net plan f b → Shows net plan b
@@ -116,16 +126,27 @@ shown_next net plan k found f b among at judged = shown b judged.0 judged.2
     shown (breach.Ancestor device) asked shows = absurd shows
     shown (breach.Timing t) asked shows = absurd shows
     shown (breach.Root g thing) asked shows = absurd shows
-    shown (breach.Loop g cycle) asked shows = (first g (HasNoCycle net plan) shows.0 (among.hold condition.loop asked), subst (λ (h : DomainId). ShowsCycle net plan h cycle) (sym shows.0) shows.1)
-    shown (breach.Domain g device) asked shows = (first g (DomainHolds net plan) shows.0 (among.hold condition.domain asked), subst (λ (h : DomainId). ShowsDevice net plan h device) (sym shows.0) shows.1)
-    shown (breach.Reach g chain) asked shows = (first g (ReachHolds net plan) shows.0 (among.hold condition.reach asked), subst (λ (h : DomainId). IsShownChain net plan h chain) (sym shows.0) shows.1)
+    shown (breach.Loop g cycle) asked shows =
+        (first g (HasNoCycle net plan) shows.0 (among.hold condition.loop asked), subst (λ (h : DomainId). ShowsCycle net plan h cycle) (sym shows.0) shows.1)
+    shown (breach.Domain g device) asked shows = (
+      first g (DomainHolds net plan) shows.0 (among.hold condition.domain asked),
+      subst (λ (h : DomainId). ShowsDevice net plan h device)
+          (sym shows.0) shows.1,
+    )
+    shown (breach.Reach g chain) asked shows = (
+      first g (ReachHolds net plan) shows.0 (among.hold condition.reach asked),
+      subst (λ (h : DomainId). IsShownChain net plan h chain)
+          (sym shows.0) shows.1,
+    )
 
 -- the next domain breaks a condition that comes after the one on loops
-pub found_more : (net : Network) (plan : Plan) (k : ℕ) (found : Option Breach) (f : DomainId) (b : Breach) → IsFoundAmong net plan k found → slice_get (domains net) k ≡ Some f → Judges net plan found f (Some b) → is_loop b ≡ false
+pub found_more : (net : Network) (plan : Plan) (k : ℕ) (found : Option Breach) (f : DomainId) (b : Breach) → IsFoundAmong net plan k found
+    → slice_get (domains net) k ≡ Some f → Judges net plan found f (Some b) → is_loop b ≡ false
     → IsFoundAmong net plan (k + 1) (Some b)
 found_more net plan k found f b among at judged no_loop =
     record {
-      hold = λ c before. one_more net (λ g. HoldsOf net plan g c) k f (among.hold c (still_open found c (condition_of b) before judged.0)) at (judged.1 c before);
+      hold = λ c before. one_more net (λ g. HoldsOf net plan g c) k f (among.hold c (still_open found c (condition_of b) before judged.0)) at
+          (judged.1 c before);
       shows = shown_next net plan k found f b among at judged;
       later = later b judged.2 no_loop;
     }
@@ -140,7 +161,8 @@ found_more net plan k found f b among at judged no_loop =
     later (breach.Reach g chain) shows no_loop = refl
 
 -- the next domain breaks the condition on loops, which comes before the others on hit devices
-pub found_loop : (net : Network) (plan : Plan) (k : ℕ) (found : Option Breach) (f : DomainId) (b : Breach) → IsSound net plan → IsFoundAmong net plan k found → slice_get (domains net) k ≡ Some f → Judges net plan found f (Some b) → is_loop b ≡ true
+pub found_loop : (net : Network) (plan : Plan) (k : ℕ) (found : Option Breach) (f : DomainId) (b : Breach) → IsSound net plan → IsFoundAmong net plan k found
+    → slice_get (domains net) k ≡ Some f → Judges net plan found f (Some b) → is_loop b ≡ true
     → IsBreach net plan b
 found_loop net plan k found f b sound among at judged loop = record { before = earlier; shows = shown_next net plan k found f b among at judged }
   where

@@ -35,7 +35,8 @@ lone net = map domain.Device (below (length net.devices)) ++ map domain.Link (be
 
 -- the listed ones, and then those of one thing
 parts : (net : Network) → domains net ≡ map domain.Listed (below (length net.domains)) ++ lone net
-parts net = append_assoc (map domain.Listed (below (length net.domains))) (map domain.Device (below (length net.devices))) (map domain.Link (below (length net.links)))
+parts net = append_assoc (map domain.Listed (below (length net.domains))) (map domain.Device (below (length net.devices)))
+    (map domain.Link (below (length net.links)))
 
 -- how many domains there are
 pub length-domains : (net : Network) → length (domains net) ≡ length net.domains + length net.devices + length net.links
@@ -45,7 +46,15 @@ length-domains net =
     let links = map domain.Link (below (length net.links)) in
     let whole : length (domains net) ≡ length listed + length (devices ++ links) = ap length (parts net) ∙ length-append listed (devices ++ links) in
     let rest : length (devices ++ links) ≡ length devices + length links = length-append devices links in
-    omega (arith, whole, rest, length-named domain.Listed (length net.domains), length-named domain.Device (length net.devices), length-named domain.Link (length net.links))
+    omega (
+      arith,
+      whole,
+      rest,
+      length-named domain.Listed (length net.domains),
+      length-named domain.Device (length net.devices),
+      length-named domain.Link
+          (length net.links),
+    )
 
 -- the element of a list at a place within it
 at_place : (xs : List DomainId) (k : ℕ) (f : DomainId) → k < length xs → get_or xs k f ≡ f → slice_get xs k ≡ Some f
@@ -57,9 +66,11 @@ listed_at net k within =
     let rest = map domain.Device (below (length net.devices)) ++ map domain.Link (below (length net.links)) in
     let count = length-named domain.Listed (length net.domains) in
     at_place (domains net) k (domain.Listed k) (omega (arith, length-domains net))
-    (ap (λ (xs : List DomainId). get_or xs k (domain.Listed k)) (parts net) ∙ get_or_append_left listed rest (domain.Listed k) k (omega (arith, count)) ∙ at-named domain.Listed (length net.domains) k (domain.Listed k) within)
+    (ap (λ (xs : List DomainId). get_or xs k (domain.Listed k)) (parts net) ∙ get_or_append_left listed rest (domain.Listed k) k (omega (arith, count))
+    ∙ at-named domain.Listed (length net.domains) k (domain.Listed k) within)
 
-pub device_at : (net : Network) (n k : ℕ) → n ≡ length net.domains → n ≤ k → k - n < length net.devices → slice_get (domains net) k ≡ Some (domain.Device (k - n))
+pub device_at : (net : Network) (n k : ℕ) → n ≡ length net.domains → n ≤ k → k - n < length net.devices
+    → slice_get (domains net) k ≡ Some (domain.Device (k - n))
 device_at net n k is behind within =
     let listed = map domain.Listed (below (length net.domains)) in
     let devices = map domain.Device (below (length net.devices)) in
@@ -67,7 +78,8 @@ device_at net n k is behind within =
     let count : length listed ≡ n = length-named domain.Listed (length net.domains) ∙ sym is in
     let size = length-named domain.Device (length net.devices) in
     at_place (domains net) k (domain.Device (k - n)) (omega (arith, length-domains net))
-    (ap (λ (xs : List DomainId). get_or xs k (domain.Device (k - n))) (parts net) ∙ get_or-append_right listed (devices ++ links) n k (domain.Device (k - n)) count behind
+    (ap (λ (xs : List DomainId). get_or xs k (domain.Device (k - n))) (parts net)
+    ∙ get_or-append_right listed (devices ++ links) n k (domain.Device (k - n)) count behind
     ∙ get_or_append_left devices links (domain.Device (k - n)) (k - n) (omega (arith, size))
     ∙ at-named domain.Device (length net.devices) (k - n) (domain.Device (k - n)) within)
 
@@ -80,6 +92,7 @@ link_at net n m k is size behind beyond within =
     let count : length listed ≡ n = length-named domain.Listed (length net.domains) ∙ sym is in
     let second : length devices ≡ m = length-named domain.Device (length net.devices) ∙ sym size in
     at_place (domains net) k (domain.Link (k - n - m)) within
-    (ap (λ (xs : List DomainId). get_or xs k (domain.Link (k - n - m))) (parts net) ∙ get_or-append_right listed (devices ++ links) n k (domain.Link (k - n - m)) count behind
+    (ap (λ (xs : List DomainId). get_or xs k (domain.Link (k - n - m))) (parts net)
+    ∙ get_or-append_right listed (devices ++ links) n k (domain.Link (k - n - m)) count behind
     ∙ get_or-append_right devices links m (k - n) (domain.Link (k - n - m)) second beyond
     ∙ at-named domain.Link (length net.links) (k - n - m) (domain.Link (k - n - m)) (omega (arith, length-domains net)))

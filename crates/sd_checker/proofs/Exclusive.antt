@@ -34,7 +34,8 @@ pick : (hs : List Hop) (e : ℕ) → list_any (λ (hop : Hop). nat_eq hop.parent
 pick [] e leads = cc
 pick (h ∷ hs) e leads = by_first (nat_eq h.parent e) refl (pick hs e)
   where
-    by_first : (b : Bool) → nat_eq h.parent e ≡ b → (list_any (λ (hop : Hop). nat_eq hop.parent e) hs ≡ true → (hop : Hop) × (hop.parent ≡ e) × (list_any (same_hop hop) hs ≡ true))
+    by_first : (b : Bool) → nat_eq h.parent e ≡ b
+        → (list_any (λ (hop : Hop). nat_eq hop.parent e) hs ≡ true → (hop : Hop) × (hop.parent ≡ e) × (list_any (same_hop hop) hs ≡ true))
         → (hop : Hop) × (hop.parent ≡ e) × (list_any (same_hop hop) (h ∷ hs) ≡ true)
     by_first true is further = (h, eqb-true h.parent e is, ap (λ b. b || list_any (same_hop h) hs) (same_self h))
     by_first false is further =

@@ -6,3 +6,7 @@ mod Lines
 mod Outages
 pub mod Exclusive
 pub mod Unique
+-- Handed on: what crates above name of those below.
+pub use Rattle.sd_num.proofs as Num
+pub use Rattle.sd_plan.proofs as Plan
+pub use Rattle.sd_check_reach.proofs as CheckReach

@@ -3,8 +3,8 @@ use Rattle.std.proofs.Common.{◌≡◌, Option, subst}
 use Rattle.sd_topo.specs.Topologies.{network}
 use Rattle.sd_domain.specs.declared.DomainId.{DomainId}
 use Rattle.sd_plan.specs.declared.indexed.Indexed.{Indexed}
-use Rattle.sd_hit.specs.Outages.{net_of, plan_of}
-use Rattle.sd_hit.specs.declared.outage.Outage.{Outage}
+use Rattle.sd_check_hit.specs.Outages.{net_of, plan_of}
+use Rattle.sd_check_hit.specs.declared.outage.Outage.{Outage}
 use Rattle.sd_checker.specs.declared.Breach.{Breach}
 use Rattle.sd_checker.specs.Findings.{Judges}
 

@@ -54,7 +54,9 @@ same_shown net plan (breach.Root f at) (breach.Root g at') same (first, shown) (
     let things : at ≡ at' = cc in
     cc
 same_shown net plan (breach.Loop f cycle) (breach.Loop g cycle') same (first, shown) (first', also) =
-    let domain : g ≡ f = one_first net (HasNoCycle net plan) g f first' first (λ holds. no_shown net plan g cycle' holds also) (λ holds. no_shown net plan f cycle holds shown) in
+    let domain : g ≡ f =
+    one_first net (HasNoCycle net plan) g f first' first (λ holds. no_shown net plan g cycle' holds also)
+    (λ holds. no_shown net plan f cycle holds shown) in
     let cycles = one_cycle net plan f cycle cycle' shown (subst (λ (h : DomainId). ShowsCycle net plan h cycle') domain also) in
     cc
 same_shown net plan (breach.Domain f device) (breach.Domain g device') same (first, shown) (first', also) =
@@ -62,7 +64,9 @@ same_shown net plan (breach.Domain f device) (breach.Domain g device') same (fir
     let devices = one_device net plan f device device' shown (subst (λ (h : DomainId). ShowsDevice net plan h device') domain also) in
     cc
 same_shown net plan (breach.Reach f chain) (breach.Reach g chain') same (first, shown) (first', also) =
-    let domain : g ≡ f = one_first net (ReachHolds net plan) g f first' first (λ holds. fed_or_cut net plan g chain' holds also) (λ holds. fed_or_cut net plan f chain holds shown) in
+    let domain : g ≡ f =
+    one_first net (ReachHolds net plan) g f first' first (λ holds. fed_or_cut net plan g chain' holds also)
+    (λ holds. fed_or_cut net plan f chain holds shown) in
     let chains = one_chain net plan f chain chain' shown (subst (λ (h : DomainId). IsShownChain net plan h chain') domain also) in
     cc
 same_shown net plan a b same shown also = absurd (omega arith)
@@ -71,10 +75,12 @@ same_shown net plan a b same shown also = absurd (omega arith)
 pub one_breach : (net : Network) (plan : Plan) (a b : Breach) → IsBreach net plan a → IsBreach net plan b → a ≡ b
 one_breach net plan a b is also =
     elim (cases_lt (place_of (condition_of a)) (place_of (condition_of b))) [
-      | inl earlier ↦ absurd (unbroken net plan a (also.before (condition_of a) (lt-ltb (place_of (condition_of a)) (place_of (condition_of b)) earlier)) is.shows)
+      | inl earlier ↦ absurd
+          (unbroken net plan a (also.before (condition_of a) (lt-ltb (place_of (condition_of a)) (place_of (condition_of b)) earlier)) is.shows)
       | inr after ↦
           (elim (cases_lt (place_of (condition_of b)) (place_of (condition_of a))) [
-            | inl later ↦ absurd (unbroken net plan b (is.before (condition_of b) (lt-ltb (place_of (condition_of b)) (place_of (condition_of a)) later)) also.shows)
+            | inl later ↦ absurd
+                (unbroken net plan b (is.before (condition_of b) (lt-ltb (place_of (condition_of b)) (place_of (condition_of a)) later)) also.shows)
             | inr within ↦ same_shown net plan a b (omega arith) is.shows also.shows
           ])
     ]

@@ -20,14 +20,17 @@ module _ (v w : ℕ) (net : Network) where
   pub accepted_line-with_version : accepted_line (with_version v net) ≡ accepted_line (with_version w net)
   accepted_line-with_version = refl
 
-  pub refused_line-with_version : (place : ℕ) (breach : Breach) → refused_line (with_version v net) place breach ≡ refused_line (with_version w net) place breach
+  pub refused_line-with_version : (place : ℕ) (breach : Breach)
+      → refused_line (with_version v net) place breach ≡ refused_line (with_version w net) place breach
   refused_line-with_version place breach = refl
 
   -- what is carried over for each domain is so for all
-  pub OfEachDomain-with_version : {P Q : DomainId → Type 0} → ((f : DomainId) → P f → Q f) → OfEachDomain (with_version v net) P → OfEachDomain (with_version w net) Q
+  pub OfEachDomain-with_version : {P Q : DomainId → Type 0} → ((f : DomainId) → P f → Q f) → OfEachDomain (with_version v net) P
+      → OfEachDomain (with_version w net) Q
   OfEachDomain-with_version carried holds k f at = carried f (holds k f at)
 
-  pub IsFirstSuspect-with_version : {P Q : DomainId → Type 0} (f : DomainId) → ((g : DomainId) → P g → Q g) → IsFirstSuspect (with_version v net) P f → IsFirstSuspect (with_version w net) Q f
+  pub IsFirstSuspect-with_version : {P Q : DomainId → Type 0} (f : DomainId) → ((g : DomainId) → P g → Q g) → IsFirstSuspect (with_version v net) P f
+      → IsFirstSuspect (with_version w net) Q f
   IsFirstSuspect-with_version f carried first = (first.0, first.1, λ j g less at. carried g (first.2 j g less at))
 
   module _ (plan : Plan) where
@@ -64,7 +67,8 @@ module _ (v w : ℕ) (net : Network) where
         }
 
     pub IsBreach-with_version : (breach : Breach) → IsBreach (with_version v net) plan breach → IsBreach (with_version w net) plan breach
-    IsBreach-with_version breach shown = record { before = λ c earlier. Holds-with_version c (shown.before c earlier); shows = Shows-with_version breach shown.shows }
+    IsBreach-with_version breach shown =
+        record { before = λ c earlier. Holds-with_version c (shown.before c earlier); shows = Shows-with_version breach shown.shows }
 
     pub IsVerdict-with_version : (verdict : Verdict) → IsVerdict (with_version v net) plan verdict → IsVerdict (with_version w net) plan verdict
     IsVerdict-with_version Accepted holds = IsAccepted-with_version holds

@@ -41,7 +41,8 @@ is_open (Some breach) c = is_before c (condition_of breach)
 abbrev pub Judges : Network → Plan → Option Breach → DomainId → Option Breach → Type 0
 Judges net plan found f None = (c : Condition) → IsTrue (is_open found c) → HoldsOf net plan f c
 Judges net plan found f (Some breach) =
-    IsTrue (is_open found (condition_of breach)) × ((c : Condition) → IsTrue (is_before c (condition_of breach)) → HoldsOf net plan f c) × ShowsOf net plan f breach
+    IsTrue (is_open found (condition_of breach)) × ((c : Condition) → IsTrue (is_before c (condition_of breach)) → HoldsOf net plan f c)
+    × ShowsOf net plan f breach
 
 -- the breach is shown, if there is one
 abbrev pub ShowsFound : Network → Plan → Option Breach → Type 0

@@ -27,7 +27,8 @@ fn is_on_short_walk(planned: Indexed<'_>, x: u32, d: u32) -> bool
 /// Whether a device is not above its backup parent, if it has one.
 fn is_no_ancestor(planned: Indexed<'_>, d: u32) -> bool
     requires device { d < length (network planned.topo.now).devices }
-    ensures { result ≡ structure.is_no_ancestor (network planned.entry.topo.now) planned.entry.plan.now d }
+    ensures { result ≡ structure.is_no_ancestor
+        (network planned.entry.topo.now) planned.entry.plan.now d }
 {
     let Some(hop) = backup_of(planned.plan, d) else {
         return true;
@@ -41,7 +42,8 @@ fn is_no_ancestor(planned: Indexed<'_>, d: u32) -> bool
 
 /// The lowest device that is above its own backup parent.
 pub(crate) fn ancestor_breach(planned: Indexed<'_>) -> Option<u32>
-    ensures { result ≡ structure.ancestor_breach (network planned.entry.topo.now) planned.entry.plan.now }
+    ensures { result ≡ structure.ancestor_breach
+        (network planned.entry.topo.now) planned.entry.plan.now }
 {
     for d in 0..planned.topo.devices() {
         if !is_no_ancestor(planned, d) {

@@ -4,14 +4,14 @@ ghost use Rattle.std.specs.Prelude.{◌≡◌, IfOk};
 ghost use Rattle.sd_check_reach.specs.Searches.{HasRoom, IsSearchOf};
 ghost use Rattle.sd_checker.specs.Findings as findings;
 ghost use Rattle.sd_checker.specs.Findings.{Judges, Finds, IsSound, ComesAfterLoops};
-ghost use Rattle.sd_hit.specs.Outages.{net_of, plan_of};
+ghost use Rattle.sd_check_hit.specs.Outages.{net_of, plan_of};
 ghost use Rattle.sd_topo.specs.Topologies.{network};
 
 use crate::Breach;
 use crate::order::{domain_at, domain_count};
+use sd_check_hit::{Impact, Outage};
 use sd_check_loop::loop_breach_of;
 use sd_check_reach::Search;
-use sd_hit::{Impact, Outage};
 use sd_num::NoMemory;
 use sd_plan::Indexed;
 use std::alloc::Global;
@@ -27,7 +27,8 @@ fn earlier_breach(
     requires search { IsSearchOf (net_of outage.now) (plan_of outage.now) outage.now.domain search.old }
     requires room { HasRoom (net_of outage.now) search.old }
     requires found { ComesAfterLoops found.now }
-    ensures judged { IfOk result (Judges (net_of outage.now) (plan_of outage.now) found.now outage.now.domain) }
+    ensures judged { IfOk result
+        (Judges (net_of outage.now) (plan_of outage.now) found.now outage.now.domain) }
     ensures room { HasRoom (net_of outage.now) search.new }
 {
     let domain = outage.domain;

@@ -8,7 +8,10 @@ mod order;
 mod roots;
 mod text;
 
+// Handed on to crates above.
 pub use judging::check;
+pub use sd_check_hit as check_hit;
+pub use sd_check_root as check_root;
 use sd_check_root::TimingBreach;
 use sd_domain::DomainId;
 use sd_plan::DeviceList;

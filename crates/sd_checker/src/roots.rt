@@ -13,7 +13,8 @@ use sd_topo::Thing;
 
 /// The first domain that breaks the condition, with the thing that shows it.
 pub(crate) fn first_root_breach(planned: Indexed<'_>) -> Option<(DomainId, Thing)>
-    ensures { MatchOption result (Holds (network planned.entry.topo.now) planned.entry.plan.now condition.root)
+    ensures { MatchOption result
+        (Holds (network planned.entry.topo.now) planned.entry.plan.now condition.root)
         (λ found. Shows (network planned.entry.topo.now) planned.entry.plan.now (breach.Root found.0 found.1)) }
 {
     for place in 0..domain_count(planned.topo) {

@@ -98,7 +98,8 @@ fn thing_named(topo: &Topology, thing: Thing) -> Named<'_>
 
 /// Adds the names of devices to a line, each behind a space.
 fn add_names(line: &mut String, topo: &Topology, devices: &[u32]) -> Result<(), AllocError>
-    ensures { OnOk result (string_bytes line.new ≡ string_bytes line.old ++ named (network topo.now) devices.now) }
+    ensures { OnOk result (string_bytes line.new ≡ string_bytes line.old
+        ++ named (network topo.now) devices.now) }
 {
     for d in devices {
         line.push(' ')?;
@@ -109,7 +110,8 @@ fn add_names(line: &mut String, topo: &Topology, devices: &[u32]) -> Result<(), 
 
 /// A line that begins so and ends with the names of devices.
 fn line_of_names(mut line: String, topo: &Topology, devices: &[u32]) -> Result<String, AllocError>
-    ensures { IfOk result (λ s. string_bytes s ≡ string_bytes line ++ (named (network topo.now) devices.now ++ 10 ∷ [])) }
+    ensures { IfOk result (λ s. string_bytes s ≡ string_bytes line
+        ++ (named (network topo.now) devices.now ++ 10 ∷ [])) }
 {
     add_names(&mut line, topo, devices)?;
     line.push('\n')?;
@@ -135,7 +137,8 @@ fn refused_by_domain(
     domain: DomainId,
     shown: Shown<'_>,
 ) -> Result<String, AllocError>
-    ensures { IfOk result (λ s. string_bytes s ≡ refused_by (network topo.now) place domain shown.entry) }
+    ensures { IfOk result (λ s. string_bytes s
+        ≡ refused_by (network topo.now) place domain shown.entry) }
 {
     let Named { kind, name } = domain_named(topo, domain);
     match shown {
@@ -174,7 +177,8 @@ pub fn refused_line(
     place: u32,
     breach: &Breach,
 ) -> Result<String, AllocError>
-    ensures { IfOk result (λ s. string_bytes s ≡ text.refused_line (network topo.now) place breach.now) }
+    ensures { IfOk result (λ s. string_bytes s
+        ≡ text.refused_line (network topo.now) place breach.now) }
 {
     let (domain, shown) = match breach {
         Breach::Structure { rule, device } => {

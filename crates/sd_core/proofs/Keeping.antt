@@ -4,7 +4,7 @@ use Rattle.std.specs.Prelude.{max, IfSome, nat_eq, if◌then◌else◌, option_m
 use Rattle.sd_num.specs.Lists.{of_some}
 use Rattle.sd_num.specs.Numbers.{grow}
 use Rattle.sd_num.specs.declared.Rates.{Rates}
-use Rattle.sd_topo.specs.Network.{IsRates}
+use Rattle.sd_plan.specs.Topo.Network.{IsRates}
 use Rattle.sd_plan.specs.declared.Duty.{Duty}
 use Rattle.sd_plan.specs.declared.Edge.{Edge}
 use Rattle.sd_msg.specs.declared.Message.{Message}
@@ -37,12 +37,15 @@ pub record TickKeeps (r : Registers) (counter : ℕ) (by : Registers × Effect) 
 no_turn : (r : Registers) (counter : ℕ) (turn : Turn) → turn_of r counter ≡ turn → r.duty ≡ None → Stay ≡ turn
 no_turn r counter turn is none = subst (λ (duty : Option Duty). of_some duty Stay (turn_with r counter) ≡ turn) none is
 
-reported : (r : Registers) (counter : ℕ) → IsRates r.rates → counter ≤ 2 ^ 60 → ((report_in r counter).clock ≤ ceiling_in r + 2 ^ 61) × ((report_in r counter).eps ≤ ceiling_in r + 2 ^ 61)
+reported : (r : Registers) (counter : ℕ) → IsRates r.rates → counter ≤ 2 ^ 60
+    → ((report_in r counter).clock ≤ ceiling_in r + 2 ^ 61) × ((report_in r counter).eps ≤ ceiling_in r + 2 ^ 61)
 reported r counter fits few =
-    let growth : r.rates.grain + grow r.rates.ppm (counter - r.estimate.at) ≤ 2 ^ 61 = growth_bound r.rates (counter - r.estimate.at) fits (omega (arith, few)) in
+    let growth : r.rates.grain + grow r.rates.ppm (counter - r.estimate.at) ≤ 2 ^ 61 =
+    growth_bound r.rates (counter - r.estimate.at) fits (omega (arith, few)) in
     (omega (arith, few), omega (arith, growth))
 
-pub turn_keeps : (r : Registers) (counter : ℕ) (turn : Turn) → turn_of r counter ≡ turn → IsSound r → floor_in r ≤ counter → counter ≤ 2 ^ 60 → TickKeeps r counter (turned r counter turn)
+pub turn_keeps : (r : Registers) (counter : ℕ) (turn : Turn) → turn_of r counter ≡ turn → IsSound r → floor_in r ≤ counter → counter ≤ 2 ^ 60
+    → TickKeeps r counter (turned r counter turn)
 turn_keeps r counter Emit is sound due few =
     let bounds = reported r counter sound.rates few in
     record {
@@ -56,7 +59,12 @@ turn_keeps r counter Emit is sound due few =
 turn_keeps r counter TakeOver is sound due few =
     let bounds = reported r counter sound.rates few in
     record {
-      sound = record { duty = sound.duty; given = sound.given; rates = sound.rates; idle = λ none. let h : Stay ≡ TakeOver = no_turn r counter TakeOver is none in cc };
+      sound = record {
+        duty = sound.duty;
+        given = sound.given;
+        rates = sound.rates;
+        idle = λ none. let h : Stay ≡ TakeOver = no_turn r counter TakeOver is none in cc;
+      };
       given = refl;
       floor = omega (arith, due);
       height = omega arith;
@@ -113,9 +121,12 @@ abbrev EntersFit : Option (Duty × Edge) → Type 0
 EntersFit enters = IfSome enters (λ by. IsDuty by.0 × IsEdge by.1)
 
 entering_fits : (given : Option Duty) (link : ℕ) (message : Message) → IfSome given IsDuty
-    → EntersFit (option_and_then (λ duty. if nat_eq duty.epoch message.epoch then option_map (λ (edge : Edge). (duty, edge)) (option_and_then (over_link link) duty.primary) else None) given)
+    → EntersFit (option_and_then
+    (λ duty. if nat_eq duty.epoch message.epoch then option_map (λ (edge : Edge). (duty, edge)) (option_and_then (over_link link) duty.primary) else None)
+    given)
 entering_fits None link message fits = tt
-entering_fits (Some duty) link message fits = go (nat_eq duty.epoch message.epoch) (option_and_then (over_link link) duty.primary) (over_fits link duty.primary fits.primary)
+entering_fits (Some duty) link message fits =
+    go (nat_eq duty.epoch message.epoch) (option_and_then (over_link link) duty.primary) (over_fits link duty.primary fits.primary)
   where
     go : (same : Bool) (edge : Option Edge) → IfSome edge IsEdge → EntersFit (if same then option_map (λ (edge : Edge). (duty, edge)) edge else None)
     go true (Some edge) edge_fits = (fits, edge_fits)
@@ -133,7 +144,8 @@ pub record MessageKeeps (r : Registers) (message : Message) (counter : ℕ) (by 
   pub stamp : IfSent by.1 (IsAsHighAs (height_in by.0))
 
 -- where a device accepts, whatever it took up before
-accepted_keeps : (r taken : Registers) (edge : Edge) (message : Message) (counter : ℕ) → IsSound taken → (taken.given ≡ r.given) ⊎ (taken.given ≡ None) → taken.sent ≡ r.sent
+accepted_keeps : (r taken : Registers) (edge : Edge) (message : Message) (counter : ℕ) → IsSound taken → (taken.given ≡ r.given) ⊎ (taken.given ≡ None)
+    → taken.sent ≡ r.sent
     → IsEdge edge → floor_in r ≤ counter → MessageKeeps r message counter (accepted taken edge message counter)
 accepted_keeps r taken edge message counter sound given same fits due =
     record {
@@ -154,13 +166,16 @@ received_keeps r message counter sound due (Some p) accept enter_fits accept_fit
     accepted_keeps r (entered r p.0) p.1 message counter
     (record { duty = enter_fits.0; given = tt; rates = enter_fits.0.rates; idle = λ none. cc })
     (inr refl) refl enter_fits.1 due
-received_keeps r message counter sound due None (Some edge) enter_fits accept_fits = accepted_keeps r r edge message counter sound (inl refl) refl accept_fits due
+received_keeps r message counter sound due None (Some edge) enter_fits accept_fits =
+    accepted_keeps r r edge message counter sound (inl refl) refl accept_fits due
 received_keeps r message counter sound due None None enter_fits accept_fits =
     record { sound = sound; given = inl refl; floor = due; ceiling = omega arith; height = omega arith; clock = tt; stamp = tt }
 
 pub message_keeps : (old r new : Registers) (result : Effect) (link : ℕ) (message : Message) (counter : ℕ) → r ≡ old
-    → new ≡ (called r (Receive link message counter)).0 → result ≡ (called r (Receive link message counter)).1 → IsSound r → floor_in old ≤ counter → MessageKeeps old message counter (new, result)
+    → new ≡ (called r (Receive link message counter)).0 → result ≡ (called r (Receive link message counter)).1 → IsSound r → floor_in old ≤ counter
+    → MessageKeeps old message counter (new, result)
 message_keeps old r new result link message counter same after sends sound due =
     let is : IsSound old = subst IsSound same sound in
     rw (after, sends, same)
-    (received_keeps old message counter is due (entering old link message) (accepting old link message) (entering_fits old.given link message is.given) (accepting_fits old link message is))
+    (received_keeps old message counter is due (entering old link message) (accepting old link message) (entering_fits old.given link message is.given)
+    (accepting_fits old link message is))

@@ -29,7 +29,8 @@ turned_last r counter Move due = omega arith
 turned_last r counter Stay due = due
 
 received_last : (r : Registers) (message : Message) (counter : ℕ) (enter : Option (Duty × Edge)) (accept : Option Edge) → r.last ≤ counter
-    → (of_some enter (of_some accept (quietly r) (λ edge. accepted r edge message counter)) (λ by. accepted (entered r by.0) by.1 message counter)).0.last ≤ counter
+    → (of_some enter (of_some accept (quietly r) (λ edge. accepted r edge message counter))
+    (λ by. accepted (entered r by.0) by.1 message counter)).0.last ≤ counter
 received_last r message counter (Some p) accept due = omega arith
 received_last r message counter None (Some edge) due = omega arith
 received_last r message counter None None due = due
@@ -38,14 +39,25 @@ committed_last : (r : Registers) (counter : ℕ) (given : Option Duty) → r.las
 committed_last r counter None due = due
 committed_last r counter (Some duty) due = go (is_acting_mode r.mode)
   where
-    go : (acts : Bool) → (if acts then record r { duty = Some duty; given = None; sealed = false; rates = duty.rates } else record r { duty = Some duty; given = None; mode = Acting; sealed = false; stamp = stamp (r.stamp.term + 1) 0; sent = counter; rates = duty.rates }).last ≤ counter
+    go : (acts : Bool)
+        → (if acts then record r { duty = Some duty; given = None; sealed = false; rates = duty.rates } else record r {
+          duty = Some duty;
+          given = None;
+          mode = Acting;
+          sealed = false;
+          stamp = stamp (r.stamp.term + 1) 0;
+          sent = counter;
+          rates = duty.rates;
+        }).last ≤ counter
     go true = due
     go false = due
 
 -- no call leaves a later counter than the latest
-called_last : (r : Registers) (call : Call) (latest : ℕ) → r.last ≤ latest → ((counter : ℕ) → counter_of call ≡ Some counter → latest ≤ counter) → (called r call).0.last ≤ latest_with call latest
+called_last : (r : Registers) (call : Call) (latest : ℕ) → r.last ≤ latest → ((counter : ℕ) → counter_of call ≡ Some counter → latest ≤ counter)
+    → (called r call).0.last ≤ latest_with call latest
 called_last r (Tick counter) latest kept later = turned_last r counter (turn_of r counter) (omega (arith, kept, later counter refl))
-called_last r (Receive link message counter) latest kept later = received_last r message counter (entering r link message) (accepting r link message) (omega (arith, kept, later counter refl))
+called_last r (Receive link message counter) latest kept later =
+    received_last r message counter (entering r link message) (accepting r link message) (omega (arith, kept, later counter refl))
 called_last r (Fix counter clock eps) latest kept later = omega (arith, kept, later counter refl)
 called_last r (Give duty) latest kept later = kept
 called_last r (Commit counter) latest kept later = committed_last r counter r.given (omega (arith, kept, later counter refl))
@@ -67,7 +79,8 @@ in_order making (call ∷ earlier) falls =
     let s = steps past call (reached making earlier) h.order (due_by (last_of past) (latest_counter making earlier) (counter_of call) h.kept falls.1) in
     record {
       order = s.order;
-      kept = subst (λ (r : Registers). r.last ≤ latest_with call (latest_counter making earlier)) s.registers (called_last (registers_of past) call (latest_counter making earlier) h.kept falls.1);
+      kept = subst (λ (r : Registers). r.last ≤ latest_with call (latest_counter making earlier)) s.registers
+          (called_last (registers_of past) call (latest_counter making earlier) h.kept falls.1);
     }
 
 pub orderly : (life : Life) → NeverFalls life.making life.calls → StandsFor (registers_of (past_of life)) life

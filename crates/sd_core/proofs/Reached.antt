@@ -6,20 +6,20 @@ use Rattle.sd_num.specs.Lists.{of_some}
 use Rattle.sd_plan.specs.declared.Duty.{Duty}
 use Rattle.sd_plan.specs.declared.Edge.{Edge}
 use Rattle.sd_msg.specs.declared.Message.{Message}
-use Rattle.sd_core.specs.Calls.{Making, Call, Tick, Receive, Fix, Give, Commit, Seal, Deed, Committed, Recommitted, Moved, TookOver, Emitted, Nothing, Past}
+use Rattle.sd_core.specs.Calls.{Making, Call, Tick, Receive, Fix, Give, Commit, Seal, Transition, Committed, Recommitted, Moved, TookOver, Emitted, Nothing, Past}
 use Rattle.sd_core.specs.Rules.{entering, accepting}
-use Rattle.sd_core.proofs.Receiving.{deed_by, receipts}
-use Rattle.sd_core.specs.Words.{since_entry, later_entry, duty_now, is_seal, is_sealed, has_moved, is_takeover, is_acting, may_move, wait_to_move, heard, moved_at, deed_of, after, emits_at, takes_over_at, moves_at, is_backup_root_now, given_now}
+use Rattle.sd_core.proofs.Receiving.{transition_by, receipts}
+use Rattle.sd_core.specs.Words.{since_entry, later_entry, duty_now, is_seal, is_sealed, has_moved, is_takeover, is_acting, may_move, wait_to_move, heard, moved_at, transition_of, after, emits_at, takes_over_at, moves_at, is_backup_root_now, given_now}
 use Rattle.sd_core.specs.Lives.{past_by}
 use Rattle.sd_core.specs.Standing.{last_of, registers_of}
 
 -- the past with one call more, that did this
-abbrev pub added : Past → Call → Deed → Past
-added past call deed = record { making = past.making; did = record { call = call; deed = deed } ∷ past.did }
+abbrev pub added : Past → Call → Transition → Past
+added past call transition = record { making = past.making; did = record { call = call; transition = transition } ∷ past.did }
 
 -- the device took over since its entry
 abbrev pub has_taken_over : Past → Bool
-has_taken_over past = list_any (λ x. is_takeover x.deed) (since_entry past)
+has_taken_over past = list_any (λ x. is_takeover x.transition) (since_entry past)
 
 pub record Reached (past : Past) : Type 0 where
   pub took_over : has_taken_over past ≡ true → has_moved past ≡ true
@@ -54,11 +54,13 @@ third_of_four true true false d h = h
 third_of_four true false c d h = cc
 third_of_four false b c d h = cc
 
-tick_reached : (past : Past) (counter : ℕ) → Reached past → Reached (added past (Tick counter) (deed_of past (Tick counter)))
+tick_reached : (past : Past) (counter : ℕ) → Reached past → Reached (added past (Tick counter) (transition_of past (Tick counter)))
 tick_reached past counter h =
     go (emits_at past counter) (takes_over_at past counter) (moves_at past counter)
-    (second_of_four (is_backup_root_now past) (has_moved past) (not (is_acting past)) (of_some (duty_now past) false (λ duty. nat_le duty.wait_second (counter - max (heard past) (moved_at past)))))
-    (third_of_four (may_move past) (not (has_moved past)) (is_sealed past) (of_some (option_and_then wait_to_move (duty_now past)) false (λ wait. nat_le wait (counter - heard past))))
+    (second_of_four (is_backup_root_now past) (has_moved past) (not (is_acting past))
+    (of_some (duty_now past) false (λ duty. nat_le duty.wait_second (counter - max (heard past) (moved_at past)))))
+    (third_of_four (may_move past) (not (has_moved past)) (is_sealed past)
+    (of_some (option_and_then wait_to_move (duty_now past)) false (λ wait. nat_le wait (counter - heard past))))
   where
     go : (emits takes moves : Bool) → (takes ≡ true → has_moved past ≡ true) → (moves ≡ true → is_sealed past ≡ true)
         → Reached (added past (Tick counter) (if emits then Emitted else if takes then TookOver else if moves then Moved else Nothing))
@@ -68,20 +70,21 @@ tick_reached past counter h =
     go false false false moved sealed = record { took_over = h.took_over; sealed = h.sealed; heard_last = h.heard_last }
 
 received_reached : (past : Past) (link : ℕ) (message : Message) (counter : ℕ) → Reached past
-    → Reached (added past (Receive link message counter) (deed_of past (Receive link message counter)))
+    → Reached (added past (Receive link message counter) (transition_of past (Receive link message counter)))
 received_reached past link message counter h =
-    subst (λ deed. Reached (added past (Receive link message counter) deed)) (sym (receipts past link message counter))
+    subst (λ transition. Reached (added past (Receive link message counter) transition)) (sym (receipts past link message counter))
     (go (entering (registers_of past) link message) (accepting (registers_of past) link message))
   where
-    go : (enter : Option (Duty × Edge)) (accept : Option Edge) → Reached (added past (Receive link message counter) (deed_by enter accept))
+    go : (enter : Option (Duty × Edge)) (accept : Option Edge) → Reached (added past (Receive link message counter) (transition_by enter accept))
     go (Some p) accept = record { took_over = λ i. cc; sealed = λ i. cc; heard_last = λ i j. refl }
     go None (Some edge) = record { took_over = h.took_over; sealed = h.sealed; heard_last = λ i j. refl }
     go None None = record { took_over = h.took_over; sealed = h.sealed; heard_last = h.heard_last }
 
-committed_reached : (past : Past) (counter : ℕ) → Reached past → Reached (added past (Commit counter) (deed_of past (Commit counter)))
+committed_reached : (past : Past) (counter : ℕ) → Reached past → Reached (added past (Commit counter) (transition_of past (Commit counter)))
 committed_reached past counter h = go (given_now past) (is_acting past)
   where
-    go : (given : Option Duty) (acts : Bool) → Reached (added past (Commit counter) (of_some given Nothing (λ duty. if acts then Recommitted duty else Committed duty)))
+    go : (given : Option Duty) (acts : Bool)
+        → Reached (added past (Commit counter) (of_some given Nothing (λ duty. if acts then Recommitted duty else Committed duty)))
     go None acts = record { took_over = h.took_over; sealed = h.sealed; heard_last = h.heard_last }
     go (Some duty) true = record { took_over = λ i. cc; sealed = λ i. cc; heard_last = λ i j. cc }
     go (Some duty) false = record { took_over = λ i. cc; sealed = λ i. cc; heard_last = λ i j. cc }

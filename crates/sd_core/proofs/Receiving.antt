@@ -8,16 +8,16 @@ use Rattle.sd_msg.specs.declared.Message.{Message}
 use Rattle.sd_msg.specs.Stamps.{is_newer}
 use Rattle.sd_core.specs.declared.registers.Mode.{Mode}
 use Rattle.sd_core.specs.declared.registers.Mode.TheVariants.{Primary, Backup, Acting, Idle}
-use Rattle.sd_core.specs.Calls.{Receive, Deed, Entered, Accepted, Nothing, Past}
-use Rattle.sd_core.specs.Words.{duty_now, given_now, is_acting, has_moved, epoch_now, stamp_now, parent_edge, over_link, entered_by, accepted_by, deed_of}
+use Rattle.sd_core.specs.Calls.{Receive, Transition, Entered, Accepted, Nothing, Past}
+use Rattle.sd_core.specs.Words.{duty_now, given_now, is_acting, has_moved, epoch_now, stamp_now, parent_edge, over_link, entered_by, accepted_by, transition_of}
 use Rattle.sd_core.specs.Rules.{edge_in, entering, accepting}
 use Rattle.sd_core.specs.Standing.{registers_of}
 
 -- what is done, by what the registers decide
-abbrev pub deed_by : Option (Duty × Edge) → Option Edge → Deed
-deed_by (Some by) accepts = Entered by.0 by.1
-deed_by None (Some edge) = Accepted edge
-deed_by None None = Nothing
+abbrev pub transition_by : Option (Duty × Edge) → Option Edge → Transition
+transition_by (Some by) accepts = Entered by.0 by.1
+transition_by None (Some edge) = Accepted edge
+transition_by None None = Nothing
 
 edge_of_mode : (acts moved : Bool) (duty : Option Duty)
     → (if acts then None else if moved then of_some duty None (λ d. d.backup) else of_some duty None (λ d. d.primary))
@@ -35,25 +35,31 @@ edge_of_mode false false None = refl
 pub edges : (past : Past) → parent_edge past ≡ edge_in (registers_of past)
 edges past = edge_of_mode (is_acting past) (has_moved past) (duty_now past)
 
-enters : (past : Past) (link : ℕ) (message : Message) → entered_by past link message ≡ option_map (λ (by : Duty × Edge). Entered by.0 by.1) (entering (registers_of past) link message)
+enters : (past : Past) (link : ℕ) (message : Message)
+    → entered_by past link message ≡ option_map (λ (by : Duty × Edge). Entered by.0 by.1) (entering (registers_of past) link message)
 enters past link message = of_given (given_now past)
   where
     by : (fits : Bool) (duty : Duty) (edge : Option Edge)
-        → (if fits then option_map (Entered duty) edge else None) ≡ option_map (λ (by : Duty × Edge). Entered by.0 by.1) (if fits then option_map (λ (e : Edge). (duty, e)) edge else None)
+        → (if fits then option_map (Entered duty) edge else None)
+        ≡ option_map (λ (by : Duty × Edge). Entered by.0 by.1) (if fits then option_map (λ (e : Edge). (duty, e)) edge else None)
     by true duty (Some edge) = refl
     by true duty None = refl
     by false duty edge = refl
 
     of_given : (given : Option Duty)
-        → option_and_then (λ duty. if nat_eq duty.epoch message.epoch then option_map (Entered duty) (option_and_then (over_link link) duty.primary) else None) given
+        → option_and_then (λ duty. if nat_eq duty.epoch message.epoch then option_map (Entered duty) (option_and_then (over_link link) duty.primary) else None)
+        given
         ≡ option_map (λ (by : Duty × Edge). Entered by.0 by.1)
-        (option_and_then (λ duty. if nat_eq duty.epoch message.epoch then option_map (λ (e : Edge). (duty, e)) (option_and_then (over_link link) duty.primary) else None) given)
+        (option_and_then
+        (λ duty. if nat_eq duty.epoch message.epoch then option_map (λ (e : Edge). (duty, e)) (option_and_then (over_link link) duty.primary) else None)
+        given)
     of_given None = refl
     of_given (Some duty) = by (nat_eq duty.epoch message.epoch) duty (option_and_then (over_link link) duty.primary)
 
 accepts : (past : Past) (link : ℕ) (message : Message) → accepted_by past link message ≡ option_map Accepted (accepting (registers_of past) link message)
 accepts past link message =
-    ap (λ edge. if fits then option_map Accepted (option_and_then (over_link link) edge) else None) (edges past) ∙ by fits (option_and_then (over_link link) (edge_in (registers_of past)))
+    ap (λ edge. if fits then option_map Accepted (option_and_then (over_link link) edge) else None) (edges past)
+    ∙ by fits (option_and_then (over_link link) (edge_in (registers_of past)))
   where
     fits : Bool
     fits = nat_eq (epoch_now past) message.epoch && is_newer message.stamp (stamp_now past)
@@ -64,14 +70,16 @@ accepts past link message =
 
 -- the registers decide what the words say
 pub receipts : (past : Past) (link : ℕ) (message : Message) (counter : ℕ)
-    → deed_of past (Receive link message counter) ≡ deed_by (entering (registers_of past) link message) (accepting (registers_of past) link message)
+    → transition_of past (Receive link message counter) ≡ transition_by (entering (registers_of past) link message) (accepting (registers_of past) link message)
 receipts past link message counter =
-    ap (λ deed. of_some deed (of_some (accepted_by past link message) Nothing (λ d. d)) (λ d. d)) (enters past link message)
-    ∙ ap (λ deed. of_some (option_map (λ (by : Duty × Edge). Entered by.0 by.1) (entering (registers_of past) link message)) (of_some deed Nothing (λ d. d)) (λ d. d)) (accepts past link message)
+    ap (λ transition. of_some transition (of_some (accepted_by past link message) Nothing (λ d. d)) (λ d. d)) (enters past link message)
+    ∙ ap (λ transition. of_some (option_map (λ (by : Duty × Edge). Entered by.0 by.1) (entering (registers_of past) link message))
+    (of_some transition Nothing (λ d. d)) (λ d. d)) (accepts past link message)
     ∙ same (entering (registers_of past) link message) (accepting (registers_of past) link message)
   where
     same : (enter : Option (Duty × Edge)) (accept : Option Edge)
-        → of_some (option_map (λ (by : Duty × Edge). Entered by.0 by.1) enter) (of_some (option_map Accepted accept) Nothing (λ d. d)) (λ d. d) ≡ deed_by enter accept
+        → of_some (option_map (λ (by : Duty × Edge). Entered by.0 by.1) enter) (of_some (option_map Accepted accept) Nothing (λ d. d)) (λ d. d)
+        ≡ transition_by enter accept
     same (Some p) accept = refl
     same None (Some edge) = refl
     same None None = refl

@@ -66,9 +66,29 @@ first_mode duty = elim duty.role [ role.Root ↦ Acting | _ ↦ Primary ]
 -- what a start and a join make
 abbrev pub made : Making → Registers
 made (Started duty counter clock eps) =
-    record { duty = Some duty; given = None; mode = first_mode duty; sealed = true; stamp = stamp 0 0; last = counter; sent = counter; estimate = estimate_at clock eps counter; rates = duty.rates }
+    record {
+      duty = Some duty;
+      given = None;
+      mode = first_mode duty;
+      sealed = true;
+      stamp = stamp 0 0;
+      last = counter;
+      sent = counter;
+      estimate = estimate_at clock eps counter;
+      rates = duty.rates;
+    }
 made (Joined rates counter clock eps) =
-    record { duty = None; given = None; mode = Idle; sealed = true; stamp = stamp 0 0; last = counter; sent = counter; estimate = estimate_at clock eps counter; rates = rates }
+    record {
+      duty = None;
+      given = None;
+      mode = Idle;
+      sealed = true;
+      stamp = stamp 0 0;
+      last = counter;
+      sent = counter;
+      estimate = estimate_at clock eps counter;
+      rates = rates;
+    }
 
 abbrev pub is_backup_root : Duty → Bool
 is_backup_root duty = elim duty.role [ role.BackupRoot ↦ true | _ ↦ false ]

@@ -17,7 +17,8 @@ mode_of past = if is_acting past then Acting else if has_moved past then Backup 
 
 -- the counter of the latest making, accepted receipt or move
 abbrev pub last_of : Past → ℕ
-last_of past = latest (λ x. if is_move x.deed || is_some (accepted_over x.deed) then counter_of x.call else None) past.did (making_counter past.making)
+last_of past =
+    latest (λ x. if is_move x.transition || is_some (accepted_over x.transition) then counter_of x.call else None) past.did (making_counter past.making)
 
 -- the registers that the words of the past define
 abbrev pub registers_of : Past → Registers

@@ -34,6 +34,33 @@ impl Model for Device {
     ghost invariant = { λ d. IsSound d.registers };
 }
 
+impl Device {
+    ghost use Rattle.std.specs.Prelude.{◌≡◌};
+    ghost use Rattle.sd_core.specs.Calls.{Life};
+    ghost use Rattle.sd_core.specs.Limits.{IsSound};
+    ghost use Rattle.sd_core.specs.Standing.{StandsFor};
+
+    /// All that it keeps, as plain numbers.
+    pub fn registers(&self) -> Registers
+        ensures registers { result ≡ self.now }
+        ensures sound { IsSound result }
+    {
+        let Self { registers } = self;
+        *registers
+    }
+
+    /// The device that keeps these registers: it goes on as the one that they were taken from.
+    /// Registers are sound where the rates and each duty are within their limits, and the mode is
+    /// `Idle` where there is no duty.
+    pub fn with_registers(registers: Registers) -> Device
+        requires sound { IsSound registers }
+        ensures registers { result ≡ registers }
+        ensures told { (life : Life) → StandsFor registers life → StandsFor result life }
+    {
+        Device { registers }
+    }
+}
+
 impl Node for Device {
     ghost use Rattle.std.specs.Prelude.{◌≡◌, true};
     ghost use Rattle.sd_core.specs.Rules.{made, called, report_in, parent_in, acts_in, epoch_in, floor_in, ceiling_in, height_in};

@@ -6,10 +6,13 @@ mod device;
 mod node;
 mod receipts;
 mod registers;
+#[cfg(test)]
+mod tests;
 mod turns;
 
 pub use device::Device;
 pub use node::Node;
+pub use registers::{Mode, Registers};
 use sd_msg::Message;
 
 /// What a call of a device sends to each device below it.

@@ -1,6 +1,6 @@
 //! What every kind of device states of itself: its steps as relations, what it owes and is owed, and its laws.
 ghost use Rattle.std.specs.Prelude.{◌≡◌, ◌≤◌, ◌<◌, ◌+◌, ◌^◌, ◌⊎◌, ℕ, Bool, true, false, IsTrue, Option, Some, None, is_some, max, option_map};
-ghost use Rattle.sd_topo.specs.Network.{IsRates};
+ghost use Rattle.sd_plan.specs.Topo.Network.{IsRates};
 ghost use Rattle.sd_clock.specs.declared.Report.{Report};
 ghost use Rattle.sd_plan.specs.declared.Duty.{Duty};
 ghost use Rattle.sd_plan.specs.declared.Role.TheVariants as role;
@@ -95,8 +95,10 @@ pub trait Node: Drop {
         ensures height { height self.new ≤ height self.old + 1 }
         ensures clock { IfSent result (IsUpTo (ceiling self.old + 2 ^ 61)) }
         ensures stamp { IfSent result (IsAsHighAs (height self.new)) }
-        ensures sent { IsTrue tells → (life : Life) → stands self.old life → result ≡ effect_of (past_of life) (Tick counter) }
-        ensures told { IsTrue tells → (life : Life) → stands self.old life → stands self.new (longer life (Tick counter)) };
+        ensures sent { IsTrue tells → (life : Life) → stands self.old life
+            → result ≡ effect_of (past_of life) (Tick counter) }
+        ensures told { IsTrue tells → (life : Life) → stands self.old life
+            → stands self.new (longer life (Tick counter)) };
 
     /// A message that came over this link while the counter showed this.
     fn on_message(&mut self, link: u32, message: Message, counter: u64) -> Effect
@@ -115,8 +117,10 @@ pub trait Node: Drop {
         ensures height { height self.new ≤ max (max (height self.old) message.stamp.term) message.stamp.round }
         ensures clock { IfSent result (IsUpTo (ceiling self.new)) }
         ensures stamp { IfSent result (IsAsHighAs (height self.new)) }
-        ensures sent { IsTrue tells → (life : Life) → stands self.old life → result ≡ effect_of (past_of life) (Receive link message counter) }
-        ensures told { IsTrue tells → (life : Life) → stands self.old life → stands self.new (longer life (Receive link message counter)) };
+        ensures sent { IsTrue tells → (life : Life) → stands self.old life
+            → result ≡ effect_of (past_of life) (Receive link message counter) }
+        ensures told { IsTrue tells → (life : Life) → stands self.old life
+            → stands self.new (longer life (Receive link message counter)) };
 
     /// The clock is set from outside, with this uncertainty.
     fn on_fix(&mut self, counter: u64, clock: u64, eps: u64)
@@ -129,7 +133,8 @@ pub trait Node: Drop {
         ensures floor { floor self.new ≤ counter }
         ensures ceiling { ceiling self.new ≤ max (ceiling self.old) (2 ^ 60) }
         ensures height { height self.new ≤ height self.old }
-        ensures told { IsTrue tells → (life : Life) → stands self.old life → stands self.new (longer life (Fix counter clock eps)) };
+        ensures told { IsTrue tells → (life : Life) → stands self.old life
+            → stands self.new (longer life (Fix counter clock eps)) };
 
     /// A duty of the next plan, to be taken up by a commit or a message of that plan.
     fn on_give(&mut self, duty: Duty)
@@ -139,7 +144,8 @@ pub trait Node: Drop {
         ensures floor { floor self.new ≡ floor self.old }
         ensures ceiling { ceiling self.new ≤ ceiling self.old }
         ensures height { height self.new ≤ height self.old }
-        ensures told { IsTrue tells → (life : Life) → stands self.old life → stands self.new (longer life (Give duty)) };
+        ensures told { IsTrue tells → (life : Life) → stands self.old life
+            → stands self.new (longer life (Give duty)) };
 
     /// It takes up the duty that was given to it, as the root of the next plan.
     fn on_commit(&mut self, counter: u64)
@@ -152,7 +158,8 @@ pub trait Node: Drop {
         ensures floor { floor self.new ≤ counter }
         ensures ceiling { ceiling self.new ≤ ceiling self.old }
         ensures height { height self.new ≤ height self.old + 1 }
-        ensures told { IsTrue tells → (life : Life) → stands self.old life → stands self.new (longer life (Commit counter)) };
+        ensures told { IsTrue tells → (life : Life) → stands self.old life
+            → stands self.new (longer life (Commit counter)) };
 
     /// From now on it may move.
     fn on_seal(&mut self)
@@ -161,7 +168,8 @@ pub trait Node: Drop {
         ensures floor { floor self.new ≡ floor self.old }
         ensures ceiling { ceiling self.new ≤ ceiling self.old }
         ensures height { height self.new ≤ height self.old }
-        ensures told { IsTrue tells → (life : Life) → stands self.old life → stands self.new (longer life Seal) };
+        ensures told { IsTrue tells → (life : Life) → stands self.old life
+            → stands self.new (longer life Seal) };
 
     /// What it takes the reference time for at this counter.
     fn report(&self, counter: u64) -> Report
@@ -171,30 +179,36 @@ pub trait Node: Drop {
         ensures report { reports self.now counter result }
         ensures clock { result.clock ≤ ceiling self.now + 2 ^ 61 }
         ensures eps { result.eps ≤ ceiling self.now + 2 ^ 61 }
-        ensures told { IsTrue tells → (life : Life) → stands self.now life → result ≡ report_at (past_of life) counter };
+        ensures told { IsTrue tells → (life : Life) → stands self.now life
+            → result ≡ report_at (past_of life) counter };
 
     /// The device that it follows.
     fn parent(&self) -> Option<u32>
         ensures parent { result ≡ parent self.now }
-        ensures told { IsTrue tells → (life : Life) → stands self.now life → result ≡ parent_now (past_of life) };
+        ensures told { IsTrue tells → (life : Life) → stands self.now life
+            → result ≡ parent_now (past_of life) };
 
     fn acts_as_root(&self) -> bool
         ensures acts { result ≡ acts self.now }
-        ensures told { IsTrue tells → (life : Life) → stands self.now life → result ≡ is_acting (past_of life) };
+        ensures told { IsTrue tells → (life : Life) → stands self.now life
+            → result ≡ is_acting (past_of life) };
 
     /// The number of the plan that it follows, from 1; 0 where it follows none yet.
     fn epoch(&self) -> u32
         ensures epoch { result ≡ epoch self.now }
-        ensures told { IsTrue tells → (life : Life) → stands self.now life → result ≡ epoch_now (past_of life) };
+        ensures told { IsTrue tells → (life : Life) → stands self.now life
+            → result ≡ epoch_now (past_of life) };
 
     /// Whether a duty was given to it that it has not taken up.
     fn is_given(&self) -> bool
         ensures given { result ≡ is_some (given self.now) }
-        ensures told { IsTrue tells → (life : Life) → stands self.now life → result ≡ is_some (given_now (past_of life)) };
+        ensures told { IsTrue tells → (life : Life) → stands self.now life
+            → result ≡ is_some (given_now (past_of life)) };
 
     fn is_sealed(&self) -> bool
         ensures sealed { result ≡ sealed self.now }
-        ensures told { IsTrue tells → (life : Life) → stands self.now life → result ≡ is_sealed_now (past_of life) };
+        ensures told { IsTrue tells → (life : Life) → stands self.now life
+            → result ≡ is_sealed_now (past_of life) };
 
     /// A node that acts as root has no parent.
     ghost acting_has_no_parent: { (node : Self) → acts node ≡ true → parent node ≡ None };

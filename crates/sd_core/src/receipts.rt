@@ -13,7 +13,7 @@ impl Registers {
     ghost use Rattle.sd_core.specs.Rules.{entering, accepting, accepted, entered, called};
 
     /// A message that came over this link while the counter showed this.
-    pub fn receive(&mut self, link: u32, message: &Message, counter: u64) -> Effect
+    pub(crate) fn receive(&mut self, link: u32, message: &Message, counter: u64) -> Effect
         requires clock { message.now.clock < 2 ^ 100 }
         requires eps { message.now.eps < 2 ^ 100 }
         ensures registers { self.new ≡ (called self.old (Receive link message.now counter)).0 }

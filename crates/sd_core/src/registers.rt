@@ -1,6 +1,6 @@
 //! What a device keeps, and how the calls that bring no message and no tick change it.
 ghost use Rattle.std.specs.Prelude.{◌≡◌, ◌≤◌, ◌<◌, ◌^◌, Some};
-ghost use Rattle.sd_topo.specs.Network.{IsRates};
+ghost use Rattle.sd_plan.specs.Topo.Network.{IsRates};
 
 use sd_clock::{Estimate, Report};
 use sd_msg::Stamp;
@@ -20,23 +20,32 @@ pub enum Mode {
     Idle,
 }
 
-/// What a device keeps. Counters are in ps.
+/// What a device keeps, as plain numbers. Counters are in ps.
 #[derive(Clone, Copy, Debug, PartialEq, Eq)]
 pub struct Registers {
+    /// The duty of the plan that it follows, or none before it follows one. The period and the
+    /// waits of a duty are in picoseconds.
     pub duty: Option<Duty>,
-    /// A duty that it will take up.
+    /// The duty of the next plan, where one was given to it that it has not taken up yet.
     pub given: Option<Duty>,
+    /// Whom it follows.
     pub mode: Mode,
-    /// Whether it may move.
+    /// Whether it may move to its backup parent, and take over as root after that.
     pub sealed: bool,
-    /// The stamp of what it heard last, or its own while it acts.
+    /// The stamp of the message that it accepted last, or its own while it acts as root: two
+    /// counts, without a unit.
     pub stamp: Stamp,
-    /// The counter at which it was made, heard or moved last.
+    /// The counter when it was made, accepted a message or moved, whichever came last, in
+    /// picoseconds.
     pub last: u64,
-    /// The counter at which it was made, sent or began to act last.
+    /// The counter when it was made, sent as root or began to act as root, whichever came last, in
+    /// picoseconds.
     pub sent: u64,
+    /// What it knew of the reference time when that was set last: the clock, its uncertainty and
+    /// the counter then, all in picoseconds.
     pub estimate: Estimate,
-    /// The rates of its oscillator.
+    /// How far its oscillator may drift: parts per million of the time that passes, and a constant
+    /// in picoseconds.
     pub rates: Rates,
 }
 
@@ -48,7 +57,7 @@ impl Registers {
     ghost use Rattle.sd_core.specs.Rules.{made, epoch_in, edge_in, report_in, floor_in, ceiling_in, with_duty, committed};
 
     /// Those of a device that starts with its duty.
-    pub fn started(duty: Duty, counter: u64, clock: u64, eps: u64) -> Registers
+    pub(crate) fn started(duty: Duty, counter: u64, clock: u64, eps: u64) -> Registers
         ensures { result ≡ made (Started duty counter clock eps) }
     {
         Registers {
@@ -68,7 +77,7 @@ impl Registers {
     }
 
     /// Those of a device that joins without a duty.
-    pub fn joined(rates: Rates, counter: u64, clock: u64, eps: u64) -> Registers
+    pub(crate) fn joined(rates: Rates, counter: u64, clock: u64, eps: u64) -> Registers
         ensures { result ≡ made (Joined rates counter clock eps) }
     {
         Registers {
@@ -85,7 +94,7 @@ impl Registers {
     }
 
     /// The number of the plan that the duty is of, and 0 without a duty.
-    pub fn epoch(&self) -> u32
+    pub(crate) fn epoch(&self) -> u32
         ensures { result ≡ epoch_in self.now }
     {
         match &self.duty {
@@ -95,7 +104,7 @@ impl Registers {
     }
 
     /// The edge to the present parent.
-    pub fn edge(&self) -> Option<Edge>
+    pub(crate) fn edge(&self) -> Option<Edge>
         ensures { result ≡ edge_in self.now }
     {
         let Some(duty) = self.duty else {
@@ -109,7 +118,7 @@ impl Registers {
     }
 
     /// The report at a counter.
-    pub fn report(&self, counter: u64) -> Report
+    pub(crate) fn report(&self, counter: u64) -> Report
         requires floor { floor_in self.now ≤ counter }
         requires ceiling { ceiling_in self.now < 2 ^ 100 }
         requires rates { IsRates self.now.rates }
@@ -120,7 +129,7 @@ impl Registers {
 
     /// The given duty becomes the duty; where the device does not act already, it begins to, with
     /// a new term.
-    pub fn commit(&mut self, duty: Duty, counter: u64)
+    pub(crate) fn commit(&mut self, duty: Duty, counter: u64)
         requires { self.old.stamp.term < 2 ^ 31 }
         ensures { self.new ≡ committed self.old counter duty }
     {
@@ -137,7 +146,7 @@ impl Registers {
 
     /// This duty becomes the duty, nothing is given any more, and the device may not move until it
     /// is sealed again.
-    pub fn take_up(&mut self, duty: Duty)
+    pub(crate) fn take_up(&mut self, duty: Duty)
         ensures { self.new ≡ with_duty self.old duty }
     {
         self.duty = Some(duty);

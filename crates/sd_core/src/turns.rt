@@ -1,7 +1,7 @@
 //! What a tick makes of a device: it moves to its backup, takes over, emits as the acting root, or stays as it is.
 ghost use Rattle.std.specs.Prelude.{◌≡◌, ◌≤◌, ◌<◌, ◌^◌, ◌&&◌, nat_le, false};
 ghost use Rattle.sd_num.specs.Lists.{of_some};
-ghost use Rattle.sd_topo.specs.Network.{IsRates};
+ghost use Rattle.sd_plan.specs.Topo.Network.{IsRates};
 ghost use Rattle.sd_core.specs.Words.{wait_to_move as silence_of};
 ghost use Rattle.sd_core.specs.Rules.{is_backup_root};
 
@@ -52,7 +52,7 @@ impl Registers {
     }
 
     /// A tick at this counter.
-    pub fn tick(&mut self, counter: u64) -> Effect
+    pub(crate) fn tick(&mut self, counter: u64) -> Effect
         requires floor { floor_in self.old ≤ counter }
         requires ceiling { ceiling_in self.old < 2 ^ 100 }
         requires height { height_in self.old < 2 ^ 31 }

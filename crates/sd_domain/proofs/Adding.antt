@@ -16,7 +16,8 @@ added_more numbers i x old before within is added d =
     contains-insert-nat before x d
     ∙ ap (λ t. nat_eq d x || t) (added d)
     ∙ turned (nat_eq d x) (set.contains old d) (has (take i numbers) d)
-    ∙ ap (λ t. set.contains old d || t) (sym (has_more (take i numbers) x d) ∙ ap (λ y. has (take i numbers ++ y ∷ []) d) is ∙ ap (λ xs. has xs d) (sym (take_more numbers i 0 within)))
+    ∙ ap (λ t. set.contains old d || t) (sym (has_more (take i numbers) x d) ∙ ap (λ y. has (take i numbers ++ y ∷ []) d) is
+    ∙ ap (λ xs. has xs d) (sym (take_more numbers i 0 within)))
   where
     turned : (a b c : Bool) → (a || (b || c)) ≡ (b || (c || a))
     turned true true c = refl

@@ -52,7 +52,8 @@ find_only test n x others itself =
 -- of nothing it is the first device
 first_of-nothing : (n m : ℕ) (devices links : List ℕ) → 0 < n → length devices < 1 → length links < 1 → first_of n m devices links ≡ Some (domain.Device 0)
 first_of-nothing n m [] [] some no_devices no_links =
-    ap (λ first. option_or (option_map domain.Device first) (option_map domain.Link (find (λ l. true) (below m)))) (find_below_here (λ e. true) 0 n some refl refl)
+    ap (λ first. option_or (option_map domain.Device first) (option_map domain.Link (find (λ l. true) (below m))))
+    (find_below_here (λ e. true) 0 n some refl refl)
 first_of-nothing n m [] (l ∷ links) some no_devices no_links = absurd (omega arith)
 first_of-nothing n m (d ∷ devices) links some no_devices no_links = absurd (omega arith)
 
@@ -63,7 +64,11 @@ first_of-device n m [] links one none = absurd (omega arith)
 first_of-device n m (d ∷ e ∷ devices) links one none = absurd (omega arith)
 first_of-device n m (d ∷ []) (l ∷ links) one none = absurd (omega arith)
 first_of-device n m (d ∷ []) [] one none =
-    rw (find_only (λ e. are_all (d ∷ []) e && true) n d (λ e other. rw (ne_eqb e d other) refl) (rw (eq-eqb d d refl) refl), find_none (λ l. false) (below m) (λ l. refl)) (by_side (nat_lt d n))
+    rw (
+      find_only (λ e. are_all (d ∷ []) e && true) n d (λ e other. rw (ne_eqb e d other) refl) (rw (eq-eqb d d refl) refl),
+      find_none (λ l. false) (below m)
+          (λ l. refl),
+    ) (by_side (nat_lt d n))
   where
     by_side : (b : Bool) → option_or (option_map domain.Device (then_some b d)) None ≡ then_some b (domain.Device d)
     by_side true = refl
@@ -76,7 +81,8 @@ first_of-link n m devices [] none one = absurd (omega arith)
 first_of-link n m devices (l ∷ k ∷ links) none one = absurd (omega arith)
 first_of-link n m (d ∷ devices) (l ∷ []) none one = absurd (omega arith)
 first_of-link n m [] (l ∷ []) none one =
-    rw (find_none (λ e. false) (below n) (λ e. refl), find_only (are_all (l ∷ [])) m l (λ k other. rw (ne_eqb k l other) refl) (rw (eq-eqb l l refl) refl)) (by_side (nat_lt l m))
+    rw (find_none (λ e. false) (below n) (λ e. refl), find_only (are_all (l ∷ [])) m l (λ k other. rw (ne_eqb k l other) refl) (rw (eq-eqb l l refl) refl))
+    (by_side (nat_lt l m))
   where
     by_side : (b : Bool) → option_or None (option_map domain.Link (then_some b l)) ≡ then_some b (domain.Link l)
     by_side true = refl
@@ -117,10 +123,12 @@ first_of-links n m devices links distinct two =
 -- of a device and a link there is none
 first_of-both : (n m : ℕ) (devices links : List ℕ) → 1 ≤ length devices → 1 ≤ length links → first_of n m devices links ≡ None
 first_of-both n m devices links some_device some_link =
-    first_of-none n m devices links (λ e. and_right (are_all devices e) (are_none links) (not_none links some_link)) (λ l. rw (not_none devices some_device) refl)
+    first_of-none n m devices links (λ e. and_right (are_all devices e) (are_none links) (not_none links some_link))
+    (λ l. rw (not_none devices some_device) refl)
 
 -- What the first domain of one thing is that has all that has failed, by how many devices and links the lists have.
-module _ (net : Network) (failed : FailedThings) (devices links : List ℕ) (devices_are : set.from_list devices ≡ failed.devices) (links_are : set.from_list links ≡ failed.links) where
+module _ (net : Network) (failed : FailedThings) (devices links : List ℕ) (devices_are : set.from_list devices ≡ failed.devices)
+    (links_are : set.from_list links ≡ failed.links) where
   -- the first domain of one thing that has all that has failed
   abbrev pub first_alone : Option DomainId
   first_alone = find (has_all net failed) (alone net)
@@ -134,11 +142,13 @@ module _ (net : Network) (failed : FailedThings) (devices links : List ℕ) (dev
   alone-nothing some no_devices no_links = by_numbers ∙ first_of-nothing (length net.devices) (length net.links) devices links some no_devices no_links
 
   -- of one device
-  pub alone-device : length devices ≡ 1 → length links < 1 → first_alone ≡ then_some (nat_lt (get_or devices 0 0) (length net.devices)) (domain.Device (get_or devices 0 0))
+  pub alone-device : length devices ≡ 1 → length links < 1
+      → first_alone ≡ then_some (nat_lt (get_or devices 0 0) (length net.devices)) (domain.Device (get_or devices 0 0))
   alone-device one no_links = by_numbers ∙ first_of-device (length net.devices) (length net.links) devices links one no_links
 
   -- of one link
-  pub alone-link : length devices < 1 → length links ≡ 1 → first_alone ≡ then_some (nat_lt (get_or links 0 0) (length net.links)) (domain.Link (get_or links 0 0))
+  pub alone-link : length devices < 1 → length links ≡ 1
+      → first_alone ≡ then_some (nat_lt (get_or links 0 0) (length net.links)) (domain.Link (get_or links 0 0))
   alone-link no_devices one = by_numbers ∙ first_of-link (length net.devices) (length net.links) devices links no_devices one
 
   -- of more devices than one

@@ -17,14 +17,17 @@ use Rattle.sd_domain.proofs.Members.{contains-insert-nat}
 -- what a listed domain has
 listed_device : (net : Network) (k d : ℕ) → k < length net.domains → has (domain_of net k).devices d ≡ holds_device net (domain.Listed k) d
 listed_device net k d within =
-    ap (λ g. has g.devices d) (found_at net.domains k no_domain no_domain (λ g. g) within) ∙ sym (found_at net.domains k no_domain false (λ g. has g.devices d) within)
+    ap (λ g. has g.devices d) (found_at net.domains k no_domain no_domain (λ g. g) within)
+    ∙ sym (found_at net.domains k no_domain false (λ g. has g.devices d) within)
 
 listed_link : (net : Network) (k l : ℕ) → k < length net.domains → has (domain_of net k).links l ≡ holds_link net (domain.Listed k) l
 listed_link net k l within =
-    ap (λ g. has g.links l) (found_at net.domains k no_domain no_domain (λ g. g) within) ∙ sym (found_at net.domains k no_domain false (λ g. has g.links l) within)
+    ap (λ g. has g.links l) (found_at net.domains k no_domain no_domain (λ g. g) within)
+    ∙ sym (found_at net.domains k no_domain false (λ g. has g.links l) within)
 
 -- to a failure of nothing all things of a listed domain were added
-pub listed_failed : (net : Network) (f : DomainId) (k rooms more : ℕ) (devices links : List ℕ) (failed : FailedThings) → f ≡ domain.Listed k → k < length net.domains
+pub listed_failed : (net : Network) (f : DomainId) (k rooms more : ℕ) (devices links : List ℕ) (failed : FailedThings) → f ≡ domain.Listed k
+    → k < length net.domains
     → devices ≡ (domain_of net k).devices → links ≡ (domain_of net k).links
     → ((d : ℕ) → set.contains failed.devices d ≡ (set.contains (nothing_of rooms more).devices d || has devices d))
     → ((l : ℕ) → set.contains failed.links l ≡ (set.contains (nothing_of rooms more).links l || has links l))
@@ -45,7 +48,8 @@ turned x y = by (nat_eq x y) refl
     by false other = sym (false_from_ne_true (nat_eq y x) (λ same. both_ways (nat_eq x y) other (eq-eqb x y (sym (eqb-true y x same)))))
 
 -- to a failure of nothing one device was added, or one link
-pub device_failed : (net : Network) (f : DomainId) (e rooms more : ℕ) (failed : FailedThings) → f ≡ domain.Device e → failed ≡ with_thing (nothing_of rooms more) (thing.Device e) → IsFailureOf net f failed
+pub device_failed : (net : Network) (f : DomainId) (e rooms more : ℕ) (failed : FailedThings) → f ≡ domain.Device e
+    → failed ≡ with_thing (nothing_of rooms more) (thing.Device e) → IsFailureOf net f failed
 device_failed net f e rooms more failed is added =
     subst (λ f. IsFailureOf net f failed) (sym is)
     (subst (λ failed. IsFailureOf net (domain.Device e) failed) (sym added)
@@ -54,7 +58,8 @@ device_failed net f e rooms more failed is added =
       links = λ l. set.contains-empty nat_cmp l;
     }))
 
-pub link_failed : (net : Network) (f : DomainId) (m rooms more : ℕ) (failed : FailedThings) → f ≡ domain.Link m → failed ≡ with_thing (nothing_of rooms more) (thing.Link m) → IsFailureOf net f failed
+pub link_failed : (net : Network) (f : DomainId) (m rooms more : ℕ) (failed : FailedThings) → f ≡ domain.Link m
+    → failed ≡ with_thing (nothing_of rooms more) (thing.Link m) → IsFailureOf net f failed
 link_failed net f m rooms more failed is added =
     subst (λ f. IsFailureOf net f failed) (sym is)
     (subst (λ failed. IsFailureOf net (domain.Link m) failed) (sym added)
@@ -64,10 +69,14 @@ link_failed net f m rooms more failed is added =
     }))
 
 -- there is room for all of a listed domain
-pub devices_fit : (net : Network) (k room : ℕ) (devices : List ℕ) → IsNetwork net → k < length net.domains → devices ≡ (domain_of net k).devices → room ≡ length net.devices → All (λ d. d < room) devices
+pub devices_fit : (net : Network) (k room : ℕ) (devices : List ℕ) → IsNetwork net → k < length net.domains → devices ≡ (domain_of net k).devices
+    → room ≡ length net.devices → All (λ d. d < room) devices
 devices_fit net k room devices law within these size =
-    subst (λ xs. All (λ d. d < room) xs) (sym these) (subst (λ n. All (λ d. d < n) (domain_of net k).devices) (sym size) (domain_law net k law within).devices_within)
+    subst (λ xs. All (λ d. d < room) xs) (sym these)
+    (subst (λ n. All (λ d. d < n) (domain_of net k).devices) (sym size) (domain_law net k law within).devices_within)
 
-pub links_fit : (net : Network) (k room : ℕ) (links : List ℕ) → IsNetwork net → k < length net.domains → links ≡ (domain_of net k).links → room ≡ length net.links → All (λ l. l < room) links
+pub links_fit : (net : Network) (k room : ℕ) (links : List ℕ) → IsNetwork net → k < length net.domains → links ≡ (domain_of net k).links
+    → room ≡ length net.links → All (λ l. l < room) links
 links_fit net k room links law within these size =
-    subst (λ xs. All (λ l. l < room) xs) (sym these) (subst (λ n. All (λ l. l < n) (domain_of net k).links) (sym size) (domain_law net k law within).links_within)
+    subst (λ xs. All (λ l. l < room) xs) (sym these)
+    (subst (λ n. All (λ l. l < n) (domain_of net k).links) (sym size) (domain_law net k law within).links_within)

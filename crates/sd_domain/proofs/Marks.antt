@@ -75,11 +75,13 @@ unfolding IsDistinct
 distinct_none = tt
 
 -- there are fewer numbers than marks while some number has none
-pub room_push : (marks : List Bool) (numbers : List ℕ) (n : ℕ) → n < length marks → AreMarked marks numbers → get_or marks n false ≡ false → IsDistinct nat_eq numbers
+pub room_push : (marks : List Bool) (numbers : List ℕ) (n : ℕ) → n < length marks → AreMarked marks numbers → get_or marks n false ≡ false
+    → IsDistinct nat_eq numbers
     → length numbers < length marks
 room_push marks numbers n within marked none distinct =
     let pushed = length-le_from_distinct_below (numbers ++ n ∷ []) (length marks) (distinct_push marks numbers n marked none distinct)
-    (λ k among. subst (λ len. k < len) (length-set marks n true) (below_marks (put marks n true) (numbers ++ n ∷ []) k (marked_push marks numbers n within marked) among)) in
+    (λ k among. subst (λ len. k < len) (length-set marks n true)
+    (below_marks (put marks n true) (numbers ++ n ∷ []) k (marked_push marks numbers n within marked) among)) in
     omega (arith, pushed, length-append numbers (n ∷ []))
 
 -- what is seen of numbers below a bound
@@ -87,14 +89,16 @@ abbrev seen : List ℕ → ℕ → Numbers
 seen numbers bound = record { numbers = numbers; bound = bound }
 
 -- what is seen once a number is put at the end that had no mark
-pub seen_push : (old : Numbers) (marks : List Bool) (numbers more : List ℕ) (bound n : ℕ) → seen numbers bound ≡ old → AreMarked marks numbers → get_or marks n false ≡ false → more ≡ numbers ++ n ∷ []
+pub seen_push : (old : Numbers) (marks : List Bool) (numbers more : List ℕ) (bound n : ℕ) → seen numbers bound ≡ old → AreMarked marks numbers
+    → get_or marks n false ≡ false → more ≡ numbers ++ n ∷ []
     → seen more bound ≡ record old { numbers = with_number old.numbers n }
 seen_push old marks numbers more bound n is marked none put_last =
     ap (λ xs. seen xs bound) (put_last ∙ sym (ap (λ t. cond t numbers (numbers ++ n ∷ [])) (sym (marked n) ∙ none)))
     ∙ ap (λ (v : Numbers). seen (with_number v.numbers n) v.bound) is
 
 -- what is seen once a number is put in that was there
-pub seen_again : (old : Numbers) (marks : List Bool) (numbers : List ℕ) (bound n : ℕ) → seen numbers bound ≡ old → AreMarked marks numbers → get_or marks n false ≡ true
+pub seen_again : (old : Numbers) (marks : List Bool) (numbers : List ℕ) (bound n : ℕ) → seen numbers bound ≡ old → AreMarked marks numbers
+    → get_or marks n false ≡ true
     → old ≡ record old { numbers = with_number old.numbers n }
 seen_again old marks numbers bound n is marked there =
     sym is

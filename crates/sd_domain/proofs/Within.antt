@@ -51,16 +51,21 @@ none_passes (x ∷ xs) = none_passes xs
 pub list_any-things_of : (failed : FailedThings) (x : Thing) → list_any (same_thing x) (things_of failed) ≡ has_thing failed x
 list_any-things_of failed x = list_any-append (same_thing x) (map thing.Device (set.items failed.devices)) (map thing.Link (set.items failed.links)) ∙ by_kind x
   where
-    by_kind : (x : Thing) → (list_any (same_thing x) (map thing.Device (set.items failed.devices)) || list_any (same_thing x) (map thing.Link (set.items failed.links))) ≡ has_thing failed x
+    by_kind : (x : Thing)
+        → (list_any (same_thing x) (map thing.Device (set.items failed.devices)) || list_any (same_thing x) (map thing.Link (set.items failed.links)))
+        ≡ has_thing failed x
     by_kind (thing.Device d) =
-        (λ i. list_any-map (same_thing (thing.Device d)) thing.Device (set.items failed.devices) i || list_any-map (same_thing (thing.Device d)) thing.Link (set.items failed.links) i)
+        (λ i. list_any-map (same_thing (thing.Device d)) thing.Device (set.items failed.devices) i
+        || list_any-map (same_thing (thing.Device d)) thing.Link (set.items failed.links) i)
         ∙ rw none_passes (or-false (list_any (nat_eq d) (set.items failed.devices))) ∙ sym (contains-among failed.devices d)
     by_kind (thing.Link l) =
-        (λ i. list_any-map (same_thing (thing.Link l)) thing.Device (set.items failed.devices) i || list_any-map (same_thing (thing.Link l)) thing.Link (set.items failed.links) i)
+        (λ i. list_any-map (same_thing (thing.Link l)) thing.Device (set.items failed.devices) i
+        || list_any-map (same_thing (thing.Link l)) thing.Link (set.items failed.links) i)
         ∙ rw none_passes (sym (contains-among failed.links l))
 
 -- lists of the same things lie within the same first domain
-pub within_one_same : (net : Network) (xs ys : List Thing) → ((x : Thing) → list_any (same_thing x) xs ≡ list_any (same_thing x) ys) → within_one net xs ≡ within_one net ys
+pub within_one_same : (net : Network) (xs ys : List Thing) → ((x : Thing) → list_any (same_thing x) xs ≡ list_any (same_thing x) ys)
+    → within_one net xs ≡ within_one net ys
 within_one_same net xs ys same = λ i. find (λ f. list_all_same same_thing same_thing-true same_thing-itself (holds net f) xs ys same i) (domains net)
 
 -- so a failure may be judged by any list of its things

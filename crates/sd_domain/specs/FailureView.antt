@@ -5,4 +5,5 @@ use Rattle.sd_domain.specs.declared.failure.Failure.TheInside.{Inside}
 
 -- the devices and the links of the two sets
 abbrev pub failed_seen : Inside → FailedThings
-failed_seen f = record { devices = set.from_list f.devices.numbers; links = set.from_list f.links.numbers; device_room = f.devices.bound; link_room = f.links.bound }
+failed_seen f =
+    record { devices = set.from_list f.devices.numbers; links = set.from_list f.links.numbers; device_room = f.devices.bound; link_room = f.links.bound }

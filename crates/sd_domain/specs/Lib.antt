@@ -5,3 +5,5 @@ pub mod Failures
 pub mod FailureView
 pub mod Within
 pub mod Failing
+-- Handed on: what crates above name of those below.
+pub use Rattle.sd_topo.specs as Topo

@@ -13,7 +13,9 @@ impl Failure {
     /// Adds some devices, which may be there already.
     fn add_devices(&mut self, devices: &[u32])
         requires { All (λ d. d < self.old.device_room) devices.now }
-        ensures added { (d : ℕ) → set.contains self.new.devices d ≡ (set.contains self.old.devices d || has devices.now d) }
+        ensures added { (d : ℕ)
+            → set.contains self.new.devices d
+            ≡ (set.contains self.old.devices d || has devices.now d) }
         ensures links { self.new.links ≡ self.old.links }
         ensures device_room { self.new.device_room ≡ self.old.device_room }
         ensures link_room { self.new.link_room ≡ self.old.link_room }
@@ -26,7 +28,8 @@ impl Failure {
     /// Adds some links, which may be there already.
     fn add_links(&mut self, links: &[u32])
         requires { All (λ l. l < self.old.link_room) links.now }
-        ensures added { (l : ℕ) → set.contains self.new.links l ≡ (set.contains self.old.links l || has links.now l) }
+        ensures added { (l : ℕ)
+            → set.contains self.new.links l ≡ (set.contains self.old.links l || has links.now l) }
         ensures devices { self.new.devices ≡ self.old.devices }
         ensures device_room { self.new.device_room ≡ self.old.device_room }
         ensures link_room { self.new.link_room ≡ self.old.link_room }

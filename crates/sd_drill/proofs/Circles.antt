@@ -12,12 +12,13 @@ use Rattle.sd_domain.specs.declared.DomainId.{DomainId}
 use Rattle.sd_domain.specs.declared.DomainId.TheVariants as domain
 use Rattle.sd_plan.specs.declared.Plan.{Plan}
 use Rattle.sd_plan.proofs.Numbered.{length-below, get_or-below}
-use Rattle.sd_check_loop.specs.Loops.{HasNoCycle}
+use Rattle.sd_checker.specs.CheckLoop.Loops.{HasNoCycle}
 use Rattle.sd_checker.specs.Verdicts.{IsAccepted}
 
 -- what is made of each number below a bound
 named : {X : Type 0} (g : ℕ → X) (n k : ℕ) → k < n → Contains (map g (below n)) (g k)
-named g n k within = (k, rw (length-map (below n) g, length-below n) within, get_or-map g (below n) k 0 (g k) (rw (length-below n) within) ∙ ap g (get_or-below n k 0 within))
+named g n k within =
+    (k, rw (length-map (below n) g, length-below n) within, get_or-map g (below n) k 0 (g k) (rw (length-below n) within) ∙ ap g (get_or-below n k 0 within))
 
 abbrev listed : Network → List DomainId
 listed net = map domain.Listed (below (length net.domains))
@@ -31,9 +32,11 @@ links net = map domain.Link (link_numbers net)
 -- each domain is among the domains
 has_domain : (net : Network) (f : DomainId) → IsDomain net f → Contains (domains net) f
 has_domain net (domain.Listed k) is =
-    Contains-append_left (listed net ++ devices net) (links net) (domain.Listed k) (Contains-append_left (listed net) (devices net) (domain.Listed k) (named domain.Listed (length net.domains) k is))
+    Contains-append_left (listed net ++ devices net) (links net) (domain.Listed k)
+    (Contains-append_left (listed net) (devices net) (domain.Listed k) (named domain.Listed (length net.domains) k is))
 has_domain net (domain.Device d) is =
-    Contains-append_left (listed net ++ devices net) (links net) (domain.Device d) (Contains-append_right (listed net) (devices net) (domain.Device d) (named domain.Device (length net.devices) d is))
+    Contains-append_left (listed net ++ devices net) (links net) (domain.Device d)
+    (Contains-append_right (listed net) (devices net) (domain.Device d) (named domain.Device (length net.devices) d is))
 has_domain net (domain.Link l) is = Contains-append_right (listed net ++ devices net) (links net) (domain.Link l) (named domain.Link (length net.links) l is)
 
 -- so what holds of each of them holds of it

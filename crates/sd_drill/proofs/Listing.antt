@@ -7,11 +7,11 @@ use Rattle.sd_topo.specs.Network.{Network}
 use Rattle.sd_topo.proofs.Laws.{found_at}
 use Rattle.sd_domain.specs.declared.DomainId.{DomainId}
 use Rattle.sd_plan.specs.declared.Plan.{Plan}
-use Rattle.sd_recovery.specs.Reaches.{ReachesFrom, IsReachOf}
-use Rattle.sd_recovery.specs.Recoveries.{IsRecovery}
-use Rattle.sd_recovery.specs.Walks.{IsWalk}
-use Rattle.sd_recovery.specs.declared.reach.Reach.{Reach}
-use Rattle.sd_recovery.specs.declared.recovery.Recovery.{Recovery}
+use Rattle.sd_drill.specs.recovery.Reaches.{ReachesFrom, IsReachOf}
+use Rattle.sd_drill.specs.recovery.Recoveries.{IsRecovery}
+use Rattle.sd_drill.specs.recovery.Walks.{IsWalk}
+use Rattle.sd_drill.specs.declared.recovery.reach.Reach.{Reach}
+use Rattle.sd_drill.specs.declared.recovery.Recovery.{Recovery}
 use Rattle.sd_drill.specs.Bounds.{bound_at}
 use Rattle.sd_drill.specs.Drill.{IsWorst, root_halves, source}
 use Rattle.sd_drill.specs.Times.{IsBoundOf}
@@ -42,7 +42,8 @@ module _ (net : Network) (plan : Plan) (f : DomainId) (d : ℕ) where
   far_enough r reach is some = reach_is r.reach reach some is.reach
 
   -- and what is fed over walks that are not too long has this one
-  pub some_bound : (times : Times) (r : Recovery) (reach : Reach) (w : ℕ) → IsRecovery net plan f d r → r.fed ≡ true → r.reach ≡ Some reach → IsBoundOf net plan times d reach w → IsWorst net plan times.budget f d w
+  pub some_bound : (times : Times) (r : Recovery) (reach : Reach) (w : ℕ) → IsRecovery net plan f d r → r.fed ≡ true → r.reach ≡ Some reach
+      → IsBoundOf net plan times d reach w → IsWorst net plan times.budget f d w
   some_bound times r reach w is fed some bound =
       let walks = reach_is r.reach reach some is.reach in
       record {
@@ -61,13 +62,16 @@ pub bound_is : (xs : List (Option ℕ)) (k : ℕ) → k < length xs → bound_at
 bound_is xs k within = found_at xs k None None (λ bound. bound) within
 
 -- one more bound
-pub listed_more : (P : ℕ → Option ℕ → Type 0) (xs : List (Option ℕ)) (x : Option ℕ) (n : ℕ) → length xs ≡ n → ((k : ℕ) → k < n → P k (bound_at xs k)) → P n x → (k : ℕ) → k < n + 1 → P k (bound_at (xs ++ x ∷ []) k)
+pub listed_more : (P : ℕ → Option ℕ → Type 0) (xs : List (Option ℕ)) (x : Option ℕ) (n : ℕ) → length xs ≡ n → ((k : ℕ) → k < n → P k (bound_at xs k)) → P n x
+    → (k : ℕ) → k < n + 1 → P k (bound_at (xs ++ x ∷ []) k)
 listed_more P xs x n size each new k below =
     elim (cases_lt k n) [
       | inl before ↦ (let there : k < length xs = omega (arith, size, before) in
           let whole : k < length (xs ++ x ∷ []) = omega (arith, there, length_push xs x) in
-          subst (λ (bound : Option ℕ). P k bound) (sym (bound_is (xs ++ x ∷ []) k whole ∙ get_or_append_left xs (x ∷ []) None k there ∙ sym (bound_is xs k there))) (each k before))
+          subst (λ (bound : Option ℕ). P k bound)
+          (sym (bound_is (xs ++ x ∷ []) k whole ∙ get_or_append_left xs (x ∷ []) None k there ∙ sym (bound_is xs k there))) (each k before))
       | inr after ↦ (let last : n ≡ k = omega (arith, below, after) in
           let whole : k < length (xs ++ x ∷ []) = omega (arith, last, size, length_push xs x) in
-          subst (λ (bound : Option ℕ). P k bound) (sym (bound_is (xs ++ x ∷ []) k whole ∙ get_or_push xs x None k (size ∙ last))) (subst (λ (m : ℕ). P m x) last new))
+          subst (λ (bound : Option ℕ). P k bound) (sym (bound_is (xs ++ x ∷ []) k whole ∙ get_or_push xs x None k (size ∙ last)))
+          (subst (λ (m : ℕ). P m x) last new))
     ]

@@ -11,14 +11,14 @@ use Rattle.sd_plan.specs.declared.Plan.{Plan}
 use Rattle.sd_plan.specs.Plans.{Fits}
 use Rattle.sd_plan.specs.Structure.{structure_breach}
 use Rattle.sd_plan.proofs.Rules.{keeps_rules}
-use Rattle.sd_check_loop.specs.Loops.{HasNoCycle}
-use Rattle.sd_ages.specs.Ages.{IsOldest, ageing}
-use Rattle.sd_ages.proofs.Division.{oldest_is}
-use Rattle.sd_recovery.specs.Recoveries.{IsRecovery}
-use Rattle.sd_recovery.specs.Walks.{IsGreatestOf, halves, IsWalk}
-use Rattle.sd_recovery.specs.declared.reach.Reach.{Reach}
-use Rattle.sd_recovery.specs.declared.recovery.Recovery.{Recovery}
-use Rattle.sd_recovery.proofs.Existing.{has_recovery}
+use Rattle.sd_checker.specs.CheckLoop.Loops.{HasNoCycle}
+use Rattle.sd_drill.specs.ages.Ages.{IsOldest, ageing}
+use Rattle.sd_drill.proofs.ages.Division.{oldest_is}
+use Rattle.sd_drill.specs.recovery.Recoveries.{IsRecovery}
+use Rattle.sd_drill.specs.recovery.Walks.{IsGreatestOf, halves, IsWalk}
+use Rattle.sd_drill.specs.declared.recovery.reach.Reach.{Reach}
+use Rattle.sd_drill.specs.declared.recovery.Recovery.{Recovery}
+use Rattle.sd_drill.proofs.recovery.Existing.{has_recovery}
 use Rattle.sd_drill.specs.Bounds.{AreBounds, bound_at}
 use Rattle.sd_drill.specs.Drill.{IsWorst, IsListed, source, root_halves, quiet}
 use Rattle.sd_drill.specs.declared.Budget.{Budget}
@@ -43,7 +43,8 @@ module _ (net : Network) (plan : Plan) (budget : Budget) (f : DomainId) where
       let far : a.far ≡ b.far = one_greatest (IsWalk net plan f d) (halves net d) a.far b.far a.is_far b.is_far in
       let long : a.long ≡ b.long = one_greatest (IsWalk net plan f d) length a.long b.long a.is_long b.is_long in
       let old : a.oldest ≡ b.oldest =
-      one_oldest (rates_of net d) (quiet net plan b.long) a.oldest b.oldest (subst (λ (n : ℕ). IsOldest (rates_of net d) (quiet net plan n) a.oldest) long a.is_oldest) b.is_oldest in
+      one_oldest (rates_of net d) (quiet net plan b.long) a.oldest b.oldest
+      (subst (λ (n : ℕ). IsOldest (rates_of net d) (quiet net plan n) a.oldest) long a.is_oldest) b.is_oldest in
       let aged : ageing (rates_of net d) a.oldest ≡ ageing (rates_of net d) b.oldest = ap (ageing (rates_of net d)) old in
       let first = a.sum in
       let second = b.sum in
@@ -56,7 +57,8 @@ module _ (net : Network) (plan : Plan) (budget : Budget) (f : DomainId) where
   one_listed d (Some w) (Some x) a b = ap (λ (n : ℕ). Some n) (one_worst d w x a b)
 
   -- a device's bound is one
-  pub one_bound : (xs ys : List (Option ℕ)) → AreBounds net plan budget f xs → AreBounds net plan budget f ys → (d : ℕ) → d < length net.devices → bound_at xs d ≡ bound_at ys d
+  pub one_bound : (xs ys : List (Option ℕ)) → AreBounds net plan budget f xs → AreBounds net plan budget f ys → (d : ℕ) → d < length net.devices
+      → bound_at xs d ≡ bound_at ys d
   one_bound xs ys a b d within = one_listed d (bound_at xs d) (bound_at ys d) (a.listed d within) (b.listed d within)
 
   module _ (law : IsNetwork net) (fits : Fits net plan) (structured : structure_breach net plan ≡ None) (acyclic : HasNoCycle net plan f) where
@@ -74,7 +76,8 @@ module _ (net : Network) (plan : Plan) (budget : Budget) (f : DomainId) where
         by true None fed none = (None, none_overlong net plan f d budget r.reach none is.reach)
         by true (Some reach) fed some =
             let walks = far_enough net plan f d r reach is some in
-            let old : IsOldest (rates_of net d) (quiet net plan reach.long) (age d reach.long) = oldest_is (rates_of net d) (quiet net plan reach.long) (rates_law net d law within) in (
+            let old : IsOldest (rates_of net d) (quiet net plan reach.long) (age d reach.long) =
+            oldest_is (rates_of net d) (quiet net plan reach.long) (rates_law net d law within) in (
               Some (source net plan budget + root_halves net plan + reach.far + ageing (rates_of net d) (age d reach.long)),
               record {
                 fed = is.fed.0 fed;

@@ -25,7 +25,9 @@ module _ (net : Network) (plan : Plan) (budget : Budget) where
   same_lines : (fs : List DomainId) (bytes other : List ℕ) → AreLines net plan budget fs bytes → AreLines net plan budget fs other → bytes ≡ other
   same_lines [] bytes other a b = a ∙ sym b
   same_lines (f ∷ fs) bytes other (lines, rest, first, others, whole) (lines', rest', first', others', whole') =
-      whole ∙ ap (λ (x : List ℕ). x ++ rest) (same_domain f lines lines' first first') ∙ ap (λ (x : List ℕ). lines' ++ x) (same_lines fs rest rest' others others') ∙ sym whole'
+      whole ∙ ap (λ (x : List ℕ). x ++ rest) (same_domain f lines lines' first first')
+      ∙ ap (λ (x : List ℕ). lines' ++ x) (same_lines fs rest rest' others others') ∙ sym whole'
 
   pub one_drill : (bytes other : List ℕ) → IsDrill net plan budget bytes → IsDrill net plan budget other → bytes ≡ other
-  one_drill bytes other (lines, are, whole) (lines', are', whole') = whole ∙ ap (λ (x : List ℕ). x ++ done_line net plan) (same_lines (domains net) lines lines' are are') ∙ sym whole'
+  one_drill bytes other (lines, are, whole) (lines', are', whole') =
+      whole ∙ ap (λ (x : List ℕ). x ++ done_line net plan) (same_lines (domains net) lines lines' are are') ∙ sym whole'

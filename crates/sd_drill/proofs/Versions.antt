@@ -4,7 +4,7 @@ use Rattle.sd_topo.specs.Network.{Network}
 use Rattle.sd_topo.proofs.Versions.{with_version}
 use Rattle.sd_domain.specs.declared.DomainId.{DomainId}
 use Rattle.sd_plan.specs.declared.Plan.{Plan}
-use Rattle.sd_check_reach.proofs.Versions.{Fed-with_version}
+use Rattle.sd_checker.proofs.CheckReach.Versions.{Fed-with_version}
 use Rattle.sd_drill.specs.Bounds.{AreBounds, bound_at}
 use Rattle.sd_drill.specs.Drill.{IsWorst, IsListed}
 use Rattle.sd_drill.specs.Printed.{IsLinesOf, AreLines, IsDrill}
@@ -26,19 +26,24 @@ module _ (v w : ℕ) (net : Network) (plan : Plan) (budget : Budget) (f : Domain
       }
 
 module _ (v w : ℕ) (net : Network) (plan : Plan) (budget : Budget) where
-  IsListed-with_version : (f : DomainId) (d : ℕ) (o : Option ℕ) → IsListed (with_version v net) plan budget f d o → IsListed (with_version w net) plan budget f d o
+  IsListed-with_version : (f : DomainId) (d : ℕ) (o : Option ℕ) → IsListed (with_version v net) plan budget f d o
+      → IsListed (with_version w net) plan budget f d o
   IsListed-with_version f d (Some x) listed = IsWorst-with_version v w net plan budget f d x listed
   IsListed-with_version f d None listed = λ x worst. listed x (IsWorst-with_version w v net plan budget f d x worst)
 
-  AreBounds-with_version : (f : DomainId) (bounds : List (Option ℕ)) → AreBounds (with_version v net) plan budget f bounds → AreBounds (with_version w net) plan budget f bounds
+  AreBounds-with_version : (f : DomainId) (bounds : List (Option ℕ)) → AreBounds (with_version v net) plan budget f bounds
+      → AreBounds (with_version w net) plan budget f bounds
   AreBounds-with_version f bounds are = record { each = are.each; listed = λ d within. IsListed-with_version f d (bound_at bounds d) (are.listed d within) }
 
-  IsLinesOf-with_version : (f : DomainId) (lines : List ℕ) → IsLinesOf (with_version v net) plan budget f lines → IsLinesOf (with_version w net) plan budget f lines
+  IsLinesOf-with_version : (f : DomainId) (lines : List ℕ) → IsLinesOf (with_version v net) plan budget f lines
+      → IsLinesOf (with_version w net) plan budget f lines
   IsLinesOf-with_version f lines (bounds, are, printed) = (bounds, AreBounds-with_version f bounds are, printed)
 
-  AreLines-with_version : (fs : List DomainId) (bytes : List ℕ) → AreLines (with_version v net) plan budget fs bytes → AreLines (with_version w net) plan budget fs bytes
+  AreLines-with_version : (fs : List DomainId) (bytes : List ℕ) → AreLines (with_version v net) plan budget fs bytes
+      → AreLines (with_version w net) plan budget fs bytes
   AreLines-with_version [] bytes are = are
-  AreLines-with_version (f ∷ fs) bytes (lines, rest, first, others, whole) = (lines, rest, IsLinesOf-with_version f lines first, AreLines-with_version fs rest others, whole)
+  AreLines-with_version (f ∷ fs) bytes (lines, rest, first, others, whole) =
+      (lines, rest, IsLinesOf-with_version f lines first, AreLines-with_version fs rest others, whole)
 
   pub IsDrill-with_version : (bytes : List ℕ) → IsDrill (with_version v net) plan budget bytes → IsDrill (with_version w net) plan budget bytes
   IsDrill-with_version bytes (lines, are, whole) = (lines, AreLines-with_version _ lines are, whole)

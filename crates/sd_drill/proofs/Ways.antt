@@ -6,13 +6,15 @@ use Rattle.sd_plan.specs.Walks.{hops}
 use Rattle.sd_plan.specs.declared.Hop.{Hop}
 use Rattle.sd_plan.specs.declared.Plan.{Plan}
 use Rattle.sd_plan.proofs.Walking.{hops_left}
-use Rattle.sd_recovery.specs.Walks.{halves}
+use Rattle.sd_drill.specs.recovery.Walks.{halves}
 
 -- where a hop is made
 step : (root : ℕ → Bool) (found : Option Hop) (more : ℕ → List Hop) (hop : Hop) → found ≡ Some hop
-    → (elim found [ None ↦ [] | Some h ↦ h ∷ (elim (root h.parent) [ true ↦ [] | false ↦ more h.parent ]) ]) ≡ hop ∷ (if root hop.parent then [] else more hop.parent)
+    → (elim found [ None ↦ [] | Some h ↦ h ∷ (elim (root h.parent) [ true ↦ [] | false ↦ more h.parent ]) ])
+    ≡ hop ∷ (if root hop.parent then [] else more hop.parent)
 step root found more hop is =
-    subst (λ (f : Option Hop). (elim f [ None ↦ [] | Some h ↦ h ∷ (elim (root h.parent) [ true ↦ [] | false ↦ more h.parent ]) ]) ≡ hop ∷ (if root hop.parent then [] else more hop.parent)) (sym is)
+    subst (λ (f : Option Hop). (elim f [ None ↦ [] | Some h ↦ h ∷ (elim (root h.parent) [ true ↦ [] | false ↦ more h.parent ]) ])
+    ≡ hop ∷ (if root hop.parent then [] else more hop.parent)) (sym is)
     (by_root (root hop.parent))
   where
     by_root : (b : Bool) → hop ∷ (elim b [ true ↦ [] | false ↦ more hop.parent ]) ≡ hop ∷ (if b then [] else more hop.parent)
@@ -54,7 +56,8 @@ none_without_row net plan zero here none = none_left net plan 0 here refl
 none_without_row net plan (suc n) here none = by_root (is_root plan here)
   where
     nothing : hops (is_root plan) plan (suc n) here ≡ []
-    nothing = subst (λ (f : Option Hop). (elim f [ None ↦ [] | Some h ↦ h ∷ (elim (is_root plan h.parent) [ true ↦ [] | false ↦ hops (is_root plan) plan n h.parent ]) ]) ≡ []) (sym none) refl
+    nothing = subst (λ (f : Option Hop). (elim f
+        [ None ↦ [] | Some h ↦ h ∷ (elim (is_root plan h.parent) [ true ↦ [] | false ↦ hops (is_root plan) plan n h.parent ]) ]) ≡ []) (sym none) refl
 
     by_root : (b : Bool) → halves net here (if b then [] else hops (is_root plan) plan (suc n) here) ≡ 0
     by_root true = refl

@@ -6,10 +6,10 @@ use Rattle.sd_domain.specs.declared.DomainId.{DomainId}
 use Rattle.sd_plan.specs.declared.Plan.{Plan}
 use Rattle.sd_plan.specs.Plans.{backup_of}
 use Rattle.sd_plan.specs.Walks.{walk}
-use Rattle.sd_check_root.specs.Timing.{silence}
-use Rattle.sd_check_reach.specs.Reach.{Fed}
-use Rattle.sd_ages.specs.Ages.{IsOldest, ageing}
-use Rattle.sd_recovery.specs.Walks.{halves, IsGreatestOfWalks}
+use Rattle.sd_checker.specs.CheckRoot.Timing.{silence}
+use Rattle.sd_checker.specs.CheckReach.Reach.{Fed}
+use Rattle.sd_drill.specs.ages.Ages.{IsOldest, ageing}
+use Rattle.sd_drill.specs.recovery.Walks.{halves, IsGreatestOfWalks}
 use Rattle.sd_drill.specs.declared.Budget.{Budget}
 
 -- the greatest sum of halves from the backup root to the root, over its primary or its backup parent

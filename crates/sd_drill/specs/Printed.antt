@@ -29,7 +29,8 @@ IsLinesOf net plan budget f lines = (bounds : List (Option ℕ)) × AreBounds ne
 -- the bytes are the lines of these domains, in order
 abbrev pub AreLines : Network → Plan → Budget → List DomainId → List ℕ → Type 0
 AreLines net plan budget [] bytes = bytes ≡ []
-AreLines net plan budget (f ∷ others) bytes = (lines : List ℕ) × (rest : List ℕ) × IsLinesOf net plan budget f lines × AreLines net plan budget others rest × (bytes ≡ lines ++ rest)
+AreLines net plan budget (f ∷ others) bytes = (lines : List ℕ) × (rest : List ℕ) × IsLinesOf net plan budget f lines × AreLines net plan budget others rest
+    × (bytes ≡ lines ++ rest)
 
 -- the last line: how many domains and how many members there are
 abbrev pub done_line : Network → Plan → List ℕ

@@ -2,11 +2,11 @@
 use Rattle.std.specs.Prelude.{◌≡◌, ℕ, ◌+◌, ◌^◌, ◌≤◌, List, length, slice_index_or, Option, Some, None}
 use Rattle.sd_topo.specs.Network.{Network, rates_of}
 use Rattle.sd_plan.specs.declared.Plan.{Plan}
-use Rattle.sd_check_root.specs.Timing.{silence}
-use Rattle.sd_hit.specs.Outages.{HasRoom as HasImpactRoom}
-use Rattle.sd_recovery.specs.Searches.{HasRoom as HasRecoveryRoom}
-use Rattle.sd_ages.specs.Ages.{IsOldest, ageing}
-use Rattle.sd_recovery.specs.declared.reach.Reach.{Reach}
+use Rattle.sd_checker.specs.CheckRoot.Timing.{silence}
+use Rattle.sd_checker.specs.CheckHit.Outages.{HasRoom as HasImpactRoom}
+use Rattle.sd_drill.specs.recovery.Searches.{HasRoom as HasRecoveryRoom}
+use Rattle.sd_drill.specs.ages.Ages.{IsOldest, ageing}
+use Rattle.sd_drill.specs.declared.recovery.reach.Reach.{Reach}
 use Rattle.sd_drill.specs.Drill.{root_halves, settling, quiet, source}
 use Rattle.sd_drill.specs.declared.drill.Drill.{Drill}
 use Rattle.sd_drill.specs.declared.growths.Growth.{Growth}

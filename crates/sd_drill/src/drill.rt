@@ -3,19 +3,19 @@ ghost use Rattle.std.specs.Prelude.{◌≡◌, ◌≤◌, ◌<◌, ◌+◌, leng
 ghost use Rattle.sd_drill.specs.Bounds.{AreBounds, IsBudget};
 ghost use Rattle.sd_drill.specs.Drill.{IsListed};
 ghost use Rattle.sd_drill.specs.Times.{AreGrowths, AreTimes, IsBoundOf};
-ghost use Rattle.sd_hit.specs.Outages.{net_of, plan_of};
-ghost use Rattle.sd_check_loop.specs.Loops.{HasNoCycle};
-ghost use Rattle.sd_recovery.specs.Searches.{AreRecoveries, HasRoom};
+ghost use Rattle.sd_checker.specs.CheckHit.Outages.{net_of, plan_of};
+ghost use Rattle.sd_checker.specs.CheckLoop.Loops.{HasNoCycle};
+ghost use Rattle.sd_drill.specs.recovery.Searches.{AreRecoveries, HasRoom};
 
 use crate::Budget;
 use crate::bounds::WorstList;
 use crate::growths::Growths;
+use crate::recovery::{Reach, Recoveries};
 use crate::times::Times;
+use sd_checker::check_hit::{Impact, Outage};
 use sd_domain::DomainId;
-use sd_hit::{Impact, Outage};
 use sd_num::NoMemory;
 use sd_plan::Indexed;
-use sd_recovery::{Reach, Recoveries};
 use std::alloc::Global;
 
 /// A plan and a budget under drill: what the bounds of all domains share, what those of most domains
@@ -59,7 +59,8 @@ fn bound_of(
     requires growths { AreGrowths (net_of outage.now) (plan_of outage.now) growths.old }
     requires found { AreRecoveries (net_of outage.now) (plan_of outage.now) outage.now.domain recoveries.now }
     requires device { d < length (net_of outage.now).devices }
-    ensures bound { IsListed (net_of outage.now) (plan_of outage.now) times.budget outage.now.domain d result }
+    ensures bound { IsListed (net_of outage.now) (plan_of outage.now) times.budget outage.now.domain d
+        result }
     ensures growths { AreGrowths (net_of outage.now) (plan_of outage.now) growths.new }
 {
     let recovery = recoveries.of(outage, d);
@@ -83,7 +84,8 @@ fn all_bounds(
     requires times { AreTimes (net_of outage.now) (plan_of outage.now) times }
     requires growths { AreGrowths (net_of outage.now) (plan_of outage.now) growths.old }
     requires found { AreRecoveries (net_of outage.now) (plan_of outage.now) outage.now.domain recoveries.now }
-    ensures bounds { IfOk result (AreBounds (net_of outage.now) (plan_of outage.now) times.budget outage.now.domain) }
+    ensures bounds { IfOk result
+        (AreBounds (net_of outage.now) (plan_of outage.now) times.budget outage.now.domain) }
     ensures growths { AreGrowths (net_of outage.now) (plan_of outage.now) growths.new }
 {
     let devices = outage.planned.topo.devices();
@@ -108,7 +110,8 @@ fn bounds_under(
     requires growths { AreGrowths (net_of outage.now) (plan_of outage.now) growths.old }
     requires acyclic { HasNoCycle (net_of outage.now) (plan_of outage.now) outage.now.domain }
     requires room { HasRoom (net_of outage.now) recoveries.old }
-    ensures bounds { IfOk result (AreBounds (net_of outage.now) (plan_of outage.now) times.budget outage.now.domain) }
+    ensures bounds { IfOk result
+        (AreBounds (net_of outage.now) (plan_of outage.now) times.budget outage.now.domain) }
     ensures growths { AreGrowths (net_of outage.now) (plan_of outage.now) growths.new }
     ensures room { HasRoom (net_of outage.now) recoveries.new }
 {
@@ -118,7 +121,7 @@ fn bounds_under(
 
 impl Drill {
     ghost use Rattle.std.specs.Prelude.{OnOk};
-    ghost use Rattle.sd_check_loop.specs.Loops.{HasNoCycle};
+    ghost use Rattle.sd_checker.specs.CheckLoop.Loops.{HasNoCycle};
     ghost use Rattle.sd_domain.specs.Domains.{IsDomain};
     ghost use Rattle.sd_drill.specs.Times.{IsDrillOf};
     ghost use Rattle.sd_topo.specs.Topologies.{network};
@@ -126,7 +129,9 @@ impl Drill {
     /// A drill of a plan.
     pub fn new(alloc: Global, planned: Indexed<'_>, budget: Budget) -> Result<Drill, NoMemory>
         requires { IsBudget budget }
-        ensures { IfOk result (λ drill. IsDrillOf (network planned.entry.topo.now) planned.entry.plan.now drill × (drill.times.budget ≡ budget)) }
+        ensures { IfOk result
+            (λ drill. IsDrillOf (network planned.entry.topo.now) planned.entry.plan.now drill
+            × (drill.times.budget ≡ budget)) }
     {
         let times = Times::new(planned, budget);
         let growths = Growths::new(alloc, planned.topo)?;
@@ -151,7 +156,9 @@ impl Drill {
         requires drill { IsDrillOf (network planned.topo.now) planned.plan.now self.old }
         requires domain { IsDomain (network planned.topo.now) domain }
         requires acyclic { HasNoCycle (network planned.topo.now) planned.plan.now domain }
-        ensures bounds { IfOk result (AreBounds (network planned.entry.topo.now) planned.entry.plan.now self.old.times.budget domain) }
+        ensures bounds { IfOk result
+            (AreBounds (network planned.entry.topo.now) planned.entry.plan.now self.old.times.budget
+            domain) }
         ensures drill { IsDrillOf (network planned.entry.topo.now) planned.entry.plan.now self.new }
         ensures budget { self.new.times.budget ≡ self.old.times.budget }
     {

@@ -40,7 +40,8 @@ impl Growths {
 
     /// Nothing is known of the devices of a topology.
     pub(crate) fn new(alloc: Global, topo: &Topology) -> Result<Growths, NoMemory>
-        ensures { IfOk result (λ growths. (plan : Plan) → AreGrowths (network topo.now) plan growths) }
+        ensures { IfOk result (λ growths. (plan : Plan)
+            → AreGrowths (network topo.now) plan growths) }
     {
         let known = none_known(alloc, topo.devices())?;
         Ok(Growths { known })

@@ -8,9 +8,11 @@ ghost use Rattle.sd_drill.specs.Bounds.{AreBounds, IsBudget};
 ghost use Rattle.sd_plan.specs.Plans.{Fits};
 ghost use Rattle.sd_topo.specs.Topologies.{network};
 
+pub mod ages;
 mod bounds;
 mod drill;
 mod growths;
+pub mod recovery;
 mod roots;
 mod times;
 

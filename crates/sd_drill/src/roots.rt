@@ -3,7 +3,7 @@ ghost use Rattle.std.specs.Prelude.{◌≡◌, ◌≤◌, ◌<◌, ◌*◌, ◌^
 ghost use Rattle.sd_drill.specs.Drill as words;
 ghost use Rattle.sd_plan.specs.Tables.{EndsAt};
 ghost use Rattle.sd_plan.specs.Walks.{walk};
-ghost use Rattle.sd_recovery.specs.Walks.{halves};
+ghost use Rattle.sd_drill.specs.recovery.Walks.{halves};
 ghost use Rattle.sd_topo.specs.Network as network_words;
 ghost use Rattle.sd_topo.specs.Topologies.{network};
 
@@ -22,7 +22,8 @@ fn half_of(topo: &Topology, d: u32, hop: Hop) -> u64
 /// The sum of the halves along the walk of a device to the root.
 fn halves_to_root(planned: Indexed<'_>, d: u32) -> u64
     requires { d < length (network planned.topo.now).devices }
-    ensures is { result ≡ halves (network planned.entry.topo.now) d (walk (network planned.entry.topo.now) planned.entry.plan.now d) }
+    ensures is { result ≡ halves (network planned.entry.topo.now) d
+        (walk (network planned.entry.topo.now) planned.entry.plan.now d) }
     ensures bound { result ≤ 64 * 10 ^ 12 }
 {
     let mut sum = 0;
@@ -41,7 +42,8 @@ fn halves_to_root(planned: Indexed<'_>, d: u32) -> u64
 
 /// The greatest sum of halves from the backup root to the root: over its primary, or over its backup.
 pub(crate) fn root_halves(planned: Indexed<'_>) -> u64
-    ensures is { result ≡ words.root_halves (network planned.entry.topo.now) planned.entry.plan.now }
+    ensures is { result ≡ words.root_halves
+        (network planned.entry.topo.now) planned.entry.plan.now }
     ensures bound { result ≤ 65 * 10 ^ 12 }
 {
     let backup_root = planned.plan.backup_root;

@@ -1,6 +1,6 @@
 //! What the bounds of all domains share.
 ghost use Rattle.std.specs.Prelude.{◌≡◌, ◌≤◌, ◌<◌, ◌+◌, ◌*◌, ◌^◌, length};
-ghost use Rattle.sd_ages.specs.Ages as ages;
+ghost use Rattle.sd_drill.specs.ages.Ages as ages;
 ghost use Rattle.sd_drill.specs.Bounds.{IsBudget};
 ghost use Rattle.sd_drill.specs.Drill as words;
 ghost use Rattle.sd_drill.specs.Times.{AreTimes, IsGrowth};
@@ -9,9 +9,9 @@ ghost use Rattle.sd_topo.specs.Network.{rates_of};
 ghost use Rattle.sd_topo.specs.Topologies.{network};
 
 use crate::Budget;
+use crate::ages::{ageing, oldest};
 use crate::roots::root_halves;
-use sd_ages::{ageing, oldest};
-use sd_check_root::{greatest_up, silence_and_tick};
+use sd_checker::check_root::{greatest_up, silence_and_tick};
 use sd_plan::{Indexed, Plan};
 use sd_topo::Topology;
 

@@ -6,35 +6,35 @@ use Rattle.sd_msg.specs.declared.Flight.{Flight}
 use Rattle.sd_core.specs.declared.node.Node.{Ghosts}
 use Rattle.sd_sched.specs.declared.Event.{Event}
 use Rattle.sd_sched.specs.declared.Event.TheVariants as event
-use Rattle.sd_history.specs.declared.ApplyFault.{ApplyFault}
-use Rattle.sd_history.specs.declared.ApplyFault.TheVariants.{Memory}
-use Rattle.sd_history.specs.World.{Setting}
-use Rattle.sd_history.specs.Steps.{Told, Step, step_of, act_by}
-use Rattle.sd_history.specs.Steps as steps
-use Rattle.sd_history.specs.Nodes.{NodeStep, IsRun, steps_of, node_in}
-use Rattle.sd_world.proofs.Answers.{up_stands}
-use Rattle.sd_roster.specs.Rosters as roster
-use Rattle.sd_roster.specs.Standing as standing
-use Rattle.sd_fabric.specs.declared.Reply.{Reply}
-use Rattle.sd_fabric.specs.declared.Outcome.{Outcome}
-use Rattle.sd_fabric.specs.Registers.{Registers}
-use Rattle.sd_fabric.specs.Causes.{refusal_in}
-use Rattle.sd_fabric.specs.Doing.{act_in, Says, may_send}
-use Rattle.sd_fabric.specs.Room.{most_sent_in}
-use Rattle.sd_fabric.specs.Outcomes.{outcome_of}
-use Rattle.sd_fabric.specs.Standing.{Stands}
-use Rattle.sd_fabric.specs.Stepping.{IsAfter, OnlyRoomGrew}
-use Rattle.sd_fabric.specs.Sound.{IsSound}
-use Rattle.sd_history.specs.Steps.{Act}
-use Rattle.sd_fabric.proofs.Admitted.{device_known}
+use Rattle.sd_fleet_fabric.specs.History.declared.ApplyFault.{ApplyFault}
+use Rattle.sd_fleet_fabric.specs.History.declared.ApplyFault.TheVariants.{Memory}
+use Rattle.sd_fleet_fabric.specs.History.World.{Setting}
+use Rattle.sd_fleet_fabric.specs.History.Steps.{Told, Step, step_of, act_by}
+use Rattle.sd_fleet_fabric.specs.History.Steps as steps
+use Rattle.sd_fleet_fabric.specs.History.Nodes.{NodeStep, IsRun, steps_of, node_in}
+use Rattle.sd_fleet_fabric.proofs.FleetState.world.Answers.{up_stands}
+use Rattle.sd_fleet_fabric.specs.FleetState.membership.Memberships as membership
+use Rattle.sd_fleet_fabric.specs.FleetState.membership.Standing as standing
+use Rattle.sd_fleet_fabric.specs.declared.Reply.{Reply}
+use Rattle.sd_fleet_fabric.specs.declared.Outcome.{Outcome}
+use Rattle.sd_fleet_fabric.specs.Registers.{Registers}
+use Rattle.sd_fleet_fabric.specs.Causes.{refusal_in}
+use Rattle.sd_fleet_fabric.specs.Doing.{act_in, Says, may_send}
+use Rattle.sd_fleet_fabric.specs.Room.{most_sent_in}
+use Rattle.sd_fleet_fabric.specs.Outcomes.{outcome_of}
+use Rattle.sd_fleet_fabric.specs.Standing.{Stands}
+use Rattle.sd_fleet_fabric.specs.Stepping.{IsAfter, OnlyRoomGrew}
+use Rattle.sd_fleet_fabric.specs.Sound.{IsSound}
+use Rattle.sd_fleet_fabric.specs.History.Steps.{Act}
+use Rattle.sd_fleet_fabric.proofs.Admitted.{device_known}
 use Rattle.sd_sched.specs.Events.{device_of}
 use Rattle.sd_sched.specs.Lines.{is_within}
-use Rattle.sd_fabric.proofs.Refused.{refusal_is}
-use Rattle.sd_fabric.proofs.Acting.{act_is}
-use Rattle.sd_fleet.specs.declared.crew.Moment.{Moment}
+use Rattle.sd_fleet_fabric.proofs.Refused.{refusal_is}
+use Rattle.sd_fleet_fabric.proofs.Acting.{act_is}
+use Rattle.sd_fleet.specs.declared.crew.CallContext.{CallContext}
 use Rattle.sd_fleet.specs.Crew.{node_at, CanAct, Acts}
 use Rattle.sd_fleet.specs.Calling.{IsMessage}
-use Rattle.sd_fleet.specs.Bounds.{moment_of, IsCrew}
+use Rattle.sd_fleet.specs.Bounds.{context_of, IsCrew}
 use Rattle.sd_fleet.specs.Standing.{IsFault}
 use Rattle.sd_fleet.proofs.Acting.{can_act}
 use Rattle.sd_fleet.proofs.Going.{length_acts}
@@ -56,13 +56,16 @@ no_node (suc n) zero = refl
 no_node (suc n) (suc d) = no_node n d
 
 -- the crew before any event: nobody is up, nobody has a node
-pub crew_first : {N : Type 0} (g : Ghosts N) (r : Registers) (nodes : List (Option N)) (setting : Setting) → Stands r setting [] → length nodes ≡ length r.net.devices → ((d : ℕ) → node_at nodes d ≡ None) → IsCrew g r nodes
+pub crew_first : {N : Type 0} (g : Ghosts N) (r : Registers) (nodes : List (Option N)) (setting : Setting) → Stands r setting []
+    → length nodes ≡ length r.net.devices → ((d : ℕ) → node_at nodes d ≡ None) → IsCrew g r nodes
 crew_first {N = N} g r nodes setting stands places none =
     record {
       places = places;
-      there = λ d within up. absurd (both_ways (up_stands r.roster.world setting [] d stands.roster.world (subst (λ (net : Network). d < length net.devices) stands.net within)) up);
+      there = λ d within up. absurd
+          (both_ways (up_stands r.membership.world setting [] d stands.membership.world (subst (λ (net : Network). d < length net.devices) stands.net within))
+          up);
       kept = λ d n at. absurd (nobody (node_at nodes d) n (none d) at);
-      messages = subst (λ fs. Each (λ f. IsMessage r.roster.world.events f.message) fs) (sym stands.flights) (λ i x at. cc);
+      messages = subst (λ fs. Each (λ f. IsMessage r.membership.world.events f.message) fs) (sym stands.flights) (λ i x at. cc);
     }
   where
     both_ways : {b : Bool} → b ≡ false → b ≡ true → ⊥
@@ -75,17 +78,20 @@ crew_first {N = N} g r nodes setting stands places none =
 
 pub same_refusal : (old new : Registers) (e : Event) → OnlyRoomGrew old new → refusal_in new e ≡ refusal_in old e
 same_refusal old new e grew =
-    ap (λ (n : Network). refusal_in (record { net = n; roster = new.roster; book = new.book }) e) grew.net
-    ∙ ap (λ (r : roster.Registers). refusal_in (record { net = old.net; roster = r; book = new.book }) e) grew.roster
-    ∙ ap (λ (fs : List Flight). refusal_in (record { net = old.net; roster = old.roster; book = record { flights = fs; last = new.book.last; room = new.book.room } }) e) grew.flights
-    ∙ ap (λ (n : ℕ). refusal_in (record { net = old.net; roster = old.roster; book = record { flights = old.book.flights; last = n; room = new.book.room } }) e) grew.last
+    ap (λ (n : Network). refusal_in (record { net = n; membership = new.membership; book = new.book }) e) grew.net
+    ∙ ap (λ (r : membership.Registers). refusal_in (record { net = old.net; membership = r; book = new.book }) e) grew.membership
+    ∙ ap (λ (fs : List Flight). refusal_in
+    (record { net = old.net; membership = old.membership; book = record { flights = fs; last = new.book.last; room = new.book.room } }) e) grew.flights
+    ∙ ap (λ (n : ℕ). refusal_in
+    (record { net = old.net; membership = old.membership; book = record { flights = old.book.flights; last = n; room = new.book.room } }) e) grew.last
 
-pub stands_roomy : (old new : Registers) (setting : Setting) (earlier : List Step) → OnlyRoomGrew old new → Stands old setting earlier → Stands new setting earlier
+pub stands_roomy : (old new : Registers) (setting : Setting) (earlier : List Step) → OnlyRoomGrew old new → Stands old setting earlier
+    → Stands new setting earlier
 stands_roomy old new setting earlier grew stands =
     record {
       accepted = stands.accepted;
       net = grew.net ∙ stands.net;
-      roster = subst (λ (r : roster.Registers). standing.Stands r setting earlier) (sym grew.roster) stands.roster;
+      membership = subst (λ (r : membership.Registers). standing.Stands r setting earlier) (sym grew.membership) stands.membership;
       flights = grew.flights ∙ stands.flights;
       sent = grew.last ∙ stands.sent;
     }
@@ -111,15 +117,17 @@ may_send_some r (event.End reference) some = absurd (some refl)
 
 -- The faults
 
-pub refused_fault : (r : Registers) (setting : Setting) (earlier : List Step) (e : Event) (fault : ApplyFault) → Stands r setting earlier → refusal_in r e ≡ Some fault → IsFault fault setting earlier e
+pub refused_fault : (r : Registers) (setting : Setting) (earlier : List Step) (e : Event) (fault : ApplyFault) → Stands r setting earlier
+    → refusal_in r e ≡ Some fault → IsFault fault setting earlier e
 refused_fault r setting earlier e fault stands refused = inl (sym (refusal_is setting r earlier e stands) ∙ refused)
 
-pub memory_fault : (r : Registers) (setting : Setting) (earlier : List Step) (e : Event) → Stands r setting earlier → refusal_in r e ≡ None → most_sent_in r e ≢ 0 → IsFault Memory setting earlier e
+pub memory_fault : (r : Registers) (setting : Setting) (earlier : List Step) (e : Event) → Stands r setting earlier → refusal_in r e ≡ None
+    → most_sent_in r e ≢ 0 → IsFault Memory setting earlier e
 memory_fault r setting earlier e stands accepted some = inr (refl, sym (refusal_is setting r earlier e stands) ∙ accepted, may_send_some r e some)
 
 -- the crew where only room grew
 pub crew_grown : {N : Type 0} (g : Ghosts N) (old new : Registers) (nodes : List (Option N)) → IsCrew g old nodes → OnlyRoomGrew old new → IsCrew g new nodes
-crew_grown g old new nodes crew grew = crew_roomy g old new nodes crew grew.net grew.roster grew.flights
+crew_grown g old new nodes crew grew = crew_roomy g old new nodes crew grew.net grew.membership grew.flights
 
 -- An accepted event
 
@@ -130,28 +138,35 @@ device_if r e accepted = go (device_of e) refl
     go None none = tt
     go (Some d) named = device_known r e accepted d named
 
-pub can_do : {N : Type 0} (g : Ghosts N) (r : Registers) (e : Event) (nodes given : List (Option N)) (moment : Moment) (a : Act) → given ≡ nodes → moment ≡ moment_of r e → a ≡ act_in r e
-    → IsCrew g r nodes → IsSound r → refusal_in r e ≡ None → IsTrue (is_within e) → CanAct g given moment a
-can_do g r e nodes given moment a same at is crew sound accepted within =
-    subst (λ ns. CanAct g ns moment a) (sym same)
-    (subst (λ (m : Moment). CanAct g nodes m a) (sym at) (subst (λ (x : Act). CanAct g nodes (moment_of r e) x) (sym is) (can_act g r nodes crew sound e accepted within)))
+pub can_do : {N : Type 0} (g : Ghosts N) (r : Registers) (e : Event) (nodes given : List (Option N)) (context : CallContext) (a : Act) → given ≡ nodes
+    → context ≡ context_of r e → a ≡ act_in r e
+    → IsCrew g r nodes → IsSound r → refusal_in r e ≡ None → IsTrue (is_within e) → CanAct g given context a
+can_do g r e nodes given context a same at is crew sound accepted within =
+    subst (λ ns. CanAct g ns context a) (sym same)
+    (subst (λ (m : CallContext). CanAct g nodes m a) (sym at)
+    (subst (λ (x : Act). CanAct g nodes (context_of r e) x) (sym is) (can_act g r nodes crew sound e accepted within)))
 
-pub length_done : {N : Type 0} (g : Ghosts N) (nodes given after : List (Option N)) (moment : Moment) (a : Act) (reply : Reply) → given ≡ nodes → Acts g given a moment reply after → length after ≡ length nodes
-length_done g nodes given after moment a reply same acts = length_acts g given after a moment reply acts ∙ ap length same
+pub length_done : {N : Type 0} (g : Ghosts N) (nodes given after : List (Option N)) (context : CallContext) (a : Act) (reply : Reply) → given ≡ nodes
+    → Acts g given a context reply after → length after ≡ length nodes
+length_done g nodes given after context a reply same acts = length_acts g given after a context reply acts ∙ ap length same
 
-done : {N : Type 0} (g : Ghosts N) (r : Registers) (e : Event) (nodes given after : List (Option N)) (moment : Moment) (a : Act) (reply : Reply) → given ≡ nodes → moment ≡ moment_of r e → a ≡ act_in r e
-    → Acts g given a moment reply after → Acts g nodes (act_in r e) (moment_of r e) reply after
-done g r e nodes given after moment a reply same at is acts =
-    subst (λ ns. Acts g ns (act_in r e) (moment_of r e) reply after) same
-    (subst (λ (m : Moment). Acts g given (act_in r e) m reply after) at (subst (λ (x : Act). Acts g given x moment reply after) is acts))
+done : {N : Type 0} (g : Ghosts N) (r : Registers) (e : Event) (nodes given after : List (Option N)) (context : CallContext) (a : Act) (reply : Reply)
+    → given ≡ nodes → context ≡ context_of r e → a ≡ act_in r e
+    → Acts g given a context reply after → Acts g nodes (act_in r e) (context_of r e) reply after
+done g r e nodes given after context a reply same at is acts =
+    subst (λ ns. Acts g ns (act_in r e) (context_of r e) reply after) same
+    (subst (λ (m : CallContext). Acts g given (act_in r e) m reply after) at (subst (λ (x : Act). Acts g given x context reply after) is acts))
 
-pub crew_next : {N : Type 0} (g : Ghosts N) (r new : Registers) (e : Event) (nodes given after left : List (Option N)) (moment : Moment) (a : Act) (reply : Reply) → given ≡ nodes → moment ≡ moment_of r e → a ≡ act_in r e
-    → Acts g given a moment reply after → left ≡ after → IsCrew g r nodes → IsSound r → refusal_in r e ≡ None → IsAfter r e reply new → IsCrew g new left
-crew_next g r new e nodes given after left moment a reply same at is acts ends crew sound accepted step =
-    subst (λ ns. IsCrew g new ns) (sym ends) (crew_after g r new e reply nodes after crew sound accepted (done g r e nodes given after moment a reply same at is acts) step)
+pub crew_next : {N : Type 0} (g : Ghosts N) (r new : Registers) (e : Event) (nodes given after left : List (Option N)) (context : CallContext) (a : Act)
+    (reply : Reply) → given ≡ nodes → context ≡ context_of r e → a ≡ act_in r e
+    → Acts g given a context reply after → left ≡ after → IsCrew g r nodes → IsSound r → refusal_in r e ≡ None → IsAfter r e reply new → IsCrew g new left
+crew_next g r new e nodes given after left context a reply same at is acts ends crew sound accepted step =
+    subst (λ ns. IsCrew g new ns) (sym ends)
+    (crew_after g r new e reply nodes after crew sound accepted (done g r e nodes given after context a reply same at is acts) step)
 
 -- what makes a fleet stand for one step more
-pub record GoesOn {N : Type 0} (g : Ghosts N) (new : Registers) (left : List (Option N)) (setting : Setting) (run : List (NodeStep N)) (e : Event) (outcome : Outcome) : Type 0 where
+pub record GoesOn {N : Type 0} (g : Ghosts N) (new : Registers) (left : List (Option N)) (setting : Setting) (run : List (NodeStep N)) (e : Event)
+    (outcome : Outcome) : Type 0 where
   pub step : NodeStep N
   pub happens : step.step.seen.event ≡ e
   pub comes : outcome ≡ outcome_of step.step
@@ -159,15 +174,17 @@ pub record GoesOn {N : Type 0} (g : Ghosts N) (new : Registers) (left : List (Op
   pub stands : Stands new setting (steps_of (step ∷ run))
   pub nodes : (d : ℕ) → d < length setting.net.devices → node_at left d ≡ node_in (step ∷ run) d
 
-pub accepted_next : {N : Type 0} (g : Ghosts N) (r new : Registers) (e : Event) (nodes given after left : List (Option N)) (moment : Moment) (a : Act) (reply : Reply) (outcome : Outcome) (setting : Setting) (run : List (NodeStep N))
-    → given ≡ nodes → a ≡ act_in r e → Acts g given a moment reply after → left ≡ after → length nodes ≡ length r.net.devices → refusal_in r e ≡ None
+pub accepted_next : {N : Type 0} (g : Ghosts N) (r new : Registers) (e : Event) (nodes given after left : List (Option N)) (context : CallContext) (a : Act)
+    (reply : Reply) (outcome : Outcome) (setting : Setting) (run : List (NodeStep N))
+    → given ≡ nodes → a ≡ act_in r e → Acts g given a context reply after → left ≡ after → length nodes ≡ length r.net.devices → refusal_in r e ≡ None
     → IsRun g setting run → Stands r setting (steps_of run) → ((d : ℕ) → d < length setting.net.devices → node_at nodes d ≡ node_in run d)
     → ((told : Told) → Says reply told → Stands new setting (step_of setting (steps_of run) e told ∷ steps_of run))
     → ((told : Told) → Says reply told → outcome ≡ outcome_of (step_of setting (steps_of run) e told))
     → GoesOn g new left setting run e outcome
-accepted_next g r new e nodes given after left moment a reply outcome setting run same is acts ends places accepted earlier stands kept stepped comes =
+accepted_next g r new e nodes given after left context a reply outcome setting run same is acts ends places accepted earlier stands kept stepped comes =
     let shown : Shows g given after (act_by setting (steps_of run) e) reply =
-    subst (λ (x : steps.Act). Shows g given after x reply) (act_is setting r (steps_of run) stands e accepted) (shows g given after (act_in r e) moment reply (subst (λ (x : Act). Acts g given x moment reply after) is acts))
+    subst (λ (x : steps.Act). Shows g given after x reply) (act_is setting r (steps_of run) stands e accepted)
+    (shows g given after (act_in r e) context reply (subst (λ (x : Act). Acts g given x context reply after) is acts))
     in
     let size : length given ≡ length setting.net.devices = ap length same ∙ places ∙ ap (λ (n : Network). length n.devices) stands.net in
     let before : (d : ℕ) → d < length setting.net.devices → node_at given d ≡ node_in run d = λ d within. ap (λ ns. node_at ns d) same ∙ kept d within in

@@ -18,28 +18,28 @@ use Rattle.sd_core.specs.Limits.{IfSent}
 use Rattle.sd_sched.specs.declared.Event.{Event}
 use Rattle.sd_sched.specs.declared.Event.TheVariants as event
 use Rattle.sd_sched.specs.Events.{reference_of, device_of, message_of}
-use Rattle.sd_history.specs.Things.{failure_of}
-use Rattle.sd_history_flights.specs.Flights.{without_taken, without_swept}
-use Rattle.sd_world.specs.declared.device.DeviceState.{DeviceState}
-use Rattle.sd_world.specs.Registers as world
-use Rattle.sd_world.specs.Registers.{up_at, is_open}
-use Rattle.sd_roster.specs.declared.Answered.{Answered}
-use Rattle.sd_roster.specs.Plans.{is_member_numbered}
-use Rattle.sd_roster.specs.Rosters as roster
-use Rattle.sd_roster.specs.Rosters.{staged_number, can_close_in, ends_below, registers_closed}
+use Rattle.sd_fleet_fabric.specs.History.Things.{failure_of}
+use Rattle.sd_fleet_fabric.specs.History.flights.Flights.{without_taken, without_swept}
+use Rattle.sd_fleet_fabric.specs.FleetState.declared.world.device.DeviceState.{DeviceState}
+use Rattle.sd_fleet_fabric.specs.FleetState.world.Registers as world
+use Rattle.sd_fleet_fabric.specs.FleetState.world.Registers.{up_at, is_open}
+use Rattle.sd_fleet_fabric.specs.FleetState.declared.membership.Answered.{Answered}
+use Rattle.sd_fleet_fabric.specs.FleetState.membership.Plans.{is_member_numbered}
+use Rattle.sd_fleet_fabric.specs.FleetState.membership.Memberships as membership
+use Rattle.sd_fleet_fabric.specs.FleetState.membership.Memberships.{staged_number, can_close_in, ends_below, registers_closed}
 use Rattle.sd_core.specs.Calls as calls
-use Rattle.sd_history.specs.Steps as steps
-use Rattle.sd_fabric.specs.declared.Reply.{Reply}
-use Rattle.sd_fabric.specs.Registers.{Registers}
-use Rattle.sd_fabric.specs.Sound.{IsSound}
-use Rattle.sd_fabric.specs.Causes.{refusal_in}
-use Rattle.sd_fabric.specs.Doing.{act_in, receipt}
-use Rattle.sd_fabric.specs.Sending.{flight_over, flights_over, sent_by, sent_in}
-use Rattle.sd_fabric.specs.Stepping.{IsAfter, roster_after, flights_after, closed_if_can, delivered}
-use Rattle.sd_fabric.proofs.Admitted.{device_known, message_known, message_unspent, device_up, started_member, given_member}
+use Rattle.sd_fleet_fabric.specs.History.Steps as steps
+use Rattle.sd_fleet_fabric.specs.declared.Reply.{Reply}
+use Rattle.sd_fleet_fabric.specs.Registers.{Registers}
+use Rattle.sd_fleet_fabric.specs.Sound.{IsSound}
+use Rattle.sd_fleet_fabric.specs.Causes.{refusal_in}
+use Rattle.sd_fleet_fabric.specs.Doing.{act_in, receipt}
+use Rattle.sd_fleet_fabric.specs.Sending.{flight_over, flights_over, sent_by, sent_in}
+use Rattle.sd_fleet_fabric.specs.Stepping.{IsAfter, membership_after, flights_after, closed_if_can, delivered}
+use Rattle.sd_fleet_fabric.proofs.Admitted.{device_known, message_known, message_unspent, device_up, started_member, given_member}
 use Rattle.sd_fleet.specs.Calling.{IsMessage}
 use Rattle.sd_fleet.specs.Crew.{node_at, Acts}
-use Rattle.sd_fleet.specs.Bounds.{moment_of, IsKept, IsCrew}
+use Rattle.sd_fleet.specs.Bounds.{context_of, IsKept, IsCrew}
 use Rattle.sd_fleet.proofs.Eaches.{each_more, each_mono, each_kept, each_joined}
 use Rattle.sd_fleet.proofs.Acting.{flight_found, row_there}
 use Rattle.sd_fleet.proofs.Going.{message_later, acts_other, some_at, length_acts, acts_sent, actor_in}
@@ -52,10 +52,13 @@ over_each : (P : Flight → Type 0) (net : Network) (w : world.Registers) (refer
     → ((f : Flight) → f.message ≡ m → P f) → Each P (flights_over net w (record { reference = reference; sender = sender; message = m }) number ends)
 over_each P net w reference sender m number [] carries = λ i x at. cc
 over_each P net w reference sender m number (end ∷ others) carries =
-    each_more P (flight_over net w (record { reference = reference; sender = sender; message = m }) number end) (flights_over net w (record { reference = reference; sender = sender; message = m }) (number + 1) others)
-    (carries (flight_over net w (record { reference = reference; sender = sender; message = m }) number end) refl) (over_each P net w reference sender m (number + 1) others carries)
+    each_more P (flight_over net w (record { reference = reference; sender = sender; message = m }) number end)
+    (flights_over net w (record { reference = reference; sender = sender; message = m }) (number + 1) others)
+    (carries (flight_over net w (record { reference = reference; sender = sender; message = m }) number end) refl)
+    (over_each P net w reference sender m (number + 1) others carries)
 
-sent_each : (old : Registers) (e : Event) (reply : Reply) (events : ℕ) → IfSent reply.effect (IsMessage events) → Each (λ f. IsMessage events f.message) (sent_in old e reply)
+sent_each : (old : Registers) (e : Event) (reply : Reply) (events : ℕ) → IfSent reply.effect (IsMessage events)
+    → Each (λ f. IsMessage events f.message) (sent_in old e reply)
 sent_each old e reply events sent = by (device_of e) reply.answers reply.effect sent
   where
     by : (o : Option ℕ) (a : Option Answered) (effect : Effect) → IfSent effect (IsMessage events)
@@ -64,7 +67,8 @@ sent_each old e reply events sent = by (device_of e) reply.answers reply.effect 
     by (Some d) None effect sent' = λ i x at. cc
     by (Some d) (Some a) Quiet sent' = λ i x at. cc
     by (Some d) (Some a) (Send m) sent' =
-        over_each (λ f. IsMessage events f.message) old.net old.roster.world (reference_of e) d m (old.book.last + 1) (ends_below old.roster a.epoch d) (λ f same. subst (IsMessage events) (sym same) sent')
+        over_each (λ f. IsMessage events f.message) old.net old.membership.world (reference_of e) d m (old.book.last + 1) (ends_below old.membership a.epoch d)
+        (λ f same. subst (IsMessage events) (sym same) sent')
 
 taken_each : (P : Flight → Type 0) (n : Option ℕ) (flights : List Flight) → Each P flights → Each P (without_taken n flights)
 taken_each P None flights each = each
@@ -74,7 +78,8 @@ swept_each : (P : Flight → Type 0) (x : Option Thing) (flights : List Flight) 
 swept_each P None flights each = each
 swept_each P (Some x) flights each = each_kept P (λ f. not (is_swept x f)) flights each
 
-messages_after : (old : Registers) (e : Event) (reply : Reply) (events : ℕ) → Each (λ f. IsMessage events f.message) old.book.flights → IfSent reply.effect (IsMessage (events + 1))
+messages_after : (old : Registers) (e : Event) (reply : Reply) (events : ℕ) → Each (λ f. IsMessage events f.message) old.book.flights
+    → IfSent reply.effect (IsMessage (events + 1))
     → Each (λ f. IsMessage (events + 1) f.message) (flights_after old e reply)
 messages_after old e reply events each sent =
     let P : Flight → Type 0 = λ f. IsMessage (events + 1) f.message in
@@ -89,24 +94,29 @@ messages_after old e reply events each sent =
 not_none : {N : Type 0} (o : Option N) (x : N) → o ≡ Some x → o ≢ None
 not_none o x some none = cc
 
-module _ {N : Type 0} (g : Ghosts N) (old : Registers) (e : Event) (reply : Reply) (nodes after : List (Option N)) (crew : IsCrew g old nodes) (sound : IsSound old) where
+module _ {N : Type 0} (g : Ghosts N) (old : Registers) (e : Event) (reply : Reply) (nodes after : List (Option N)) (crew : IsCrew g old nodes)
+    (sound : IsSound old) where
   placed_there : (d : ℕ) (x : N) → d < length old.net.devices → after ≡ slice_set nodes d (Some x) → node_at after d ≢ None
   placed_there d x within placed = not_none (node_at after d) x (some_at nodes after d x (subst (λ (k : ℕ). d < k) (sym crew.places) within) placed)
 
-  stays_there : (d : ℕ) → d < length old.net.devices → after ≡ nodes → up_at old.roster.world d ≡ true → node_at after d ≢ None
+  stays_there : (d : ℕ) → d < length old.net.devices → after ≡ nodes → up_at old.membership.world d ≡ true → node_at after d ≢ None
   stays_there d within same up = subst (λ (ns : List (Option N)). node_at ns d ≢ None) (sym same) (crew.there d within up)
 
-  other_there : (d : ℕ) → d < length old.net.devices → same_number (device_of e) d ≡ false → Acts g nodes (act_in old e) (moment_of old e) reply after → up_at (happened old e reply).roster.world d ≡ true → node_at after d ≢ None
+  other_there : (d : ℕ) → d < length old.net.devices → same_number (device_of e) d ≡ false → Acts g nodes (act_in old e) (context_of old e) reply after
+      → up_at (happened old e reply).membership.world d ≡ true → node_at after d ≢ None
   other_there d within other acts up =
-      subst (λ (o : Option N). o ≢ None) (sym (acts_other g nodes after (act_in old e) (moment_of old e) reply d acts (actor_in old e d other)))
+      subst (λ (o : Option N). o ≢ None) (sym (acts_other g nodes after (act_in old e) (context_of old e) reply d acts (actor_in old e d other)))
       (crew.there d within (sym (ap (λ (s : DeviceState). s.up) (state_other g old e reply nodes after crew sound d other)) ∙ up))
 
-there_named : {N : Type 0} (g : Ghosts N) (old : Registers) (e : Event) (reply : Reply) (nodes after : List (Option N)) → IsCrew g old nodes → IsSound old → refusal_in old e ≡ None
-    → Acts g nodes (act_in old e) (moment_of old e) reply after → IfSome (device_of e) (λ d. up_at (happened old e reply).roster.world d ≡ true → node_at after d ≢ None)
+there_named : {N : Type 0} (g : Ghosts N) (old : Registers) (e : Event) (reply : Reply) (nodes after : List (Option N)) → IsCrew g old nodes → IsSound old
+    → refusal_in old e ≡ None
+    → Acts g nodes (act_in old e) (context_of old e) reply after
+    → IfSome (device_of e) (λ d. up_at (happened old e reply).membership.world d ≡ true → node_at after d ≢ None)
 there_named g old (event.Start reference d counter clock eps) reply nodes after crew sound accepted acts =
     let e = event.Start reference d counter clock eps in
-    let (row, at) = row_there old.roster.plans old.roster.world.epoch d (started_member old e accepted d refl) in
-    let made = subst (λ (o : Option TableRow). Acts g nodes (of_some o steps.Passes (λ row. steps.Makes d (calls.Started row.duty counter clock eps))) (moment_of old e) reply after) at acts in
+    let (row, at) = row_there old.membership.plans old.membership.world.epoch d (started_member old e accepted d refl) in
+    let made = subst (λ (o : Option TableRow). Acts g nodes (of_some o steps.Passes (λ row. steps.Makes d (calls.Started row.duty counter clock eps)))
+    (context_of old e) reply after) at acts in
     λ up. placed_there g old e reply nodes after crew sound d made.node (device_known old e accepted d refl) made.placed
 there_named g old (event.Join reference d counter clock eps) reply nodes after crew sound accepted acts =
     let e = event.Join reference d counter clock eps in
@@ -116,13 +126,16 @@ there_named g old (event.Tick reference d counter) reply nodes after crew sound 
     λ up. placed_there g old e reply nodes after crew sound d acts.node (device_known old e accepted d refl) acts.placed
 there_named g old (event.Recv reference d counter message) reply nodes after crew sound accepted acts =
     let e = event.Recv reference d counter message in
-    let (f, at) = flight_found old.book.last old.book.flights message reference (message_known old e accepted message refl) (message_unspent old e accepted message refl) in
-    let called = subst (λ (o : Result Flight TakeFault). Acts g nodes (receipt o d counter) (moment_of old e) reply after) at acts in
+    let (f, at) =
+    flight_found old.book.last old.book.flights message reference (message_known old e accepted message refl)
+    (message_unspent old e accepted message refl) in
+    let called = subst (λ (o : Result Flight TakeFault). Acts g nodes (receipt o d counter) (context_of old e) reply after) at acts in
     λ up. placed_there g old e reply nodes after crew sound d called.node (device_known old e accepted d refl) called.placed
 there_named g old (event.Lose reference message) reply nodes after crew sound accepted acts = tt
 there_named g old (event.FailDevice reference d) reply nodes after crew sound accepted acts =
     let e = event.FailDevice reference d in
-    let down : up_at (happened old e reply).roster.world d ≡ false = ap (λ (s : DeviceState). s.up) (state_named g old e reply nodes after crew sound d (device_known old e accepted d refl) refl) in
+    let down : up_at (happened old e reply).membership.world d ≡ false =
+    ap (λ (s : DeviceState). s.up) (state_named g old e reply nodes after crew sound d (device_known old e accepted d refl) refl) in
     λ up. cc
 there_named g old (event.FailLink reference l) reply nodes after crew sound accepted acts = tt
 there_named g old (event.Fix reference d counter clock eps) reply nodes after crew sound accepted acts =
@@ -134,9 +147,12 @@ there_named g old (event.Ask reference d counter) reply nodes after crew sound a
 there_named g old (event.Stage reference) reply nodes after crew sound accepted acts = tt
 there_named g old (event.Give reference d) reply nodes after crew sound accepted acts =
     let e = event.Give reference d in
-    let parts = and_parts (is_open old.roster.world.window) (is_member_numbered old.roster.plans (staged_number old.roster) d) (given_member old e accepted d refl) in
-    let (row, at) = row_there old.roster.plans (staged_number old.roster) d parts.1 in
-    let called = subst (λ (o : Option TableRow). Acts g nodes (of_some o steps.Passes (λ row. steps.Calls d (calls.Give row.duty))) (moment_of old e) reply after) at acts in
+    let parts = and_parts (is_open old.membership.world.window) (is_member_numbered old.membership.plans (staged_number old.membership) d)
+    (given_member old e accepted d refl) in
+    let (row, at) = row_there old.membership.plans (staged_number old.membership) d parts.1 in
+    let called =
+    subst (λ (o : Option TableRow). Acts g nodes (of_some o steps.Passes (λ row. steps.Calls d (calls.Give row.duty))) (context_of old e) reply after) at
+    acts in
     λ up. placed_there g old e reply nodes after crew sound d called.node (device_known old e accepted d refl) called.placed
 there_named g old (event.Commit reference d counter) reply nodes after crew sound accepted acts =
     let e = event.Commit reference d counter in
@@ -147,7 +163,8 @@ there_named g old (event.Seal reference d) reply nodes after crew sound accepted
 there_named g old (event.MendDevice reference d) reply nodes after crew sound accepted acts =
     let e = event.MendDevice reference d in
     let known = device_known old e accepted d refl in
-    let same : up_at (happened old e reply).roster.world d ≡ up_at old.roster.world d = ap (λ (s : DeviceState). s.up) (state_named g old e reply nodes after crew sound d known refl) in
+    let same : up_at (happened old e reply).membership.world d ≡ up_at old.membership.world d =
+    ap (λ (s : DeviceState). s.up) (state_named g old e reply nodes after crew sound d known refl) in
     λ up. stays_there g old e reply nodes after crew sound d known acts.1 (sym same ∙ up)
 there_named g old (event.MendLink reference l) reply nodes after crew sound accepted acts = tt
 there_named g old (event.End reference) reply nodes after crew sound accepted acts = tt
@@ -163,25 +180,32 @@ at_each P (Some m) d named other = by (nat_eq m d) refl
     by true here = subst P (eqb-true m d here) named
     by false apart = other apart
 
-crew_happened : {N : Type 0} (g : Ghosts N) (old : Registers) (e : Event) (reply : Reply) (nodes after : List (Option N)) → IsCrew g old nodes → IsSound old → refusal_in old e ≡ None
-    → Acts g nodes (act_in old e) (moment_of old e) reply after → IsCrew g (happened old e reply) after
+crew_happened : {N : Type 0} (g : Ghosts N) (old : Registers) (e : Event) (reply : Reply) (nodes after : List (Option N)) → IsCrew g old nodes → IsSound old
+    → refusal_in old e ≡ None
+    → Acts g nodes (act_in old e) (context_of old e) reply after → IsCrew g (happened old e reply) after
 crew_happened {N = N} g old e reply nodes after crew sound accepted acts =
     record {
-      places = length_acts g nodes after (act_in old e) (moment_of old e) reply acts ∙ crew.places;
+      places = length_acts g nodes after (act_in old e) (context_of old e) reply acts ∙ crew.places;
       there =
           λ d within.
-          at_each (λ d. up_at (happened old e reply).roster.world d ≡ true → node_at after d ≢ None) (device_of e) d (there_named g old e reply nodes after crew sound accepted acts)
+          at_each (λ d. up_at (happened old e reply).membership.world d ≡ true
+          → node_at after d ≢ None) (device_of e) d (there_named g old e reply nodes after crew sound accepted acts)
           (λ other. other_there g old e reply nodes after crew sound d within other acts);
       kept =
           λ d n at.
-          at_each (λ d. (n : N) → node_at after d ≡ Some n → IsKept g (happened old e reply) d n) (device_of e) d (kept_named g old e reply nodes after crew sound accepted acts)
+          at_each (λ d. (n : N) → node_at after d ≡ Some n → IsKept g (happened old e reply) d n) (device_of e) d
+          (kept_named g old e reply nodes after crew sound accepted acts)
           (λ other. kept_other g old e reply nodes after crew sound d other acts) n at;
-      messages = messages_after old e reply old.roster.world.events crew.messages (acts_sent g nodes after (act_in old e) (moment_of old e) reply acts);
+      messages = messages_after old e reply old.membership.world.events crew.messages (acts_sent g nodes after (act_in old e) (context_of old e) reply acts);
     }
 
 -- a window that closes changes nothing of it
 crew_closed : {N : Type 0} (g : Ghosts N) (r : Registers) (nodes : List (Option N)) (last room : ℕ) (b : Bool) → IsCrew g r nodes
-    → IsCrew g (record { net = r.net; roster = if b then registers_closed r.roster else r.roster; book = record { flights = r.book.flights; last = last; room = room } }) nodes
+    → IsCrew g (record {
+      net = r.net;
+      membership = if b then registers_closed r.membership else r.membership;
+      book = record { flights = r.book.flights; last = last; room = room };
+    }) nodes
 crew_closed g r nodes last room true crew =
     record {
       places = crew.places;
@@ -198,18 +222,29 @@ crew_closed g r nodes last room false crew =
     }
 
 -- the crew with what the step left
-pub crew_after : {N : Type 0} (g : Ghosts N) (old new : Registers) (e : Event) (reply : Reply) (nodes after : List (Option N)) → IsCrew g old nodes → IsSound old → refusal_in old e ≡ None
-    → Acts g nodes (act_in old e) (moment_of old e) reply after → IsAfter old e reply new → IsCrew g new after
+pub crew_after : {N : Type 0} (g : Ghosts N) (old new : Registers) (e : Event) (reply : Reply) (nodes after : List (Option N)) → IsCrew g old nodes
+    → IsSound old → refusal_in old e ≡ None
+    → Acts g nodes (act_in old e) (context_of old e) reply after → IsAfter old e reply new → IsCrew g new after
 crew_after g old new e reply nodes after crew sound accepted acts is =
-    let closed = crew_closed g (happened old e reply) after new.book.last new.book.room (can_close_in (roster_after old e reply)) (crew_happened g old e reply nodes after crew sound accepted acts) in
-    subst (λ (net : Network). IsCrew g (record { net = net; roster = new.roster; book = new.book }) after) (sym is.net)
-    (subst (λ (r : roster.Registers). IsCrew g (record { net = old.net; roster = r; book = new.book }) after) (sym is.roster)
-    (subst (λ (fs : List Flight). IsCrew g (record { net = old.net; roster = closed_if_can (roster_after old e reply); book = record { flights = fs; last = new.book.last; room = new.book.room } }) after) (sym is.flights) closed))
+    let closed =
+    crew_closed g (happened old e reply) after new.book.last new.book.room (can_close_in (membership_after old e reply))
+    (crew_happened g old e reply nodes after crew sound accepted acts) in
+    subst (λ (net : Network). IsCrew g (record { net = net; membership = new.membership; book = new.book }) after) (sym is.net)
+    (subst (λ (r : membership.Registers). IsCrew g (record { net = old.net; membership = r; book = new.book }) after) (sym is.membership)
+    (subst (λ (fs : List Flight). IsCrew g
+    (record {
+      net = old.net;
+      membership = closed_if_can (membership_after old e reply);
+      book = record { flights = fs; last = new.book.last; room = new.book.room };
+    }) after) (sym is.flights) closed))
 
 -- so it is where only room grew
-pub crew_roomy : {N : Type 0} (g : Ghosts N) (old new : Registers) (nodes : List (Option N)) → IsCrew g old nodes → new.net ≡ old.net → new.roster ≡ old.roster → new.book.flights ≡ old.book.flights → IsCrew g new nodes
+pub crew_roomy : {N : Type 0} (g : Ghosts N) (old new : Registers) (nodes : List (Option N)) → IsCrew g old nodes → new.net ≡ old.net
+    → new.membership ≡ old.membership → new.book.flights ≡ old.book.flights → IsCrew g new nodes
 crew_roomy g old new nodes crew net same flights =
     let roomy = crew_closed g old nodes new.book.last new.book.room false crew in
-    subst (λ (n : Network). IsCrew g (record { net = n; roster = new.roster; book = new.book }) nodes) (sym net)
-    (subst (λ (r : roster.Registers). IsCrew g (record { net = old.net; roster = r; book = new.book }) nodes) (sym same)
-    (subst (λ (fs : List Flight). IsCrew g (record { net = old.net; roster = old.roster; book = record { flights = fs; last = new.book.last; room = new.book.room } }) nodes) (sym flights) roomy))
+    subst (λ (n : Network). IsCrew g (record { net = n; membership = new.membership; book = new.book }) nodes) (sym net)
+    (subst (λ (r : membership.Registers). IsCrew g (record { net = old.net; membership = r; book = new.book }) nodes) (sym same)
+    (subst (λ (fs : List Flight). IsCrew g
+    (record { net = old.net; membership = old.membership; book = record { flights = fs; last = new.book.last; room = new.book.room } }) nodes)
+    (sym flights) roomy))

@@ -11,18 +11,18 @@ use Rattle.sd_core.specs.Calls as calls
 use Rattle.sd_plan.specs.declared.Plan.{Plan}
 use Rattle.sd_plan.specs.Duties.{duty_of}
 use Rattle.sd_msg.specs.declared.Flight.{Flight}
-use Rattle.sd_history.specs.World.{Setting, staged, staged_epoch}
-use Rattle.sd_history.specs.Steps as steps
-use Rattle.sd_history.specs.Steps.{Calls, Passes, seen_of, flight_numbered, Told, tells_nothing, tells_made, tells_called, tells_report, Step, changed, act_by, step_of}
-use Rattle.sd_history.specs.Nodes.{answers_of, NodeStep, steps_of, node_in, addressed, Allows, IsRun}
-use Rattle.sd_history.specs.Steps.{Act}
-use Rattle.sd_fabric.specs.declared.Reply.{Reply}
-use Rattle.sd_fabric.specs.Registers.{Registers}
-use Rattle.sd_fabric.specs.Causes.{refusal_in}
-use Rattle.sd_fabric.specs.Doing.{Says}
-use Rattle.sd_fabric.specs.Standing.{Stands}
-use Rattle.sd_fabric.proofs.Acting as fabric
-use Rattle.sd_fleet.specs.declared.crew.Moment.{Moment}
+use Rattle.sd_fleet_fabric.specs.History.World.{Setting, staged, staged_epoch}
+use Rattle.sd_fleet_fabric.specs.History.Steps as steps
+use Rattle.sd_fleet_fabric.specs.History.Steps.{Calls, Passes, seen_of, flight_numbered, Told, tells_nothing, tells_made, tells_called, tells_report, Step, changed, act_by, step_of}
+use Rattle.sd_fleet_fabric.specs.History.Nodes.{answers_of, NodeStep, steps_of, node_in, addressed, Allows, IsRun}
+use Rattle.sd_fleet_fabric.specs.History.Steps.{Act}
+use Rattle.sd_fleet_fabric.specs.declared.Reply.{Reply}
+use Rattle.sd_fleet_fabric.specs.Registers.{Registers}
+use Rattle.sd_fleet_fabric.specs.Causes.{refusal_in}
+use Rattle.sd_fleet_fabric.specs.Doing.{Says}
+use Rattle.sd_fleet_fabric.specs.Standing.{Stands}
+use Rattle.sd_fleet_fabric.proofs.Acting as fabric
+use Rattle.sd_fleet.specs.declared.crew.CallContext.{CallContext}
 use Rattle.sd_fleet.specs.Crew.{node_at, Acts}
 use Rattle.sd_fleet.proofs.Going.{set_other, some_at}
 
@@ -43,16 +43,21 @@ left_placed nodes after m d x within placed = by (nat_eq m d) refl
     by true here = some_at nodes after d x within (subst (λ (k : ℕ). after ≡ slice_set nodes k (Some x)) (eqb-true m d here) placed)
     by false apart = set_other nodes after m d (Some x) placed apart
 
-pub shows : {N : Type 0} (g : Ghosts N) (nodes after : List (Option N)) (a : Act) (moment : Moment) (reply : Reply) → Acts g nodes a moment reply after → Shows g nodes after a reply
-shows g nodes after (steps.Makes m making) moment reply acts =
+pub shows : {N : Type 0} (g : Ghosts N) (nodes after : List (Option N)) (a : Act) (context : CallContext) (reply : Reply) → Acts g nodes a context reply after
+    → Shows g nodes after a reply
+shows g nodes after (steps.Makes m making) context reply acts =
     record {
       told = tells_made (answers_of g acts.node);
       node = Some acts.node;
-      says = record { effect = ap (λ (x : Reply). x.effect) acts.replied; answers = ap (λ (x : Reply). x.answers) acts.replied; report = ap (λ (x : Reply). x.report) acts.replied };
+      says = record {
+        effect = ap (λ (x : Reply). x.effect) acts.replied;
+        answers = ap (λ (x : Reply). x.answers) acts.replied;
+        report = ap (λ (x : Reply). x.report) acts.replied;
+      };
       allowed = record { node = acts.node; made = acts.made; tells = refl; left = refl };
       left = λ d within. left_placed nodes after m d acts.node within acts.placed;
     }
-shows g nodes after (steps.Calls m call) moment reply acts =
+shows g nodes after (steps.Calls m call) context reply acts =
     record {
       told = tells_called reply.effect (answers_of g acts.node);
       node = Some acts.node;
@@ -60,19 +65,27 @@ shows g nodes after (steps.Calls m call) moment reply acts =
       allowed = record { old = acts.before; node = acts.node; effect = reply.effect; there = acts.was; stepped = acts.stepped; tells = refl; left = refl };
       left = λ d within. left_placed nodes after m d acts.node within acts.placed;
     }
-shows g nodes after (steps.Asks m counter) moment reply acts =
+shows g nodes after (steps.Asks m counter) context reply acts =
     record {
       told = tells_report acts.0.report;
       node = None;
-      says = record { effect = ap (λ (x : Reply). x.effect) acts.0.replied; answers = ap (λ (x : Reply). x.answers) acts.0.replied; report = ap (λ (x : Reply). x.report) acts.0.replied };
+      says = record {
+        effect = ap (λ (x : Reply). x.effect) acts.0.replied;
+        answers = ap (λ (x : Reply). x.answers) acts.0.replied;
+        report = ap (λ (x : Reply). x.report) acts.0.replied;
+      };
       allowed = record { node = acts.0.node; report = acts.0.report; there = acts.0.was; reported = acts.0.reported; tells = refl; left = refl };
       left = λ d within. ap (λ ns. node_at ns d) acts.1;
     }
-shows g nodes after steps.Passes moment reply acts =
+shows g nodes after steps.Passes context reply acts =
     record {
       told = tells_nothing;
       node = None;
-      says = record { effect = ap (λ (x : Reply). x.effect) acts.0; answers = ap (λ (x : Reply). x.answers) acts.0; report = ap (λ (x : Reply). x.report) acts.0 };
+      says = record {
+        effect = ap (λ (x : Reply). x.effect) acts.0;
+        answers = ap (λ (x : Reply). x.answers) acts.0;
+        report = ap (λ (x : Reply). x.report) acts.0;
+      };
       allowed = (refl, refl);
       left = λ d within. ap (λ ns. node_at ns d) acts.1;
     }
@@ -101,7 +114,8 @@ named_only setting earlier (event.Ask reference m counter) d is = is
 named_only setting earlier (event.Stage reference) d is = cc
 named_only setting earlier (event.Give reference m) d is = by (staged setting (seen_of earlier)) is
   where
-    by : (o : Option Plan) → addressed (of_some o Passes (λ plan. Calls m (calls.Give (duty_of setting.net plan (staged_epoch (seen_of earlier)) m)))) ≡ Some d → Some m ≡ Some d
+    by : (o : Option Plan) → addressed (of_some o Passes (λ plan. Calls m (calls.Give (duty_of setting.net plan (staged_epoch (seen_of earlier)) m)))) ≡ Some d
+        → Some m ≡ Some d
     by None is' = cc
     by (Some plan) is' = is'
 named_only setting earlier (event.Commit reference m counter) d is = is
@@ -112,7 +126,8 @@ named_only setting earlier (event.End reference) d is = cc
 
 module _ {N : Type 0} (g : Ghosts N) (setting : Setting) (run : List (NodeStep N)) (r : Registers) (e : Event) (reply : Reply) (nodes after : List (Option N))
     (earlier : IsRun g setting run) (stands : Stands r setting (steps_of run)) (places : length nodes ≡ length setting.net.devices)
-    (kept : (d : ℕ) → d < length setting.net.devices → node_at nodes d ≡ node_in run d) (accepted : refusal_in r e ≡ None) (shown : Shows g nodes after (act_by setting (steps_of run) e) reply) where
+    (kept : (d : ℕ) → d < length setting.net.devices → node_at nodes d ≡ node_in run d) (accepted : refusal_in r e ≡ None)
+    (shown : Shows g nodes after (act_by setting (steps_of run) e) reply) where
   -- the step of the run
   abbrev pub next : NodeStep N
   next = record { step = step_of setting (steps_of run) e shown.told; node = shown.node }
@@ -125,7 +140,8 @@ module _ {N : Type 0} (g : Ghosts N) (setting : Setting) (run : List (NodeStep N
       is = refl;
       allowed =
           subst (λ (o : Option N). Allows g o (act_by setting (steps_of run) e) shown.told shown.node)
-          (same_before (node_at nodes) (node_in run) (addressed (act_by setting (steps_of run) e)) (λ d is. kept d (fabric.device_within setting r (steps_of run) stands e accepted d (named_only setting (steps_of run) e d is))))
+          (same_before (node_at nodes) (node_in run) (addressed (act_by setting (steps_of run) e))
+          (λ d is. kept d (fabric.device_within setting r (steps_of run) stands e accepted d (named_only setting (steps_of run) e d is))))
           shown.allowed;
     },
   )

@@ -13,16 +13,16 @@ use Rattle.sd_core.specs.Limits.{IfSent}
 use Rattle.sd_sched.specs.declared.Event.{Event}
 use Rattle.sd_sched.specs.declared.Event.TheVariants as event
 use Rattle.sd_sched.specs.Events.{device_of}
-use Rattle.sd_roster.specs.Plans.{row_numbered}
-use Rattle.sd_roster.specs.Rosters.{staged_number}
+use Rattle.sd_fleet_fabric.specs.FleetState.membership.Plans.{row_numbered}
+use Rattle.sd_fleet_fabric.specs.FleetState.membership.Memberships.{staged_number}
 use Rattle.sd_core.specs.Calls as calls
-use Rattle.sd_history.specs.Steps.{Act}
-use Rattle.sd_history.specs.Steps as steps
-use Rattle.sd_fabric.specs.declared.Reply.{Reply}
-use Rattle.sd_fabric.specs.Registers.{Registers}
-use Rattle.sd_fabric.specs.Causes.{flight_at}
-use Rattle.sd_fabric.specs.Doing.{act_in, receipt}
-use Rattle.sd_fleet.specs.declared.crew.Moment.{Moment}
+use Rattle.sd_fleet_fabric.specs.History.Steps.{Act}
+use Rattle.sd_fleet_fabric.specs.History.Steps as steps
+use Rattle.sd_fleet_fabric.specs.declared.Reply.{Reply}
+use Rattle.sd_fleet_fabric.specs.Registers.{Registers}
+use Rattle.sd_fleet_fabric.specs.Causes.{flight_at}
+use Rattle.sd_fleet_fabric.specs.Doing.{act_in, receipt}
+use Rattle.sd_fleet.specs.declared.crew.CallContext.{CallContext}
 use Rattle.sd_fleet.specs.Calling.{IsNode, IsMessage}
 use Rattle.sd_fleet.specs.Crew.{node_at, Acts}
 
@@ -52,36 +52,41 @@ actor (steps.Calls d call) = Some d
 actor (steps.Asks d counter) = Some d
 actor steps.Passes = None
 
-pub set_other : {N : Type 0} (nodes new : List (Option N)) (m d : ℕ) (x : Option N) → new ≡ slice_set nodes m x → nat_eq m d ≡ false → node_at new d ≡ node_at nodes d
+pub set_other : {N : Type 0} (nodes new : List (Option N)) (m d : ℕ) (x : Option N) → new ≡ slice_set nodes m x → nat_eq m d ≡ false
+    → node_at new d ≡ node_at nodes d
 set_other nodes new m d x placed other = ap (λ ns. node_at ns d) placed ∙ get_or-set_other nodes m d x None (λ same. eqb-false m d other (sym same))
 
 -- a device that is not addressed keeps its node
-pub acts_other : {N : Type 0} (g : Ghosts N) (nodes new : List (Option N)) (a : Act) (moment : Moment) (reply : Reply) (d : ℕ) → Acts g nodes a moment reply new → same_number (actor a) d ≡ false → node_at new d ≡ node_at nodes d
-acts_other g nodes new (steps.Makes m making) moment reply d acts other = set_other nodes new m d (Some acts.node) acts.placed other
-acts_other g nodes new (steps.Calls m call) moment reply d acts other = set_other nodes new m d (Some acts.node) acts.placed other
-acts_other g nodes new (steps.Asks m counter) moment reply d acts other = ap (λ ns. node_at ns d) acts.1
-acts_other g nodes new steps.Passes moment reply d acts other = ap (λ ns. node_at ns d) acts.1
+pub acts_other : {N : Type 0} (g : Ghosts N) (nodes new : List (Option N)) (a : Act) (context : CallContext) (reply : Reply) (d : ℕ)
+    → Acts g nodes a context reply new → same_number (actor a) d ≡ false → node_at new d ≡ node_at nodes d
+acts_other g nodes new (steps.Makes m making) context reply d acts other = set_other nodes new m d (Some acts.node) acts.placed other
+acts_other g nodes new (steps.Calls m call) context reply d acts other = set_other nodes new m d (Some acts.node) acts.placed other
+acts_other g nodes new (steps.Asks m counter) context reply d acts other = ap (λ ns. node_at ns d) acts.1
+acts_other g nodes new steps.Passes context reply d acts other = ap (λ ns. node_at ns d) acts.1
 
 -- no node goes
 pub some_at : {N : Type 0} (nodes new : List (Option N)) (m : ℕ) (x : N) → m < length nodes → new ≡ slice_set nodes m (Some x) → node_at new m ≡ Some x
 some_at nodes new m x within placed = ap (λ ns. node_at ns m) placed ∙ get_or-set_same nodes m (Some x) None within
 
-pub length_acts : {N : Type 0} (g : Ghosts N) (nodes new : List (Option N)) (a : Act) (moment : Moment) (reply : Reply) → Acts g nodes a moment reply new → length new ≡ length nodes
-length_acts g nodes new (steps.Makes m making) moment reply acts = ap length acts.placed ∙ length-set nodes m (Some acts.node)
-length_acts g nodes new (steps.Calls m call) moment reply acts = ap length acts.placed ∙ length-set nodes m (Some acts.node)
-length_acts g nodes new (steps.Asks m counter) moment reply acts = ap length acts.1
-length_acts g nodes new steps.Passes moment reply acts = ap length acts.1
+pub length_acts : {N : Type 0} (g : Ghosts N) (nodes new : List (Option N)) (a : Act) (context : CallContext) (reply : Reply) → Acts g nodes a context reply new
+    → length new ≡ length nodes
+length_acts g nodes new (steps.Makes m making) context reply acts = ap length acts.placed ∙ length-set nodes m (Some acts.node)
+length_acts g nodes new (steps.Calls m call) context reply acts = ap length acts.placed ∙ length-set nodes m (Some acts.node)
+length_acts g nodes new (steps.Asks m counter) context reply acts = ap length acts.1
+length_acts g nodes new steps.Passes context reply acts = ap length acts.1
 
 -- what is sent is within the limits
-pub acts_sent : {N : Type 0} (g : Ghosts N) (nodes new : List (Option N)) (a : Act) (moment : Moment) (reply : Reply) → Acts g nodes a moment reply new → IfSent reply.effect (IsMessage (moment.events + 1))
-acts_sent g nodes new (steps.Makes m making) moment reply acts = subst (λ (x : Reply). IfSent x.effect (IsMessage (moment.events + 1))) (sym acts.replied) tt
-acts_sent g nodes new (steps.Calls m call) moment reply acts = acts.sent
-acts_sent g nodes new (steps.Asks m counter) moment reply acts = subst (λ (x : Reply). IfSent x.effect (IsMessage (moment.events + 1))) (sym acts.0.replied) tt
-acts_sent g nodes new steps.Passes moment reply acts = subst (λ (x : Reply). IfSent x.effect (IsMessage (moment.events + 1))) (sym acts.0) tt
+pub acts_sent : {N : Type 0} (g : Ghosts N) (nodes new : List (Option N)) (a : Act) (context : CallContext) (reply : Reply) → Acts g nodes a context reply new
+    → IfSent reply.effect (IsMessage (context.events + 1))
+acts_sent g nodes new (steps.Makes m making) context reply acts = subst (λ (x : Reply). IfSent x.effect (IsMessage (context.events + 1))) (sym acts.replied) tt
+acts_sent g nodes new (steps.Calls m call) context reply acts = acts.sent
+acts_sent g nodes new (steps.Asks m counter) context reply acts =
+    subst (λ (x : Reply). IfSent x.effect (IsMessage (context.events + 1))) (sym acts.0.replied) tt
+acts_sent g nodes new steps.Passes context reply acts = subst (λ (x : Reply). IfSent x.effect (IsMessage (context.events + 1))) (sym acts.0) tt
 
 -- The act of an event addresses its device, if any
 pub actor_in : (r : Registers) (e : Event) (d : ℕ) → same_number (device_of e) d ≡ false → same_number (actor (act_in r e)) d ≡ false
-actor_in r (event.Start reference m counter clock eps) d other = by (row_numbered r.roster.plans r.roster.world.epoch m)
+actor_in r (event.Start reference m counter clock eps) d other = by (row_numbered r.membership.plans r.membership.world.epoch m)
   where
     by : (o : Option TableRow) → same_number (actor (of_some o steps.Passes (λ row. steps.Makes m (calls.Started row.duty counter clock eps)))) d ≡ false
     by None = refl
@@ -99,7 +104,7 @@ actor_in r (event.FailLink reference l) d other = refl
 actor_in r (event.Fix reference m counter clock eps) d other = other
 actor_in r (event.Ask reference m counter) d other = other
 actor_in r (event.Stage reference) d other = refl
-actor_in r (event.Give reference m) d other = by (row_numbered r.roster.plans (staged_number r.roster) m)
+actor_in r (event.Give reference m) d other = by (row_numbered r.membership.plans (staged_number r.membership) m)
   where
     by : (o : Option TableRow) → same_number (actor (of_some o steps.Passes (λ row. steps.Calls m (calls.Give row.duty)))) d ≡ false
     by None = refl

@@ -13,30 +13,30 @@ use Rattle.sd_core.specs.declared.node.Node.{Ghosts}
 use Rattle.sd_sched.specs.declared.Event.{Event}
 use Rattle.sd_sched.specs.declared.Event.TheVariants as event
 use Rattle.sd_sched.specs.Events.{device_of}
-use Rattle.sd_history.specs.Nodes.{answers_of}
-use Rattle.sd_world.specs.declared.device.DeviceState.{DeviceState}
-use Rattle.sd_world.specs.Registers.{reading_at, device_at, device_after, is_open}
-use Rattle.sd_world.proofs.Slots.{slot_named, slot_other}
-use Rattle.sd_roster.specs.declared.Answered.{Answered}
-use Rattle.sd_roster.specs.declared.plans.Numbered.{Numbered}
-use Rattle.sd_roster.specs.Plans.{row_numbered, is_member_numbered}
-use Rattle.sd_roster.specs.Rosters.{staged_number, answers_after}
-use Rattle.sd_roster.specs.Standing.{summary}
-use Rattle.sd_roster.proofs.Observing.{other_answers}
+use Rattle.sd_fleet_fabric.specs.History.Nodes.{answers_of}
+use Rattle.sd_fleet_fabric.specs.FleetState.declared.world.device.DeviceState.{DeviceState}
+use Rattle.sd_fleet_fabric.specs.FleetState.world.Registers.{reading_at, device_at, device_after, is_open}
+use Rattle.sd_fleet_fabric.proofs.FleetState.world.Slots.{slot_named, slot_other}
+use Rattle.sd_fleet_fabric.specs.FleetState.declared.membership.Answered.{Answered}
+use Rattle.sd_fleet_fabric.specs.FleetState.declared.membership.plans.Numbered.{Numbered}
+use Rattle.sd_fleet_fabric.specs.FleetState.membership.Plans.{row_numbered, is_member_numbered}
+use Rattle.sd_fleet_fabric.specs.FleetState.membership.Memberships.{staged_number, answers_after}
+use Rattle.sd_fleet_fabric.specs.FleetState.membership.Standing.{summary}
+use Rattle.sd_fleet_fabric.proofs.FleetState.membership.Observing.{other_answers}
 use Rattle.sd_core.specs.Calls.{Making}
 use Rattle.sd_core.specs.Calls as calls
 use Rattle.sd_core.specs.Calls.{Call}
-use Rattle.sd_history.specs.Steps as steps
-use Rattle.sd_fabric.specs.declared.Reply.{Reply}
-use Rattle.sd_fabric.specs.Registers.{Registers}
-use Rattle.sd_fabric.specs.Sound.{IsSound}
-use Rattle.sd_fabric.specs.Causes.{refusal_in}
-use Rattle.sd_fabric.specs.Doing.{act_in, receipt}
-use Rattle.sd_fabric.specs.Stepping.{roster_after, flights_after}
-use Rattle.sd_fabric.proofs.Admitted.{device_known, message_known, message_unspent, counter_rises, started_member, given_member}
+use Rattle.sd_fleet_fabric.specs.History.Steps as steps
+use Rattle.sd_fleet_fabric.specs.declared.Reply.{Reply}
+use Rattle.sd_fleet_fabric.specs.Registers.{Registers}
+use Rattle.sd_fleet_fabric.specs.Sound.{IsSound}
+use Rattle.sd_fleet_fabric.specs.Causes.{refusal_in}
+use Rattle.sd_fleet_fabric.specs.Doing.{act_in, receipt}
+use Rattle.sd_fleet_fabric.specs.Stepping.{membership_after, flights_after}
+use Rattle.sd_fleet_fabric.proofs.Admitted.{device_known, message_known, message_unspent, counter_rises, started_member, given_member}
 use Rattle.sd_fleet.specs.Calling.{IsNode, GivenAfter, counter_made, reading_after}
 use Rattle.sd_fleet.specs.Crew.{node_at, MakesAt, CallsAt, Acts}
-use Rattle.sd_fleet.specs.Bounds.{moment_of, IsKept, IsCrew}
+use Rattle.sd_fleet.specs.Bounds.{context_of, IsKept, IsCrew}
 use Rattle.sd_fleet.proofs.Acting.{flight_found, row_there}
 use Rattle.sd_fleet.proofs.Going.{node_later, acts_other, some_at, actor_in}
 
@@ -53,7 +53,8 @@ own_or_none : (plans : List Numbered) (d : ℕ) (before after : Option Duty) →
 own_or_none plans d before after (inl same) own duty holds = own duty (sym same ∙ holds)
 own_or_none plans d before after (inr none) own duty holds = cc
 
-own_after : (plans : List Numbered) (d : ℕ) (c : Call) (before after : Option Duty) → GivenAfter c before after → HasRow plans d c → IsOwn plans d before → IsOwn plans d after
+own_after : (plans : List Numbered) (d : ℕ) (c : Call) (before after : Option Duty) → GivenAfter c before after → HasRow plans d c → IsOwn plans d before
+    → IsOwn plans d after
 own_after plans d (calls.Tick counter) before after given row own = own_or_none plans d before after given own
 own_after plans d (calls.Receive link message counter) before after given row own = own_or_none plans d before after given own
 own_after plans d (calls.Fix counter clock eps) before after given row own = own_or_none plans d before after given own
@@ -66,45 +67,51 @@ own_after plans d calls.Seal before after given row own = own_or_none plans d be
 
 -- the fabric once the event has happened, before its window closes
 abbrev pub happened : Registers → Event → Reply → Registers
-happened old e reply = record { net = old.net; roster = roster_after old e reply; book = record old.book { flights = flights_after old e reply } }
+happened old e reply = record { net = old.net; membership = membership_after old e reply; book = record old.book { flights = flights_after old e reply } }
 
-module _ {N : Type 0} (g : Ghosts N) (old : Registers) (e : Event) (reply : Reply) (nodes after : List (Option N)) (crew : IsCrew g old nodes) (sound : IsSound old) where
+module _ {N : Type 0} (g : Ghosts N) (old : Registers) (e : Event) (reply : Reply) (nodes after : List (Option N)) (crew : IsCrew g old nodes)
+    (sound : IsSound old) where
   abbrev next : Registers
   next = happened old e reply
 
-  size : length old.roster.world.devices ≡ length old.net.devices
-  size = sound.roster.devices ∙ sound.answers
+  size : length old.membership.world.devices ≡ length old.net.devices
+  size = sound.membership.devices ∙ sound.answers
 
   -- the state of a device, and what it answered
-  pub state_named : (d : ℕ) → d < length old.net.devices → device_of e ≡ Some d → device_at next.roster.world d ≡ device_after e old.roster.world.windows (device_at old.roster.world d)
+  pub state_named : (d : ℕ) → d < length old.net.devices → device_of e ≡ Some d
+      → device_at next.membership.world d ≡ device_after e old.membership.world.windows (device_at old.membership.world d)
   state_named d within named =
-      slot_named e old.roster.world.windows old.roster.world.devices d (subst (λ (n : ℕ). d < n) (sym size) within) (ap (λ (o : Option ℕ). same_number o d) named ∙ eq-eqb d d refl)
+      slot_named e old.membership.world.windows old.membership.world.devices d (subst (λ (n : ℕ). d < n) (sym size) within)
+      (ap (λ (o : Option ℕ). same_number o d) named ∙ eq-eqb d d refl)
 
-  pub state_other : (d : ℕ) → same_number (device_of e) d ≡ false → device_at next.roster.world d ≡ device_at old.roster.world d
-  state_other d other = slot_other e old.roster.world.windows old.roster.world.devices d other
+  pub state_other : (d : ℕ) → same_number (device_of e) d ≡ false → device_at next.membership.world d ≡ device_at old.membership.world d
+  state_other d other = slot_other e old.membership.world.windows old.membership.world.devices d other
 
-  answered : (d : ℕ) (a : Answered) → d < length old.net.devices → device_of e ≡ Some d → reply.answers ≡ Some a → at_place next.roster.answers d None (λ x. x) ≡ Some a
+  answered : (d : ℕ) (a : Answered) → d < length old.net.devices → device_of e ≡ Some d → reply.answers ≡ Some a
+      → at_place next.membership.answers d None (λ x. x) ≡ Some a
   answered d a within named told =
-      ap (λ (o : Option ℕ). at_place (answers_after o reply.answers old.roster.answers) d None (λ x. x)) named
-      ∙ ap (λ (t : Option Answered). at_place (answers_after (Some d) t old.roster.answers) d None (λ x. x)) told
-      ∙ ap (λ (o : Option (Option Answered)). of_some o None (λ x. x)) (at_written old.roster.answers d (Some a) (subst (λ (n : ℕ). d < n) (sym sound.answers) within))
+      ap (λ (o : Option ℕ). at_place (answers_after o reply.answers old.membership.answers) d None (λ x. x)) named
+      ∙ ap (λ (t : Option Answered). at_place (answers_after (Some d) t old.membership.answers) d None (λ x. x)) told
+      ∙ ap (λ (o : Option (Option Answered)). of_some o None (λ x. x))
+      (at_written old.membership.answers d (Some a) (subst (λ (n : ℕ). d < n) (sym sound.answers) within))
 
-  not_answered : (d : ℕ) → reply.answers ≡ None → at_place next.roster.answers d None (λ x. x) ≡ at_place old.roster.answers d None (λ x. x)
-  not_answered d none = ap (λ (t : Option Answered). at_place (answers_after (device_of e) t old.roster.answers) d None (λ x. x)) none ∙ by (device_of e)
+  not_answered : (d : ℕ) → reply.answers ≡ None → at_place next.membership.answers d None (λ x. x) ≡ at_place old.membership.answers d None (λ x. x)
+  not_answered d none = ap (λ (t : Option Answered). at_place (answers_after (device_of e) t old.membership.answers) d None (λ x. x)) none ∙ by (device_of e)
     where
-      by : (o : Option ℕ) → at_place (answers_after o None old.roster.answers) d None (λ x. x) ≡ at_place old.roster.answers d None (λ x. x)
+      by : (o : Option ℕ) → at_place (answers_after o None old.membership.answers) d None (λ x. x) ≡ at_place old.membership.answers d None (λ x. x)
       by None = refl
       by (Some m) = refl
 
   -- a device that is made
-  kept_made : (d : ℕ) (m : Making) → d < length old.net.devices → device_of e ≡ Some d → MakesAt g nodes d m reply after → reading_at next.roster.world d ≡ counter_made m
+  kept_made : (d : ℕ) (m : Making) → d < length old.net.devices → device_of e ≡ Some d → MakesAt g nodes d m reply after
+      → reading_at next.membership.world d ≡ counter_made m
       → (n : N) → node_at after d ≡ Some n → IsKept g next d n
   kept_made d m within named made reads n at =
       let there : node_at after d ≡ Some made.node = some_at nodes after d made.node (subst (λ (k : ℕ). d < k) (sym crew.places) within) made.placed in
       let told = answered d (summary (answers_of g made.node)) within named (ap (λ (x : Reply). x.answers) made.replied) in
       let it : IsKept g next d made.node =
       record {
-        numbers = subst (λ (k : ℕ). IsNode g (old.roster.world.events + 1) k made.node) (sym reads) (made.numbers old.roster.world.events);
+        numbers = subst (λ (k : ℕ). IsNode g (old.membership.world.events + 1) k made.node) (sym reads) (made.numbers old.membership.world.events);
         given = sym (ap (λ (o : Option Answered). option_and_then (λ a. a.given) o) told);
         duty = λ duty holds. absurd (none_some (g.given made.node) duty made.given holds);
       }
@@ -115,72 +122,86 @@ module _ {N : Type 0} (g : Ghosts N) (old : Registers) (e : Event) (reply : Repl
       none_some o duty none some = cc
 
   -- a device that is called
-  kept_called : (d : ℕ) (c : Call) → d < length old.net.devices → device_of e ≡ Some d → CallsAt g nodes d c (moment_of old e) reply after → reading_at next.roster.world d ≡ reading_after c (reading_at old.roster.world d) → HasRow old.roster.plans d c
+  kept_called : (d : ℕ) (c : Call) → d < length old.net.devices → device_of e ≡ Some d → CallsAt g nodes d c (context_of old e) reply after
+      → reading_at next.membership.world d ≡ reading_after c (reading_at old.membership.world d) → HasRow old.membership.plans d c
       → (n : N) → node_at after d ≡ Some n → IsKept g next d n
   kept_called d c within named called reads row n at =
       let there : node_at after d ≡ Some called.node = some_at nodes after d called.node (subst (λ (k : ℕ). d < k) (sym crew.places) within) called.placed in
       let told = answered d (summary (answers_of g called.node)) within named (ap (λ (x : Reply). x.answers) called.replied) in
       let before : IsKept g old d called.before = crew.kept d called.before called.was in
-      let moment : (moment_of old e).reading ≡ reading_at old.roster.world d = ap (λ (o : Option ℕ). of_some o 0 (reading_at old.roster.world)) named in
+      let context : (context_of old e).reading ≡ reading_at old.membership.world d =
+      ap (λ (o : Option ℕ). of_some o 0 (reading_at old.membership.world)) named in
       let it : IsKept g next d called.node =
       record {
-        numbers = subst (λ (k : ℕ). IsNode g (old.roster.world.events + 1) k called.node) (ap (reading_after c) moment ∙ sym reads) called.numbers;
+        numbers = subst (λ (k : ℕ). IsNode g (old.membership.world.events + 1) k called.node) (ap (reading_after c) context ∙ sym reads) called.numbers;
         given = sym (ap (λ (o : Option Answered). option_and_then (λ a. a.given) o) told);
-        duty = own_after old.roster.plans d c (g.given called.before) (g.given called.node) called.given row before.duty;
+        duty = own_after old.membership.plans d c (g.given called.before) (g.given called.node) called.given row before.duty;
       }
       in
       subst (λ (x : N). IsKept g next d x) (same_Some called.node n (sym there ∙ at)) it
 
   -- a device whose node stays
-  kept_same : (d : ℕ) → reply.answers ≡ None → after ≡ nodes → reading_at old.roster.world d ≤ reading_at next.roster.world d → (n : N) → node_at after d ≡ Some n → IsKept g next d n
+  kept_same : (d : ℕ) → reply.answers ≡ None → after ≡ nodes → reading_at old.membership.world d ≤ reading_at next.membership.world d → (n : N)
+      → node_at after d ≡ Some n → IsKept g next d n
   kept_same d none same rises n at =
       let before : IsKept g old d n = crew.kept d n (sym (ap (λ (ns : List (Option N)). node_at ns d) same) ∙ at) in
       record {
-        numbers = node_later g old.roster.world.events (reading_at old.roster.world d) (reading_at next.roster.world d) n rises before.numbers;
+        numbers = node_later g old.membership.world.events (reading_at old.membership.world d) (reading_at next.membership.world d) n rises before.numbers;
         given = before.given ∙ ap (λ (o : Option Answered). option_and_then (λ a. a.given) o) (sym (not_answered d none));
         duty = before.duty;
       }
 
   -- a device that the event does not name
-  pub kept_other : (d : ℕ) → same_number (device_of e) d ≡ false → Acts g nodes (act_in old e) (moment_of old e) reply after → (n : N) → node_at after d ≡ Some n → IsKept g next d n
+  pub kept_other : (d : ℕ) → same_number (device_of e) d ≡ false → Acts g nodes (act_in old e) (context_of old e) reply after → (n : N)
+      → node_at after d ≡ Some n → IsKept g next d n
   kept_other d other acts n at =
-      let before : IsKept g old d n = crew.kept d n (sym (acts_other g nodes after (act_in old e) (moment_of old e) reply d acts (actor_in old e d other)) ∙ at) in
-      let reads : reading_at next.roster.world d ≡ reading_at old.roster.world d = ap (λ (s : DeviceState). s.reading) (state_other d other) in
+      let before : IsKept g old d n =
+      crew.kept d n (sym (acts_other g nodes after (act_in old e) (context_of old e) reply d acts (actor_in old e d other)) ∙ at) in
+      let reads : reading_at next.membership.world d ≡ reading_at old.membership.world d = ap (λ (s : DeviceState). s.reading) (state_other d other) in
       record {
-        numbers = node_later g old.roster.world.events (reading_at old.roster.world d) (reading_at next.roster.world d) n (omega arith) before.numbers;
-        given = before.given ∙ ap (λ (o : Option Answered). option_and_then (λ a. a.given) o) (sym (other_answers (device_of e) reply.answers old.roster.answers d other));
+        numbers = node_later g old.membership.world.events (reading_at old.membership.world d) (reading_at next.membership.world d) n
+            (omega arith) before.numbers;
+        given = before.given
+            ∙ ap (λ (o : Option Answered). option_and_then (λ a. a.given) o) (sym (other_answers (device_of e) reply.answers old.membership.answers d other));
         duty = before.duty;
       }
 
 -- the device that the event names
-pub kept_named : {N : Type 0} (g : Ghosts N) (old : Registers) (e : Event) (reply : Reply) (nodes after : List (Option N)) → IsCrew g old nodes → IsSound old → refusal_in old e ≡ None
-    → Acts g nodes (act_in old e) (moment_of old e) reply after → IfSome (device_of e) (λ d. (n : N) → node_at after d ≡ Some n → IsKept g (happened old e reply) d n)
+pub kept_named : {N : Type 0} (g : Ghosts N) (old : Registers) (e : Event) (reply : Reply) (nodes after : List (Option N)) → IsCrew g old nodes → IsSound old
+    → refusal_in old e ≡ None
+    → Acts g nodes (act_in old e) (context_of old e) reply after
+    → IfSome (device_of e) (λ d. (n : N) → node_at after d ≡ Some n → IsKept g (happened old e reply) d n)
 kept_named g old (event.Start reference d counter clock eps) reply nodes after crew sound accepted acts =
     let e = event.Start reference d counter clock eps in
     let known = device_known old e accepted d refl in
-    let (row, at) = row_there old.roster.plans old.roster.world.epoch d (started_member old e accepted d refl) in
+    let (row, at) = row_there old.membership.plans old.membership.world.epoch d (started_member old e accepted d refl) in
     kept_made g old e reply nodes after crew sound d (calls.Started row.duty counter clock eps) known refl
-    (subst (λ (o : Option TableRow). Acts g nodes (of_some o steps.Passes (λ row. steps.Makes d (calls.Started row.duty counter clock eps))) (moment_of old e) reply after) at acts)
+    (subst (λ (o : Option TableRow). Acts g nodes (of_some o steps.Passes (λ row. steps.Makes d (calls.Started row.duty counter clock eps)))
+    (context_of old e) reply after) at acts)
     (ap (λ (s : DeviceState). s.reading) (state_named g old e reply nodes after crew sound d known refl))
 kept_named g old (event.Join reference d counter clock eps) reply nodes after crew sound accepted acts =
     let e = event.Join reference d counter clock eps in
     let known = device_known old e accepted d refl in
-    λ n at. kept_made g old e reply nodes after crew sound d _ known refl acts (ap (λ (s : DeviceState). s.reading) (state_named g old e reply nodes after crew sound d known refl)) n at
+    λ n at. kept_made g old e reply nodes after crew sound d _ known refl acts
+    (ap (λ (s : DeviceState). s.reading) (state_named g old e reply nodes after crew sound d known refl)) n at
 kept_named g old (event.Tick reference d counter) reply nodes after crew sound accepted acts =
     let e = event.Tick reference d counter in
     let known = device_known old e accepted d refl in
-    kept_called g old e reply nodes after crew sound d (calls.Tick counter) known refl acts (ap (λ (s : DeviceState). s.reading) (state_named g old e reply nodes after crew sound d known refl)) tt
+    kept_called g old e reply nodes after crew sound d (calls.Tick counter) known refl acts
+    (ap (λ (s : DeviceState). s.reading) (state_named g old e reply nodes after crew sound d known refl)) tt
 kept_named g old (event.Recv reference d counter message) reply nodes after crew sound accepted acts =
     let e = event.Recv reference d counter message in
     let known = device_known old e accepted d refl in
-    let (f, at) = flight_found old.book.last old.book.flights message reference (message_known old e accepted message refl) (message_unspent old e accepted message refl) in
+    let (f, at) =
+    flight_found old.book.last old.book.flights message reference (message_known old e accepted message refl)
+    (message_unspent old e accepted message refl) in
     kept_called g old e reply nodes after crew sound d (calls.Receive f.link f.message counter) known refl
-    (subst (λ (o : Result Flight TakeFault). Acts g nodes (receipt o d counter) (moment_of old e) reply after) at acts)
+    (subst (λ (o : Result Flight TakeFault). Acts g nodes (receipt o d counter) (context_of old e) reply after) at acts)
     (ap (λ (s : DeviceState). s.reading) (state_named g old e reply nodes after crew sound d known refl)) tt
 kept_named g old (event.Lose reference message) reply nodes after crew sound accepted acts = tt
 kept_named g old (event.FailDevice reference d) reply nodes after crew sound accepted acts =
     let e = event.FailDevice reference d in
-    let reads : reading_at (happened old e reply).roster.world d ≡ reading_at old.roster.world d =
+    let reads : reading_at (happened old e reply).membership.world d ≡ reading_at old.membership.world d =
     ap (λ (s : DeviceState). s.reading) (state_named g old e reply nodes after crew sound d (device_known old e accepted d refl) refl)
     in
     kept_same g old e reply nodes after crew sound d (ap (λ (x : Reply). x.answers) acts.0) acts.1 (omega arith)
@@ -188,34 +209,40 @@ kept_named g old (event.FailLink reference l) reply nodes after crew sound accep
 kept_named g old (event.Fix reference d counter clock eps) reply nodes after crew sound accepted acts =
     let e = event.Fix reference d counter clock eps in
     let known = device_known old e accepted d refl in
-    kept_called g old e reply nodes after crew sound d (calls.Fix counter clock eps) known refl acts (ap (λ (s : DeviceState). s.reading) (state_named g old e reply nodes after crew sound d known refl)) tt
+    kept_called g old e reply nodes after crew sound d (calls.Fix counter clock eps) known refl acts
+    (ap (λ (s : DeviceState). s.reading) (state_named g old e reply nodes after crew sound d known refl)) tt
 kept_named g old (event.Ask reference d counter) reply nodes after crew sound accepted acts =
     let e = event.Ask reference d counter in
-    let reads : reading_at (happened old e reply).roster.world d ≡ counter = ap (λ (s : DeviceState). s.reading) (state_named g old e reply nodes after crew sound d (device_known old e accepted d refl) refl) in
+    let reads : reading_at (happened old e reply).membership.world d ≡ counter =
+    ap (λ (s : DeviceState). s.reading) (state_named g old e reply nodes after crew sound d (device_known old e accepted d refl) refl) in
     let rises = counter_rises old e accepted d counter refl refl refl in
     kept_same g old e reply nodes after crew sound d (ap (λ (x : Reply). x.answers) acts.0.replied) acts.1 (omega arith)
 kept_named g old (event.Stage reference) reply nodes after crew sound accepted acts = tt
 kept_named g old (event.Give reference d) reply nodes after crew sound accepted acts =
     let e = event.Give reference d in
     let known = device_known old e accepted d refl in
-    let parts = and_parts (is_open old.roster.world.window) (is_member_numbered old.roster.plans (staged_number old.roster) d) (given_member old e accepted d refl) in
-    let (row, at) = row_there old.roster.plans (staged_number old.roster) d parts.1 in
-    let numbered : row.duty.epoch ≡ staged_number old.roster = sound.tables.numbers (staged_number old.roster) d row (sound.roster.staged parts.0) at in
+    let parts = and_parts (is_open old.membership.world.window) (is_member_numbered old.membership.plans (staged_number old.membership) d)
+    (given_member old e accepted d refl) in
+    let (row, at) = row_there old.membership.plans (staged_number old.membership) d parts.1 in
+    let numbered : row.duty.epoch ≡ staged_number old.membership =
+    sound.tables.numbers (staged_number old.membership) d row (sound.membership.staged parts.0) at in
     kept_called g old e reply nodes after crew sound d (calls.Give row.duty) known refl
-    (subst (λ (o : Option TableRow). Acts g nodes (of_some o steps.Passes (λ row. steps.Calls d (calls.Give row.duty))) (moment_of old e) reply after) at acts)
+    (subst (λ (o : Option TableRow). Acts g nodes (of_some o steps.Passes (λ row. steps.Calls d (calls.Give row.duty))) (context_of old e) reply after) at acts)
     (ap (λ (s : DeviceState). s.reading) (state_named g old e reply nodes after crew sound d known refl))
-    (ap (λ (n : ℕ). option_map (λ (r : TableRow). r.duty) (row_numbered old.roster.plans n d)) numbered ∙ ap (option_map (λ (r : TableRow). r.duty)) at)
+    (ap (λ (n : ℕ). option_map (λ (r : TableRow). r.duty) (row_numbered old.membership.plans n d)) numbered ∙ ap (option_map (λ (r : TableRow). r.duty)) at)
 kept_named g old (event.Commit reference d counter) reply nodes after crew sound accepted acts =
     let e = event.Commit reference d counter in
     let known = device_known old e accepted d refl in
-    kept_called g old e reply nodes after crew sound d (calls.Commit counter) known refl acts (ap (λ (s : DeviceState). s.reading) (state_named g old e reply nodes after crew sound d known refl)) tt
+    kept_called g old e reply nodes after crew sound d (calls.Commit counter) known refl acts
+    (ap (λ (s : DeviceState). s.reading) (state_named g old e reply nodes after crew sound d known refl)) tt
 kept_named g old (event.Seal reference d) reply nodes after crew sound accepted acts =
     let e = event.Seal reference d in
     let known = device_known old e accepted d refl in
-    kept_called g old e reply nodes after crew sound d calls.Seal known refl acts (ap (λ (s : DeviceState). s.reading) (state_named g old e reply nodes after crew sound d known refl)) tt
+    kept_called g old e reply nodes after crew sound d calls.Seal known refl acts
+    (ap (λ (s : DeviceState). s.reading) (state_named g old e reply nodes after crew sound d known refl)) tt
 kept_named g old (event.MendDevice reference d) reply nodes after crew sound accepted acts =
     let e = event.MendDevice reference d in
-    let reads : reading_at (happened old e reply).roster.world d ≡ reading_at old.roster.world d =
+    let reads : reading_at (happened old e reply).membership.world d ≡ reading_at old.membership.world d =
     ap (λ (s : DeviceState). s.reading) (state_named g old e reply nodes after crew sound d (device_known old e accepted d refl) refl)
     in
     kept_same g old e reply nodes after crew sound d (ap (λ (x : Reply). x.answers) acts.0) acts.1 (omega arith)

@@ -9,3 +9,6 @@ pub mod Following
 pub mod Applying
 pub mod Reporting
 pub mod Devices
+-- Handed on: what crates above name of those below.
+pub use Rattle.sd_fleet_fabric.proofs.History as History
+pub use Rattle.sd_fleet_fabric.proofs as FleetFabric

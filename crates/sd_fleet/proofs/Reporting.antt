@@ -1,22 +1,22 @@
 -- What an accepted event reports and sends stays within its limits.
 use Rattle.std.specs.Prelude.{◌≡◌, ℕ, ◌+◌, ◌*◌, ◌^◌, ◌≤◌, List, Option, Some, None, option_map, IfSome, refl}
 use Rattle.std.proofs.Common.{arith, sym, ◌∙◌, ap, subst}
-use Rattle.sd_clock.specs.declared.Report.{Report}
+use Rattle.sd_msg.specs.Clock.declared.Report.{Report}
 use Rattle.sd_core.specs.declared.node.Node.{Ghosts}
 use Rattle.sd_sched.specs.declared.Event.{Event}
 use Rattle.sd_sched.specs.declared.Event.TheVariants as event
-use Rattle.sd_roster.specs.Rosters as roster
+use Rattle.sd_fleet_fabric.specs.FleetState.membership.Memberships as membership
 use Rattle.sd_topo.specs.Network.{Network}
-use Rattle.sd_history.specs.Steps.{Act}
-use Rattle.sd_fabric.specs.declared.Reply.{Reply}
-use Rattle.sd_fabric.specs.declared.Outcome.{Outcome}
-use Rattle.sd_fabric.specs.Registers.{Registers}
-use Rattle.sd_fabric.specs.Causes.{refusal_in}
-use Rattle.sd_fabric.specs.Doing.{act_in, Tells}
-use Rattle.sd_fabric.specs.Room.{most_sent_in}
-use Rattle.sd_fabric.specs.Stepping.{OnlyRoomGrew, outcome_in, report_in}
-use Rattle.sd_fabric.proofs.Keeping.{sent_room}
-use Rattle.sd_fleet.specs.declared.crew.Moment.{Moment}
+use Rattle.sd_fleet_fabric.specs.History.Steps.{Act}
+use Rattle.sd_fleet_fabric.specs.declared.Reply.{Reply}
+use Rattle.sd_fleet_fabric.specs.declared.Outcome.{Outcome}
+use Rattle.sd_fleet_fabric.specs.Registers.{Registers}
+use Rattle.sd_fleet_fabric.specs.Causes.{refusal_in}
+use Rattle.sd_fleet_fabric.specs.Doing.{act_in, Tells}
+use Rattle.sd_fleet_fabric.specs.Room.{most_sent_in}
+use Rattle.sd_fleet_fabric.specs.Stepping.{OnlyRoomGrew, outcome_in, report_in}
+use Rattle.sd_fleet_fabric.proofs.Keeping.{sent_room}
+use Rattle.sd_fleet.specs.declared.crew.CallContext.{CallContext}
 use Rattle.sd_fleet.specs.Calling.{rise, IsLimited}
 use Rattle.sd_fleet.specs.Crew.{Acts, AsksAt}
 
@@ -25,13 +25,14 @@ use Rattle.sd_fleet.specs.Crew.{Acts, AsksAt}
 limited : (events : ℕ) (report : Report) → events ≤ 2 ^ 26 → report.clock ≤ (events + 1) * rise → report.eps ≤ (events + 1) * rise → IsLimited report
 limited events report few clock eps = record { clock = omega (arith, few, clock); eps = omega (arith, few, eps) }
 
-module _ {N : Type 0} (g : Ghosts N) (nodes after : List (Option N)) (moment : Moment) (reply : Reply) (few : moment.events ≤ 2 ^ 26) where
-  asked : (d counter : ℕ) → AsksAt g nodes d counter moment reply → IfSome reply.report IsLimited
+module _ {N : Type 0} (g : Ghosts N) (nodes after : List (Option N)) (context : CallContext) (reply : Reply) (few : context.events ≤ 2 ^ 26) where
+  asked : (d counter : ℕ) → AsksAt g nodes d counter context reply → IfSome reply.report IsLimited
   asked d counter asks =
-      subst (λ (o : Option Report). IfSome o IsLimited) (sym (ap (λ (x : Reply). x.report) asks.replied)) (limited moment.events asks.report few asks.clock asks.eps)
+      subst (λ (o : Option Report). IfSome o IsLimited) (sym (ap (λ (x : Reply). x.report) asks.replied))
+      (limited context.events asks.report few asks.clock asks.eps)
 
   -- what is told of the report of an ask
-  pub report_limited : (r : Registers) (e : Event) → Acts g nodes (act_in r e) moment reply after → IfSome (report_in e reply) (λ told. IsLimited told.1)
+  pub report_limited : (r : Registers) (e : Event) → Acts g nodes (act_in r e) context reply after → IfSome (report_in e reply) (λ told. IsLimited told.1)
   report_limited r (event.Ask reference d counter) acts = by reply.report (asked d counter acts.0)
     where
       by : (o : Option Report) → IfSome o IsLimited → IfSome {T = ℕ × Report} (option_map (λ report. (d, report)) o) (λ told. IsLimited told.1)
@@ -40,27 +41,30 @@ module _ {N : Type 0} (g : Ghosts N) (nodes after : List (Option N)) (moment : M
   report_limited r e acts = tt
 
 -- and of an outcome
-pub outcome_limited : {N : Type 0} (g : Ghosts N) (r : Registers) (e : Event) (given after : List (Option N)) (moment : Moment) (a : Act) (reply : Reply) (outcome : Outcome)
-    → moment.events ≤ 2 ^ 26 → a ≡ act_in r e → Acts g given a moment reply after → outcome ≡ outcome_in r e reply → IfSome outcome.report (λ told. IsLimited told.1)
-outcome_limited g r e given after moment a reply outcome few is acts comes =
+pub outcome_limited : {N : Type 0} (g : Ghosts N) (r : Registers) (e : Event) (given after : List (Option N)) (context : CallContext) (a : Act) (reply : Reply)
+    (outcome : Outcome)
+    → context.events ≤ 2 ^ 26 → a ≡ act_in r e → Acts g given a context reply after → outcome ≡ outcome_in r e reply
+    → IfSome outcome.report (λ told. IsLimited told.1)
+outcome_limited g r e given after context a reply outcome few is acts comes =
     subst (λ (o : Option (ℕ × Report)). IfSome o (λ told. IsLimited told.1)) (sym (ap (λ (x : Outcome). x.report) comes))
-    (report_limited g given after moment reply few r e (subst (λ (x : Act). Acts g given x moment reply after) is acts))
+    (report_limited g given after context reply few r e (subst (λ (x : Act). Acts g given x context reply after) is acts))
 
 -- Messages
 
 pub same_most : (old new : Registers) (e : Event) → OnlyRoomGrew old new → most_sent_in new e ≡ most_sent_in old e
 same_most old new e grew =
-    ap (λ (n : Network). most_sent_in (record { net = n; roster = new.roster; book = new.book }) e) grew.net
-    ∙ ap (λ (r : roster.Registers). most_sent_in (record { net = old.net; roster = r; book = new.book }) e) grew.roster
+    ap (λ (n : Network). most_sent_in (record { net = n; membership = new.membership; book = new.book }) e) grew.net
+    ∙ ap (λ (r : membership.Registers). most_sent_in (record { net = old.net; membership = r; book = new.book }) e) grew.membership
     ∙ forget e
   where
-    forget : (e' : Event) → most_sent_in (record { net = old.net; roster = old.roster; book = new.book }) e' ≡ most_sent_in old e'
+    forget : (e' : Event) → most_sent_in (record { net = old.net; membership = old.membership; book = new.book }) e' ≡ most_sent_in old e'
     forget (event.Tick reference d counter) = refl
     forget (event.Recv reference d counter message) = refl
     forget e' = refl
 
 -- no more is sent than there was room for
-pub sent_most : (r : Registers) (e : Event) (reply : Reply) (outcome : Outcome) → refusal_in r e ≡ None → Tells e reply → outcome ≡ outcome_in r e reply → outcome.sent ≤ most_sent_in r e
+pub sent_most : (r : Registers) (e : Event) (reply : Reply) (outcome : Outcome) → refusal_in r e ≡ None → Tells e reply → outcome ≡ outcome_in r e reply
+    → outcome.sent ≤ most_sent_in r e
 sent_most r e reply outcome accepted tells comes =
     let room = sent_room r e reply accepted tells in
     let sent = ap (λ (x : Outcome). x.sent) comes in

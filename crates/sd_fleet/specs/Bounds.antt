@@ -4,35 +4,35 @@ use Rattle.sd_num.specs.Lists.{at_place, of_some}
 use Rattle.sd_topo.specs.Network.{Each}
 use Rattle.sd_plan.specs.declared.Duty.{Duty}
 use Rattle.sd_core.specs.declared.node.Node.{Ghosts}
-use Rattle.sd_world.specs.Registers.{up_at, reading_at}
-use Rattle.sd_roster.specs.declared.Answered.{Answered}
-use Rattle.sd_roster.specs.Plans.{row_numbered}
-use Rattle.sd_roster.specs.Rosters as roster
-use Rattle.sd_fabric.specs.Registers.{Registers}
-use Rattle.sd_fabric.specs.Doing.{given_in}
+use Rattle.sd_fleet_fabric.specs.FleetState.world.Registers.{up_at, reading_at}
+use Rattle.sd_fleet_fabric.specs.FleetState.declared.membership.Answered.{Answered}
+use Rattle.sd_fleet_fabric.specs.FleetState.membership.Plans.{row_numbered}
+use Rattle.sd_fleet_fabric.specs.FleetState.membership.Memberships as membership
+use Rattle.sd_fleet_fabric.specs.Registers.{Registers}
+use Rattle.sd_fleet_fabric.specs.Doing.{given_in}
 use Rattle.sd_sched.specs.declared.Event.{Event}
 use Rattle.sd_sched.specs.Events.{device_of}
-use Rattle.sd_fleet.specs.declared.crew.Moment.{Moment}
+use Rattle.sd_fleet.specs.declared.crew.CallContext.{CallContext}
 use Rattle.sd_fleet.specs.Calling.{IsNode, IsMessage}
 use Rattle.sd_fleet.specs.Crew.{node_at}
 
 -- the number of the plan whose duty the device was given last, by what it answered
-abbrev pub given_at : roster.Registers → ℕ → Option ℕ
+abbrev pub given_at : membership.Registers → ℕ → Option ℕ
 given_at r d = option_and_then (λ (a : Answered). a.given) (at_place r.answers d None (λ a. a))
 
--- the moment of an event, by the device that it names
-abbrev pub moment_of : Registers → Event → Moment
-moment_of r e = record { given = given_in r e; events = r.roster.world.events; reading = of_some (device_of e) 0 (reading_at r.roster.world) }
+-- the context of an event, by the device that it names
+abbrev pub context_of : Registers → Event → CallContext
+context_of r e = record { given = given_in r e; events = r.membership.world.events; reading = of_some (device_of e) 0 (reading_at r.membership.world) }
 
 -- what is kept of the node of one device
 pub record IsKept {N : Type 0} (g : Ghosts N) (r : Registers) (d : ℕ) (n : N) : Type 0 where
-  pub numbers : IsNode g r.roster.world.events (reading_at r.roster.world d) n
+  pub numbers : IsNode g r.membership.world.events (reading_at r.membership.world d) n
   -- the number of its given duty is known, and the duty is the device's own in that plan
-  pub given : option_map (λ (duty : Duty). duty.epoch) (g.given n) ≡ given_at r.roster d
-  pub duty : (duty : Duty) → g.given n ≡ Some duty → option_map (λ row. row.duty) (row_numbered r.roster.plans duty.epoch d) ≡ Some duty
+  pub given : option_map (λ (duty : Duty). duty.epoch) (g.given n) ≡ given_at r.membership d
+  pub duty : (duty : Duty) → g.given n ≡ Some duty → option_map (λ row. row.duty) (row_numbered r.membership.plans duty.epoch d) ≡ Some duty
 
 pub record IsCrew {N : Type 0} (g : Ghosts N) (r : Registers) (nodes : List (Option N)) : Type 0 where
   pub places : length nodes ≡ length r.net.devices
-  pub there : (d : ℕ) → d < length r.net.devices → up_at r.roster.world d ≡ true → node_at nodes d ≢ None
+  pub there : (d : ℕ) → d < length r.net.devices → up_at r.membership.world d ≡ true → node_at nodes d ≢ None
   pub kept : (d : ℕ) (n : N) → node_at nodes d ≡ Some n → IsKept g r d n
-  pub messages : Each (λ f. IsMessage r.roster.world.events f.message) r.book.flights
+  pub messages : Each (λ f. IsMessage r.membership.world.events f.message) r.book.flights

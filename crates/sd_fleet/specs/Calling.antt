@@ -3,7 +3,7 @@ use Rattle.std.specs.Prelude.{◌≡◌, ◌⊎◌, ℕ, ◌*◌, ◌^◌, ◌�
 use Rattle.sd_topo.specs.Network.{IsRates}
 use Rattle.sd_plan.specs.declared.Duty.{Duty}
 use Rattle.sd_plan.specs.declared.Role.TheVariants as role
-use Rattle.sd_clock.specs.declared.Report.{Report}
+use Rattle.sd_msg.specs.Clock.declared.Report.{Report}
 use Rattle.sd_msg.specs.declared.Message.{Message}
 use Rattle.sd_core.specs.declared.Effect.{Effect}
 use Rattle.sd_core.specs.declared.Effect.TheVariants.{Quiet}
@@ -66,7 +66,8 @@ CanCall g events reading n (calls.Tick counter) = (reading ≤ counter) × (coun
 CanCall g events reading n (calls.Receive link message counter) = (reading ≤ counter) × (counter ≤ 2 ^ 60) × IsMessage events message
 CanCall g events reading n (calls.Fix counter clock eps) = (reading ≤ counter) × IsEstimate counter clock eps
 CanCall g events reading n (calls.Give duty) = IsDuty duty
-CanCall g events reading n (calls.Commit counter) = (reading ≤ counter) × (counter ≤ 2 ^ 60) × (option_map (λ (duty : Duty). duty.role) (g.given n) ≡ Some role.Root)
+CanCall g events reading n (calls.Commit counter) = (reading ≤ counter) × (counter ≤ 2 ^ 60)
+    × (option_map (λ (duty : Duty). duty.role) (g.given n) ≡ Some role.Root)
 CanCall g events reading n calls.Seal = Unit {0}
 
 -- the duty that is held as given after a call: a give's own, and else the same as before or none

@@ -2,10 +2,10 @@
 use Rattle.std.specs.Prelude.{◌≡◌, List}
 use Rattle.sd_core.specs.declared.registers.Registers.{Registers}
 use Rattle.sd_core.specs.contracts.device.DeviceNode.TheImpl.{ghosts}
-use Rattle.sd_history.specs.World.{Setting}
-use Rattle.sd_history.specs.Steps.{Step, events_of}
-use Rattle.sd_history.specs.Chronicle.{chronicle, IsHistory}
-use Rattle.sd_history.specs.Nodes.{NodeStep, steps_of}
+use Rattle.sd_fleet_fabric.specs.History.World.{Setting}
+use Rattle.sd_fleet_fabric.specs.History.Steps.{Step, events_of}
+use Rattle.sd_fleet_fabric.specs.History.Chronicle.{chronicle, IsHistory}
+use Rattle.sd_fleet_fabric.specs.History.Nodes.{NodeStep, steps_of}
 use Rattle.sd_fleet.specs.declared.fleet.Fleet.{Fleet}
 use Rattle.sd_fleet.specs.Standing.{StandsFor}
 
@@ -17,4 +17,5 @@ pub record AreChronicle (setting : Setting) (steps : List Step) : Type 0 where
 -- whichever run a fleet of devices stands for
 abbrev pub DevicesKeepChronicle : Type 0
 DevicesKeepChronicle =
-    (fleet : Fleet Registers ghosts) (setting : Setting) (run : List (NodeStep Registers)) → StandsFor ghosts fleet setting run → AreChronicle setting (steps_of run)
+    (fleet : Fleet Registers ghosts) (setting : Setting) (run : List (NodeStep Registers)) → StandsFor ghosts fleet setting run
+    → AreChronicle setting (steps_of run)

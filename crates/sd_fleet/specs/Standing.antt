@@ -2,19 +2,19 @@
 use Rattle.std.specs.Prelude.{◌≡◌, ◌⊎◌, ℕ, ◌<◌, ◌≤◌, List, ◌∷◌, length, Some, None, IsTrue}
 use Rattle.sd_core.specs.declared.node.Node.{Ghosts}
 use Rattle.sd_sched.specs.declared.Event.{Event}
-use Rattle.sd_history.specs.declared.ApplyFault.{ApplyFault}
-use Rattle.sd_history.specs.declared.ApplyFault.TheVariants.{Memory}
-use Rattle.sd_history.specs.World.{Setting}
-use Rattle.sd_history.specs.Steps.{Step}
-use Rattle.sd_history.specs.Refusals.{refusal}
-use Rattle.sd_history.specs.Nodes.{NodeStep, IsRun, steps_of, node_in}
-use Rattle.sd_fabric.specs.declared.Outcome.{Outcome}
-use Rattle.sd_fabric.specs.Registers.{Registers}
-use Rattle.sd_fabric.specs.Causes.{refusal_in}
-use Rattle.sd_fabric.specs.Room.{most_sent_in}
-use Rattle.sd_fabric.specs.Doing.{may_send}
-use Rattle.sd_fabric.specs.Outcomes.{outcome_of}
-use Rattle.sd_fabric.specs.Standing as fabric
+use Rattle.sd_fleet_fabric.specs.History.declared.ApplyFault.{ApplyFault}
+use Rattle.sd_fleet_fabric.specs.History.declared.ApplyFault.TheVariants.{Memory}
+use Rattle.sd_fleet_fabric.specs.History.World.{Setting}
+use Rattle.sd_fleet_fabric.specs.History.Steps.{Step}
+use Rattle.sd_fleet_fabric.specs.History.Refusals.{refusal}
+use Rattle.sd_fleet_fabric.specs.History.Nodes.{NodeStep, IsRun, steps_of, node_in}
+use Rattle.sd_fleet_fabric.specs.declared.Outcome.{Outcome}
+use Rattle.sd_fleet_fabric.specs.Registers.{Registers}
+use Rattle.sd_fleet_fabric.specs.Causes.{refusal_in}
+use Rattle.sd_fleet_fabric.specs.Room.{most_sent_in}
+use Rattle.sd_fleet_fabric.specs.Doing.{may_send}
+use Rattle.sd_fleet_fabric.specs.Outcomes.{outcome_of}
+use Rattle.sd_fleet_fabric.specs.Standing as fabric
 use Rattle.sd_fleet.specs.declared.fleet.Fleet.{Fleet}
 use Rattle.sd_fleet.specs.Crew.{node_at}
 
@@ -30,7 +30,8 @@ pub record IsPrepared (r : Registers) (e : Event) : Type 0 where
   pub room : most_sent_in r e ≤ r.book.room
 
 -- the event was accepted after the run, and came to this: the fleet stands for the run with one step more, of just this event
-pub record IsAccepted {N : Type 0} (g : Ghosts N) (fleet : Fleet N g) (setting : Setting) (run : List (NodeStep N)) (e : Event) (outcome : Outcome) : Type 0 where
+pub record IsAccepted {N : Type 0} (g : Ghosts N) (fleet : Fleet N g) (setting : Setting) (run : List (NodeStep N)) (e : Event)
+    (outcome : Outcome) : Type 0 where
   pub next : NodeStep N
   pub happens : next.step.seen.event ≡ e
   pub comes : outcome ≡ outcome_of next.step

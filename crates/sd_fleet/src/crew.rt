@@ -3,18 +3,18 @@
 ghost use Rattle.std.specs.Prelude.{◌≡◌, ◌≢◌, ◌<◌, ◌≤◌, ◌+◌, ◌^◌, ℕ, length, Option, Some, None};
 ghost use Rattle.sd_plan.specs.declared.Duty.{Duty};
 ghost use Rattle.sd_core.specs.Limits.{IfSent};
-ghost use Rattle.sd_history.specs.Nodes.{answers_of as node_answers};
-ghost use Rattle.sd_roster.specs.Standing.{summary};
-ghost use Rattle.sd_fabric.specs.Doing.{making_seen, call_seen, act_seen};
+ghost use Rattle.sd_fleet_fabric.specs.History.Nodes.{answers_of as node_answers};
+ghost use Rattle.sd_fleet_fabric.specs.FleetState.membership.Standing.{summary};
+ghost use Rattle.sd_fleet_fabric.specs.Doing.{making_seen, call_seen, act_seen};
 ghost use Rattle.sd_fleet.specs.Calling.{IsMessage, IsNode, CanMake, CanCall, GivenAfter, MaySend, counter_made, reading_after};
 ghost use Rattle.sd_fleet.specs.Crew.{node_at, MakesAt, IsCallable, CallsAt, AsksAt, CanAct, Acts};
 
 use sd_core::{Effect, Node};
-use sd_fabric::{Act, Answered, Call, Making, Reply};
+use sd_fleet_fabric::{Act, Answered, Call, Making, Reply};
 
 /// When a node is called.
 #[derive(Clone, Copy)]
-pub(crate) struct Moment {
+pub(crate) struct CallContext {
     /// The number of the plan whose duty was given to it and is not taken up yet.
     pub given: Option<u32>,
     /// After how many events, and what counter it read last: for the prover, since numbers rise by
@@ -25,15 +25,19 @@ pub(crate) struct Moment {
 
 /// Does what an event does to its device, and tells what the device replies.
 #[inline(always)]
-pub(crate) fn perform<N: Node>(nodes: &mut [Option<N>], act: &Act<'_>, moment: &Moment) -> Reply
-    requires events { moment.now.events ≤ 2 ^ 26 }
-    requires can { CanAct N.Node nodes.old moment.now (act_seen act.now) }
-    ensures { Acts N.Node nodes.old (act_seen act.now) moment.now result nodes.new }
+pub(crate) fn perform<N: Node>(
+    nodes: &mut [Option<N>],
+    act: &Act<'_>,
+    context: &CallContext,
+) -> Reply
+    requires events { context.now.events ≤ 2 ^ 26 }
+    requires can { CanAct N.Node nodes.old context.now (act_seen act.now) }
+    ensures { Acts N.Node nodes.old (act_seen act.now) context.now result nodes.new }
 {
     match act {
         Act::Makes { device, making } => make_at(nodes, *device, making),
-        Act::Calls { device, call } => call_at(nodes, *device, call, moment),
-        Act::Asks { device, counter } => ask_at(nodes, *device, *counter, moment),
+        Act::Calls { device, call } => call_at(nodes, *device, call, context),
+        Act::Asks { device, counter } => ask_at(nodes, *device, *counter, context),
         Act::Passes => Reply::nothing(),
     }
 }
@@ -51,17 +55,23 @@ fn make_at<N: Node>(nodes: &mut [Option<N>], d: u32, making: &Making<'_>) -> Rep
 }
 
 /// Calls the node of a device.
-fn call_at<N: Node>(nodes: &mut [Option<N>], d: u32, called: &Call<'_>, moment: &Moment) -> Reply
-    requires events { moment.now.events ≤ 2 ^ 26 }
+fn call_at<N: Node>(
+    nodes: &mut [Option<N>],
+    d: u32,
+    called: &Call<'_>,
+    context: &CallContext,
+) -> Reply
+    requires events { context.now.events ≤ 2 ^ 26 }
     requires place { d < length nodes.old }
     requires there { node_at nodes.old d ≢ None }
-    requires callable { (n : N) → node_at nodes.old d ≡ Some n → IsCallable N.Node moment.now (call_seen called.now) n }
-    ensures { CallsAt N.Node nodes.old d (call_seen called.now) moment.now result nodes.new }
+    requires callable { (n : N) → node_at nodes.old d ≡ Some n
+        → IsCallable N.Node context.now (call_seen called.now) n }
+    ensures { CallsAt N.Node nodes.old d (call_seen called.now) context.now result nodes.new }
 {
     match &mut nodes[d as usize] {
         Some(node) => {
-            let effect = call(node, called, moment);
-            let answers = answers_of(node, given_by(called, moment.given));
+            let effect = call(node, called, context);
+            let answers = answers_of(node, given_by(called, context.given));
             Reply::called(effect, answers)
         }
         None => unreachable!(),
@@ -69,14 +79,15 @@ fn call_at<N: Node>(nodes: &mut [Option<N>], d: u32, called: &Call<'_>, moment: 
 }
 
 /// Asks the node of a device for a report.
-fn ask_at<N: Node>(nodes: &[Option<N>], d: u32, counter: u64, moment: &Moment) -> Reply
-    requires events { moment.now.events ≤ 2 ^ 26 }
+fn ask_at<N: Node>(nodes: &[Option<N>], d: u32, counter: u64, context: &CallContext) -> Reply
+    requires events { context.now.events ≤ 2 ^ 26 }
     requires place { d < length nodes.now }
     requires there { node_at nodes.now d ≢ None }
-    requires numbers { (n : N) → node_at nodes.now d ≡ Some n → IsNode N.Node moment.now.events moment.now.reading n }
-    requires rises { moment.now.reading ≤ counter }
+    requires numbers { (n : N) → node_at nodes.now d ≡ Some n
+        → IsNode N.Node context.now.events context.now.reading n }
+    requires rises { context.now.reading ≤ counter }
     requires counter { counter ≤ 2 ^ 60 }
-    ensures { AsksAt N.Node nodes.now d counter moment.now result }
+    ensures { AsksAt N.Node nodes.now d counter context.now result }
 {
     match &nodes[d as usize] {
         Some(node) => Reply::reported(node.report(counter)),
@@ -89,7 +100,8 @@ fn made<N: Node>(making: &Making<'_>) -> N
     requires { CanMake (making_seen making.now) }
     ensures made { N.makes (making_seen making.now) result }
     ensures given { N.given result ≡ None }
-    ensures numbers { (events : ℕ) → IsNode N.Node (events + 1) (counter_made (making_seen making.now)) result }
+    ensures numbers { (events : ℕ)
+        → IsNode N.Node (events + 1) (counter_made (making_seen making.now)) result }
 {
     match *making {
         Making::Started {
@@ -108,14 +120,15 @@ fn made<N: Node>(making: &Making<'_>) -> N
 }
 
 /// Calls a node. A tick and a message alone may send something.
-fn call<N: Node>(node: &mut N, call: &Call<'_>, moment: &Moment) -> Effect
-    requires events { moment.now.events ≤ 2 ^ 26 }
-    requires numbers { IsNode N.Node moment.now.events moment.now.reading node.old }
-    requires can { CanCall N.Node moment.now.events moment.now.reading node.old (call_seen call.now) }
+fn call<N: Node>(node: &mut N, call: &Call<'_>, context: &CallContext) -> Effect
+    requires events { context.now.events ≤ 2 ^ 26 }
+    requires numbers { IsNode N.Node context.now.events context.now.reading node.old }
+    requires can { CanCall N.Node context.now.events context.now.reading node.old (call_seen call.now) }
     ensures step { N.steps node.old (call_seen call.now) result node.new }
     ensures given { GivenAfter (call_seen call.now) (N.given node.old) (N.given node.new) }
-    ensures numbers { IsNode N.Node (moment.now.events + 1) (reading_after (call_seen call.now) moment.now.reading) node.new }
-    ensures sent { IfSent result (IsMessage (moment.now.events + 1)) }
+    ensures numbers { IsNode N.Node (context.now.events + 1)
+        (reading_after (call_seen call.now) context.now.reading) node.new }
+    ensures sent { IfSent result (IsMessage (context.now.events + 1)) }
     ensures quiet { MaySend (call_seen call.now) result }
 {
     match *call {

@@ -3,22 +3,22 @@ ghost use Rattle.std.specs.Prelude.{◌≡◌, ◌≤◌, ◌<◌, ◌^◌, ℕ,
 ghost use Rattle.sd_topo.specs.Topologies.{network};
 ghost use Rattle.sd_sched.specs.Events.{device_of};
 ghost use Rattle.sd_sched.specs.Lines.{is_within};
-ghost use Rattle.sd_history.specs.World.{Setting, is_up as is_up_seen, is_counted as is_counted_seen};
-ghost use Rattle.sd_history.specs.Steps.{seen_of, parent_in, acts_in};
-ghost use Rattle.sd_history.specs.Nodes.{NodeStep, steps_of};
-ghost use Rattle.sd_history.specs.Refusals.{refusal as refusal_of};
-ghost use Rattle.sd_history_flights.specs.Flights.{look_in};
-ghost use Rattle.sd_roster.specs.Plans.{AreSound};
-ghost use Rattle.sd_fabric.specs.Causes.{refusal_in};
-ghost use Rattle.sd_fabric.specs.Room.{most_sent_of, most_sent_in};
-ghost use Rattle.sd_fabric.specs.Sound.{IsSound};
-ghost use Rattle.sd_fabric.specs.Stepping.{OnlyRoomGrew};
+ghost use Rattle.sd_fleet_fabric.specs.History.World.{Setting, is_up as is_up_seen, is_counted as is_counted_seen};
+ghost use Rattle.sd_fleet_fabric.specs.History.Steps.{seen_of, parent_in, acts_in};
+ghost use Rattle.sd_fleet_fabric.specs.History.Nodes.{NodeStep, steps_of};
+ghost use Rattle.sd_fleet_fabric.specs.History.Refusals.{refusal as refusal_of};
+ghost use Rattle.sd_fleet_fabric.specs.History.flights.Flights.{look_in};
+ghost use Rattle.sd_fleet_fabric.specs.FleetState.membership.Plans.{AreSound};
+ghost use Rattle.sd_fleet_fabric.specs.Causes.{refusal_in};
+ghost use Rattle.sd_fleet_fabric.specs.Room.{most_sent_of, most_sent_in};
+ghost use Rattle.sd_fleet_fabric.specs.Sound.{IsSound};
+ghost use Rattle.sd_fleet_fabric.specs.Stepping.{OnlyRoomGrew};
 ghost use Rattle.sd_fleet.specs.Calling.{IsLimited};
-ghost use Rattle.sd_fleet.specs.Bounds.{IsCrew, moment_of};
+ghost use Rattle.sd_fleet.specs.Bounds.{IsCrew, context_of};
 
-use crate::crew::{Moment, perform};
+use crate::crew::{CallContext, perform};
 use sd_core::Node;
-use sd_fabric::{ApplyFault, Fabric, Outcome};
+use sd_fleet_fabric::{ApplyFault, Fabric, Outcome};
 use sd_msg::{Flight, TakeFault};
 use sd_num::NoMemory;
 use sd_plan::Plan;
@@ -52,14 +52,14 @@ fn no_nodes<N: Node>(alloc: Global, devices: u32) -> Result<Vec<Option<N>>, NoMe
     Ok(nodes)
 }
 
-/// The moment of an event.
-fn moment_at(fabric: &Fabric, event: &Event) -> Moment
+/// The context of an event.
+fn context_at(fabric: &Fabric, event: &Event) -> CallContext
     requires { IfSome (device_of event.now) (λ d. d < length fabric.now.net.devices) }
-    ensures moment { result ≡ moment_of fabric.now event.now }
+    ensures context { result ≡ context_of fabric.now event.now }
     ensures sound { IsSound fabric.now }
 {
     let world = fabric.world();
-    Moment {
+    CallContext {
         given: fabric.given(event),
         events: world.events(),
         reading: match event.device() {
@@ -78,7 +78,8 @@ impl<N: Node> Fleet<N> {
         requires count { length plans.now < 2 ^ 32 }
         requires sound { AreSound (network topo.now) plans.now }
         ensures stands { IfOk result (λ fleet. (setting : Setting)
-            → setting.net ≡ network topo.now → setting.plans ≡ plans.now → StandsFor N.Node fleet setting []) }
+            → setting.net ≡ network topo.now → setting.plans ≡ plans.now
+            → StandsFor N.Node fleet setting []) }
     {
         let fabric = Fabric::new(alloc, topo, plans)?;
         let nodes = no_nodes(alloc, fabric.devices())?;
@@ -96,7 +97,8 @@ impl<N: Node> Fleet<N> {
     pub fn refusal(&self, event: &Event) -> Option<ApplyFault>
         ensures kept { result ≡ refusal_in self.now.fabric event.now }
         ensures exact { (setting : Setting) (run : List (NodeStep N))
-            → StandsFor N.Node self.now setting run → result ≡ refusal_of setting (steps_of run) event.now }
+            → StandsFor N.Node self.now setting run
+            → result ≡ refusal_of setting (steps_of run) event.now }
     {
         self.fabric.refusal(event)
     }
@@ -106,7 +108,8 @@ impl<N: Node> Fleet<N> {
     pub fn most_sent(&self, event: &Event) -> usize
         ensures kept { result ≡ most_sent_in self.now.fabric event.now }
         ensures exact { (setting : Setting) (run : List (NodeStep N))
-            → StandsFor N.Node self.now setting run → result ≡ most_sent_of setting (steps_of run) event.now }
+            → StandsFor N.Node self.now setting run
+            → result ≡ most_sent_of setting (steps_of run) event.now }
     {
         self.fabric.most_sent(event)
     }
@@ -120,10 +123,12 @@ impl<N: Node> Fleet<N> {
             → StandsFor N.Node self.old setting run
             → IsAccepted N.Node self.new setting run event.now outcome) }
         ensures limited { IfOk result (λ outcome. IfSome outcome.report (λ told. IsLimited told.1)) }
-        ensures few { IfOk result (λ outcome. outcome.sent ≤ most_sent_in self.old.fabric event.now) }
+        ensures few { IfOk result
+            (λ outcome. outcome.sent ≤ most_sent_in self.old.fabric event.now) }
         ensures refused { IfErr result (λ fault. (setting : Setting) (run : List (NodeStep N))
             → StandsFor N.Node self.old setting run
-            → StandsFor N.Node self.new setting run × IsFault fault setting (steps_of run) event.now) }
+            → StandsFor N.Node self.new setting run
+            × IsFault fault setting (steps_of run) event.now) }
     {
         match self.prepare(alloc, event) {
             Ok(_) => {
@@ -143,7 +148,8 @@ impl<N: Node> Fleet<N> {
         ensures prepared { OnOk result (IsPrepared self.new.fabric event.now) }
         ensures most { IfOk result (λ most. most ≡ most_sent_in self.new.fabric event.now) }
         ensures fault { IfErr result (λ fault. (setting : Setting) (run : List (NodeStep N))
-            → StandsFor N.Node self.old setting run → IsFault fault setting (steps_of run) event.now) }
+            → StandsFor N.Node self.old setting run
+            → IsFault fault setting (steps_of run) event.now) }
         // nothing changed but room
         ensures others { OnlyRoomGrew self.old.fabric self.new.fabric }
         ensures stands { (setting : Setting) (run : List (NodeStep N))
@@ -171,8 +177,8 @@ impl<N: Node> Fleet<N> {
         ensures few { outcome.new.sent ≤ most_sent_in self.old.fabric event.now }
     {
         let act = self.fabric.act(event);
-        let moment = moment_at(&self.fabric, event);
-        let reply = perform(&mut self.nodes, &act, &moment);
+        let context = context_at(&self.fabric, event);
+        let reply = perform(&mut self.nodes, &act, &context);
         self.fabric.step(event, &reply, outcome);
     }
 
@@ -188,7 +194,8 @@ impl<N: Node> Fleet<N> {
     pub fn is_up(&self, d: u32) -> bool
         requires { d < length self.now.fabric.net.devices }
         ensures { (setting : Setting) (run : List (NodeStep N))
-            → StandsFor N.Node self.now setting run → result ≡ is_up_seen (seen_of (steps_of run)) d }
+            → StandsFor N.Node self.now setting run
+            → result ≡ is_up_seen (seen_of (steps_of run)) d }
     {
         self.fabric.is_up(d)
     }
@@ -198,7 +205,8 @@ impl<N: Node> Fleet<N> {
     pub fn is_counted(&self, d: u32) -> bool
         requires { d < length self.now.fabric.net.devices }
         ensures { (setting : Setting) (run : List (NodeStep N))
-            → StandsFor N.Node self.now setting run → result ≡ is_counted_seen setting (seen_of (steps_of run)) d }
+            → StandsFor N.Node self.now setting run
+            → result ≡ is_counted_seen setting (seen_of (steps_of run)) d }
     {
         self.fabric.is_counted(d)
     }

@@ -5,4 +5,4 @@ mod crew;
 mod fleet;
 
 pub use fleet::Fleet;
-pub use sd_fabric::{ApplyFault, Outcome};
+pub use sd_fleet_fabric::{ApplyFault, Outcome};

@@ -31,7 +31,8 @@ pub word_is : (word : ℕ) (old new : Lcg) → ◌≡◌ {A = ℕ × Lcg} (word,
 word_is word old new drawn = (ap (λ (p : ℕ × Lcg). p.0) drawn, ap (λ (p : ℕ × Lcg). p.1) drawn)
 
 -- one device more has its lead
-pub draws_more : (devices k word : ℕ) (old new : Lcg) (leads more whole : List ℕ) → k < devices → ◌≡◌ {A = ℕ × Lcg} (word, new) (pcg32 old) → more ≡ leads ++ word % 301 ∷ []
+pub draws_more : (devices k word : ℕ) (old new : Lcg) (leads more whole : List ℕ) → k < devices → ◌≡◌ {A = ℕ × Lcg} (word, new) (pcg32 old)
+    → more ≡ leads ++ word % 301 ∷ []
     → leads ++ leads_of (devices - k) old ≡ whole → more ++ leads_of (devices - (k + 1)) new ≡ whole
 draws_more devices k word old new leads more whole less drawn is before =
     let left : devices - k ≡ suc (devices - (k + 1)) = omega (arith, less) in

@@ -1,20 +1,20 @@
 -- The messages that a step sent are posted, one after the other.
 use Rattle.std.specs.Prelude.{◌≡◌, ℕ, zero, suc, ◌+◌, ◌-◌, ◌^◌, ◌<◌, ◌≤◌, Bool, true, false, List, [], ◌∷◌, length, take, min, Result, Ok, Err, refl, if◌then◌else◌}
 use Rattle.std.proofs.Common.{arith, ap, sym, ◌∙◌, subst, get_or}
-use Rattle.sd_msg.specs.declared.Flight.{Flight}
-use Rattle.sd_msg.specs.declared.TakeFault.{TakeFault}
-use Rattle.sd_msg.specs.declared.TakeFault.TheVariants as fault
+use Rattle.sd_core.specs.Msg.declared.Flight.{Flight}
+use Rattle.sd_core.specs.Msg.declared.TakeFault.{TakeFault}
+use Rattle.sd_core.specs.Msg.declared.TakeFault.TheVariants as fault
 use Rattle.sd_sched.specs.Events.{reference_of}
-use Rattle.sd_history.specs.World.{Setting}
-use Rattle.sd_history.specs.Steps.{Step, flight_count}
-use Rattle.sd_history.specs.Accepted.{AreSteps}
-use Rattle.sd_history_flights.specs.Flights.{AreNumberedOn, look_in}
-use Rattle.sd_history_flights.proofs.Sending.{step_numbered, counted}
-use Rattle.sd_history_flights.proofs.Counts.{numbers_few}
-use Rattle.sd_fabric.specs.declared.Outcome.{Outcome}
-use Rattle.sd_fabric.specs.Outcomes.{outcome_of, first_number}
-use Rattle.sd_history.specs.Nodes.{steps_of}
-use Rattle.sd_gen_arrivals.proofs.Widening.{stands_wider}
+use Rattle.sd_fleet.specs.History.World.{Setting}
+use Rattle.sd_fleet.specs.History.Steps.{Step, flight_count}
+use Rattle.sd_fleet.specs.History.Accepted.{AreSteps}
+use Rattle.sd_fleet.specs.History.flights.Flights.{AreNumberedOn, look_in}
+use Rattle.sd_fleet.proofs.History.flights.Sending.{step_numbered, counted}
+use Rattle.sd_fleet.proofs.History.flights.Counts.{numbers_few}
+use Rattle.sd_fleet.specs.FleetFabric.declared.Outcome.{Outcome}
+use Rattle.sd_fleet.specs.FleetFabric.Outcomes.{outcome_of, first_number}
+use Rattle.sd_fleet.specs.History.Nodes.{steps_of}
+use Rattle.sd_gen.proofs.arrivals.Widening.{stands_wider}
 use Rattle.sd_gen.specs.declared.driven.Driven.{Ghosts}
 use Rattle.sd_gen.specs.declared.driver.Driver.{Driver}
 use Rattle.sd_gen.specs.Drafts.{Draft, each, when, with_message}
@@ -55,10 +55,12 @@ first_given : (n : ℕ) (fs : List Flight) → AreNumberedOn n fs → 0 < length
 first_given n [] is some = absurd (omega (arith, some))
 first_given n (f ∷ fs) is some = is.0
 
-module _ {D : Type 0} (g : Ghosts D) (setting : Setting) (x : Draft) (s : Step) (earlier : List Step) (steps : x.steps ≡ s ∷ earlier) (is : AreSteps setting (s ∷ earlier)) where
+module _ {D : Type 0} (g : Ghosts D) (setting : Setting) (x : Draft) (s : Step) (earlier : List Step) (steps : x.steps ≡ s ∷ earlier)
+    (is : AreSteps setting (s ∷ earlier)) where
   pub more : (old new : Driver D) (i number reference : ℕ) → i < length s.sent → number ≡ flight_count earlier + 1 + i → reference ≡ reference_of s.seen.event
       → StandsTo g old setting (with_first i s x) (flight_count earlier + i)
-      → ((y : Draft) (top : ℕ) → top < number → ((f : Flight) → look_in y.steps number ≡ Ok f → (f.sent_at ≡ reference) × (f.number ≡ number)) → StandsTo g old setting y top
+      → ((y : Draft) (top : ℕ) → top < number → ((f : Flight) → look_in y.steps number ≡ Ok f → (f.sent_at ≡ reference) × (f.number ≡ number))
+      → StandsTo g old setting y top
       → StandsTo g new setting (posted (look_in y.steps number) y) number)
       → StandsTo g new setting (with_first (i + 1) s x) (flight_count earlier + (i + 1))
   more old new i number reference within is_number is_reference stands posts =
@@ -73,13 +75,16 @@ module _ {D : Type 0} (g : Ghosts D) (setting : Setting) (x : Draft) (s : Step) 
       ap (λ r. posted r y) found ∙ posted_found f y ∙ sym (each_take_more (λ g. when g.reaches (with_message g)) s.sent i any_flight x within) in
       let next : number ≡ flight_count earlier + (i + 1) = omega (arith, is_number) in
       let done : StandsTo g new setting (posted (look_in y.steps number) y) number =
-      posts y (flight_count earlier + i) (omega (arith, is_number)) (only f f.reaches refl found its (sent_then setting s earlier is f among ∙ sym is_reference)) stands in
+      posts y (flight_count earlier + i) (omega (arith, is_number))
+      (only f f.reaches refl found its (sent_then setting s earlier is f among ∙ sym is_reference)) stands in
       subst (λ (n : ℕ). StandsTo g new setting (with_first (i + 1) s x) n) next (subst (λ z. StandsTo g new setting z number) one done)
     where
-      only : (f : Flight) (b : Bool) → f.reaches ≡ b → {o : Result Flight TakeFault} → o ≡ (if f.reaches then Ok f else Err fault.Spent) → f.number ≡ number → f.sent_at ≡ reference
+      only : (f : Flight) (b : Bool) → f.reaches ≡ b → {o : Result Flight TakeFault} → o ≡ (if f.reaches then Ok f else Err fault.Spent) → f.number ≡ number
+          → f.sent_at ≡ reference
           → (g : Flight) → o ≡ Ok g → (g.sent_at ≡ reference) × (g.number ≡ number)
       only f true reaches found its in_time g looks =
-          let same : f ≡ g = let both : ◌≡◌ {A = Result Flight TakeFault} (Ok f) (Ok g) = sym (found ∙ ap (λ b. if b then Ok f else Err fault.Spent) reaches) ∙ looks in cc in
+          let same : f ≡ g = let both : ◌≡◌ {A = Result Flight TakeFault} (Ok f) (Ok g) =
+          sym (found ∙ ap (λ b. if b then Ok f else Err fault.Spent) reaches) ∙ looks in cc in
           (subst (λ (h : Flight). h.sent_at ≡ reference) same in_time, subst (λ (h : Flight). h.number ≡ number) same its)
       only f false lost found its in_time g looks =
           let both : ◌≡◌ {A = Result Flight TakeFault} (Err fault.Spent) (Ok g) = sym (found ∙ ap (λ b. if b then Ok f else Err fault.Spent) lost) ∙ looks in cc
@@ -96,17 +101,21 @@ posting_begins g r outcome reference n none setting x s earlier steps comes in_t
     subst (λ (k : ℕ). StandsTo g r setting (with_first k s x) (flight_count earlier + k)) (sym none)
     (let same : flight_count earlier ≡ flight_count earlier + 0 = omega arith in subst (λ (k : ℕ). StandsTo g r setting x k) same stands)
 
-sent_some : (setting : Setting) (s : Step) (earlier : List Step) → AreSteps setting (s ∷ earlier) → (outcome : Outcome) → outcome ≡ outcome_of s → (n : ℕ) → n < outcome.sent
+sent_some : (setting : Setting) (s : Step) (earlier : List Step) → AreSteps setting (s ∷ earlier) → (outcome : Outcome) → outcome ≡ outcome_of s → (n : ℕ)
+    → n < outcome.sent
     → (outcome.first_sent ≡ flight_count earlier + 1) × (n < length s.sent)
 sent_some setting s earlier is outcome comes n less =
     let count : outcome.sent ≡ length s.sent = ap (λ (o : Outcome). o.sent) comes in
     let within : n < length s.sent = omega (arith, less, count) in
-    let begins : first_number s.sent ≡ flight_count earlier + 1 = first_given (flight_count earlier + 1) s.sent (step_numbered setting s earlier is) (omega (arith, within)) in
+    let begins : first_number s.sent ≡ flight_count earlier + 1 =
+    first_given (flight_count earlier + 1) s.sent (step_numbered setting s earlier is) (omega (arith, within)) in
     (ap (λ (o : Outcome). o.first_sent) comes ∙ begins, within)
 
-pub posting_goes : {D : Type 0} (g : Ghosts D) (r old new : Driver D) (outcome : Outcome) (reference number n : ℕ) → outcome.first_sent ≤ number → number < min (outcome.first_sent + outcome.sent) (2 ^ 64 - 1) → n ≡ number + 1 - outcome.first_sent
+pub posting_goes : {D : Type 0} (g : Ghosts D) (r old new : Driver D) (outcome : Outcome) (reference number n : ℕ) → outcome.first_sent ≤ number
+    → number < min (outcome.first_sent + outcome.sent) (2 ^ 64 - 1) → n ≡ number + 1 - outcome.first_sent
     → Posts g r old outcome reference (number - outcome.first_sent)
-    → ((setting : Setting) (y : Draft) (top : ℕ) → top < number → ((f : Flight) → look_in y.steps number ≡ Ok f → (f.sent_at ≡ reference) × (f.number ≡ number)) → StandsTo g old setting y top
+    → ((setting : Setting) (y : Draft) (top : ℕ) → top < number → ((f : Flight) → look_in y.steps number ≡ Ok f → (f.sent_at ≡ reference) × (f.number ≡ number))
+    → StandsTo g old setting y top
     → StandsTo g new setting (posted (look_in y.steps number) y) number)
     → Posts g r new outcome reference n
 posting_goes g r old new outcome reference number n from within next before one setting x s earlier steps comes in_time stands =
@@ -116,7 +125,8 @@ posting_goes g r old new outcome reference number n from within next before one 
     let its : number ≡ flight_count earlier + 1 + (number - outcome.first_sent) = omega (arith, from, some.0) in
     let more_of : n ≡ number - outcome.first_sent + 1 = omega (arith, from, next) in
     subst (λ (k : ℕ). StandsTo g new setting (with_first k s x) (flight_count earlier + k)) (sym more_of)
-    (more g setting x s earlier steps is old new (number - outcome.first_sent) number reference some.1 its in_time (before setting x s earlier steps comes in_time stands) (one setting))
+    (more g setting x s earlier steps is old new (number - outcome.first_sent) number reference some.1 its in_time
+    (before setting x s earlier steps comes in_time stands) (one setting))
 
 take_whole : {A : Type 0} (xs : List A) (n : ℕ) → length xs ≤ n → take n xs ≡ xs
 take_whole [] zero h = refl
@@ -124,7 +134,8 @@ take_whole [] (suc n) h = refl
 take_whole (x ∷ xs) zero h = absurd (omega (arith, h))
 take_whole (x ∷ xs) (suc n) h = ap (λ ys. x ∷ ys) (take_whole xs n (omega (arith, h)))
 
-pub posting_ends : {D : Type 0} (g : Ghosts D) (old new : Driver D) (outcome : Outcome) (reference number : ℕ) → outcome.first_sent ≤ number → number ≤ min (outcome.first_sent + outcome.sent) (2 ^ 64 - 1)
+pub posting_ends : {D : Type 0} (g : Ghosts D) (old new : Driver D) (outcome : Outcome) (reference number : ℕ) → outcome.first_sent ≤ number
+    → number ≤ min (outcome.first_sent + outcome.sent) (2 ^ 64 - 1)
     → min (outcome.first_sent + outcome.sent) (2 ^ 64 - 1) ≤ number → Posts g old new outcome reference (number - outcome.first_sent)
     → (setting : Setting) (x : Draft) (s : Step) (earlier : List Step) → x.steps ≡ s ∷ earlier → outcome ≡ outcome_of s → reference ≡ reference_of s.seen.event
     → StandsTo g old setting x (flight_count earlier) → StandsFor g new setting (each with_message s.seen.sent x)
@@ -135,7 +146,8 @@ posting_ends g old new outcome reference number from upto end posts setting x s 
     let all : flight_count (s ∷ earlier) ≡ length s.sent + flight_count earlier = counted s earlier in
     let first : outcome.first_sent ≤ flight_count earlier + 1 = low setting s earlier is outcome comes in
     let whole : number - outcome.first_sent ≡ length s.sent = omega (arith, from, upto, end, count, few, all, first) in
-    let done : StandsTo g new setting (with_first (number - outcome.first_sent) s x) (flight_count earlier + (number - outcome.first_sent)) = posts setting x s earlier steps comes in_time stands in
+    let done : StandsTo g new setting (with_first (number - outcome.first_sent) s x) (flight_count earlier + (number - outcome.first_sent)) =
+    posts setting x s earlier steps comes in_time stands in
     let here : StandsTo g new setting (with_first (length s.sent) s x) (flight_count earlier + length s.sent) =
     subst (λ (k : ℕ). StandsTo g new setting (with_first k s x) (flight_count earlier + k)) whole done in
     let top : flight_count earlier + length s.sent ≡ flight_count (s ∷ earlier) = omega (arith, all) in
@@ -147,7 +159,8 @@ posting_ends g old new outcome reference number from upto end posts setting x s 
     subst (λ (k : ℕ). StandsTo g new setting (each with_message s.seen.sent x) k) (top ∙ ap flight_count (sym same))
     (subst (λ y. StandsTo g new setting y (flight_count earlier + length s.sent)) draft here)
   where
-    low : (setting : Setting) (s : Step) (earlier : List Step) → AreSteps setting (s ∷ earlier) → (outcome : Outcome) → outcome ≡ outcome_of s → outcome.first_sent ≤ flight_count earlier + 1
+    low : (setting : Setting) (s : Step) (earlier : List Step) → AreSteps setting (s ∷ earlier) → (outcome : Outcome) → outcome ≡ outcome_of s
+        → outcome.first_sent ≤ flight_count earlier + 1
     low setting s earlier is outcome comes =
         subst (λ (n : ℕ). n ≤ flight_count earlier + 1) (sym (ap (λ (o : Outcome). o.first_sent) comes)) (by s.sent (step_numbered setting s earlier is))
       where
@@ -156,7 +169,8 @@ posting_ends g old new outcome reference number from upto end posts setting x s 
         by (f ∷ fs) is = let same = is.0 in omega (arith, same)
 
 -- the numbers of what waits may go up to a greater one
-pub wider : {D : Type 0} (g : Ghosts D) (r : Driver D) (setting : Setting) (x : Draft) (top number : ℕ) → top ≤ number → StandsTo g r setting x top → StandsTo g r setting x number
+pub wider : {D : Type 0} (g : Ghosts D) (r : Driver D) (setting : Setting) (x : Draft) (top number : ℕ) → top ≤ number → StandsTo g r setting x top
+    → StandsTo g r setting x number
 wider g r setting x top number more_of stands =
     record {
       net = stands.net;
@@ -170,7 +184,8 @@ wider g r setting x top number more_of stands =
     }
 
 -- where no message is found, none waits
-pub nothing_found : {D : Type 0} (g : Ghosts D) (r : Driver D) (setting : Setting) (x : Draft) (top number : ℕ) (found : Result Flight TakeFault) (e : TakeFault) → found ≡ Err e
+pub nothing_found : {D : Type 0} (g : Ghosts D) (r : Driver D) (setting : Setting) (x : Draft) (top number : ℕ) (found : Result Flight TakeFault)
+    (e : TakeFault) → found ≡ Err e
     → ((run : Run) → g.stands r.driven setting run → found ≡ look_in (steps_of run) number) → top < number → StandsTo g r setting x top
     → StandsTo g r setting (posted (look_in x.steps number) x) number
 nothing_found g r setting x top number found e is looks above stands =

@@ -1,14 +1,14 @@
 -- Receipts, one after the other.
 use Rattle.std.specs.Prelude.{◌≡◌, ℕ, suc, ◌^◌, ◌≤◌, Bool, true, false, Option, Some, None, refl}
 use Rattle.std.proofs.Common.{arith, sym, subst}
-use Rattle.sd_history.specs.World.{Setting}
-use Rattle.sd_history.specs.Steps.{flight_count}
-use Rattle.sd_history_flights.proofs.Counts.{numbers_few}
-use Rattle.sd_gen_arrivals.specs.declared.Arrival.{Arrival}
-use Rattle.sd_gen_arrivals.specs.declared.arrivals.Arrivals.{Arrivals}
-use Rattle.sd_gen_arrivals.specs.Waiting.{next_by, without}
-use Rattle.sd_gen_arrivals.specs.Standing as arrivals
-use Rattle.sd_gen_arrivals.proofs.Widening.{next_within}
+use Rattle.sd_fleet.specs.History.World.{Setting}
+use Rattle.sd_fleet.specs.History.Steps.{flight_count}
+use Rattle.sd_fleet.proofs.History.flights.Counts.{numbers_few}
+use Rattle.sd_gen.specs.declared.arrivals.Arrival.{Arrival}
+use Rattle.sd_gen.specs.declared.arrivals.Arrivals.{Arrivals}
+use Rattle.sd_gen.specs.arrivals.Waiting.{next_by, without}
+use Rattle.sd_gen.specs.arrivals.Standing as arrivals
+use Rattle.sd_gen.proofs.arrivals.Widening.{next_within}
 use Rattle.sd_gen.specs.declared.driven.Driven.{Ghosts}
 use Rattle.sd_gen.specs.declared.driver.Driver.{Driver}
 use Rattle.sd_gen.specs.Drafts.{Draft, receive, receive_up_to, go_on, without_message}
@@ -22,7 +22,8 @@ pub record StillTo {D : Type 0} (g : Ghosts D) (driver : Driver D) (setting : Se
   pub stands : StandsFor g driver setting draft
   pub rest : receive_up_to setting moment n draft ≡ meant
 
-pub begins : {D : Type 0} (g : Ghosts D) (r : Driver D) (setting : Setting) (moment n : ℕ) (x : Draft) → StandsFor g r setting x → StillTo g r setting moment n (receive_up_to setting moment n x)
+pub begins : {D : Type 0} (g : Ghosts D) (r : Driver D) (setting : Setting) (moment n : ℕ) (x : Draft) → StandsFor g r setting x
+    → StillTo g r setting moment n (receive_up_to setting moment n x)
 begins g r setting moment n x stands = record { draft = x; stands = stands; rest = refl }
 
 pub goes : {D : Type 0} (g : Ghosts D) (old new : Driver D) (setting : Setting) (moment n : ℕ) (meant : Draft) → StillTo g old setting moment (suc n) meant
@@ -30,7 +31,8 @@ pub goes : {D : Type 0} (g : Ghosts D) (old new : Driver D) (setting : Setting) 
 unfolding receive_up_to
 goes g old new setting moment n meant still one = by (next_by moment still.draft.waiting) (one still.draft still.stands) still.rest
   where
-    by : (o : Option Arrival) → ReceivesNext g new setting still.draft o true → go_on setting o (receive_up_to setting moment n) still.draft ≡ meant → StillTo g new setting moment n meant
+    by : (o : Option Arrival) → ReceivesNext g new setting still.draft o true → go_on setting o (receive_up_to setting moment n) still.draft ≡ meant
+        → StillTo g new setting moment n meant
     by None received rest = let never : true ≡ false = received.0 in cc
     by (Some w) received rest = record { draft = receive setting w still.draft; stands = received.1; rest = rest }
 
@@ -39,31 +41,46 @@ pub stops : {D : Type 0} (g : Ghosts D) (old new : Driver D) (setting : Setting)
 unfolding receive_up_to
 stops g old new setting moment n meant still one = by (next_by moment still.draft.waiting) (one still.draft still.stands) still.rest
   where
-    by : (o : Option Arrival) → ReceivesNext g new setting still.draft o false → go_on setting o (receive_up_to setting moment n) still.draft ≡ meant → StandsFor g new setting meant
+    by : (o : Option Arrival) → ReceivesNext g new setting still.draft o false → go_on setting o (receive_up_to setting moment n) still.draft ≡ meant
+        → StandsFor g new setting meant
     by None received rest = subst (λ y. StandsFor g new setting y) rest received.1
     by (Some w) received rest = let never : false ≡ true = received.0 in cc
 
-pub ends : {D : Type 0} (g : Ghosts D) (r : Driver D) (setting : Setting) (moment : ℕ) (meant : Draft) → StillTo g r setting moment 0 meant → StandsFor g r setting meant
+pub ends : {D : Type 0} (g : Ghosts D) (r : Driver D) (setting : Setting) (moment : ℕ) (meant : Draft) → StillTo g r setting moment 0 meant
+    → StandsFor g r setting meant
 unfolding receive_up_to
 ends g r setting moment meant still = subst (λ y. StandsFor g r setting y) still.rest still.stands
 
 -- with the count in another form
-pub counted : {D : Type 0} (g : Ghosts D) (r : Driver D) (setting : Setting) (moment m n : ℕ) (meant : Draft) → m ≡ n → StillTo g r setting moment m meant → StillTo g r setting moment n meant
+pub counted : {D : Type 0} (g : Ghosts D) (r : Driver D) (setting : Setting) (moment m n : ℕ) (meant : Draft) → m ≡ n → StillTo g r setting moment m meant
+    → StillTo g r setting moment n meant
 counted g r setting moment m n meant same still = subst (λ (k : ℕ). StillTo g r setting moment k meant) same still
 
 -- and with what was told
-pub told : {D : Type 0} (g : Ghosts D) (new : Driver D) (setting : Setting) (x : Draft) (o : Option Arrival) (more known : Bool) → more ≡ known → ReceivesNext g new setting x o more → ReceivesNext g new setting x o known
+pub told : {D : Type 0} (g : Ghosts D) (new : Driver D) (setting : Setting) (x : Draft) (o : Option Arrival) (more known : Bool) → more ≡ known
+    → ReceivesNext g new setting x o more → ReceivesNext g new setting x o known
 told g new setting x o more known same received = subst (λ (b : Bool). ReceivesNext g new setting x o b) same received
 
 -- the message that came next is received
-pub received_next : {D : Type 0} (g : Ghosts D) (old new : Driver D) (kept : Arrivals) (w : Arrival) (moment : ℕ) (setting : Setting) (x : Draft) → StandsFor g old setting x → ◌≡◌ {A = Option Arrival} (Some w) (next_by moment x.waiting)
+pub received_next : {D : Type 0} (g : Ghosts D) (old new : Driver D) (kept : Arrivals) (w : Arrival) (moment : ℕ) (setting : Setting) (x : Draft)
+    → StandsFor g old setting x → ◌≡◌ {A = Option Arrival} (Some w) (next_by moment x.waiting)
     → arrivals.StandsFor kept (flight_count x.steps) (without w.number x.waiting)
     → (w.number ≤ 2 ^ 60 → Becomes g (record old { arrivals = kept }) new (λ s. received s w)) → ReceivesNext g new setting x (next_by moment x.waiting) true
 received_next g old new kept w moment setting x stands next left becomes =
-    let few : flight_count x.steps ≤ 2 ^ 41 = numbers_few setting x.steps (are_steps g old setting x (flight_count x.steps) stands) (omega (arith, stands.net.links)) in
+    let few : flight_count x.steps ≤ 2 ^ 41 =
+    numbers_few setting x.steps (are_steps g old setting x (flight_count x.steps) stands) (omega (arith, stands.net.links)) in
     let within : w.number ≤ flight_count x.steps = next_within moment (flight_count x.steps) x.waiting w stands.arrivals.numbers (sym next) in
     subst (λ o. ReceivesNext g new setting x o true) next (
       refl,
       becomes (omega (arith, few, within)) setting (without_message setting w.number x)
-          (record { net = stands.net; run = stands.run; is_run = stands.is_run; driven = stands.driven; steps = stands.steps; rng = stands.rng; leads = stands.leads; arrivals = left }),
+          (record {
+            net = stands.net;
+            run = stands.run;
+            is_run = stands.is_run;
+            driven = stands.driven;
+            steps = stands.steps;
+            rng = stands.rng;
+            leads = stands.leads;
+            arrivals = left;
+          }),
     )

@@ -5,24 +5,24 @@ use Rattle.std.proofs.Common.{arith, ap, sym, ◌∙◌, get_or}
 use Rattle.std.proofs.lemmas.Bool.{le-leb, and_from}
 use Rattle.std.proofs.lemmas.List.Folds.{find-append}
 use Rattle.sd_topo.specs.declared.Thing.{Thing}
-use Rattle.sd_msg.specs.declared.Flight.{Flight}
-use Rattle.sd_msg.specs.declared.TakeFault.TheVariants as fault
-use Rattle.sd_msg.specs.Books.{has_number, is_given, is_current, is_swept, AreNumbered}
-use Rattle.sd_msg.proofs.Numbered.{numbered_filter}
+use Rattle.sd_core.specs.Msg.declared.Flight.{Flight}
+use Rattle.sd_core.specs.Msg.declared.TakeFault.TheVariants as fault
+use Rattle.sd_core.specs.Msg.Books.{has_number, is_given, is_current, is_swept, AreNumbered}
+use Rattle.sd_core.proofs.Msg.Numbered.{numbered_filter}
 use Rattle.sd_sched.specs.declared.Event.{Event}
 use Rattle.sd_sched.specs.Events.{reference_of, message_of}
-use Rattle.sd_history.specs.Things.{failure_of}
-use Rattle.sd_history.specs.World.{Setting}
-use Rattle.sd_history.specs.Steps.{Step, flight_count}
-use Rattle.sd_history.specs.Refusals.{unspent}
-use Rattle.sd_history.specs.Accepted.{AreSteps}
-use Rattle.sd_history.proofs.Among.{Among, first, later}
-use Rattle.sd_history_flights.specs.Flights.{AreNumberedOn, left_by, without_taken, without_swept, look_in}
-use Rattle.sd_history_flights.proofs.Finds.{finds, within, past_all, find_passing}
-use Rattle.sd_history_flights.proofs.Sending.{step_numbered, counted, was_sent}
-use Rattle.sd_history_flights.proofs.Numbers.{step_given, unspent_given}
-use Rattle.sd_history_flights.proofs.Looks.{look_is}
-use Rattle.sd_history_flights.proofs.Leaving.{unspent_after}
+use Rattle.sd_fleet.specs.History.Things.{failure_of}
+use Rattle.sd_fleet.specs.History.World.{Setting}
+use Rattle.sd_fleet.specs.History.Steps.{Step, flight_count}
+use Rattle.sd_fleet.specs.History.Refusals.{unspent}
+use Rattle.sd_fleet.specs.History.Accepted.{AreSteps}
+use Rattle.sd_fleet.proofs.History.Among.{Among, first, later}
+use Rattle.sd_fleet.specs.History.flights.Flights.{AreNumberedOn, left_by, without_taken, without_swept, look_in}
+use Rattle.sd_fleet.proofs.History.flights.Finds.{finds, within, past_all, find_passing}
+use Rattle.sd_fleet.proofs.History.flights.Sending.{step_numbered, counted, was_sent}
+use Rattle.sd_fleet.proofs.History.flights.Numbers.{step_given, unspent_given}
+use Rattle.sd_fleet.proofs.History.flights.Looks.{look_is}
+use Rattle.sd_fleet.proofs.History.flights.Leaving.{unspent_after}
 
 -- the messages that are seen are those that reach
 pub seen_reach : (setting : Setting) (s : Step) (earlier : List Step) → AreSteps setting (s ∷ earlier) → s.seen.sent ≡ filter (λ f. f.reaches) s.sent
@@ -67,7 +67,9 @@ module _ (setting : Setting) (s : Step) (earlier : List Step) (is : AreSteps set
       ∙ ap (option_and_then (λ g. if g.reaches then Some g else None)) (finds (flight_count earlier + 1) s.sent f (step_numbered setting s earlier is) among)
 
   given : is_given (flight_count (s ∷ earlier)) f.number ≡ true
-  given = let low = above in let high = upto in and_from (nat_le 1 f.number) (nat_le f.number (flight_count (s ∷ earlier))) (le-leb 1 f.number (omega (arith, low))) (le-leb f.number (flight_count (s ∷ earlier)) high)
+  given = let low = above in let high = upto in
+      and_from (nat_le 1 f.number) (nat_le f.number (flight_count (s ∷ earlier))) (le-leb 1 f.number (omega (arith, low)))
+      (le-leb f.number (flight_count (s ∷ earlier)) high)
 
   pub sent_found : look_in (s ∷ earlier) f.number ≡ (if f.reaches then Ok f else Err fault.Spent)
   sent_found =

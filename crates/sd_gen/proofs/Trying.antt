@@ -5,16 +5,16 @@ use Rattle.sd_core.specs.declared.registers.Registers.{Registers}
 use Rattle.sd_core.specs.contracts.device.DeviceNode.TheImpl.{ghosts as device}
 use Rattle.sd_sched.specs.declared.Event.{Event}
 use Rattle.sd_sched.specs.Events.{reference_of}
-use Rattle.sd_history.specs.World.{Setting}
-use Rattle.sd_history.specs.Steps.{Step, act_by, step_of, flight_count}
-use Rattle.sd_history.specs.Chronicle.{told_by, next_step}
-use Rattle.sd_history.specs.Refusals.{refusal}
-use Rattle.sd_history.specs.Nodes.{NodeStep, IsRun, steps_of}
-use Rattle.sd_history.specs.Accepted.{AreSteps}
-use Rattle.sd_history.proofs.Devices.{devices_tell}
-use Rattle.sd_history.proofs.Accepting.{run_is_accepted}
-use Rattle.sd_fabric.specs.declared.Outcome.{Outcome}
-use Rattle.sd_fabric.specs.Outcomes.{outcome_of}
+use Rattle.sd_fleet.specs.History.World.{Setting}
+use Rattle.sd_fleet.specs.History.Steps.{Step, act_by, step_of, flight_count}
+use Rattle.sd_fleet.specs.History.Chronicle.{told_by, next_step}
+use Rattle.sd_fleet.specs.History.Refusals.{refusal}
+use Rattle.sd_fleet.specs.History.Nodes.{NodeStep, IsRun, steps_of}
+use Rattle.sd_fleet.specs.History.Accepted.{AreSteps}
+use Rattle.sd_fleet.proofs.History.Devices.{devices_tell}
+use Rattle.sd_fleet.proofs.History.Accepting.{run_is_accepted}
+use Rattle.sd_fleet.specs.FleetFabric.declared.Outcome.{Outcome}
+use Rattle.sd_fleet.specs.FleetFabric.Outcomes.{outcome_of}
 use Rattle.sd_gen.specs.declared.driven.Driven.{Ghosts}
 use Rattle.sd_gen.specs.declared.driver.Driver.{Driver}
 use Rattle.sd_gen.specs.Drafts.{Draft, each, with_message, unless_refused, try}
@@ -22,7 +22,8 @@ use Rattle.sd_gen.specs.Driving.{Run, IsAccepted, IsRefused, IsOffered}
 use Rattle.sd_gen.specs.Standing.{StandsTo, StandsFor}
 
 -- the next step of a run of devices is that of the chronicle
-next_is : (setting : Setting) (run : Run) (next : NodeStep Registers) → IsRun device setting (next ∷ run) → next.step ≡ next_step setting (steps_of run) next.step.seen.event
+next_is : (setting : Setting) (run : Run) (next : NodeStep Registers) → IsRun device setting (next ∷ run)
+    → next.step ≡ next_step setting (steps_of run) next.step.seen.event
 next_is setting run next is =
     let told : next.step.told ≡ told_by (steps_of run) next.step.act = (devices_tell setting (next ∷ run) is).1 in
     let act : next.step.act ≡ act_by setting (steps_of run) next.step.seen.event = ap (λ (s : Step). s.act) is.2.is in
@@ -33,7 +34,8 @@ abbrev stepped : Setting → Event → Draft → Draft
 stepped setting e x = record { rng = x.rng; leads = x.leads; steps = next_step setting x.steps e ∷ x.steps; waiting = x.waiting }
 
 -- what was told of an event that was offered
-pub known : {D : Type 0} (Stands : D → Setting → Run → Type 0) (driven : D) (setting : Setting) (run : Run) (e : Event) (outcome : Outcome) (accepted so : Bool) → accepted ≡ so
+pub known : {D : Type 0} (Stands : D → Setting → Run → Type 0) (driven : D) (setting : Setting) (run : Run) (e : Event) (outcome : Outcome) (accepted so : Bool)
+    → accepted ≡ so
     → IsOffered Stands driven setting run e outcome accepted → IsOffered Stands driven setting run e outcome so
 known Stands driven setting run e outcome accepted so same offered = subst (IsOffered Stands driven setting run e outcome) same offered
 
@@ -44,7 +46,8 @@ module _ {D : Type 0} (g : Ghosts D) where
 
   -- what is refused is left out
   pub left_out : (r : Driver D) (driven : D) (setting : Setting) (x : Draft) (e : Event) → StandsFor g r setting x
-      → ((s : Setting) (run : Run) → g.stands r.driven s run → IsRefused g.stands driven s run e) → StandsFor g (record r { driven = driven }) setting (try setting e x)
+      → ((s : Setting) (run : Run) → g.stands r.driven s run → IsRefused g.stands driven s run e)
+      → StandsFor g (record r { driven = driven }) setting (try setting e x)
   left_out r driven setting x e stands offered =
       let refused = offered setting stands.run stands.driven in
       let here : refusal setting x.steps e ≡ Some refused.why = subst (λ s. refusal setting s e ≡ Some refused.why) stands.steps refused.refused in

@@ -6,16 +6,16 @@ use Rattle.rand_core.specs.Steps.{first_words}
 use Rattle.rand_pcg.specs.Lcg.{Lcg, advance}
 use Rattle.rand_pcg.specs.Pcg.{multiplier_64, pcg32, pcg32_of_seed}
 use Rattle.sd_topo.specs.Network.{device_numbers}
-use Rattle.sd_msg.specs.declared.Flight.{Flight}
+use Rattle.sd_core.specs.Msg.declared.Flight.{Flight}
 use Rattle.sd_sched.specs.declared.Event.{Event}
 use Rattle.sd_sched.specs.declared.Event.TheVariants.{Start, Tick, Recv, FailDevice, Ask, Stage, Give, Commit, Seal, End}
-use Rattle.sd_history.specs.World.{Setting, is_up}
-use Rattle.sd_history.specs.Steps.{Step, seen_of, events_of}
-use Rattle.sd_history.specs.Chronicle.{next_step}
-use Rattle.sd_history.specs.Refusals.{refusal}
-use Rattle.sd_history.specs.declared.ApplyFault.{ApplyFault}
-use Rattle.sd_gen_arrivals.specs.declared.Arrival.{Arrival}
-use Rattle.sd_gen_arrivals.specs.Waiting.{next_by, without}
+use Rattle.sd_fleet.specs.History.World.{Setting, is_up}
+use Rattle.sd_fleet.specs.History.Steps.{Step, seen_of, events_of}
+use Rattle.sd_fleet.specs.History.Chronicle.{next_step}
+use Rattle.sd_fleet.specs.History.Refusals.{refusal}
+use Rattle.sd_fleet.specs.History.declared.ApplyFault.{ApplyFault}
+use Rattle.sd_gen.specs.declared.arrivals.Arrival.{Arrival}
+use Rattle.sd_gen.specs.arrivals.Waiting.{next_by, without}
 
 -- The words that are drawn
 

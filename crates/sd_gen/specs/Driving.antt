@@ -3,19 +3,20 @@ use Rattle.std.specs.Prelude.{◌≡◌, Bool, true, false, List, ◌∷◌, Som
 use Rattle.sd_core.specs.declared.registers.Registers.{Registers}
 use Rattle.sd_core.specs.contracts.device.DeviceNode.TheImpl.{ghosts as device}
 use Rattle.sd_sched.specs.declared.Event.{Event}
-use Rattle.sd_history.specs.declared.ApplyFault.{ApplyFault}
-use Rattle.sd_history.specs.World.{Setting}
-use Rattle.sd_history.specs.Steps.{events_of}
-use Rattle.sd_history.specs.Nodes.{NodeStep, IsRun, steps_of}
-use Rattle.sd_history.specs.Refusals.{refusal}
-use Rattle.sd_fabric.specs.declared.Outcome.{Outcome}
-use Rattle.sd_fabric.specs.Outcomes.{outcome_of}
+use Rattle.sd_fleet.specs.History.declared.ApplyFault.{ApplyFault}
+use Rattle.sd_fleet.specs.History.World.{Setting}
+use Rattle.sd_fleet.specs.History.Steps.{events_of}
+use Rattle.sd_fleet.specs.History.Nodes.{NodeStep, IsRun, steps_of}
+use Rattle.sd_fleet.specs.History.Refusals.{refusal}
+use Rattle.sd_fleet.specs.FleetFabric.declared.Outcome.{Outcome}
+use Rattle.sd_fleet.specs.FleetFabric.Outcomes.{outcome_of}
 
 abbrev pub Run : Type 0
 Run = List (NodeStep Registers)
 
 -- the event was accepted, and came to this: it stands for the run with one step more, of just this event
-pub record IsAccepted {D : Type 0} (Stands : D → Setting → Run → Type 0) (driven : D) (setting : Setting) (run : Run) (e : Event) (outcome : Outcome) : Type 0 where
+pub record IsAccepted {D : Type 0} (Stands : D → Setting → Run
+    → Type 0) (driven : D) (setting : Setting) (run : Run) (e : Event) (outcome : Outcome) : Type 0 where
   pub next : NodeStep Registers
   pub happens : next.step.seen.event ≡ e
   pub comes : outcome ≡ outcome_of next.step

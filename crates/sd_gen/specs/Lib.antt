@@ -7,3 +7,5 @@ pub mod Driving
 pub mod Recording
 pub mod Receiving
 pub mod Standing
+pub mod arrivals
+pub mod fabric

@@ -2,10 +2,10 @@
 use Rattle.std.specs.Prelude.{◌≡◌, ℕ, length}
 use Rattle.sd_topo.specs.Network.{IsNetwork}
 use Rattle.sd_core.specs.contracts.device.DeviceNode.TheImpl.{ghosts as device}
-use Rattle.sd_history.specs.World.{Setting}
-use Rattle.sd_history.specs.Steps.{flight_count}
-use Rattle.sd_history.specs.Nodes.{IsRun, steps_of}
-use Rattle.sd_gen_arrivals.specs.Standing as arrivals
+use Rattle.sd_fleet.specs.History.World.{Setting}
+use Rattle.sd_fleet.specs.History.Steps.{flight_count}
+use Rattle.sd_fleet.specs.History.Nodes.{IsRun, steps_of}
+use Rattle.sd_gen.specs.arrivals.Standing as arrivals
 use Rattle.sd_gen.specs.declared.driven.Driven.{Ghosts}
 use Rattle.sd_gen.specs.declared.driver.Driver.{Driver}
 use Rattle.sd_gen.specs.Drafts.{Draft}

@@ -16,7 +16,8 @@ impl<D: Driven> Driver<D> {
     /// In every tenth round but the last a device is asked.
     pub fn ask(&mut self, alloc: Global, round: u64, reference: u64) -> Result<(), NoMemory>
         requires { reference ≤ 2 ^ 40 }
-        ensures { OnOk result (Becomes D.Driven self.old self.new (λ setting. with_ask setting round reference)) }
+        ensures { OnOk result
+            (Becomes D.Driven self.old self.new (λ setting. with_ask setting round reference)) }
     {
         if round % 10 == 0 && round < ROUNDS {
             return self.ask_one(alloc, reference);
@@ -27,7 +28,8 @@ impl<D: Driven> Driver<D> {
     /// Asks the device that a word names, if it is up.
     fn ask_one(&mut self, alloc: Global, reference: u64) -> Result<(), NoMemory>
         requires { reference ≤ 2 ^ 40 }
-        ensures { OnOk result (Becomes D.Driven self.old self.new (λ setting. ask_of_word setting reference)) }
+        ensures { OnOk result
+            (Becomes D.Driven self.old self.new (λ setting. ask_of_word setting reference)) }
     {
         let word = self.random.next_word();
         match word.checked_rem(self.devices()) {

@@ -3,8 +3,8 @@ ghost use Rattle.std.specs.Prelude.{List, IsTrue, IfOk};
 ghost use Rattle.sd_core.specs.contracts.device.DeviceNode.TheImpl.{ghosts as device};
 ghost use Rattle.sd_core.specs.declared.registers.Registers.{Registers};
 ghost use Rattle.sd_sched.specs.Lines.{is_within};
-ghost use Rattle.sd_history.specs.World.{Setting};
-ghost use Rattle.sd_history.specs.Nodes.{NodeStep};
+ghost use Rattle.sd_fleet.specs.History.World.{Setting};
+ghost use Rattle.sd_fleet.specs.History.Nodes.{NodeStep};
 ghost use Rattle.sd_fleet.specs.Standing as fleets;
 ghost use Rattle.sd_gen.specs.Driving.{IsOffered};
 
@@ -28,10 +28,12 @@ pub trait Driven: Drop {
         outcome: &mut Outcome,
     ) -> Result<bool, NoMemory>
         requires { IsTrue (is_within event.now) }
-        ensures { IfOk result (λ accepted. (setting : Setting) (run : List (NodeStep Registers)) → stands self.old setting run
+        ensures { IfOk result (λ accepted. (setting : Setting) (run : List (NodeStep Registers))
+            → stands self.old setting run
             → IsOffered stands self.new setting run event.now outcome.new accepted) };
 
     /// The fleet.
     fn fleet(&self) -> &Fleet<Device>
-        ensures { (setting : Setting) (run : List (NodeStep Registers)) → stands self.now setting run → fleets.StandsFor device result.now setting run };
+        ensures { (setting : Setting) (run : List (NodeStep Registers))
+            → stands self.now setting run → fleets.StandsFor device result.now setting run };
 }

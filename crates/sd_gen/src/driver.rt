@@ -4,15 +4,15 @@ ghost use Rattle.rand_core.specs.Steps.{first_words};
 ghost use Rattle.rand_pcg.specs.Lcg.{advance};
 ghost use Rattle.rand_pcg.specs.Pcg.{multiplier_64, pcg32};
 ghost use Rattle.sd_topo.specs.Network.{IsNetwork};
-ghost use Rattle.sd_history.specs.World.{Setting, is_up as is_up_seen};
-ghost use Rattle.sd_history.specs.Steps.{seen_of};
+ghost use Rattle.sd_fleet.specs.History.World.{Setting, is_up as is_up_seen};
+ghost use Rattle.sd_fleet.specs.History.Steps.{seen_of};
 ghost use Rattle.sd_gen.specs.Drafts.{Draft, counter_by, unstarted};
 
+use crate::arrivals::Arrivals;
 use crate::driven::Driven;
 use rand_core::SeedableRng;
 use rand_core::utils::NextWord;
 use rand_pcg::Pcg32;
-use sd_gen_arrivals::Arrivals;
 use sd_num::NoMemory;
 use std::alloc::Global;
 
@@ -29,7 +29,8 @@ pub(crate) struct Driver<D: Driven> {
 
 /// Draws the lead of each device.
 fn draw_leads(alloc: Global, random: &mut Pcg32, devices: u32) -> Result<Vec<u16>, NoMemory>
-    ensures leads { IfOk result (λ leads. leads.items ≡ map (λ w. w % 301) (first_words pcg32 devices random.old)) }
+    ensures leads { IfOk result (λ leads. leads.items
+        ≡ map (λ w. w % 301) (first_words pcg32 devices random.old)) }
     ensures random { OnOk result (random.new ≡ advance 64 multiplier_64 devices random.old) }
 {
     let mut leads = Vec::new(alloc);
@@ -47,7 +48,8 @@ impl<D: Driven> Driver<D> {
 
     /// A driver before any event, with the lead of each device drawn.
     pub fn new(alloc: Global, driven: D, number: u64) -> Result<Driver<D>, NoMemory>
-        ensures { IfOk result (λ driver. (setting : Setting) → IsNetwork setting.net → D.stands driven setting []
+        ensures { IfOk result (λ driver. (setting : Setting) → IsNetwork setting.net
+            → D.stands driven setting []
             → StandsFor D.Driven driver setting (unstarted setting number)) }
     {
         let mut random = Pcg32::seed_from_u64(number);
@@ -84,7 +86,8 @@ impl<D: Driven> Driver<D> {
 
     /// Whether there is such a device and it is up.
     pub fn is_up(&self, d: u32) -> bool
-        ensures { (setting : Setting) (x : Draft) → StandsFor D.Driven self.now setting x → d < length setting.net.devices
+        ensures { (setting : Setting) (x : Draft) → StandsFor D.Driven self.now setting x
+            → d < length setting.net.devices
             → result ≡ is_up_seen (seen_of x.steps) d }
     {
         let fleet = self.driven.fleet();

@@ -4,15 +4,17 @@
 ghost use Rattle.std.specs.Prelude.{◌≡◌, ◌≤◌, ◌<◌, ◌^◌, [], length, reverse, IfOk};
 ghost use Rattle.sd_topo.specs.Network.{IsNetwork};
 ghost use Rattle.sd_topo.specs.Topologies.{network};
-ghost use Rattle.sd_roster.specs.Plans.{AreSound};
-ghost use Rattle.sd_history.specs.World.{Setting};
-ghost use Rattle.sd_history.specs.Chronicle.{IsHistory};
+ghost use Rattle.sd_fleet.specs.FleetState.membership.Plans.{AreSound};
+ghost use Rattle.sd_fleet.specs.History.World.{Setting};
+ghost use Rattle.sd_fleet.specs.History.Chronicle.{IsHistory};
 ghost use Rattle.sd_gen.specs.Drafts.{history_of, schedule};
 ghost use Rattle.sd_gen.specs.Driving.{HasHappened};
 
+pub mod arrivals;
 mod asks;
 mod driven;
 mod driver;
+pub mod fabric;
 mod list;
 mod posting;
 mod receipts;
@@ -20,11 +22,13 @@ mod recording;
 mod rounds;
 mod turns;
 
+// Handed on to crates above.
+pub use crate::fabric::fabric_text;
 pub use driven::Driven;
 use driver::Driver;
 pub use list::EventList;
 use recording::Recording;
-pub use sd_gen_fabric::fabric_text;
+pub use sd_fleet as fleet;
 use sd_num::NoMemory;
 use sd_plan::Plan;
 use sd_topo::Topology;
@@ -40,7 +44,8 @@ const ROUNDS: u64 = 200;
 /// The words that are drawn are those of `Pcg32`, seeded with the number. The generated case has
 /// two plans, of which the second leaves out the first device.
 pub fn drive_schedule<D: Driven>(alloc: Global, driven: D, number: u64) -> Result<D, NoMemory>
-    ensures { IfOk result (λ after. (setting : Setting) → IsNetwork setting.net → D.stands driven setting []
+    ensures { IfOk result (λ after. (setting : Setting) → IsNetwork setting.net
+        → D.stands driven setting []
         → HasHappened D.stands after setting (history_of setting number)) }
 {
     let mut driver = Driver::new(alloc, driven, number)?;
@@ -61,9 +66,13 @@ pub fn make_schedule(
     requires some { 1 ≤ length plans.now }
     requires count { length plans.now < 2 ^ 32 }
     requires sound { AreSound (network topo.now) plans.now }
-    ensures events { IfOk result (λ events. events ≡ schedule (record { net = network topo.now; plans = plans.now }) number) }
+    ensures events { IfOk result
+        (λ events. events
+        ≡ schedule (record { net = network topo.now; plans = plans.now }) number) }
     // a fleet of devices accepts each of them after those before it
-    ensures history { IfOk result (λ events. IsHistory (record { net = network topo.now; plans = plans.now }) (reverse events)) }
+    ensures history { IfOk result
+        (λ events. IsHistory (record { net = network topo.now; plans = plans.now })
+        (reverse events)) }
 {
     let recording = Recording::new(alloc, topo, plans)?;
     let recording = drive_schedule(alloc, recording, number)?;

@@ -1,20 +1,20 @@
 //! One event tried, and the messages that it sends.
 ghost use Rattle.std.specs.Prelude.{◌≡◌, ◌≤◌, ◌<◌, ◌^◌, ℕ, List, ◌∷◌, IsTrue, Ok, OnOk};
-ghost use Rattle.sd_msg.specs.declared.Flight.{Flight};
+ghost use Rattle.sd_core.specs.Msg.declared.Flight.{Flight};
 ghost use Rattle.sd_sched.specs.Events.{reference_of};
 ghost use Rattle.sd_sched.specs.Lines.{is_within};
-ghost use Rattle.sd_fabric.specs.Outcomes.{outcome_of};
-ghost use Rattle.sd_history.specs.World.{Setting};
-ghost use Rattle.sd_history.specs.Steps.{Step, flight_count};
-ghost use Rattle.sd_history_flights.specs.Flights.{look_in};
+ghost use Rattle.sd_fleet.specs.FleetFabric.Outcomes.{outcome_of};
+ghost use Rattle.sd_fleet.specs.History.World.{Setting};
+ghost use Rattle.sd_fleet.specs.History.Steps.{Step, flight_count};
+ghost use Rattle.sd_fleet.specs.History.flights.Flights.{look_in};
 ghost use Rattle.sd_gen.specs.Drafts.{Draft, each, with_message, try as try_in};
 ghost use Rattle.sd_gen.specs.Posting.{posted};
 
+use crate::arrivals::Arrival;
 use crate::driven::Driven;
 use crate::driver::Driver;
 use rand_core::utils::NextWord;
 use sd_fleet::Outcome;
-use sd_gen_arrivals::Arrival;
 use sd_num::NoMemory;
 use sd_sched::Event;
 use std::alloc::Global;
@@ -27,7 +27,8 @@ impl<D: Driven> Driver<D> {
         requires within { IsTrue (is_within event.now) }
         requires early { reference_of event.now ≤ 2 ^ 40 }
         ensures leads { OnOk result (self.new.leads.items ≡ self.old.leads.items) }
-        ensures stands { OnOk result (Becomes D.Driven self.old self.new (λ setting. try_in setting event.now)) }
+        ensures stands { OnOk result
+            (Becomes D.Driven self.old self.new (λ setting. try_in setting event.now)) }
     {
         let mut outcome = Outcome::nothing();
         if !self.driven.offer(alloc, event, &mut outcome)? {
@@ -41,7 +42,8 @@ impl<D: Driven> Driver<D> {
     fn post(&mut self, reference: u64, outcome: &Outcome) -> Result<(), NoMemory>
         requires { reference ≤ 2 ^ 40 }
         ensures leads { OnOk result (self.new.leads.items ≡ self.old.leads.items) }
-        ensures stands { OnOk result ((setting : Setting) (x : Draft) (s : Step) (earlier : List Step) → x.steps ≡ s ∷ earlier
+        ensures stands { OnOk result ((setting : Setting) (x : Draft) (s : Step) (earlier : List Step)
+            → x.steps ≡ s ∷ earlier
             → outcome.now ≡ outcome_of s → reference ≡ reference_of s.seen.event
             → StandsTo D.Driven self.old setting x (flight_count earlier)
             → StandsFor D.Driven self.new setting (each with_message s.seen.sent x)) }
@@ -59,7 +61,8 @@ impl<D: Driven> Driver<D> {
         requires { reference ≤ 2 ^ 40 }
         ensures leads { OnOk result (self.new.leads.items ≡ self.old.leads.items) }
         ensures stands { OnOk result ((setting : Setting) (x : Draft) (top : ℕ) → top < number
-            → ((f : Flight) → look_in x.steps number ≡ Ok f → (f.sent_at ≡ reference) × (f.number ≡ number))
+            → ((f : Flight) → look_in x.steps number ≡ Ok f
+            → (f.sent_at ≡ reference) × (f.number ≡ number))
             → StandsTo D.Driven self.old setting x top
             → StandsTo D.Driven self.new setting (posted (look_in x.steps number) x) number) }
     {

@@ -1,8 +1,8 @@
 //! Which events of a schedule a fleet accepts.
 ghost use Rattle.std.specs.Prelude.{◌≡◌, ◌≤◌, ◌<◌, ◌^◌, [], length, IfOk};
 ghost use Rattle.sd_topo.specs.Topologies.{network};
-ghost use Rattle.sd_roster.specs.Plans.{AreSound};
-ghost use Rattle.sd_history.specs.World.{Setting};
+ghost use Rattle.sd_fleet.specs.FleetState.membership.Plans.{AreSound};
+ghost use Rattle.sd_fleet.specs.History.World.{Setting};
 ghost use Rattle.sd_gen.specs.Recording.{StandsFor};
 
 use crate::EventList;
@@ -28,7 +28,8 @@ impl Recording {
         requires some { 1 ≤ length plans.now }
         requires count { length plans.now < 2 ^ 32 }
         requires sound { AreSound (network topo.now) plans.now }
-        ensures { IfOk result (λ recording. (setting : Setting) → setting.net ≡ network topo.now → setting.plans ≡ plans.now → StandsFor recording setting []) }
+        ensures { IfOk result (λ recording. (setting : Setting) → setting.net ≡ network topo.now
+            → setting.plans ≡ plans.now → StandsFor recording setting []) }
     {
         let fleet = Fleet::new(alloc, topo, plans)?;
         Ok(Recording {

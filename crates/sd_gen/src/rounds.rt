@@ -24,7 +24,8 @@ impl<D: Driven> Driver<D> {
     /// device that is up ticks, and then comes what this round has besides.
     pub fn round(&mut self, alloc: Global, round: u64) -> Result<(), NoMemory>
         requires { round ≤ 200 }
-        ensures { OnOk result (Becomes D.Driven self.old self.new (λ setting. round_in setting round)) }
+        ensures { OnOk result
+            (Becomes D.Driven self.old self.new (λ setting. round_in setting round)) }
     {
         let reference = PERIOD * round;
         self.failure(alloc, round)?;
@@ -38,7 +39,8 @@ impl<D: Driven> Driver<D> {
 
     /// In round 21 the first device fails, amid the receipts.
     fn failure(&mut self, alloc: Global, round: u64) -> Result<(), NoMemory>
-        ensures { OnOk result (Becomes D.Driven self.old self.new (λ setting. with_failure setting round)) }
+        ensures { OnOk result
+            (Becomes D.Driven self.old self.new (λ setting. with_failure setting round)) }
     {
         if round != 21 {
             return Ok(());
@@ -60,7 +62,8 @@ impl<D: Driven> Driver<D> {
     /// In round 150 the second plan is brought in.
     fn renewal(&mut self, alloc: Global, round: u64, reference: u64) -> Result<(), NoMemory>
         requires { reference ≤ 2 ^ 40 }
-        ensures { OnOk result (Becomes D.Driven self.old self.new (λ setting. with_renewal setting round reference)) }
+        ensures { OnOk result
+            (Becomes D.Driven self.old self.new (λ setting. with_renewal setting round reference)) }
     {
         if round != 150 {
             return Ok(());
@@ -71,7 +74,8 @@ impl<D: Driven> Driver<D> {
     /// The stage, a give to each device that is up, and the commit of the second device.
     fn renew(&mut self, alloc: Global, reference: u64) -> Result<(), NoMemory>
         requires { reference ≤ 2 ^ 40 }
-        ensures { OnOk result (Becomes D.Driven self.old self.new (λ setting. renewed setting reference)) }
+        ensures { OnOk result
+            (Becomes D.Driven self.old self.new (λ setting. renewed setting reference)) }
     {
         self.try_event(alloc, &Event::Stage { reference })?;
         self.each_up(alloc, Turn::Give, reference)?;
@@ -86,7 +90,8 @@ impl<D: Driven> Driver<D> {
     /// In round 160 each device that is up is sealed.
     fn seals(&mut self, alloc: Global, round: u64, reference: u64) -> Result<(), NoMemory>
         requires { reference ≤ 2 ^ 40 }
-        ensures { OnOk result (Becomes D.Driven self.old self.new (λ setting. with_seals setting round reference)) }
+        ensures { OnOk result
+            (Becomes D.Driven self.old self.new (λ setting. with_seals setting round reference)) }
     {
         if round != 160 {
             return Ok(());
@@ -97,7 +102,8 @@ impl<D: Driven> Driver<D> {
     /// In the last round each device that is up is asked, and the schedule ends.
     fn end(&mut self, alloc: Global, round: u64, reference: u64) -> Result<(), NoMemory>
         requires { reference ≤ 2 ^ 40 }
-        ensures { OnOk result (Becomes D.Driven self.old self.new (λ setting. with_end setting round reference)) }
+        ensures { OnOk result
+            (Becomes D.Driven self.old self.new (λ setting. with_end setting round reference)) }
     {
         if round != ROUNDS {
             return Ok(());
@@ -107,7 +113,8 @@ impl<D: Driven> Driver<D> {
 
     fn finish(&mut self, alloc: Global, reference: u64) -> Result<(), NoMemory>
         requires { reference ≤ 2 ^ 40 }
-        ensures { OnOk result (Becomes D.Driven self.old self.new (λ setting. ended setting reference)) }
+        ensures { OnOk result
+            (Becomes D.Driven self.old self.new (λ setting. ended setting reference)) }
     {
         self.each_up(alloc, Turn::Ask, reference)?;
         self.try_event(alloc, &Event::End { reference })

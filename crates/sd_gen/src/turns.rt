@@ -2,7 +2,7 @@
 ghost use Rattle.std.specs.Prelude.{◌≡◌, ◌≤◌, ◌<◌, ◌^◌, IsTrue, length, nat_eq, OnOk, if◌then◌else◌};
 ghost use Rattle.sd_sched.specs.Events.{reference_of};
 ghost use Rattle.sd_sched.specs.Lines.{is_within};
-ghost use Rattle.sd_history.specs.World.{Setting};
+ghost use Rattle.sd_fleet.specs.History.World.{Setting};
 ghost use Rattle.sd_gen.specs.Drafts.{Draft, try_if_up as try_if_up_in, try_each_up, with_starts};
 ghost use Rattle.sd_gen.specs.Turns.{event_by};
 
@@ -66,8 +66,10 @@ impl<D: Driven> Driver<D> {
     ) -> Result<(), NoMemory>
         requires { reference ≤ 2 ^ 40 }
         ensures leads { OnOk result (self.new.leads.items ≡ self.old.leads.items) }
-        ensures stands { OnOk result ((setting : Setting) (x : Draft) → d < length setting.net.devices → StandsFor D.Driven self.old setting x
-            → StandsFor D.Driven self.new setting (try_if_up_in setting (event_by turn reference self.old.leads.items) d x)) }
+        ensures stands { OnOk result ((setting : Setting) (x : Draft) → d < length setting.net.devices
+            → StandsFor D.Driven self.old setting x
+            → StandsFor D.Driven self.new setting
+            (try_if_up_in setting (event_by turn reference self.old.leads.items) d x)) }
     {
         if !self.is_up(d) {
             return Ok(());
@@ -80,7 +82,9 @@ impl<D: Driven> Driver<D> {
     pub fn each_up(&mut self, alloc: Global, turn: Turn, reference: u64) -> Result<(), NoMemory>
         requires { reference ≤ 2 ^ 40 }
         ensures leads { OnOk result (self.new.leads.items ≡ self.old.leads.items) }
-        ensures stands { OnOk result (Becomes D.Driven self.old self.new (λ setting x. try_each_up setting (event_by turn reference x.leads) x)) }
+        ensures stands { OnOk result
+            (Becomes D.Driven self.old self.new
+            (λ setting x. try_each_up setting (event_by turn reference x.leads) x)) }
     {
         for d in 0..self.devices() {
             self.try_if_up(alloc, turn, reference, d)?;
@@ -90,7 +94,8 @@ impl<D: Driven> Driver<D> {
 
     /// Starts each device in order.
     pub fn start_all(&mut self, alloc: Global) -> Result<(), NoMemory>
-        ensures { OnOk result (Becomes D.Driven self.old self.new (λ setting. with_starts setting)) }
+        ensures { OnOk result
+            (Becomes D.Driven self.old self.new (λ setting. with_starts setting)) }
     {
         for device in 0..self.devices() {
             let eps = first_eps(device);

@@ -2,12 +2,12 @@
 use Rattle.std.specs.Prelude.{◌≡◌, ℕ, ◌≤◌, Bool, true, false, ◌&&◌, ◌||◌, not, List, [], ◌∷◌, nat_eq, Option, Some, None, is_some, option_map, refl, if◌then◌else◌}
 use Rattle.std.proofs.Common.{arith, sym, ◌∙◌, ap, subst}
 use Rattle.std.proofs.lemmas.Bool.{eqb-true, eq-eqb, not-false}
-use Rattle.sd_num.specs.Lists.{of_some, same_number}
-use Rattle.sd_topo.specs.Network.{rates_of}
-use Rattle.sd_topo.specs.declared.Thing.TheVariants as thing
-use Rattle.sd_plan.specs.declared.Plan.{Plan}
-use Rattle.sd_plan.specs.Duties.{duty_of}
-use Rattle.sd_msg.specs.declared.Flight.{Flight}
+use Rattle.sd_sched.specs.Num.Lists.{of_some, same_number}
+use Rattle.sd_core.specs.Topo.Network.{rates_of}
+use Rattle.sd_core.specs.Topo.declared.Thing.TheVariants as thing
+use Rattle.sd_core.specs.Plan.declared.Plan.{Plan}
+use Rattle.sd_core.specs.Plan.Duties.{duty_of}
+use Rattle.sd_core.specs.Msg.declared.Flight.{Flight}
 use Rattle.sd_core.specs.declared.Effect.TheVariants.{Quiet}
 use Rattle.sd_core.specs.declared.registers.Registers.{Registers}
 use Rattle.sd_core.specs.Calls as calls
@@ -57,7 +57,8 @@ node_when steps o m d q true equal is = is refl
 node_when steps o m d q false equal is = refl
 
 nodes_by : (steps : List Step) (s : Step) (act : Act) (d : ℕ) → s.act ≡ act
-    → of_some (if same_number (changed act) d then Some (of_some (changed act) None (registers_in (s ∷ steps))) else None) (registers_in steps d) (λ told. told) ≡ option_map registers_of (past_after act d (past_in steps d))
+    → of_some (if same_number (changed act) d then Some (of_some (changed act) None (registers_in (s ∷ steps))) else None) (registers_in steps d) (λ told. told)
+    ≡ option_map registers_of (past_after act d (past_in steps d))
 nodes_by steps s (Makes m making) d is =
     node_when steps (registers_in (s ∷ steps) m) m d (λ p. Some (new_past making)) (nat_eq m d) refl
     (λ equal.
@@ -75,19 +76,23 @@ nodes_by steps s Passes d is = refl
 nodes_are : (steps : List Step) (d : ℕ) → node_in (run_of steps) d ≡ registers_in steps d
 nodes_are [] d = refl
 nodes_are (s ∷ earlier) d =
-    ap (λ o. of_some (if same_number (changed s.act) d then Some (of_some (changed s.act) None (registers_in (s ∷ earlier))) else None) o (λ told. told)) (nodes_are earlier d)
+    ap (λ o. of_some (if same_number (changed s.act) d then Some (of_some (changed s.act) None (registers_in (s ∷ earlier))) else None) o (λ told. told))
+    (nodes_are earlier d)
     ∙ nodes_by earlier s s.act d refl
 
 -- A device that is up was made, and has a past.
 
-up_is_made : (setting : Setting) (history : List Event) (d : ℕ) → is_up (seen_of (chronicle setting history)) d ≡ true → is_some (past_in (chronicle setting history) d) ≡ true
+up_is_made : (setting : Setting) (history : List Event) (d : ℕ) → is_up (seen_of (chronicle setting history)) d ≡ true
+    → is_some (past_in (chronicle setting history) d) ≡ true
 up_is_made setting [] d up = cc
 up_is_made setting (e ∷ earlier) d up =
     let steps = chronicle setting earlier in
-    up_by (makes d e) (fails (thing.Device d) e) (is_up (seen_of steps) d) (is_some (past_in steps d)) (is_some (past_after (act_by setting steps e) d (past_in steps d)))
+    up_by (makes d e) (fails (thing.Device d) e) (is_up (seen_of steps) d) (is_some (past_in steps d))
+    (is_some (past_after (act_by setting steps e) d (past_in steps d)))
     (makes_past setting steps e d (past_in steps d)) (kept_past (act_by setting steps e) d (past_in steps d)) (up_is_made setting earlier d) up
 
-started_by : (m f n : Bool) (dev : Option ℕ) (up : ℕ → Bool) (d : ℕ) → (not (m || f || n) && of_some dev false (λ x. not (up x))) ≡ false → (m || f || n) ≡ false → dev ≡ Some d → up d ≡ true
+started_by : (m f n : Bool) (dev : Option ℕ) (up : ℕ → Bool) (d : ℕ) → (not (m || f || n) && of_some dev false (λ x. not (up x))) ≡ false
+    → (m || f || n) ≡ false → dev ≡ Some d → up d ≡ true
 started_by m f n None up d ok none named = cc
 started_by m f n (Some x) up d ok none named =
     let same : x ≡ d = some_is named in
@@ -95,13 +100,15 @@ started_by m f n (Some x) up d ok none named =
     subst (λ y. up y ≡ true) same (not-false (up x) fine)
 
 -- an accepted event that calls or asks a device
-is_there : (setting : Setting) (history : List Event) (e : Event) (d : ℕ) → refusal setting (chronicle setting history) e ≡ None → (makes_some e || is_some (failure_of e) || is_some (mended e)) ≡ false → device_of e ≡ Some d
+is_there : (setting : Setting) (history : List Event) (e : Event) (d : ℕ) → refusal setting (chronicle setting history) e ≡ None
+    → (makes_some e || is_some (failure_of e) || is_some (mended e)) ≡ false → device_of e ≡ Some d
     → (past : Past) × (past_in (chronicle setting history) d ≡ Some past)
 is_there setting history e d none calls_ named =
     has_some (past_in (chronicle setting history) d)
     (up_is_made setting history d
     (started_by (makes_some e) (is_some (failure_of e)) (is_some (mended e)) (device_of e) (is_up (seen_of (chronicle setting history))) d
-    (none_holds (causes setting (chronicle setting history) e) _ none (later (later (later (later (later (later (later (later (later first)))))))))) calls_ named))
+    (none_holds (causes setting (chronicle setting history) e) _ none (later (later (later (later (later (later (later (later (later first)))))))))) calls_
+    named))
 
 -- What the kind allows
 
@@ -137,7 +144,8 @@ module _ (setting : Setting) (history : List Event) (going : RunGoes (run_of (ch
       subst (λ x. Lives x d (registers_of past)) (steps_are steps)
       (going.live d (registers_of past) (nodes_are steps d ∙ ap (option_map registers_of) is))
 
-  allows_called : (e : Event) (s : Step) (m : ℕ) (call : Call) → s.act ≡ Calls m call → refusal setting steps e ≡ None → Addresses e → makes_some e ≡ false → device_of e ≡ Some m
+  allows_called : (e : Event) (s : Step) (m : ℕ) (call : Call) → s.act ≡ Calls m call → refusal setting steps e ≡ None → Addresses e → makes_some e ≡ false
+      → device_of e ≡ Some m
       → counter_of e ≡ words.counter_of call → GivesSuch IsOfAPlan call
       → IsCalled device (node_in (run_of steps) m) call (told_by steps (Calls m call)) (registers_in (s ∷ steps) m)
   allows_called e s m call is none addresses makes_not named same gives =
@@ -149,7 +157,9 @@ module _ (setting : Setting) (history : List Event) (going : RunGoes (run_of (ch
         stepped = pair_is (called (registers_of past) call) (registers_of (after past call)) (effect_of past call) stood.stands.are stood.sends;
         tells =
             ap (λ p. of_some p tells_nothing (λ q. tells_called (effect_of q call) (answers_by (after q call)))) has
-            ∙ ap (tells_called (effect_of past call)) (sym (answers_are (after past call) (duties_after IsOfAPlan past call lives.duties gives) (subst IsIdleAlone stood.stands.are (idle_after (registers_of past) call idle))));
+            ∙ ap (tells_called (effect_of past call))
+            (sym (answers_are (after past call) (duties_after IsOfAPlan past call lives.duties gives)
+            (subst IsIdleAlone stood.stands.are (idle_after (registers_of past) call idle))));
         left =
             ap (λ a. option_map registers_of (past_after a m (past_in steps m))) is
             ∙ ap (λ b. option_map registers_of (if b then option_map (λ p. after p call) (past_in steps m) else past_in steps m)) (eq-eqb m m refl)
@@ -179,7 +189,8 @@ module _ (setting : Setting) (history : List Event) (going : RunGoes (run_of (ch
           due_of (registers_of past).last (words.counter_of call)
           (λ c counts.
           let read : latest_reading (seen_of steps) m ≤ c =
-          not_falling (makes_some e) (device_of e) (counter_of e) (latest_reading (seen_of steps)) (goes_forward setting steps e none) makes_not m c (ap (λ o. same_number o m) named ∙ eq-eqb m m refl) (same ∙ counts) in
+          not_falling (makes_some e) (device_of e) (counter_of e) (latest_reading (seen_of steps)) (goes_forward setting steps e none) makes_not m c
+          (ap (λ o. same_number o m) named ∙ eq-eqb m m refl) (same ∙ counts) in
           omega (arith, lives.read, read))
 
       stood : Stood lives.life call (called (registers_of past) call)
@@ -202,8 +213,10 @@ module _ (setting : Setting) (history : List Event) (going : RunGoes (run_of (ch
   abbrev IsAllowed : Step → Act → Type 0
   IsAllowed s act = Allows device (node_before (run_of steps) act) act (told_by steps act) (of_some (changed act) None (registers_in (s ∷ steps)))
 
-  allows_give : (s : Step) (r d : ℕ) (o : Option Plan) → s.act ≡ of_some o Passes (λ plan. Calls d (calls.Give (duty_of setting.net plan (staged_epoch (seen_of steps)) d)))
-      → refusal setting steps (event.Give r d) ≡ None → IsAllowed s (of_some o Passes (λ plan. Calls d (calls.Give (duty_of setting.net plan (staged_epoch (seen_of steps)) d))))
+  allows_give : (s : Step) (r d : ℕ) (o : Option Plan)
+      → s.act ≡ of_some o Passes (λ plan. Calls d (calls.Give (duty_of setting.net plan (staged_epoch (seen_of steps)) d)))
+      → refusal setting steps (event.Give r d) ≡ None
+      → IsAllowed s (of_some o Passes (λ plan. Calls d (calls.Give (duty_of setting.net plan (staged_epoch (seen_of steps)) d))))
   allows_give s r d None is none = (refl, refl)
   allows_give s r d (Some plan) is none =
       allows_called (event.Give r d) s d (calls.Give (duty_of setting.net plan (staged_epoch (seen_of steps)) d)) is none refl refl refl refl (omega arith)
@@ -215,8 +228,10 @@ module _ (setting : Setting) (history : List Event) (going : RunGoes (run_of (ch
 
   allows_event : (e : Event) (s : Step) → s.act ≡ act_by setting steps e → refusal setting steps e ≡ None → IsAllowed s (act_by setting steps e)
   allows_event (event.Start r d c clock eps) s is none =
-      allows_made steps s d (calls.Started (duty_of setting.net (in_force setting (seen_of steps)) (epoch_in_force (seen_of steps)) d) c clock eps) is (started_duties setting steps d c clock eps)
-  allows_event (event.Join r d c clock eps) s is none = allows_made steps s d (calls.Joined (rates_of setting.net d) c clock eps) is (record { duty = λ u same. cc; given = λ u same. cc })
+      allows_made steps s d (calls.Started (duty_of setting.net (in_force setting (seen_of steps)) (epoch_in_force (seen_of steps)) d) c clock eps) is
+      (started_duties setting steps d c clock eps)
+  allows_event (event.Join r d c clock eps) s is none =
+      allows_made steps s d (calls.Joined (rates_of setting.net d) c clock eps) is (record { duty = λ u same. cc; given = λ u same. cc })
   allows_event (event.Tick r d c) s is none = allows_called (event.Tick r d c) s d (calls.Tick c) is none refl refl refl refl tt
   allows_event (event.Recv r d c n) s is none = allows_receipt s r d c n (flight_numbered steps n) is none
   allows_event (event.Fix r d c clock eps) s is none = allows_called (event.Fix r d c clock eps) s d (calls.Fix c clock eps) is none refl refl refl refl tt
@@ -255,4 +270,5 @@ pub record HasRun (setting : Setting) (history : List Event) : Type 0 where
   pub steps : steps_of run ≡ chronicle setting history
 
 pub history_has_run : (setting : Setting) (history : List Event) → IsHistory setting history → HasRun setting history
-history_has_run setting history is = record { run = run_of (chronicle setting history); runs = history_runs setting history is; steps = steps_are (chronicle setting history) }
+history_has_run setting history is =
+    record { run = run_of (chronicle setting history); runs = history_runs setting history is; steps = steps_are (chronicle setting history) }

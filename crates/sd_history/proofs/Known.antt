@@ -3,10 +3,10 @@
 use Rattle.std.specs.Prelude.{◌≡◌, ℕ, ◌<◌, Bool, true, false, ◌||◌, List, [], ◌∷◌, length, nat_eq, nat_le, Option, Some, None, is_some, option_map, refl, if◌then◌else◌}
 use Rattle.std.proofs.Common.{ap, subst}
 use Rattle.std.proofs.lemmas.Bool.{leb-false, eqb-true}
-use Rattle.sd_num.specs.Lists.{of_some}
-use Rattle.sd_topo.specs.Network.{rates_of}
-use Rattle.sd_topo.specs.declared.Thing.TheVariants as thing
-use Rattle.sd_plan.specs.Duties.{duty_of}
+use Rattle.sd_sched.specs.Num.Lists.{of_some}
+use Rattle.sd_core.specs.Topo.Network.{rates_of}
+use Rattle.sd_core.specs.Topo.declared.Thing.TheVariants as thing
+use Rattle.sd_core.specs.Plan.Duties.{duty_of}
 use Rattle.sd_core.specs.Calls as calls
 use Rattle.sd_core.specs.Calls.{Making, Past}
 use Rattle.sd_core.specs.Words.{after}
@@ -21,7 +21,8 @@ use Rattle.sd_history.proofs.Among.{first}
 use Rattle.sd_history.proofs.Contained.{none_holds}
 
 -- an accepted event names a device of the network
-pub named_is_known : (setting : Setting) (steps : List Step) (e : Event) (d : ℕ) → refusal setting steps e ≡ None → device_of e ≡ Some d → d < length setting.net.devices
+pub named_is_known : (setting : Setting) (steps : List Step) (e : Event) (d : ℕ) → refusal setting steps e ≡ None → device_of e ≡ Some d
+    → d < length setting.net.devices
 named_is_known setting steps e d none named = go (device_of e) named (none_holds (causes setting steps e) _ none first)
   where
     go : (o : Option ℕ) → o ≡ Some d → of_some o false (λ x. nat_le (length setting.net.devices) x) ≡ false → d < length setting.net.devices
@@ -39,18 +40,21 @@ made_named (event.Join r m c clock eps) d made = ap Some (eqb-true m d made)
 made_named _ d made = cc
 
 -- a device that is up was made with this event, or was up before
-pub up_case : (m f : Bool) (before : Bool) → of_some (if m then Some true else if f then Some false else None) before (λ x. x) ≡ true → (m ≡ false → before ≡ true)
+pub up_case : (m f : Bool) (before : Bool) → of_some (if m then Some true else if f then Some false else None) before (λ x. x) ≡ true
+    → (m ≡ false → before ≡ true)
 up_case true f before h = λ e. cc
 up_case false true before h = cc
 up_case false false before h = λ e. h
 
 -- a device that is up is one of the network's
-pub up_is_known : (setting : Setting) (history : List Event) → IsHistory setting history → (d : ℕ) → is_up (seen_of (chronicle setting history)) d ≡ true → d < length setting.net.devices
+pub up_is_known : (setting : Setting) (history : List Event) → IsHistory setting history → (d : ℕ) → is_up (seen_of (chronicle setting history)) d ≡ true
+    → d < length setting.net.devices
 up_is_known setting [] is d up = cc
 up_is_known setting (e ∷ earlier) is d up =
     go (makes d e) refl (up_case (makes d e) (fails (thing.Device d) e) (is_up (seen_of (chronicle setting earlier)) d) up) (up_is_known setting earlier is.0 d)
   where
-    go : (m : Bool) → makes d e ≡ m → (makes d e ≡ false → is_up (seen_of (chronicle setting earlier)) d ≡ true) → (is_up (seen_of (chronicle setting earlier)) d ≡ true → d < length setting.net.devices) → d < length setting.net.devices
+    go : (m : Bool) → makes d e ≡ m → (makes d e ≡ false → is_up (seen_of (chronicle setting earlier)) d ≡ true)
+        → (is_up (seen_of (chronicle setting earlier)) d ≡ true → d < length setting.net.devices) → d < length setting.net.devices
     go true made before rest = named_is_known setting (chronicle setting earlier) e d is.1 (made_named e d made)
     go false made before rest = rest (before made)
 
@@ -78,9 +82,11 @@ kept_past Passes d p some = some
 made_past : (m d : ℕ) (making : Making) (p : Option Past) → nat_eq m d ≡ true → is_some (past_after (Makes m making) d p) ≡ true
 made_past m d making p equal = ap (λ b. is_some (if b then Some (new_past making) else p)) equal
 
-pub makes_past : (setting : Setting) (steps : List Step) (e : Event) (d : ℕ) (p : Option Past) → makes d e ≡ true → is_some (past_after (act_by setting steps e) d p) ≡ true
+pub makes_past : (setting : Setting) (steps : List Step) (e : Event) (d : ℕ) (p : Option Past) → makes d e ≡ true
+    → is_some (past_after (act_by setting steps e) d p) ≡ true
 makes_past setting steps (event.Start r m c clock eps) d p makes_ =
-    made_past m d (calls.Started (duty_of setting.net (in_force setting (seen_of steps)) (epoch_in_force (seen_of steps)) m) c clock eps) p (or_left (nat_eq m d) makes_)
+    made_past m d (calls.Started (duty_of setting.net (in_force setting (seen_of steps)) (epoch_in_force (seen_of steps)) m) c clock eps) p
+    (or_left (nat_eq m d) makes_)
   where
     or_left : (b : Bool) → (b || false) ≡ true → b ≡ true
     or_left true h = refl

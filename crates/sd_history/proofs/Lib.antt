@@ -20,3 +20,6 @@ pub mod Devices
 pub mod Happening
 mod DeviceKind
 mod OtherNodes
+pub mod flights
+-- Handed on: what crates above name of those below.
+pub use Rattle.sd_core.proofs as Core

@@ -13,7 +13,8 @@ pub record AllHold (setting : Setting) (seen : List Seen) : Type 0 where
   pub domain : domain_holds setting seen ≡ true
   pub renew : renew_holds setting seen ≡ true
 
-seven : (a b c d e f g : Bool) → (a && b && c && d && e && f && g) ≡ true → (a ≡ true) × (b ≡ true) × (c ≡ true) × (d ≡ true) × (e ≡ true) × (f ≡ true) × (g ≡ true)
+seven : (a b c d e f g : Bool) → (a && b && c && d && e && f && g) ≡ true
+    → (a ≡ true) × (b ≡ true) × (c ≡ true) × (d ≡ true) × (e ≡ true) × (f ≡ true) × (g ≡ true)
 seven true true true true true true true h = (refl, refl, refl, refl, refl, refl, refl)
 seven true true true true true true false h = cc
 seven true true true true true false g h = cc
@@ -30,10 +31,12 @@ all_seven false b c d e f g pa pb pc pd pe pf pg = cc
 
 pub premises_of : (setting : Setting) (seen : List Seen) → all_hold setting seen ≡ true → AllHold setting seen
 premises_of setting seen all =
-    let h = seven (start_holds seen) (drift_holds setting seen) (delay_holds setting seen) (tick_holds setting seen) (loss_holds setting seen) (domain_holds setting seen) (renew_holds setting seen) all in
+    let h = seven (start_holds seen) (drift_holds setting seen) (delay_holds setting seen) (tick_holds setting seen) (loss_holds setting seen)
+    (domain_holds setting seen) (renew_holds setting seen) all in
     record { start = h.0; drift = h.1; delay = h.2; tick = h.3; loss = h.4; domain = h.5; renew = h.6 }
 
 pub premises_hold : (setting : Setting) (seen : List Seen) → AllHold setting seen → all_hold setting seen ≡ true
 premises_hold setting seen h =
-    all_seven (start_holds seen) (drift_holds setting seen) (delay_holds setting seen) (tick_holds setting seen) (loss_holds setting seen) (domain_holds setting seen) (renew_holds setting seen)
+    all_seven (start_holds seen) (drift_holds setting seen) (delay_holds setting seen) (tick_holds setting seen) (loss_holds setting seen)
+    (domain_holds setting seen) (renew_holds setting seen)
     h.start h.drift h.delay h.tick h.loss h.domain h.renew

@@ -4,8 +4,8 @@
 -- fleet owes its nodes besides (floors, ceilings and heights of their numbers) is no part of a run: refusals and the limits of fields give it.
 -- A node does not say of which plan a given duty is, so a fleet has to know it: it is the plan of the latest give.
 use Rattle.std.specs.Prelude.{◌≡◌, ℕ, List, [], ◌∷◌, map, Option, Some, None, option_and_then, if◌then◌else◌}
-use Rattle.sd_num.specs.Lists.{same_number, latest}
-use Rattle.sd_clock.specs.declared.Report.{Report}
+use Rattle.sd_sched.specs.Num.Lists.{same_number, latest}
+use Rattle.sd_core.specs.Clock.declared.Report.{Report}
 use Rattle.sd_core.specs.declared.Effect.{Effect}
 use Rattle.sd_core.specs.declared.node.Node.{Ghosts}
 use Rattle.sd_core.specs.Calls.{Making, Call}

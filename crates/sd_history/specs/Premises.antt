@@ -1,17 +1,18 @@
--- The premises of the safety theorem, each judged of what is seen of a history: honest clocks, honest links, lively devices, failures within one domain, orderly renewal.
+-- The premises of the safety theorem, each judged of what is seen of a history: honest clocks, honest links, lively devices, failures within one domain,
+-- orderly renewal.
 use Rattle.std.specs.Prelude.{ℕ, ◌+◌, ◌-◌, Bool, true, false, ◌&&◌, ◌||◌, not, List, [], ◌∷◌, ◌++◌, length, filter, filter_map, flat_map, map, nat_eq, nat_le, nat_lt, Option, Some, None, is_some, option_map, option_to_list, if◌then◌else◌}
 use Rattle.std.specs.List.{list_any, list_all}
-use Rattle.sd_num.specs.Numbers.{distance, keeps_rate}
-use Rattle.sd_num.specs.Lists.{below, has, of_some, same_number, latest, leading}
-use Rattle.sd_topo.specs.Network.{rates_of, delay_of, device_numbers, link_numbers}
-use Rattle.sd_topo.specs.Joined.{joined_within}
-use Rattle.sd_topo.specs.declared.Thing.{Thing}
-use Rattle.sd_topo.specs.declared.Thing.TheVariants as thing
-use Rattle.sd_domain.specs.Domains.{within_one}
-use Rattle.sd_plan.specs.declared.Plan.{Plan}
-use Rattle.sd_plan.specs.Plans.{is_member, members}
-use Rattle.sd_msg.specs.declared.Flight.{Flight}
-use Rattle.sd_msg.specs.declared.Stamp.{Stamp}
+use Rattle.sd_sched.specs.Num.Numbers.{distance, keeps_rate}
+use Rattle.sd_sched.specs.Num.Lists.{below, has, of_some, same_number, latest, leading}
+use Rattle.sd_core.specs.Topo.Network.{rates_of, delay_of, device_numbers, link_numbers}
+use Rattle.sd_core.specs.Topo.Joined.{joined_within}
+use Rattle.sd_core.specs.Topo.declared.Thing.{Thing}
+use Rattle.sd_core.specs.Topo.declared.Thing.TheVariants as thing
+use Rattle.sd_core.specs.Domain.Domains.{within_one}
+use Rattle.sd_core.specs.Plan.declared.Plan.{Plan}
+use Rattle.sd_core.specs.Plan.Plans.{is_member, members}
+use Rattle.sd_core.specs.Msg.declared.Flight.{Flight}
+use Rattle.sd_core.specs.Msg.declared.Stamp.{Stamp}
 use Rattle.sd_sched.specs.declared.Event.{Event}
 use Rattle.sd_sched.specs.declared.Event.TheVariants as event
 use Rattle.sd_history.specs.declared.BrokenSet.{BrokenSet}
@@ -121,7 +122,8 @@ is_overdue seen f = list_any (λ s. nat_lt f.due (reference_of s.event)) seen
 -- its sender, its receiver or its link failed after it was sent
 abbrev pub was_interrupted : List Seen → Flight → Bool
 was_interrupted seen f =
-    list_any (λ s. fails (thing.Device f.sender) s.event || fails (thing.Device f.receiver) s.event || fails (thing.Link f.link) s.event) (since_sending seen f.number)
+    list_any (λ s. fails (thing.Device f.sender) s.event || fails (thing.Device f.receiver) s.event || fails (thing.Link f.link) s.event)
+    (since_sending seen f.number)
 
 -- a flight that reached was neither received nor interrupted by the first event past its due
 abbrev pub spoils : List Seen → Flight → Bool
@@ -216,7 +218,8 @@ begins_orderly setting s earlier =
 
 abbrev pub renew_holds : Setting → List Seen → Bool
 renew_holds setting seen =
-    at_each (λ s earlier. commits_orderly setting s earlier && seals_orderly setting s earlier && fails_orderly s earlier && begins_orderly setting s earlier) seen
+    at_each (λ s earlier. commits_orderly setting s earlier && seals_orderly setting s earlier && fails_orderly s earlier && begins_orderly setting s earlier)
+    seen
 
 -- All
 

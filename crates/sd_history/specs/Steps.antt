@@ -2,15 +2,15 @@
 -- newest comes first. Nothing here says what kind of device it is: its words are what the devices told.
 use Rattle.std.specs.Prelude.{ℕ, ◌+◌, ◌*◌, Bool, false, ◌&&◌, not, List, [], ◌∷◌, length, find, filter, flat_map, map, sum_by, nat_eq, nat_le, Option, Some, None, option_map, option_and_then, if◌then◌else◌}
 use Rattle.std.specs.List.{list_all}
-use Rattle.sd_num.specs.Lists.{of_some, same_number, latest}
-use Rattle.sd_topo.specs.Network.{delay_of, rates_of}
-use Rattle.sd_plan.specs.declared.Duty.{Duty}
-use Rattle.sd_plan.specs.declared.End.{End}
-use Rattle.sd_plan.specs.Plans.{members}
-use Rattle.sd_plan.specs.Duties.{duty_of, ends_of}
-use Rattle.sd_clock.specs.declared.Report.{Report}
-use Rattle.sd_msg.specs.declared.Message.{Message}
-use Rattle.sd_msg.specs.declared.Flight.{Flight}
+use Rattle.sd_sched.specs.Num.Lists.{of_some, same_number, latest}
+use Rattle.sd_core.specs.Topo.Network.{delay_of, rates_of}
+use Rattle.sd_core.specs.Plan.declared.Duty.{Duty}
+use Rattle.sd_core.specs.Plan.declared.End.{End}
+use Rattle.sd_core.specs.Plan.Plans.{members}
+use Rattle.sd_core.specs.Plan.Duties.{duty_of, ends_of}
+use Rattle.sd_core.specs.Clock.declared.Report.{Report}
+use Rattle.sd_core.specs.Msg.declared.Message.{Message}
+use Rattle.sd_core.specs.Msg.declared.Flight.{Flight}
 use Rattle.sd_core.specs.declared.Effect.{Effect}
 use Rattle.sd_core.specs.declared.Effect.TheVariants.{Quiet, Send}
 use Rattle.sd_core.specs.Calls as calls
@@ -157,7 +157,8 @@ ends_at setting steps epoch d = of_some (current_plan setting (seen_of steps) ep
 -- what a device sends, over its ends in the plan that it then follows
 abbrev pub flights_by : Setting → List Step → ℕ → ℕ → ℕ → Effect → List Flight
 flights_by setting steps reference d epoch Quiet = []
-flights_by setting steps reference d epoch (Send message) = flights_to setting steps reference d message (flight_count steps + 1) (ends_at setting steps epoch d)
+flights_by setting steps reference d epoch (Send message) =
+    flights_to setting steps reference d message (flight_count steps + 1) (ends_at setting steps epoch d)
 
 -- the flights of a step whose device told this
 abbrev pub flights_of : Setting → List Step → ℕ → Act → Told → List Flight

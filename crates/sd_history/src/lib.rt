@@ -41,9 +41,9 @@
 //! # Shown above
 //!
 //! - That `is_on_loop`, which takes as many steps as there are devices, is the loop of parents as a
-//!   relation: in `sd_history_loops`.
+//!   relation: in `sd_replay`.
 //! - Which flights are on their way, by number, and what an event leaves of them: in
-//!   `sd_history_flights`.
+//!   `sd_history::flights`.
 //!
 //! # Not shown
 //!

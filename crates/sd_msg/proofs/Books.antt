@@ -19,7 +19,12 @@ IsKnown spent f = is_known spent f ≡ true
 -- only those stay that pass a test
 pub kept : (test : Flight → Bool) (last : ℕ) (spent : Spent) (fs : List Flight) → AreKept last spent fs → AreKept last spent (filter test fs)
 kept test last spent fs h =
-    record { numbered = numbered_filter 0 last test fs h.numbered; known = All-filter test (IsKnown spent) fs h.known; links = h.links; receivers = h.receivers }
+    record {
+      numbered = numbered_filter 0 last test fs h.numbered;
+      known = All-filter test (IsKnown spent) fs h.known;
+      links = h.links;
+      receivers = h.receivers;
+    }
 
 -- what is seen of them is numbered too
 pub seen_numbered : (test : Flight → Bool) (last : ℕ) (spent : Spent) (fs : List Flight) → AreKept last spent fs → AreNumbered 0 last (filter test fs)
@@ -39,25 +44,35 @@ skipped last spent fs h =
     }
 
 -- a flight that reaches is added
-pub pushed : (last : ℕ) (spent : Spent) (fs : List Flight) (f : Flight) → AreKept last spent fs → f.number ≡ last + 1 → is_known spent f ≡ true → AreKept (last + 1) spent (fs ++ f ∷ [])
+pub pushed : (last : ℕ) (spent : Spent) (fs : List Flight) (f : Flight) → AreKept last spent fs → f.number ≡ last + 1 → is_known spent f ≡ true
+    → AreKept (last + 1) spent (fs ++ f ∷ [])
 pushed last spent fs f h next known =
     let more = skipped last spent fs h in
-    record { numbered = numbered_push 0 last fs f next h.numbered; known = All-push (IsKnown spent) fs f h.known known; links = more.links; receivers = more.receivers }
+    record {
+      numbered = numbered_push 0 last fs f next h.numbered;
+      known = All-push (IsKnown spent) fs f h.known known;
+      links = more.links;
+      receivers = more.receivers;
+    }
 
 -- and is left
-new_left : (last : ℕ) (spent : Spent) (fs : List Flight) (f : Flight) → f.reaches ≡ true → AreKept last spent fs → f.number ≡ last + 1 → spent.reference ≤ f.last → is_left spent f ≡ true
+new_left : (last : ℕ) (spent : Spent) (fs : List Flight) (f : Flight) → f.reaches ≡ true → AreKept last spent fs → f.number ≡ last + 1
+    → spent.reference ≤ f.last → is_left spent f ≡ true
 new_left last spent fs f reaches h next late =
     let link : mark_of spent.links f.link ≤ last = h.links f.link in
     let receiver : mark_of spent.receivers f.receiver ≤ last = h.receivers f.receiver in
     let link_passes : nat_lt (mark_of spent.links f.link) f.number ≡ true = lt-ltb (mark_of spent.links f.link) f.number (omega (arith, link, next)) in
-    let receiver_passes : nat_lt (mark_of spent.receivers f.receiver) f.number ≡ true = lt-ltb (mark_of spent.receivers f.receiver) f.number (omega (arith, receiver, next)) in
+    let receiver_passes : nat_lt (mark_of spent.receivers f.receiver) f.number ≡ true =
+    lt-ltb (mark_of spent.receivers f.receiver) f.number (omega (arith, receiver, next)) in
     and_from f.reaches (is_spared spent f) reaches
     (and_from (nat_le spent.reference f.last && nat_lt (mark_of spent.links f.link) f.number) (nat_lt (mark_of spent.receivers f.receiver) f.number)
     (and_from (nat_le spent.reference f.last) (nat_lt (mark_of spent.links f.link) f.number) (le-leb spent.reference f.last late) link_passes) receiver_passes)
 
 -- so it is seen last
-pub seen_pushed : (last : ℕ) (old mid new : Spent) (before fs : List Flight) (f : Flight) → f.reaches ≡ true → AreKept last new fs → f.number ≡ last + 1 → new.reference ≡ mid.reference → mid.reference ≤ f.last
-    → filter (is_left mid) fs ≡ filter (is_left old) before → ((g : Flight) → is_left new g ≡ is_left mid g) → filter (is_left new) (fs ++ f ∷ []) ≡ with_sent (filter (is_left old) before) f
+pub seen_pushed : (last : ℕ) (old mid new : Spent) (before fs : List Flight) (f : Flight) → f.reaches ≡ true → AreKept last new fs → f.number ≡ last + 1
+    → new.reference ≡ mid.reference → mid.reference ≤ f.last
+    → filter (is_left mid) fs ≡ filter (is_left old) before → ((g : Flight) → is_left new g ≡ is_left mid g)
+    → filter (is_left new) (fs ++ f ∷ []) ≡ with_sent (filter (is_left old) before) f
 seen_pushed last old mid new before fs f reaches h next reference late seen left =
     passing_last (is_left new) fs f (new_left last new fs f reaches h next (omega (arith, reference, late)))
     ∙ ap (λ gs. gs ++ f ∷ []) (filter_agree (is_left new) (is_left mid) left fs ∙ seen)
@@ -68,19 +83,29 @@ seen_pushed last old mid new before fs f reaches h next reference late seen left
 pub kept_rest : (last : ℕ) (spent : Spent) (fs : List Flight) → AreKept last spent fs → AreKept last spent (drop 1 fs)
 kept_rest last spent [] h = h
 kept_rest last spent (f ∷ fs) h =
-    record { numbered = lower 0 f.number last fs (omega arith) h.numbered.1; known = All-tail (IsKnown spent) f fs h.known; links = h.links; receivers = h.receivers }
+    record {
+      numbered = lower 0 f.number last fs (omega arith) h.numbered.1;
+      known = All-tail (IsKnown spent) f fs h.known;
+      links = h.links;
+      receivers = h.receivers;
+    }
 
-pub seen_rest : (spent : Spent) (fs : List Flight) (f : Flight) → f ≡ get_or fs 0 f → is_left spent f ≡ false → filter (is_left spent) (drop 1 fs) ≡ filter (is_left spent) fs
+pub seen_rest : (spent : Spent) (fs : List Flight) (f : Flight) → f ≡ get_or fs 0 f → is_left spent f ≡ false
+    → filter (is_left spent) (drop 1 fs) ≡ filter (is_left spent) fs
 seen_rest spent [] f is gone = refl
 seen_rest spent (g ∷ fs) f is gone = rw (subst (λ x. is_left spent x ≡ false) is gone) refl
 
 -- What a purge and a sweep leave to be seen
 
-pub seen_purged : (old new : Spent) (reference : ℕ) (fs : List Flight) → ((f : Flight) → is_left new f ≡ (is_left old f && is_current reference f)) → filter (is_left new) fs ≡ filter (is_current reference) (filter (is_left old) fs)
-seen_purged old new reference fs left = filter_agree (is_left new) (λ f. is_left old f && is_current reference f) left fs ∙ both (is_left old) (is_current reference) fs
+pub seen_purged : (old new : Spent) (reference : ℕ) (fs : List Flight) → ((f : Flight) → is_left new f ≡ (is_left old f && is_current reference f))
+    → filter (is_left new) fs ≡ filter (is_current reference) (filter (is_left old) fs)
+seen_purged old new reference fs left = filter_agree (is_left new) (λ f. is_left old f && is_current reference f) left fs
+    ∙ both (is_left old) (is_current reference) fs
 
-module _ (last : ℕ) (old new : Spent) (thing : Thing) (left : (f : Flight) → is_known old f ≡ true → f.number ≤ last → is_left new f ≡ (is_left old f && not (is_swept thing f))) where
-  each_left : (floor : ℕ) (fs : List Flight) → AreNumbered floor last fs → All (IsKnown old) fs → filter (is_left new) fs ≡ filter (λ f. is_left old f && not (is_swept thing f)) fs
+module _ (last : ℕ) (old new : Spent) (thing : Thing) (left : (f : Flight) → is_known old f ≡ true → f.number ≤ last
+    → is_left new f ≡ (is_left old f && not (is_swept thing f))) where
+  each_left : (floor : ℕ) (fs : List Flight) → AreNumbered floor last fs → All (IsKnown old) fs
+      → filter (is_left new) fs ≡ filter (λ f. is_left old f && not (is_swept thing f)) fs
   each_left floor [] h known = refl
   each_left floor (f ∷ fs) h known =
       ap (λ b. cond b (f ∷ filter (is_left new) fs) (filter (is_left new) fs)) (left f (All-head (IsKnown old) f fs known) (floor_low f.number last fs h.1))
@@ -95,12 +120,14 @@ module _ (last : ℕ) (old new : Spent) (thing : Thing) (left : (f : Flight) →
 abbrev pub as_spent : Flight → Flight
 as_spent f = record f { reaches = false }
 
-spent_numbered : (floor last : ℕ) (fs : List Flight) (i : ℕ) (f : Flight) → AreNumbered floor last fs → i < length fs → ((d : Flight) → f ≡ get_or fs i d) → AreNumbered floor last (set fs i (as_spent f))
+spent_numbered : (floor last : ℕ) (fs : List Flight) (i : ℕ) (f : Flight) → AreNumbered floor last fs → i < length fs → ((d : Flight) → f ≡ get_or fs i d)
+    → AreNumbered floor last (set fs i (as_spent f))
 spent_numbered floor last [] i f h within is = h
 spent_numbered floor last (g ∷ fs) zero f h within is = rw (is f) h
 spent_numbered floor last (g ∷ fs) (suc i) f h within is = (h.0, spent_numbered g.number last fs i f h.1 (omega arith) is)
 
-pub kept_spent : (last : ℕ) (spent : Spent) (fs : List Flight) (i : ℕ) (f : Flight) → AreKept last spent fs → i < length fs → ((d : Flight) → f ≡ get_or fs i d) → AreKept last spent (set fs i (as_spent f))
+pub kept_spent : (last : ℕ) (spent : Spent) (fs : List Flight) (i : ℕ) (f : Flight) → AreKept last spent fs → i < length fs → ((d : Flight) → f ≡ get_or fs i d)
+    → AreKept last spent (set fs i (as_spent f))
 kept_spent last spent fs i f h within is =
     record {
       numbered = spent_numbered 0 last fs i f h.numbered within is;
@@ -109,7 +136,8 @@ kept_spent last spent fs i f h within is =
       receivers = h.receivers;
     }
 
-spent_seen : (floor last : ℕ) (spent : Spent) (fs : List Flight) (i : ℕ) (f : Flight) → AreNumbered floor last fs → i < length fs → ((d : Flight) → f ≡ get_or fs i d)
+spent_seen : (floor last : ℕ) (spent : Spent) (fs : List Flight) (i : ℕ) (f : Flight) → AreNumbered floor last fs → i < length fs
+    → ((d : Flight) → f ≡ get_or fs i d)
     → filter (is_left spent) (set fs i (as_spent f)) ≡ without f.number (filter (is_left spent) fs)
 spent_seen floor last spent [] i f h within is = absurd (omega arith)
 spent_seen floor last spent (g ∷ fs) zero f h within is = by (is_left spent g)
@@ -118,7 +146,8 @@ spent_seen floor last spent (g ∷ fs) zero f h within is = by (is_left spent g)
     same = ap (λ (x : Flight). x.number) (sym (is f))
 
     rest : filter (is_left spent) fs ≡ without f.number (filter (is_left spent) fs)
-    rest = sym (without_none f.number (filter (is_left spent) fs) (beyond g.number last f.number (filter (is_left spent) fs) (numbered_filter g.number last (is_left spent) fs h.1) (omega (arith, same))))
+    rest = sym (without_none f.number (filter (is_left spent) fs)
+        (beyond g.number last f.number (filter (is_left spent) fs) (numbered_filter g.number last (is_left spent) fs h.1) (omega (arith, same))))
 
     by : (b : Bool) → filter (is_left spent) fs ≡ without f.number (cond b (g ∷ filter (is_left spent) fs) (filter (is_left spent) fs))
     by true = rw (eq-eqb g.number f.number same) rest
@@ -129,7 +158,8 @@ spent_seen floor last spent (g ∷ fs) (suc i) f h within is = by (is_left spent
     other = first_is_other floor last f.number g fs i h (omega arith) (ap (λ (x : Flight). x.number) (sym (is g)))
 
     by : (b : Bool) → filter (is_left spent) (set fs i (as_spent f)) ≡ without f.number (filter (is_left spent) fs)
-        → cond b (g ∷ filter (is_left spent) (set fs i (as_spent f))) (filter (is_left spent) (set fs i (as_spent f))) ≡ without f.number (cond b (g ∷ filter (is_left spent) fs) (filter (is_left spent) fs))
+        → cond b (g ∷ filter (is_left spent) (set fs i (as_spent f))) (filter (is_left spent) (set fs i (as_spent f)))
+        ≡ without f.number (cond b (g ∷ filter (is_left spent) fs) (filter (is_left spent) fs))
     by true more = rw other (ap (λ gs. g ∷ gs) more)
     by false more = more
 

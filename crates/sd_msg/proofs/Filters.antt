@@ -24,6 +24,7 @@ pub passing_too : (p q : Flight → Bool) (fs : List Flight) → ((f : Flight) �
 passing_too p q [] too = refl
 passing_too p q (f ∷ fs) too = by (p f) refl (passing_too p q fs too)
   where
-    by : (b : Bool) → p f ≡ b → filter q (filter p fs) ≡ filter p fs → filter q (cond b (f ∷ filter p fs) (filter p fs)) ≡ cond b (f ∷ filter p fs) (filter p fs)
+    by : (b : Bool) → p f ≡ b → filter q (filter p fs) ≡ filter p fs
+        → filter q (cond b (f ∷ filter p fs) (filter p fs)) ≡ cond b (f ∷ filter p fs) (filter p fs)
     by true passes rest = rw (too f passes) (ap (λ gs. f ∷ gs) rest)
     by false fails rest = rest

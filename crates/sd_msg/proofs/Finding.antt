@@ -24,7 +24,8 @@ beyond floor top n fs h low =
     omega arith)
 
 -- the number of the first flight is not that of a later one
-pub first_is_other : (floor top n : ℕ) (f : Flight) (fs : List Flight) (i : ℕ) → AreNumbered floor top (f ∷ fs) → i < length fs → number_at fs i f ≡ n → has_number n f ≡ false
+pub first_is_other : (floor top n : ℕ) (f : Flight) (fs : List Flight) (i : ℕ) → AreNumbered floor top (f ∷ fs) → i < length fs → number_at fs i f ≡ n
+    → has_number n f ≡ false
 first_is_other floor top n f fs i h within here =
     let far : f.number < number_at fs i f = above f.number top fs h.1 i f within in
     ne_eqb f.number n (λ same. omega arith)
@@ -42,7 +43,8 @@ pub without_none : (n : ℕ) (fs : List Flight) → find (has_number n) fs ≡ N
 without_none n [] none = refl
 without_none n (f ∷ fs) none = by_test (has_number n f) (without_none n fs) none
   where
-    by_test : (b : Bool) → (find (has_number n) fs ≡ None → without n fs ≡ fs) → cond b (Some f) (find (has_number n) fs) ≡ None → cond (not b) (f ∷ without n fs) (without n fs) ≡ f ∷ fs
+    by_test : (b : Bool) → (find (has_number n) fs ≡ None → without n fs ≡ fs) → cond b (Some f) (find (has_number n) fs) ≡ None
+        → cond (not b) (f ∷ without n fs) (without n fs) ≡ f ∷ fs
     by_test true rest found = cc
     by_test false rest found = ap (λ gs. f ∷ gs) (rest found)
 
@@ -54,7 +56,8 @@ if_passing test None = None
 if_passing test (Some f) = cond (test f) (Some f) None
 
 -- the numbers differ, so no other takes the place of one that does not pass
-pub find_passing : (floor top n : ℕ) (test : Flight → Bool) (fs : List Flight) → AreNumbered floor top fs → find (has_number n) (filter test fs) ≡ if_passing test (find (has_number n) fs)
+pub find_passing : (floor top n : ℕ) (test : Flight → Bool) (fs : List Flight) → AreNumbered floor top fs
+    → find (has_number n) (filter test fs) ≡ if_passing test (find (has_number n) fs)
 find_passing floor top n test [] h = refl
 find_passing floor top n test (f ∷ fs) h = by (has_number n f) (test f) refl refl (find_passing f.number top n test fs h.1)
   where
@@ -72,7 +75,8 @@ abbrev pub found_passing : (Flight → Bool) → Result Flight TakeFault → Res
 found_passing test (Ok f) = cond (test f) (Ok f) (Err fault.Spent)
 found_passing test (Err e) = Err e
 
-pub found_among : (last n : ℕ) (test : Flight → Bool) (fs : List Flight) → AreNumbered 0 last fs → found last (filter test fs) n ≡ found_passing test (found last fs n)
+pub found_among : (last n : ℕ) (test : Flight → Bool) (fs : List Flight) → AreNumbered 0 last fs
+    → found last (filter test fs) n ≡ found_passing test (found last fs n)
 found_among last n test fs h = by (is_given last n) (find (has_number n) fs) (find_passing 0 last n test fs h)
   where
     chosen : (f : Flight) (b : Bool) → ok_or (cond b (Some f) None) fault.Spent ≡ cond b (Ok f) (Err fault.Spent)
@@ -80,7 +84,8 @@ found_among last n test fs h = by (is_given last n) (find (has_number n) fs) (fi
     chosen f false = refl
 
     by : (b : Bool) (o : Option Flight) → find (has_number n) (filter test fs) ≡ if_passing test o
-        → cond b (ok_or (find (has_number n) (filter test fs)) fault.Spent) (Err fault.Unknown) ≡ found_passing test (cond b (ok_or o fault.Spent) (Err fault.Unknown))
+        → cond b (ok_or (find (has_number n) (filter test fs)) fault.Spent) (Err fault.Unknown)
+        ≡ found_passing test (cond b (ok_or o fault.Spent) (Err fault.Unknown))
     by true None same = ap (λ x. ok_or x fault.Spent) same
     by true (Some f) same = ap (λ x. ok_or x fault.Spent) same ∙ chosen f (test f)
     by false o same = refl

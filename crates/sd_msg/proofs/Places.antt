@@ -16,15 +16,18 @@ found_given : (last n : ℕ) (fs : List Flight) (o : Option Flight) → (n ≡ 0
 found_given last n fs o positive within is = rw (given last n positive within, is) refl
 
 -- the flight at the place has the number
-pub found_here : (last n : ℕ) (fs : List Flight) (i : ℕ) (f : Flight) → AreNumbered 0 last fs → (n ≡ 0 → ⊥) → n ≤ last → i < length fs → ((d : Flight) → f ≡ get_or fs i d) → f.number ≡ n → found last fs n ≡ Ok f
+pub found_here : (last n : ℕ) (fs : List Flight) (i : ℕ) (f : Flight) → AreNumbered 0 last fs → (n ≡ 0 → ⊥) → n ≤ last → i < length fs
+    → ((d : Flight) → f ≡ get_or fs i d) → f.number ≡ n → found last fs n ≡ Ok f
 found_here last n fs i f h positive within inside is number =
-    found_given last n fs (Some f) positive within (found_at 0 last n fs i h inside (λ e. sym (ap (λ (g : Flight). g.number) (is e)) ∙ number) f ∙ ap Some (sym (is f)))
+    found_given last n fs (Some f) positive within (found_at 0 last n fs i h inside (λ e. sym (ap (λ (g : Flight). g.number) (is e)) ∙ number) f
+    ∙ ap Some (sym (is f)))
 
 abbrev IsBefore : List Flight → ℕ → ℕ → Type 0
 IsBefore fs n i = (k : ℕ) (d : Flight) → k < i → number_at fs k d < n
 
 -- it has a greater number
-pub none_here : (last n : ℕ) (fs : List Flight) (i : ℕ) (f : Flight) → AreNumbered 0 last fs → (n ≡ 0 → ⊥) → n ≤ last → IsBefore fs n i → ((k : ℕ) (d : Flight) → i ≤ k → k < length fs → n ≤ number_at fs k d)
+pub none_here : (last n : ℕ) (fs : List Flight) (i : ℕ) (f : Flight) → AreNumbered 0 last fs → (n ≡ 0 → ⊥) → n ≤ last → IsBefore fs n i
+    → ((k : ℕ) (d : Flight) → i ≤ k → k < length fs → n ≤ number_at fs k d)
     → i < length fs → ((d : Flight) → f ≡ get_or fs i d) → (f.number ≡ n → ⊥) → found last fs n ≡ Err fault.Spent
 none_here last n fs i f h positive within before after inside is other = found_given last n fs None positive within (absent n fs each)
   where

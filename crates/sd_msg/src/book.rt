@@ -81,7 +81,8 @@ impl FlightBook {
         requires numbers { self.old.last < 2 ^ 64 - 1 }
         ensures given { AreGiven self.new }
         ensures number { result ≡ self.old.last + 1 }
-        ensures flights { self.new.flights ≡ with_sent self.old.flights (record flight { number = result }) }
+        ensures flights { self.new.flights
+            ≡ with_sent self.old.flights (record flight { number = result }) }
         ensures last { self.new.last ≡ result }
         ensures room { self.old.room ≤ self.new.room + 1 }
     {
@@ -119,7 +120,8 @@ impl FlightBook {
     pub fn take(&mut self, number: u64, device: u32) -> Result<Flight, TakeFault>
         ensures given { AreGiven self.new }
         ensures flight { result ≡ for_device device (found self.old.last self.old.flights number) }
-        ensures flights { self.new.flights ≡ (if is_ok result then without number self.old.flights else self.old.flights) }
+        ensures flights { self.new.flights
+            ≡ (if is_ok result then without number self.old.flights else self.old.flights) }
         ensures last { self.new.last ≡ self.old.last }
         ensures room { self.old.room ≤ self.new.room }
     {
@@ -136,7 +138,8 @@ impl FlightBook {
     pub fn lose(&mut self, number: u64) -> Result<(), TakeFault>
         ensures given { AreGiven self.new }
         ensures flight { result ≡ dismissed (found self.old.last self.old.flights number) }
-        ensures flights { self.new.flights ≡ (if is_ok result then without number self.old.flights else self.old.flights) }
+        ensures flights { self.new.flights
+            ≡ (if is_ok result then without number self.old.flights else self.old.flights) }
         ensures last { self.new.last ≡ self.old.last }
         ensures room { self.old.room ≤ self.new.room }
     {

@@ -13,8 +13,10 @@ use std::collections::VecDeque;
 fn place_from(flights: &VecDeque<Flight>, last: u64, number: u64) -> usize
     requires { AreNumbered 0 last flights.now.items }
     ensures bound { result ≤ length flights.now.items }
-    ensures before { (k : ℕ) (d : Flight) → k < result → (slice_index_or flights.now.items k d).number < number }
-    ensures after { (k : ℕ) (d : Flight) → result ≤ k → k < length flights.now.items → number ≤ (slice_index_or flights.now.items k d).number }
+    ensures before { (k : ℕ) (d : Flight) → k < result
+        → (slice_index_or flights.now.items k d).number < number }
+    ensures after { (k : ℕ) (d : Flight) → result ≤ k → k < length flights.now.items
+        → number ≤ (slice_index_or flights.now.items k d).number }
 {
     flights.partition_point(|flight| flight.number < number)
 }
@@ -72,8 +74,10 @@ pub(crate) fn flight_left<'b>(
     ensures place { IfOk result (λ p. p.0 < length flights.now.items) }
     ensures item { IfOk result (λ p. (d : Flight) → p.1.now ≡ slice_index_or flights.now.items p.0 d) }
     ensures number { IfOk result (λ p. p.1.now.number ≡ number) }
-    ensures flight { IfOk result (λ p. found last (filter (is_left spent.now) flights.now.items) number ≡ Ok p.1.now) }
-    ensures fault { IfErr result (λ e. found last (filter (is_left spent.now) flights.now.items) number ≡ Err e) }
+    ensures flight { IfOk result (λ p. found last (filter (is_left spent.now) flights.now.items) number
+        ≡ Ok p.1.now) }
+    ensures fault { IfErr result (λ e. found last (filter (is_left spent.now) flights.now.items) number
+        ≡ Err e) }
 {
     let (place, flight) = flight_given(flights, last, number)?;
     if !spent.leaves(flight) {
@@ -86,7 +90,10 @@ pub(crate) fn flight_left<'b>(
 pub(crate) fn spend(flights: &mut VecDeque<Flight>, last: u64, spent: &Spent, place: usize)
     requires kept { AreKept last spent.now flights.old.items }
     requires place { place < length flights.old.items }
-    ensures left { (d : Flight) → filter (is_left spent.now) flights.new.items ≡ without (slice_index_or flights.old.items place d).number (filter (is_left spent.now) flights.old.items) }
+    ensures left { (d : Flight)
+        → filter (is_left spent.now) flights.new.items
+        ≡ without (slice_index_or flights.old.items place d).number
+        (filter (is_left spent.now) flights.old.items) }
     ensures kept { AreKept last spent.now flights.new.items }
     ensures len { deque_len flights.new ≡ deque_len flights.old }
     ensures capacity { deque_capacity flights.new ≡ deque_capacity flights.old }
@@ -105,8 +112,10 @@ pub(crate) fn keep_left(flights: &mut VecDeque<Flight>, spent: &Spent)
 
 /// Leaves out those that are spent at the front, up to one that is left.
 pub(crate) fn drop_first(flights: &mut VecDeque<Flight>, spent: &Spent)
-    ensures left { filter (is_left spent.now) flights.new.items ≡ filter (is_left spent.now) flights.old.items }
-    ensures kept { (last : ℕ) → AreKept last spent.now flights.old.items → AreKept last spent.now flights.new.items }
+    ensures left { filter (is_left spent.now) flights.new.items
+        ≡ filter (is_left spent.now) flights.old.items }
+    ensures kept { (last : ℕ) → AreKept last spent.now flights.old.items
+        → AreKept last spent.now flights.new.items }
     ensures bound { deque_len flights.new ≤ deque_len flights.old }
     ensures capacity { deque_capacity flights.new ≡ deque_capacity flights.old }
 {
@@ -121,8 +130,10 @@ pub(crate) fn drop_first(flights: &mut VecDeque<Flight>, spent: &Spent)
 /// Leaves out what is spent, where a flight with this `last` would be spent with it.
 pub(crate) fn reopen(flights: &mut VecDeque<Flight>, spent: &mut Spent, last: u64)
     ensures reference { spent.new.reference ≤ last }
-    ensures left { filter (is_left spent.new) flights.new.items ≡ filter (is_left spent.old) flights.old.items }
-    ensures kept { (number : ℕ) → AreKept number spent.old flights.old.items → AreKept number spent.new flights.new.items }
+    ensures left { filter (is_left spent.new) flights.new.items
+        ≡ filter (is_left spent.old) flights.old.items }
+    ensures kept { (number : ℕ) → AreKept number spent.old flights.old.items
+        → AreKept number spent.new flights.new.items }
     ensures bound { deque_len flights.new ≤ deque_len flights.old }
     ensures capacity { deque_capacity flights.new ≡ deque_capacity flights.old }
     ensures room { room_of spent.new ≡ room_of spent.old }

@@ -118,7 +118,9 @@ impl Marks {
     /// Sets the mark of a key, where it was entered.
     pub fn set(&mut self, key: u32, number: u64)
         ensures keeps { (k : ℕ) → is_entered self.new k ≡ is_entered self.old k }
-        ensures marks { (k : ℕ) → mark_of self.new k ≡ (if nat_eq key k && is_entered self.old k then number else mark_of self.old k) }
+        ensures marks { (k : ℕ)
+            → mark_of self.new k
+            ≡ (if nat_eq key k && is_entered self.old k then number else mark_of self.old k) }
         ensures room { room_of self.old ≤ room_of self.new }
     {
         if self.get(key).is_some() {
@@ -129,7 +131,8 @@ impl Marks {
     /// Puts a mark at a key, which is entered then.
     fn put(&mut self, key: u32, mark: u64)
         requires { is_entered self.old key ≡ false → 1 ≤ room_of self.old }
-        ensures marks { (k : ℕ) → marked self.new k ≡ (if nat_eq key k then Some mark else marked self.old k) }
+        ensures marks { (k : ℕ)
+            → marked self.new k ≡ (if nat_eq key k then Some mark else marked self.old k) }
         ensures room { room_of self.old ≤ room_of self.new + (if is_entered self.old key then 0 else 1) }
     {
         self.greatest = self.greatest.max(mark);
@@ -155,7 +158,9 @@ impl Marks {
 /// Makes places for the keys below the top, with the marks that are among the far ones.
 fn make_places(near: &mut Vec<Option<u64>>, far: &HashMap<u32, u64>, top: u32)
     requires { top ≤ vec_capacity near.old }
-    ensures { (key : ℕ) → slice_index_or near.new.items key (get nat_eq far.now key) ≡ slice_index_or near.old.items key (get nat_eq far.now key) }
+    ensures { (key : ℕ)
+        → slice_index_or near.new.items key (get nat_eq far.now key)
+        ≡ slice_index_or near.old.items key (get nat_eq far.now key) }
 {
     'places: while near.len() < top as usize {
         let key = near.len() as u32;

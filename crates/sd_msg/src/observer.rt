@@ -19,7 +19,8 @@ pub trait Observer: Drop {
     fn ready(&mut self, alloc: Global) -> Result<(), NoMemory>
         ensures ready { OnOk result (1 ≤ room self.new) }
         ensures room { room self.old ≤ room self.new }
-        ensures keeps { (reports : List ReportAt) → stands self.old reports → stands self.new reports };
+        ensures keeps { (reports : List ReportAt) → stands self.old reports
+            → stands self.new reports };
 
     /// Tells it of a report: the number of its line, its device, and the reference time in ps. It
     /// takes no memory.
@@ -28,7 +29,8 @@ pub trait Observer: Drop {
         requires clock { report.clock < 2 ^ 101 }
         requires eps { report.eps < 2 ^ 101 }
         ensures room { room self.old ≤ room self.new + 1 }
-        ensures told { (reports : List ReportAt) → stands self.old reports → stands self.new (reports ++ report_at line device reference report ∷ []) };
+        ensures told { (reports : List ReportAt) → stands self.old reports
+            → stands self.new (reports ++ report_at line device reference report ∷ []) };
 }
 
 /// It keeps nothing, and so stands for every list.

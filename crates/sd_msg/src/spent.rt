@@ -36,7 +36,8 @@ impl Spent {
     /// Makes room for some more flights.
     pub fn ready(&mut self, count: usize) -> Result<(), NoMemory>
         ensures left { (f : Flight) → is_left self.new f ≡ is_left self.old f }
-        ensures kept { (last : ℕ) (flights : List Flight) → AreKept last self.old flights → AreKept last self.new flights }
+        ensures kept { (last : ℕ) (flights : List Flight) → AreKept last self.old flights
+            → AreKept last self.new flights }
         ensures room { OnOk result (count ≤ room_of self.new) }
         ensures grows { room_of self.old ≤ room_of self.new }
     {
@@ -60,7 +61,8 @@ impl Spent {
         requires { 1 ≤ room_of self.old }
         ensures left { (f : Flight) → is_left self.new f ≡ is_left self.old f }
         ensures known { is_known self.new flight.now ≡ true }
-        ensures kept { (last : ℕ) (flights : List Flight) → AreKept last self.old flights → AreKept last self.new flights }
+        ensures kept { (last : ℕ) (flights : List Flight) → AreKept last self.old flights
+            → AreKept last self.new flights }
         ensures reference { self.new.reference ≡ self.old.reference }
         ensures room { room_of self.old ≤ room_of self.new + 1 }
     {
@@ -70,8 +72,10 @@ impl Spent {
 
     /// Spends the flights whose `last` is less than the reference.
     pub fn purge(&mut self, reference: u64)
-        ensures left { (f : Flight) → is_left self.new f ≡ (is_left self.old f && is_current reference f) }
-        ensures kept { (last : ℕ) (flights : List Flight) → AreKept last self.old flights → AreKept last self.new flights }
+        ensures left { (f : Flight)
+            → is_left self.new f ≡ (is_left self.old f && is_current reference f) }
+        ensures kept { (last : ℕ) (flights : List Flight) → AreKept last self.old flights
+            → AreKept last self.new flights }
         ensures room { room_of self.new ≡ room_of self.old }
     {
         self.reference = self.reference.max(reference);
@@ -81,7 +85,8 @@ impl Spent {
     /// ended have to be gone before, or they come back.
     pub fn reopen(&mut self, last: u64)
         ensures left { (f : Flight) → is_left self.old f ≡ true → is_left self.new f ≡ true }
-        ensures kept { (number : ℕ) (flights : List Flight) → AreKept number self.old flights → AreKept number self.new flights }
+        ensures kept { (number : ℕ) (flights : List Flight) → AreKept number self.old flights
+            → AreKept number self.new flights }
         ensures reference { self.new.reference ≤ last }
         ensures room { room_of self.new ≡ room_of self.old }
     {
@@ -90,8 +95,10 @@ impl Spent {
 
     /// Spends the flights over that link or to that device, of those with numbers up to the last.
     pub fn sweep(&mut self, thing: Thing, last: u64)
-        ensures left { (f : Flight) → is_known self.old f ≡ true → f.number ≤ last → is_left self.new f ≡ (is_left self.old f && not (is_swept thing f)) }
-        ensures kept { (flights : List Flight) → AreKept last self.old flights → AreKept last self.new flights }
+        ensures left { (f : Flight) → is_known self.old f ≡ true → f.number ≤ last
+            → is_left self.new f ≡ (is_left self.old f && not (is_swept thing f)) }
+        ensures kept { (flights : List Flight) → AreKept last self.old flights
+            → AreKept last self.new flights }
         ensures room { room_of self.old ≤ room_of self.new }
     {
         match thing {

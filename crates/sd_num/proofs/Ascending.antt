@@ -35,7 +35,8 @@ pub is_ok-searched : (xs : List ℕ) (x : ℕ) (found : Result ℕ ℕ) → IsBi
 is_ok-searched xs x found result up = by_side found (searched xs x found result (rise xs up))
   where
     by_side : (found : Result ℕ ℕ)
-        → MatchResult found (λ i. (i < length xs) × (get_or xs i 0 ≡ x)) (λ i. (i ≤ length xs) × ((k : ℕ) → k < i → get_or xs k 0 < x) × ((k : ℕ) → i ≤ k → k < length xs → x < get_or xs k 0))
+        → MatchResult found (λ i. (i < length xs) × (get_or xs i 0 ≡ x))
+        (λ i. (i ≤ length xs) × ((k : ℕ) → k < i → get_or xs k 0 < x) × ((k : ℕ) → i ≤ k → k < length xs → x < get_or xs k 0))
         → is_ok found ≡ has xs x
     by_side (Ok i) at = sym (list_any_at (nat_eq x) xs i 0 at.0 (eq-eqb x (get_or xs i 0) (sym at.1)))
     by_side (Err i) apart =

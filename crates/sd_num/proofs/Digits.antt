@@ -14,7 +14,8 @@ digit_first true i n h = omega arith
 digit_first false i n h = cc
 
 -- a digit at i, and those behind it
-pub leading_digits-drop : (bs : List ℕ) (i : ℕ) → i < length bs → is_digit (get_or bs i 0) ≡ true → i + leading_digits (drop i bs) ≡ (i + 1) + leading_digits (drop (i + 1) bs)
+pub leading_digits-drop : (bs : List ℕ) (i : ℕ) → i < length bs → is_digit (get_or bs i 0) ≡ true
+    → i + leading_digits (drop i bs) ≡ (i + 1) + leading_digits (drop (i + 1) bs)
 leading_digits-drop bs i h t = rw (add-one, drop-cons bs i 0) (digit_first (is_digit (get_or bs i 0)) i (leading_digits (drop (suc i) bs)) t)
 
 other_first : (t : Bool) (n : ℕ) → t ≡ false → cond (not (not t)) (1 + n) 0 ≡ 0
@@ -29,13 +30,17 @@ regroup : (v d p w : ℕ) → v * (p * 10) + (d * p + w) ≡ (v * 10 + d) * p + 
 regroup v d p w = omega arith
 
 -- what a digit more means
-pub value-drop : (bs : List ℕ) (i v : ℕ) → i < length bs → v * 10 ^ length (drop i bs) + value (drop i bs) ≡ (v * 10 + (get_or bs i 0 - 48)) * 10 ^ length (drop (i + 1) bs) + value (drop (i + 1) bs)
-value-drop bs i v h = rw (add-one, drop-cons bs i 0, pow-suc 10 (length (drop (suc i) bs))) (regroup v (get_or bs i 0 - 48) (10 ^ length (drop (suc i) bs)) (value (drop (suc i) bs)))
+pub value-drop : (bs : List ℕ) (i v : ℕ) → i < length bs
+    → v * 10 ^ length (drop i bs) + value (drop i bs) ≡ (v * 10 + (get_or bs i 0 - 48)) * 10 ^ length (drop (i + 1) bs) + value (drop (i + 1) bs)
+value-drop bs i v h =
+    rw (add-one, drop-cons bs i 0, pow-suc 10 (length (drop (suc i) bs)))
+    (regroup v (get_or bs i 0 - 48) (10 ^ length (drop (suc i) bs)) (value (drop (suc i) bs)))
 
 -- what digits mean with one more behind them
 value_push : (bs : List ℕ) (b : ℕ) → value (bs ++ b ∷ []) ≡ value bs * 10 + (b - 48)
 value_push [] b = omega arith
-value_push (c ∷ bs) b = rw (length_push bs b, add-one (length bs), pow-suc 10 (length bs), value_push bs b) (regroup_push (c - 48) (10 ^ length bs) (value bs) (b - 48))
+value_push (c ∷ bs) b =
+    rw (length_push bs b, add-one (length bs), pow-suc 10 (length bs), value_push bs b) (regroup_push (c - 48) (10 ^ length bs) (value bs) (b - 48))
   where
     regroup_push : (d p v w : ℕ) → d * (p * 10) + (v * 10 + w) ≡ (d * p + v) * 10 + w
     regroup_push d p v w = omega arith
@@ -45,8 +50,10 @@ pub value-take : (bs : List ℕ) (i : ℕ) → i < length bs → value (take (i 
 value-take bs i h = ap value (take_more bs i 0 h) ∙ value_push (take i bs) (get_or bs i 0)
 
 -- a digit more behind digits
-pub digits-take : (bs : List ℕ) (i : ℕ) → i < length bs → list_all is_digit (take i bs) ≡ true → is_digit (get_or bs i 0) ≡ true → list_all is_digit (take (i + 1) bs) ≡ true
-digits-take bs i h all digit = ap (λ (xs : List ℕ). list_all is_digit xs) (take_more bs i 0 h) ∙ list_all-append is_digit (take i bs) (get_or bs i 0 ∷ []) ∙ rw (all, digit) refl
+pub digits-take : (bs : List ℕ) (i : ℕ) → i < length bs → list_all is_digit (take i bs) ≡ true → is_digit (get_or bs i 0) ≡ true
+    → list_all is_digit (take (i + 1) bs) ≡ true
+digits-take bs i h all digit = ap (λ (xs : List ℕ). list_all is_digit xs) (take_more bs i 0 h) ∙ list_all-append is_digit (take i bs) (get_or bs i 0 ∷ [])
+    ∙ rw (all, digit) refl
 
 -- digits up to the end
 pub all_lead : (bs : List ℕ) (i : ℕ) → length bs ≤ i → leading_digits bs ≡ i + leading_digits (drop i bs) → leading_digits bs ≡ i
@@ -95,7 +102,8 @@ front_below v k w n e =
     rw (e, next) (product_grows v (10 ^ k - 1) w)
 
 -- the first of the digits from a place on, and those behind it
-pub list_all_first : (p : ℕ → Bool) (bs : List ℕ) (i : ℕ) → i < length bs → list_all p (drop i bs) ≡ true → (p (get_or bs i 0) ≡ true) × (list_all p (drop (i + 1) bs) ≡ true)
+pub list_all_first : (p : ℕ → Bool) (bs : List ℕ) (i : ℕ) → i < length bs → list_all p (drop i bs) ≡ true
+    → (p (get_or bs i 0) ≡ true) × (list_all p (drop (i + 1) bs) ≡ true)
 list_all_first p bs i h all = rw (add-one i) (and_parts (p (get_or bs i 0)) (list_all p (drop (suc i) bs)) (rw (drop-cons bs i 0) at all))
 
 -- behind the last byte nothing is left to count
@@ -103,9 +111,11 @@ pub value-drop_all : (bs : List ℕ) (i v n : ℕ) → length bs ≤ i → n ≡
 value-drop_all bs i v n h e = let met : n ≡ v * 10 ^ 0 + 0 = rw (drop_all i bs h) at e in omega (arith, met)
 
 -- so far a `u64` holds the number, and with a digit more it does not
-pub past_with_digit : (bs : List ℕ) (i v n : ℕ) → i < length bs → n ≡ v * 10 ^ length (drop i bs) + value (drop i bs) → 2 ^ 64 ≤ v * 10 + (get_or bs i 0 - 48) → cond (nat_lt n (2 ^ 64)) (Some n) None ≡ None
+pub past_with_digit : (bs : List ℕ) (i v n : ℕ) → i < length bs → n ≡ v * 10 ^ length (drop i bs) + value (drop i bs) → 2 ^ 64 ≤ v * 10 + (get_or bs i 0 - 48)
+    → cond (nat_lt n (2 ^ 64)) (Some n) None ≡ None
 past_with_digit bs i v n h e past =
-    let front : v * 10 + (get_or bs i 0 - 48) ≤ n = front_below (v * 10 + (get_or bs i 0 - 48)) (length (drop (i + 1) bs)) (value (drop (i + 1) bs)) n (e ∙ value-drop bs i v h) in
+    let front : v * 10 + (get_or bs i 0 - 48) ≤ n =
+    front_below (v * 10 + (get_or bs i 0 - 48)) (length (drop (i + 1) bs)) (value (drop (i + 1) bs)) n (e ∙ value-drop bs i v h) in
     number_past n (omega (arith, front, past))
 
 digits_step : (t all : Bool) (n len : ℕ) → suc len ≤ cond (not (not t)) (1 + n) 0 → (len ≤ n → all ≡ true) → (t && all) ≡ true

@@ -21,7 +21,8 @@ find_below_none test (suc n) fails =
 pub find-map : {X Y : Type 0} (make : X → Y) (test : Y → Bool) (xs : List X) → find test (map make xs) ≡ option_map make (find (λ x. test (make x)) xs)
 find-map make test [] = refl
 find-map make test (x ∷ xs) =
-    elim (test (make x)) as (λ b. cond b (Some (make x)) (find test (map make xs)) ≡ option_map make (cond b (Some x) (find (λ x. test (make x)) xs))) [ true ↦ refl | false ↦ find-map make test xs ]
+    elim (test (make x)) as (λ b. cond b (Some (make x)) (find test (map make xs)) ≡ option_map make (cond b (Some x) (find (λ x. test (make x)) xs)))
+    [ true ↦ refl | false ↦ find-map make test xs ]
 
 -- a number that does not pass changes nothing
 pub find_below_more : (test : ℕ → Bool) (k : ℕ) → find test (below k) ≡ None → test k ≡ false → find test (below (k + 1)) ≡ None
@@ -38,13 +39,16 @@ find_below_here test k (suc n) within none passes =
     ]
 
 -- one more of a list's first elements that fails changes nothing
-pub find_more : {X : Type 0} (p : X → Bool) (xs : List X) (i : ℕ) (d : X) → i < length xs → find p (take i xs) ≡ None → p (get_or xs i d) ≡ false → find p (take (i + 1) xs) ≡ None
+pub find_more : {X : Type 0} (p : X → Bool) (xs : List X) (i : ℕ) (d : X) → i < length xs → find p (take i xs) ≡ None → p (get_or xs i d) ≡ false
+    → find p (take (i + 1) xs) ≡ None
 find_more p xs i d within none fails =
-    ap (find p) (take_more xs i d within) ∙ find-append p (take i xs) (get_or xs i d ∷ []) ∙ ap (λ o. option_or o (cond (p (get_or xs i d)) (Some (get_or xs i d)) None)) none
+    ap (find p) (take_more xs i d within) ∙ find-append p (take i xs) (get_or xs i d ∷ [])
+    ∙ ap (λ o. option_or o (cond (p (get_or xs i d)) (Some (get_or xs i d)) None)) none
     ∙ ap (λ t. cond t (Some (get_or xs i d)) None) fails
 
 -- the first element of a list that passes
-pub find_here : {X : Type 0} (p : X → Bool) (xs : List X) (i : ℕ) (d : X) → i < length xs → find p (take i xs) ≡ None → p (get_or xs i d) ≡ true → find p xs ≡ Some (get_or xs i d)
+pub find_here : {X : Type 0} (p : X → Bool) (xs : List X) (i : ℕ) (d : X) → i < length xs → find p (take i xs) ≡ None → p (get_or xs i d) ≡ true
+    → find p xs ≡ Some (get_or xs i d)
 find_here p xs i d within none passes =
     ap (find p) (sym (take-append-drop i xs)) ∙ find-append p (take i xs) (drop i xs) ∙ ap (λ o. option_or o (find p (drop i xs))) none
     ∙ ap (find p) (drop_more xs i d within)

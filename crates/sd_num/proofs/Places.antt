@@ -39,7 +39,8 @@ pub kept_from : (p : ℕ → Bool) (xs : List ℕ) (x : ℕ) → p x ≡ true �
 kept_from p [] x passes there = cc
 kept_from p (y ∷ ys) x passes there = by (p y) refl (or_cases (nat_eq x y) (has ys x) there) (kept_from p ys x passes)
   where
-    by : (b : Bool) → p y ≡ b → (nat_eq x y ≡ true) ⊎ (has ys x ≡ true) → (has ys x ≡ true → has (filter p ys) x ≡ true) → has (if b then y ∷ filter p ys else filter p ys) x ≡ true
+    by : (b : Bool) → p y ≡ b → (nat_eq x y ≡ true) ⊎ (has ys x ≡ true) → (has ys x ≡ true → has (filter p ys) x ≡ true)
+        → has (if b then y ∷ filter p ys else filter p ys) x ≡ true
     by true it (inl here) rest = or_left (nat_eq x y) (has (filter p ys) x) here
     by true it (inr later) rest = or_right (nat_eq x y) (has (filter p ys) x) (rest later)
     by false it (inl here) rest = absurd (both_ways (p y) it (ap p (sym (eqb-true x y here)) ∙ passes))
@@ -70,7 +71,8 @@ at_before [] y i x at = cc
 at_before (z ∷ zs) y zero x at = at
 at_before (z ∷ zs) y (suc i) x at = at_before zs y i x at
 
-pub at_cases : {X : Type 0} (xs : List X) (y : X) (i : ℕ) (x : X) → slice_get (xs ++ y ∷ []) i ≡ Some x → (slice_get xs i ≡ Some x) ⊎ ((i ≡ length xs) × (x ≡ y))
+pub at_cases : {X : Type 0} (xs : List X) (y : X) (i : ℕ) (x : X) → slice_get (xs ++ y ∷ []) i ≡ Some x
+    → (slice_get xs i ≡ Some x) ⊎ ((i ≡ length xs) × (x ≡ y))
 at_cases [] y zero x at = inr (refl, sym (same_Some y x at))
 at_cases [] y (suc i) x at = cc
 at_cases (z ∷ zs) y zero x at = inl at
@@ -109,6 +111,7 @@ at_written xs i y within = slice_get-get_or (set xs i y) i y (rw (length-set xs 
 
 pub at_unwritten : {X : Type 0} (xs : List X) (i j : ℕ) (y : X) → j ≢ i → slice_get (set xs i y) j ≡ slice_get xs j
 at_unwritten xs i j y apart = elim (cases_lt j (length xs)) [
-  | inl inside ↦ slice_get-get_or (set xs i y) j y (rw (length-set xs i y) inside) ∙ ap Some (get_or-set_other xs i j y y apart) ∙ sym (slice_get-get_or xs j y inside)
+  | inl inside ↦ slice_get-get_or (set xs i y) j y (rw (length-set xs i y) inside) ∙ ap Some (get_or-set_other xs i j y y apart)
+      ∙ sym (slice_get-get_or xs j y inside)
   | inr past ↦ slice_get_past (set xs i y) j (rw (length-set xs i y) past) ∙ sym (slice_get_past xs j past)
 ]

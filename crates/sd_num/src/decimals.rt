@@ -86,7 +86,8 @@ fn read_digits(bytes: &[u8]) -> Result<u64, NumFault>
 /// The value of digits, where a `u64` holds it.
 fn value_of(bytes: &[u8]) -> Option<u64>
     requires { IsTrue (list_all is_digit bytes.now) }
-    ensures { result ≡ (if nat_lt (value bytes.now) (2 ^ 64) then Some (value bytes.now) else None) }
+    ensures { result
+        ≡ (if nat_lt (value bytes.now) (2 ^ 64) then Some (value bytes.now) else None) }
 {
     let mut value = 0u64;
     for byte in bytes {

@@ -7,7 +7,8 @@ use Rattle.sd_outside.specs.Texts.{text_in, file_seen, files_seen, text_at}
 
 -- a name is that of the file at i, or of one after it
 pub text_in-drop : (fs : List (String Global × Vec ℕ Global)) (i : ℕ) (d : String Global × Vec ℕ Global) (name : List ℕ) → i < length fs
-    → text_in (files_seen (drop i fs)) name ≡ cond (bytes_eq (string_bytes (get_or fs i d).0) name) (Some (get_or fs i d).1.items) (text_in (files_seen (drop (i + 1) fs)) name)
+    → text_in (files_seen (drop i fs)) name ≡ cond (bytes_eq (string_bytes (get_or fs i d).0) name) (Some (get_or fs i d).1.items)
+    (text_in (files_seen (drop (i + 1) fs)) name)
 text_in-drop fs i d name h = rw (add-one, drop-cons fs i d) refl
 
 -- a name is that of the file at i, whose text it has

@@ -1,5 +1,6 @@
 pub mod Causes
-pub mod Fronts
+pub mod LastFaults
+pub mod Prefixes
 pub mod Texts
 pub mod TextsView
 pub mod MemShelf

@@ -1,20 +1,34 @@
 //! The files of the system as a shelf.
-ghost use Rattle.std.specs.Prelude.{◌≡◌, None, true, false, IsTrue, OnOk, OnErr};
+ghost use Rattle.std.specs.Prelude.{◌≡◌, ◌≤◌, None, Some, true, false, IsTrue, OnOk, OnErr};
 ghost use Rattle.std.specs.Io.{ReadsAtMost};
 ghost use Rattle.std.specs.Io.KnownBytes.{ReadConsumes, IsAtEnd};
-ghost use Rattle.sd_outside.specs.Causes.{HasCause, faults_after};
+ghost use Rattle.sd_outside.specs.Causes.{HasCause, faults_after, raised};
+ghost use Rattle.sd_outside.specs.LastFaults.{KeepsFault};
 ghost use Rattle.sd_outside.specs.Texts.{RestIs};
 
 use crate::again::{open_file, read_once};
 use crate::shelf::{Failed, Shelf};
+use std::io;
 use std::marker::Model;
 use std::rt::Files;
+
+/// A call on a file that failed.
+#[derive(Clone, Copy, Debug)]
+pub struct LastFault {
+    /// Which file it was: 1 is the first that a `begin` named.
+    pub file: u64,
+    /// The system's reason.
+    pub reason: io::Error,
+}
 
 /// The files of the system, under their paths. It tells nothing of what they hold.
 #[derive(Drop)]
 pub struct FileShelf<'r, R: Files> {
     files: &'r R,
     file: Option<R::File>,
+    /// How many times `begin` was called, which is the number of the file that it named last.
+    begins: u64,
+    last_fault: Option<LastFault>,
     faults: u64,
 }
 
@@ -27,6 +41,8 @@ impl<'r, R: Files> Model for FileShelf<'r, R> {
     ghost view = { λ s. record {
       begun = is_some s.file;
       left = option_and_then R.File.Read.remaining s.file;
+      begins = s.begins;
+      last_fault = s.last_fault;
       faults = s.faults;
     } };
 }
@@ -35,12 +51,41 @@ impl<'r, R: Files> FileShelf<'r, R> {
     pub fn new(files: &'r R) -> FileShelf<'r, R>
         ensures faults { ⟦<FileShelf<'r, R> as Shelf>⟧.faults result ≡ 0 }
         ensures begun { ⟦<FileShelf<'r, R> as Shelf>⟧.begun result ≡ false }
+        ensures begins { result.begins ≡ 0 }
+        ensures last_fault { result.last_fault ≡ None }
     {
         FileShelf {
             files,
             file: None,
+            begins: 0,
+            last_fault: None,
             faults: 0,
         }
+    }
+
+    /// The last call that failed, and nothing before the first.
+    pub fn last_fault(&self) -> Option<LastFault>
+        ensures { result ≡ self.now.last_fault }
+    {
+        self.last_fault
+    }
+
+    /// Keeps why a call on the file failed that `begin` named last.
+    fn fail(&mut self, reason: io::Error) -> Failed
+        ensures begun { self.new.begun ≡ self.old.begun }
+        ensures left { self.new.left ≡ self.old.left }
+        ensures begins { self.new.begins ≡ self.old.begins }
+        ensures last_fault { self.new.last_fault
+            ≡ Some (record { file = self.old.begins; reason = reason }) }
+        ensures faults { self.new.faults ≡ raised self.old.faults }
+        ensures later { self.old.faults ≤ self.new.faults }
+    {
+        self.last_fault = Some(LastFault {
+            file: self.begins,
+            reason,
+        });
+        self.faults = self.faults.saturating_add(1);
+        Failed
     }
 }
 
@@ -61,16 +106,18 @@ impl<'r, R: Files> Shelf for FileShelf<'r, R> {
         ensures failed { OnErr result ((self.new.begun ≡ false) × IsAtEnd None) }
         ensures cause { HasCause self.old.faults self.new.faults result }
         ensures faults { self.new.faults ≡ faults_after self.old.faults result }
+        ensures begins { self.new.begins ≡ raised self.old.begins }
+        ensures last_fault { KeepsFault self.new.begins self.old.last_fault self.new.last_fault result }
     {
+        self.begins = self.begins.saturating_add(1);
         match open_file(self.files, name) {
             Ok(file) => {
                 self.file = Some(file);
                 Ok(())
             }
-            Err(Failed) => {
+            Err(reason) => {
                 self.file = None;
-                self.faults = self.faults.saturating_add(1);
-                Err(Failed)
+                Err(self.fail(reason))
             }
         }
     }
@@ -84,15 +131,17 @@ impl<'r, R: Files> Shelf for FileShelf<'r, R> {
         ensures begun { IsTrue self.new.begun }
         ensures cause { HasCause self.old.faults self.new.faults result }
         ensures faults { self.new.faults ≡ faults_after self.old.faults result }
+        ensures begins { self.new.begins ≡ self.old.begins }
+        ensures last_fault { KeepsFault self.new.begins self.old.last_fault self.new.last_fault result }
     {
         let count = match &mut self.file {
             Some(file) => read_once(file, buf),
             None => unreachable!(),
         };
-        if count.is_err() {
-            self.faults = self.faults.saturating_add(1);
+        match count {
+            Ok(count) => Ok(count),
+            Err(reason) => Err(self.fail(reason)),
         }
-        count
     }
 }
 
@@ -100,7 +149,14 @@ impl<'r, R: Files> Shelf for FileShelf<'r, R> {
 mod tests {
     use super::*;
     use std::fs;
+    use std::io::ErrorKind;
     use std::test::Fail;
+
+    /// Which file the last fault was of, and its kind.
+    fn seen<R: Files>(shelf: &FileShelf<'_, R>) -> Option<(u64, ErrorKind)> {
+        let LastFault { file, reason } = shelf.last_fault()?;
+        Some((file, reason.kind()))
+    }
 
     #[test]
     fn reads_a_file_and_counts_a_missing_one(rt: HostRuntime) -> Result<(), Fail> {
@@ -117,8 +173,18 @@ mod tests {
         fs::remove_file(&rt, "file_shelf_test.txt")?;
 
         assert_eq!(rt; shelf.faults, 0);
+        assert!(rt; shelf.last_fault().is_none());
         assert_eq!(rt; shelf.begin("file_shelf_test.txt"), Err(Failed));
         assert_eq!(rt; shelf.faults, 1);
+        assert_eq!(rt; seen(&shelf), Some((2, ErrorKind::NotFound)));
+
+        fs::create_dir(&rt, "file_shelf_test")?;
+        shelf.begin("file_shelf_test")?;
+        assert_eq!(rt; seen(&shelf), Some((2, ErrorKind::NotFound)));
+        assert_eq!(rt; shelf.read(&mut buf), Err(Failed));
+        assert_eq!(rt; seen(&shelf), Some((3, ErrorKind::IsADirectory)));
+        fs::remove_dir(&rt, "file_shelf_test")?;
+        assert_eq!(rt; shelf.faults, 2);
         Ok(())
     }
 }

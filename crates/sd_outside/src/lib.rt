@@ -15,7 +15,7 @@ mod sink;
 mod std_sink;
 mod texts;
 
-pub use file_shelf::FileShelf;
+pub use file_shelf::{FileShelf, LastFault};
 pub use line_buffer::LineBuffer;
 pub use mem_shelf::MemShelf;
 pub use mem_sink::MemSink;

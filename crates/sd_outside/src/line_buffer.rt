@@ -65,7 +65,8 @@ impl LineBuffer {
 
     /// Adds what is displayed. Where there is no room for all of it, some front of it is added.
     pub fn push_displayed<D: fmt::Display + Drop>(&mut self, value: D) -> Result<(), NoMemory>
-        ensures { OnOk result (IfSome (D.output value) (λ text. printed self.new ≡ printed self.old ++ text)) }
+        ensures { OnOk result
+            (IfSome (D.output value) (λ text. printed self.new ≡ printed self.old ++ text)) }
     {
         match self.write(value) {
             Ok(()) => Ok(()),

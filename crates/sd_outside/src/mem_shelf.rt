@@ -115,7 +115,8 @@ impl Shelf for MemShelf {
         requires { IsTrue self.old.begun }
         // It fails exactly where it is listed, and else gives all that may be given.
         ensures exactly { is_err result ≡ is_listed self.old }
-        ensures count { IfOk result (λ n. n ≡ min self.old.piece (min (length buf.old) (length self.old.rest))) }
+        ensures count { IfOk result
+            (λ n. n ≡ min self.old.piece (min (length buf.old) (length self.old.rest))) }
         ensures bound { ReadsAtMost result buf.new }
         ensures bytes { ReadConsumes (Some self.old.rest) (Some self.new.rest) result buf.new }
         ensures begun { IsTrue self.new.begun }

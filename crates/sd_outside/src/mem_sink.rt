@@ -2,7 +2,7 @@
 ghost use Rattle.std.specs.Prelude.{◌≡◌, ◌+◌, ◌≤◌, ◌++◌, ◌||◌, [], Some, length, take, vec_len, IfOk, OnOk, OnErr, is_some, is_err, nat_lt};
 ghost use Rattle.std.specs.Io.KnownBytes.{Appends};
 ghost use Rattle.sd_outside.specs.Causes.{HasCause, faults_after, raised};
-ghost use Rattle.sd_outside.specs.Fronts.{WritesFront};
+ghost use Rattle.sd_outside.specs.Prefixes.{WritesPrefix};
 ghost use Rattle.sd_outside.specs.MemSink.{added_count, kept_in, listed_count, room_left};
 
 use crate::room::append;
@@ -87,9 +87,10 @@ impl Sink for MemSink {
         // It fails exactly where it is listed or its bytes exceed the room that is left.
         ensures exactly { is_err result ≡ (is_some (listed_count self.old)
             || nat_lt (room_left self.old) (length bytes.now)) }
-        ensures bytes { self.new.bytes ≡ self.old.bytes ++ take (added_count self.old bytes.now) bytes.now }
+        ensures bytes { self.new.bytes ≡ self.old.bytes
+            ++ take (added_count self.old bytes.now) bytes.now }
         ensures all { OnOk result (Appends (Some self.old.bytes) (Some self.new.bytes) bytes.now) }
-        ensures front { OnErr result (WritesFront (Some self.old.bytes) (Some self.new.bytes) bytes.now) }
+        ensures front { OnErr result (WritesPrefix (Some self.old.bytes) (Some self.new.bytes) bytes.now) }
         ensures cause { HasCause self.old.faults self.new.faults result }
 
         ensures calls { self.new.calls ≡ raised self.old.calls }

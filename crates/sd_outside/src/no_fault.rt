@@ -3,7 +3,7 @@ ghost use Rattle.std.specs.Prelude.{◌≡◌, [], min, None, Some, true, false,
 ghost use Rattle.std.specs.Io.{ReadsAtMost};
 ghost use Rattle.std.specs.Io.KnownBytes.{Appends, ReadConsumes, IsAtEnd};
 ghost use Rattle.sd_outside.specs.Causes.{HasCause};
-ghost use Rattle.sd_outside.specs.Fronts.{WritesFront};
+ghost use Rattle.sd_outside.specs.Prefixes.{WritesPrefix};
 ghost use Rattle.sd_outside.specs.Texts.{RestIs, files_seen, text_in};
 
 use crate::shelf::{Failed, Shelf};
@@ -100,7 +100,7 @@ impl Sink for NoFaultSink {
     fn write(&mut self, _bytes: &[u8]) -> Result<(), Failed>
         ensures never { IsOk result }
         ensures all { OnOk result (Appends None None _bytes.now) }
-        ensures front { OnErr result (WritesFront None None _bytes.now) }
+        ensures front { OnErr result (WritesPrefix None None _bytes.now) }
         ensures cause { HasCause 0 0 result }
     {
         Ok(())

@@ -2,7 +2,7 @@
 ghost use Rattle.std.specs.Prelude.{ℕ, List, Option, OnOk, OnErr};
 ghost use Rattle.std.specs.Io.KnownBytes.{Appends};
 ghost use Rattle.sd_outside.specs.Causes.{HasCause};
-ghost use Rattle.sd_outside.specs.Fronts.{WritesFront};
+ghost use Rattle.sd_outside.specs.Prefixes.{WritesPrefix};
 
 use crate::shelf::Failed;
 
@@ -17,6 +17,6 @@ pub trait Sink {
     /// Adds all of the bytes, or fails and has added a front of them.
     fn write(&mut self, bytes: &[u8]) -> Result<(), Failed>
         ensures all { OnOk result (Appends (written self.old) (written self.new) bytes.now) }
-        ensures front { OnErr result (WritesFront (written self.old) (written self.new) bytes.now) }
+        ensures front { OnErr result (WritesPrefix (written self.old) (written self.new) bytes.now) }
         ensures cause { HasCause (faults self.old) (faults self.new) result };
 }

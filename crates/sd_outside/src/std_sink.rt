@@ -2,11 +2,13 @@
 ghost use Rattle.std.specs.Prelude.{◌≡◌, None, OnOk, OnErr};
 ghost use Rattle.std.specs.Io.KnownBytes.{Appends};
 ghost use Rattle.sd_outside.specs.Causes.{HasCause, faults_after};
-ghost use Rattle.sd_outside.specs.Fronts.{WritesFront};
+ghost use Rattle.sd_outside.specs.LastFaults.{KeepsReason};
+ghost use Rattle.sd_outside.specs.Prefixes.{WritesPrefix};
 
 use crate::again::write_whole;
 use crate::shelf::Failed;
 use crate::sink::Sink;
+use std::io;
 use std::io::Write;
 use std::marker::Model;
 
@@ -15,6 +17,7 @@ use std::marker::Model;
 #[derive(Drop)]
 pub struct StdSink<W: Write> {
     writer: W,
+    last_fault: Option<io::Error>,
     faults: u64,
 }
 
@@ -23,14 +26,26 @@ impl<W: Write> Model for StdSink<W> {
 
     ghost Value = { Counted };
 
-    ghost view = { λ s. record { taken = W.contents s.writer; faults = s.faults } };
+    ghost view = { λ s. record { taken = W.contents s.writer; last_fault = s.last_fault; faults = s.faults } };
 }
 
 impl<W: Write> StdSink<W> {
     pub fn new(writer: W) -> StdSink<W>
-        ensures { ⟦<StdSink<W> as Sink>⟧.faults result ≡ 0 }
+        ensures faults { ⟦<StdSink<W> as Sink>⟧.faults result ≡ 0 }
+        ensures last_fault { result.last_fault ≡ None }
     {
-        StdSink { writer, faults: 0 }
+        StdSink {
+            writer,
+            last_fault: None,
+            faults: 0,
+        }
+    }
+
+    /// The system's reason of the last write that failed, and nothing before the first.
+    pub fn last_fault(&self) -> Option<io::Error>
+        ensures { result ≡ self.now.last_fault }
+    {
+        self.last_fault
     }
 }
 
@@ -41,26 +56,29 @@ impl<W: Write> Sink for StdSink<W> {
 
     fn write(&mut self, bytes: &[u8]) -> Result<(), Failed>
         ensures all { OnOk result (Appends None None bytes.now) }
-        ensures front { OnErr result (WritesFront None None bytes.now) }
+        ensures front { OnErr result (WritesPrefix None None bytes.now) }
         // The writer itself, where its type tells what it holds.
         ensures writer_all { OnOk result (Appends self.old.taken self.new.taken bytes.now) }
-        ensures writer_front { OnErr result (WritesFront self.old.taken self.new.taken bytes.now) }
+        ensures writer_front { OnErr result (WritesPrefix self.old.taken self.new.taken bytes.now) }
 
         ensures cause { HasCause self.old.faults self.new.faults result }
         ensures faults { self.new.faults ≡ faults_after self.old.faults result }
+        ensures last_fault { KeepsReason self.old.last_fault self.new.last_fault result }
     {
-        let written = write_whole(&mut self.writer, bytes);
-        if written.is_err() {
-            self.faults = self.faults.saturating_add(1);
+        match write_whole(&mut self.writer, bytes) {
+            Ok(()) => Ok(()),
+            Err(reason) => {
+                self.last_fault = Some(reason);
+                self.faults = self.faults.saturating_add(1);
+                Err(Failed)
+            }
         }
-        written
     }
 }
 
 #[cfg(test)]
 mod tests {
     use super::*;
-    use std::io;
     use std::io::{Error, ErrorKind};
     use std::test::Fail;
 
@@ -97,8 +115,11 @@ mod tests {
             taken: Vec::new(rt.alloc()),
         });
         sink.write(b"abc")?;
+        assert!(rt; sink.last_fault().is_none());
         assert_eq!(rt; sink.write(b"de"), Err(Failed));
         assert_eq!(rt; sink.faults, 1);
+        let reason = sink.last_fault();
+        assert_eq!(rt; reason.map(|e| e.kind()), Some(ErrorKind::BrokenPipe));
         sink.write(b"f")?;
         assert_eq!(rt; sink.writer.taken.as_slice(), b"abcf".as_slice());
         assert_eq!(rt; sink.faults, 1);

@@ -59,7 +59,8 @@ cut_has ends (h ∷ hs) a there =
       | inr more ↦ or_right (nat_eq a h.parent) (has (map (λ hop. hop.parent) hs) a) (by_end (cut_has ends hs a) (ends h.parent) more)
     ]
   where
-    by_end : (has_device (things_of (cut ends hs)) a ≡ true → has (map (λ hop. hop.parent) hs) a ≡ true) → (b : Bool) → has_device (things_of (elim b [ true ↦ [] | false ↦ cut ends hs ])) a ≡ true → has (map (λ hop. hop.parent) hs) a ≡ true
+    by_end : (has_device (things_of (cut ends hs)) a ≡ true → has (map (λ hop. hop.parent) hs) a ≡ true) → (b : Bool)
+        → has_device (things_of (elim b [ true ↦ [] | false ↦ cut ends hs ])) a ≡ true → has (map (λ hop. hop.parent) hs) a ≡ true
     by_end after true none = cc
     by_end after false more = after more
 
@@ -79,7 +80,8 @@ not_cut_at_parent net plan d hop step =
       | inr other ↦
           (ap (λ b. not b && on_walk net plan d plan.backup_root && not (on_walk net plan hop.parent plan.backup_root)) (ne_eqb d plan.backup_root other)
           ∙ ap (λ b. b && not (on_walk net plan hop.parent plan.backup_root))
-          (on_up net plan d plan.backup_root hop step.walk ∙ ap (λ b. b || on_walk net plan hop.parent plan.backup_root) (flip d plan.backup_root false (ne_eqb d plan.backup_root other)))
+          (on_up net plan d plan.backup_root hop step.walk
+          ∙ ap (λ b. b || on_walk net plan hop.parent plan.backup_root) (flip d plan.backup_root false (ne_eqb d plan.backup_root other)))
           ∙ apart (on_walk net plan hop.parent plan.backup_root))
     ]
   where
@@ -88,35 +90,42 @@ not_cut_at_parent net plan d hop step =
     apart false = refl
 
 -- a walk is cut behind the parent where that of the parent is
-same_cut : (net : Network) (plan : Plan) → IsForest net plan → (d a : ℕ) (hop : Hop) → IsStep net plan d hop → nat_eq hop.parent plan.backup_root ≡ false → cut_off net plan hop.parent a ≡ cut_off net plan d a
+same_cut : (net : Network) (plan : Plan) → IsForest net plan → (d a : ℕ) (hop : Hop) → IsStep net plan d hop → nat_eq hop.parent plan.backup_root ≡ false
+    → cut_off net plan hop.parent a ≡ cut_off net plan d a
 same_cut net plan forest d a hop step apart =
     ap (λ b. not b && on_walk net plan hop.parent plan.backup_root && not (on_walk net plan a plan.backup_root)) apart
     ∙ elim (cases_eq d plan.backup_root) [
       | inl same ↦
-          (ap (λ b. b && not (on_walk net plan a plan.backup_root)) (subst (λ x. on_walk net plan hop.parent x ≡ false) same (not_above net plan forest d hop step))
+          (ap (λ b. b && not (on_walk net plan a plan.backup_root))
+          (subst (λ x. on_walk net plan hop.parent x ≡ false) same (not_above net plan forest d hop step))
           ∙ sym (ap (λ b. not b && on_walk net plan d plan.backup_root && not (on_walk net plan a plan.backup_root)) (eq-eqb d plan.backup_root same)))
       | inr other ↦
           sym
           (ap (λ b. not b && on_walk net plan d plan.backup_root && not (on_walk net plan a plan.backup_root)) (ne_eqb d plan.backup_root other)
           ∙ ap (λ b. b && not (on_walk net plan a plan.backup_root))
-          (on_up net plan d plan.backup_root hop step.walk ∙ ap (λ b. b || on_walk net plan hop.parent plan.backup_root) (flip d plan.backup_root false (ne_eqb d plan.backup_root other))))
+          (on_up net plan d plan.backup_root hop step.walk
+          ∙ ap (λ b. b || on_walk net plan hop.parent plan.backup_root) (flip d plan.backup_root false (ne_eqb d plan.backup_root other))))
     ]
 
 -- where the parent is the backup root the walk is cut before all else above it
-cut_there : (net : Network) (plan : Plan) → IsForest net plan → (d a : ℕ) (hop : Hop) → IsStep net plan d hop → a < length net.devices → nat_eq plan.backup_root hop.parent ≡ true → nat_eq a plan.backup_root ≡ false
+cut_there : (net : Network) (plan : Plan) → IsForest net plan → (d a : ℕ) (hop : Hop) → IsStep net plan d hop → a < length net.devices
+    → nat_eq plan.backup_root hop.parent ≡ true → nat_eq a plan.backup_root ≡ false
     → on_walk net plan hop.parent a ≡ true → cut_off net plan d a ≡ true
 cut_there net plan forest d a hop step within here apart on =
     let same : plan.backup_root ≡ hop.parent = eqb-true plan.backup_root hop.parent here in
     let above : on_walk net plan d plan.backup_root ≡ true =
     on_up net plan d plan.backup_root hop step.walk
-    ∙ or_right (nat_eq plan.backup_root d) (on_walk net plan hop.parent plan.backup_root) (subst (λ x. on_walk net plan x plan.backup_root ≡ true) same (on_itself net plan plan.backup_root))
+    ∙ or_right (nat_eq plan.backup_root d) (on_walk net plan hop.parent plan.backup_root)
+    (subst (λ x. on_walk net plan x plan.backup_root ≡ true) same (on_itself net plan plan.backup_root))
     in
     let behind : nat_eq d plan.backup_root ≡ false =
-    ne_eqb d plan.backup_root (λ equal. absurd (cc (not_above net plan forest d hop step, subst (λ x. on_walk net plan x d ≡ true) (equal ∙ same) (on_itself net plan d))))
+    ne_eqb d plan.backup_root
+    (λ equal. absurd (cc (not_above net plan forest d hop step, subst (λ x. on_walk net plan x d ≡ true) (equal ∙ same) (on_itself net plan d))))
     in
     let before : on_walk net plan a plan.backup_root ≡ false =
     false_from_ne_true (on_walk net plan a plan.backup_root) (λ over.
-    let equal = one_above net plan forest hop.parent a step.within within on (subst (λ x. on_walk net plan a x ≡ true) same over) in absurd (cc (eq-eqb a plan.backup_root (sym (same ∙ equal)), apart)))
+    let equal = one_above net plan forest hop.parent a step.within within on (subst (λ x. on_walk net plan a x ≡ true) same over) in
+    absurd (cc (eq-eqb a plan.backup_root (sym (same ∙ equal)), apart)))
     in
     ap (λ b. not b && on_walk net plan d plan.backup_root && not (on_walk net plan a plan.backup_root)) behind
     ∙ ap (λ b. b && not (on_walk net plan a plan.backup_root)) above ∙ ap not before
@@ -163,8 +172,10 @@ devices_before net plan forest a inside = climb net plan forest
         absurd (cc (not_above net plan forest d hop step, subst (λ x. on_walk net plan hop.parent x ≡ true) (sym same) on)))
 
     beyond : (d : ℕ) (hop : Hop) → IsStep net plan d hop → nat_eq hop.parent a ≡ false
-        → ((not (nat_eq hop.parent a) && (on_walk net plan hop.parent a && not (cut_off net plan hop.parent a))) ≡ has_device (things_of (cut (is_end plan) (walk net plan hop.parent))) a)
-        → (on_walk net plan hop.parent a && not (cut_off net plan d a)) ≡ has_device (things_of (rest plan (is_root plan hop.parent || is_backup_root plan hop.parent) (walk net plan hop.parent))) a
+        → ((not (nat_eq hop.parent a) && (on_walk net plan hop.parent a && not (cut_off net plan hop.parent a)))
+        ≡ has_device (things_of (cut (is_end plan) (walk net plan hop.parent))) a)
+        → (on_walk net plan hop.parent a && not (cut_off net plan d a))
+        ≡ has_device (things_of (rest plan (is_root plan hop.parent || is_backup_root plan hop.parent) (walk net plan hop.parent))) a
     beyond d hop step apart above = by_root (is_root plan hop.parent) (is_backup_root plan hop.parent) refl refl
       where
         by_root : (root backup : Bool) → is_root plan hop.parent ≡ root → is_backup_root plan hop.parent ≡ backup
@@ -176,7 +187,8 @@ devices_before net plan forest a inside = climb net plan forest
               | inl on ↦
                   and_right (on_walk net plan hop.parent a) (not (cut_off net plan d a))
                   (not_from_true (cut_off net plan d a)
-                  (cut_there net plan forest d a hop step inside also (flip plan.backup_root a false (subst (λ x. nat_eq x a ≡ false) (sym (eqb-true plan.backup_root hop.parent also)) apart)) on))
+                  (cut_there net plan forest d a hop step inside also
+                  (flip plan.backup_root a false (subst (λ x. nat_eq x a ≡ false) (sym (eqb-true plan.backup_root hop.parent also)) apart)) on))
               | inr off ↦ and_left (on_walk net plan hop.parent a) (not (cut_off net plan d a)) off
             ]
         by_root false false is also =
@@ -184,7 +196,8 @@ devices_before net plan forest a inside = climb net plan forest
             ∙ sym (ap (λ b. not b && (on_walk net plan hop.parent a && not (cut_off net plan hop.parent a))) apart) ∙ above
 
     up : (d : ℕ) (hop : Hop) → d < length net.devices → primary_of plan d ≡ Some hop → IsStep net plan d hop
-        → ((not (nat_eq hop.parent a) && (on_walk net plan hop.parent a && not (cut_off net plan hop.parent a))) ≡ has_device (things_of (cut (is_end plan) (walk net plan hop.parent))) a)
+        → ((not (nat_eq hop.parent a) && (on_walk net plan hop.parent a && not (cut_off net plan hop.parent a)))
+        ≡ has_device (things_of (cut (is_end plan) (walk net plan hop.parent))) a)
         → (not (nat_eq d a) && (on_walk net plan d a && not (cut_off net plan d a))) ≡ has_device (things_of (cut (is_end plan) (walk net plan d))) a
     up d hop within is step above =
         elim (cases_eq d a) [
@@ -193,7 +206,8 @@ devices_before net plan forest a inside = climb net plan forest
               ∙ sym (on_same d hop step same))
           | inr other ↦
               (ap (λ b. not b && (on_walk net plan d a && not (cut_off net plan d a))) (ne_eqb d a other)
-              ∙ ap (λ b. b && not (cut_off net plan d a)) (on_up net plan d a hop step.walk ∙ ap (λ b. b || on_walk net plan hop.parent a) (flip d a false (ne_eqb d a other)))
+              ∙ ap (λ b. b && not (cut_off net plan d a)) (on_up net plan d a hop step.walk
+              ∙ ap (λ b. b || on_walk net plan hop.parent a) (flip d a false (ne_eqb d a other)))
               ∙ elim (cases_eq hop.parent a) [
                 | inl same ↦
                     (ap (λ b. b && not (cut_off net plan d a)) (subst (λ x. on_walk net plan hop.parent x ≡ true) same (on_itself net plan hop.parent))
@@ -207,7 +221,8 @@ devices_before net plan forest a inside = climb net plan forest
         ∙ sym (ap (λ hs. has_device (things_of (cut (is_end plan) hs)) a) step.walk)
 
 -- a device that goes over a link is the one that is carried there
-at_child : (net : Network) (plan : Plan) → IsForest net plan → (l child d : ℕ) (hop : Hop) → child < length net.devices → goes_over plan l child ≡ true → d < length net.devices → primary_of plan d ≡ Some hop → nat_eq hop.link l ≡ nat_eq d child
+at_child : (net : Network) (plan : Plan) → IsForest net plan → (l child d : ℕ) (hop : Hop) → child < length net.devices → goes_over plan l child ≡ true
+    → d < length net.devices → primary_of plan d ≡ Some hop → nat_eq hop.link l ≡ nat_eq d child
 at_child net plan forest l child d hop there goes within is =
     let goes_d : goes_over plan l d ≡ nat_eq hop.link l = ap (λ o. of_some o (nat_eq 0 1) (λ hop. nat_eq hop.link l)) is in
     elim (cases_eq d child) [
@@ -222,14 +237,18 @@ child_hop : (plan : Plan) (l child : ℕ) → goes_over plan l child ≡ true �
 child_hop plan l child goes none = let (hop, is, over) = hop_over plan l child goes in cc
 
 -- a cut walk has the links that carry its devices, up to the cut
-pub link_before : (net : Network) (plan : Plan) → IsForest net plan → (l child : ℕ) → child < length net.devices → goes_over plan l child ≡ true → (d : ℕ) → d < length net.devices
-    → ((nat_eq d child || not (nat_eq child plan.backup_root)) && (on_walk net plan d child && not (cut_off net plan d child))) ≡ has_link (things_of (cut (is_end plan) (walk net plan d))) l
+pub link_before : (net : Network) (plan : Plan) → IsForest net plan → (l child : ℕ) → child < length net.devices → goes_over plan l child ≡ true → (d : ℕ)
+    → d < length net.devices
+    → ((nat_eq d child || not (nat_eq child plan.backup_root)) && (on_walk net plan d child && not (cut_off net plan d child)))
+    ≡ has_link (things_of (cut (is_end plan) (walk net plan d))) l
 link_before net plan forest l child inside goes = climb net plan forest
-    (λ d. ((nat_eq d child || not (nat_eq child plan.backup_root)) && (on_walk net plan d child && not (cut_off net plan d child))) ≡ has_link (things_of (cut (is_end plan) (walk net plan d))) l)
+    (λ d. ((nat_eq d child || not (nat_eq child plan.backup_root)) && (on_walk net plan d child && not (cut_off net plan d child)))
+    ≡ has_link (things_of (cut (is_end plan) (walk net plan d))) l)
     top up
   where
     top : (d : ℕ) → d < length net.devices → primary_of plan d ≡ None
-        → ((nat_eq d child || not (nat_eq child plan.backup_root)) && (on_walk net plan d child && not (cut_off net plan d child))) ≡ has_link (things_of (cut (is_end plan) (walk net plan d))) l
+        → ((nat_eq d child || not (nat_eq child plan.backup_root)) && (on_walk net plan d child && not (cut_off net plan d child)))
+        ≡ has_link (things_of (cut (is_end plan) (walk net plan d))) l
     top d within none =
         let apart : nat_eq child d ≡ false = ne_eqb child d (λ same. child_hop plan l child goes (subst (λ x. primary_of plan x ≡ None) (sym same) none)) in
         and_right (nat_eq d child || not (nat_eq child plan.backup_root)) (on_walk net plan d child && not (cut_off net plan d child))
@@ -242,7 +261,8 @@ link_before net plan forest l child inside goes = climb net plan forest
     not_cut_itself false false = refl
 
     beyond : (d : ℕ) (hop : Hop) → IsStep net plan d hop
-        → (((nat_eq hop.parent child || not (nat_eq child plan.backup_root)) && (on_walk net plan hop.parent child && not (cut_off net plan hop.parent child))) ≡ has_link (things_of (cut (is_end plan) (walk net plan hop.parent))) l)
+        → (((nat_eq hop.parent child || not (nat_eq child plan.backup_root)) && (on_walk net plan hop.parent child && not (cut_off net plan hop.parent child)))
+        ≡ has_link (things_of (cut (is_end plan) (walk net plan hop.parent))) l)
         → (not (nat_eq child plan.backup_root) && (on_walk net plan hop.parent child && not (cut_off net plan d child)))
         ≡ has_link (things_of (rest plan (is_root plan hop.parent || is_backup_root plan hop.parent) (walk net plan hop.parent))) l
     beyond d hop step above = by_root (is_root plan hop.parent) (is_backup_root plan hop.parent) refl refl
@@ -261,11 +281,13 @@ link_before net plan forest l child inside goes = climb net plan forest
             elim (cases_Bool (on_walk net plan hop.parent child)) [
               | inl on ↦
                   elim (cases_eq child plan.backup_root) [
-                    | inl same ↦ and_left (not (nat_eq child plan.backup_root)) (on_walk net plan hop.parent child && not (cut_off net plan d child)) (not_from_true (nat_eq child plan.backup_root) (eq-eqb child plan.backup_root same))
+                    | inl same ↦ and_left (not (nat_eq child plan.backup_root)) (on_walk net plan hop.parent child && not (cut_off net plan d child))
+                        (not_from_true (nat_eq child plan.backup_root) (eq-eqb child plan.backup_root same))
                     | inr other ↦
                         and_right (not (nat_eq child plan.backup_root)) (on_walk net plan hop.parent child && not (cut_off net plan d child))
                         (and_right (on_walk net plan hop.parent child) (not (cut_off net plan d child))
-                        (not_from_true (cut_off net plan d child) (cut_there net plan forest d child hop step inside also (ne_eqb child plan.backup_root other) on)))
+                        (not_from_true (cut_off net plan d child)
+                        (cut_there net plan forest d child hop step inside also (ne_eqb child plan.backup_root other) on)))
                   ]
               | inr off ↦
                   and_right (not (nat_eq child plan.backup_root)) (on_walk net plan hop.parent child && not (cut_off net plan d child))
@@ -273,7 +295,8 @@ link_before net plan forest l child inside goes = climb net plan forest
             ]
         by_root false false is also =
             ap (λ b. b && (on_walk net plan hop.parent child && not (cut_off net plan d child))) (sym free)
-            ∙ ap (λ k. (nat_eq hop.parent child || not (nat_eq child plan.backup_root)) && (on_walk net plan hop.parent child && not k)) (sym (same_cut net plan forest d child hop step (flip plan.backup_root hop.parent false also)))
+            ∙ ap (λ k. (nat_eq hop.parent child || not (nat_eq child plan.backup_root)) && (on_walk net plan hop.parent child && not k))
+            (sym (same_cut net plan forest d child hop step (flip plan.backup_root hop.parent false also)))
             ∙ above
           where
             free : (nat_eq hop.parent child || not (nat_eq child plan.backup_root)) ≡ not (nat_eq child plan.backup_root)
@@ -281,31 +304,37 @@ link_before net plan forest l child inside goes = climb net plan forest
                 elim (cases_eq hop.parent child) [
                   | inl same ↦
                       (or_left (nat_eq hop.parent child) (not (nat_eq child plan.backup_root)) (eq-eqb hop.parent child same)
-                      ∙ sym (not_from_false (nat_eq child plan.backup_root) (subst (λ x. nat_eq x plan.backup_root ≡ false) same (flip plan.backup_root hop.parent false also))))
+                      ∙ sym (not_from_false (nat_eq child plan.backup_root)
+                      (subst (λ x. nat_eq x plan.backup_root ≡ false) same (flip plan.backup_root hop.parent false also))))
                   | inr other ↦ ap (λ b. b || not (nat_eq child plan.backup_root)) (ne_eqb hop.parent child other)
                 ]
 
     up : (d : ℕ) (hop : Hop) → d < length net.devices → primary_of plan d ≡ Some hop → IsStep net plan d hop
-        → (((nat_eq hop.parent child || not (nat_eq child plan.backup_root)) && (on_walk net plan hop.parent child && not (cut_off net plan hop.parent child))) ≡ has_link (things_of (cut (is_end plan) (walk net plan hop.parent))) l)
-        → ((nat_eq d child || not (nat_eq child plan.backup_root)) && (on_walk net plan d child && not (cut_off net plan d child))) ≡ has_link (things_of (cut (is_end plan) (walk net plan d))) l
+        → (((nat_eq hop.parent child || not (nat_eq child plan.backup_root)) && (on_walk net plan hop.parent child && not (cut_off net plan hop.parent child)))
+        ≡ has_link (things_of (cut (is_end plan) (walk net plan hop.parent))) l)
+        → ((nat_eq d child || not (nat_eq child plan.backup_root)) && (on_walk net plan d child && not (cut_off net plan d child)))
+        ≡ has_link (things_of (cut (is_end plan) (walk net plan d))) l
     up d hop within is step above =
         elim (cases_eq d child) [
           | inl same ↦
               (ap (λ b. (b || not (nat_eq child plan.backup_root)) && (on_walk net plan d child && not (cut_off net plan d child))) (eq-eqb d child same)
               ∙ ap (λ b. b && not (cut_off net plan d child)) (subst (λ x. on_walk net plan d x ≡ true) same (on_itself net plan d))
               ∙ subst (λ x. not (cut_off net plan d x) ≡ true) same (not_cut_itself (nat_eq d plan.backup_root) (on_walk net plan d plan.backup_root))
-              ∙ sym (or_left (nat_eq hop.link l) (has_link (things_of (rest plan (is_end plan hop.parent) (walk net plan hop.parent))) l) (at_child net plan forest l child d hop inside goes within is ∙ eq-eqb d child same)))
+              ∙ sym (or_left (nat_eq hop.link l) (has_link (things_of (rest plan (is_end plan hop.parent) (walk net plan hop.parent))) l)
+              (at_child net plan forest l child d hop inside goes within is ∙ eq-eqb d child same)))
           | inr other ↦
               (ap (λ b. (b || not (nat_eq child plan.backup_root)) && (on_walk net plan d child && not (cut_off net plan d child))) (ne_eqb d child other)
               ∙ ap (λ b. not (nat_eq child plan.backup_root) && (b && not (cut_off net plan d child)))
               (on_up net plan d child hop step.walk ∙ ap (λ b. b || on_walk net plan hop.parent child) (flip d child false (ne_eqb d child other)))
               ∙ beyond d hop step above
-              ∙ sym (ap (λ b. b || has_link (things_of (rest plan (is_end plan hop.parent) (walk net plan hop.parent))) l) (at_child net plan forest l child d hop inside goes within is ∙ ne_eqb d child other)))
+              ∙ sym (ap (λ b. b || has_link (things_of (rest plan (is_end plan hop.parent) (walk net plan hop.parent))) l)
+              (at_child net plan forest l child d hop inside goes within is ∙ ne_eqb d child other)))
         ]
         ∙ sym (ap (λ hs. has_link (things_of (cut (is_end plan) hs)) l) step.walk)
 
 -- a walk has the links that carry its devices
-pub link_on : (net : Network) (plan : Plan) → IsForest net plan → (l child : ℕ) → child < length net.devices → goes_over plan l child ≡ true → (d : ℕ) → d < length net.devices
+pub link_on : (net : Network) (plan : Plan) → IsForest net plan → (l child : ℕ) → child < length net.devices → goes_over plan l child ≡ true → (d : ℕ)
+    → d < length net.devices
     → on_walk net plan d child ≡ has_link (things_of (walk net plan d)) l
 link_on net plan forest l child inside goes = climb net plan forest (λ d. on_walk net plan d child ≡ has_link (things_of (walk net plan d)) l)
     (λ d within none.
@@ -317,7 +346,8 @@ link_on net plan forest l child inside goes = climb net plan forest (λ d. on_wa
     ∙ ap (λ b. nat_eq hop.link l || b) above ∙ sym (ap (λ hs. has_link (things_of hs) l) step.walk))
 
 -- a link that nobody's hop goes over is on no walk
-pub link_off : (net : Network) (plan : Plan) → IsForest net plan → (l : ℕ) → ((x : ℕ) → x < length net.devices → goes_over plan l x ≡ false) → (d : ℕ) → d < length net.devices → has_link (things_of (walk net plan d)) l ≡ false
+pub link_off : (net : Network) (plan : Plan) → IsForest net plan → (l : ℕ) → ((x : ℕ) → x < length net.devices → goes_over plan l x ≡ false) → (d : ℕ)
+    → d < length net.devices → has_link (things_of (walk net plan d)) l ≡ false
 link_off net plan forest l nobody = climb net plan forest (λ d. has_link (things_of (walk net plan d)) l ≡ false)
     (λ d within none. ap (λ hs. has_link (things_of hs) l) (forest.top d none))
     (λ d hop within is step above.
@@ -335,13 +365,15 @@ cut_link_off plan (h ∷ hs) l off = by_test (cut_link_off plan hs l) (nat_eq h.
     by_end after true off = refl
     by_end after false off = after off
 
-    by_test : (has_link (things_of hs) l ≡ false → has_link (things_of (cut (is_end plan) hs)) l ≡ false) → (b : Bool) → (b || has_link (things_of hs) l) ≡ false
+    by_test : (has_link (things_of hs) l ≡ false → has_link (things_of (cut (is_end plan) hs)) l ≡ false) → (b : Bool)
+        → (b || has_link (things_of hs) l) ≡ false
         → (b || has_link (things_of (elim (is_end plan h.parent) [ true ↦ [] | false ↦ cut (is_end plan) hs ])) l) ≡ false
     by_test after true off = cc
     by_test after false off = by_end after (is_end plan h.parent) off
 
 -- the numbers of an index say what the walks do
-below_is : (net : Network) (plan : Plan) (index : Indexed) → IsIndexOf net plan index → (d a : ℕ) → d < length net.devices → a < length net.devices → is_member plan d ≡ true
+below_is : (net : Network) (plan : Plan) (index : Indexed) → IsIndexOf net plan index → (d a : ℕ) → d < length net.devices → a < length net.devices
+    → is_member plan d ≡ true
     → (stands_below index d a && not (is_cut_before index d a)) ≡ (on_walk net plan d a && not (cut_off net plan d a))
 below_is net plan index law d a within inside member =
     let forest = forest_of net plan law.fits law.structured in
@@ -363,7 +395,8 @@ below_is net plan index law d a within inside member =
     ]
 
 -- by these numbers, whether a cut path has a device
-pub has_device_by : (net : Network) (plan : Plan) (index : Indexed) (d a : ℕ) → IsIndexOf net plan index → d < length index.spans → a < length index.spans → is_member plan d ≡ true → not (is_root plan d) ≡ true
+pub has_device_by : (net : Network) (plan : Plan) (index : Indexed) (d a : ℕ) → IsIndexOf net plan index → d < length index.spans → a < length index.spans
+    → is_member plan d ≡ true → not (is_root plan d) ≡ true
     → (not (nat_eq d a) && (stands_below index d a && not (is_cut_before index d a))) ≡ has_device (epath net plan d) a
 has_device_by net plan index d a law within inside member other =
     let forest = forest_of net plan law.fits law.structured in
@@ -375,15 +408,18 @@ has_device_by net plan index d a law within inside member other =
     ∙ sym (ap (λ things. has_device things a) (cut_path net plan d (not-true (is_root plan d) other)))
 
 -- what an index says that a link carries
-carried_is : (net : Network) (plan : Plan) (index : Indexed) (l : ℕ) → IsIndexOf net plan index → l < length index.carried → get_or index.carried l None ≡ carried_over net plan l
+carried_is : (net : Network) (plan : Plan) (index : Indexed) (l : ℕ) → IsIndexOf net plan index → l < length index.carried
+    → get_or index.carried l None ≡ carried_over net plan l
 carried_is net plan index l law within =
     let size : length index.carried ≡ length net.links = ap length law.carried ∙ length-numbered (carried_over net plan) (length net.links) in
     ap (λ xs. get_or xs l None) law.carried ∙ get_or-numbered (carried_over net plan) (length net.links) l None (omega arith)
 
 -- whether a cut path has a link that carries a device
-pub has_link_by : (net : Network) (plan : Plan) (index : Indexed) (d l child : ℕ) → IsIndexOf net plan index → d < length index.spans → l < length index.carried → get_or index.carried l None ≡ Some child
+pub has_link_by : (net : Network) (plan : Plan) (index : Indexed) (d l child : ℕ) → IsIndexOf net plan index → d < length index.spans → l < length index.carried
+    → get_or index.carried l None ≡ Some child
     → is_member plan d ≡ true → not (is_root plan d) ≡ true
-    → ((nat_eq d child || not (nat_eq child index.backup_root)) && (stands_below index d child && not (is_cut_before index d child))) ≡ has_link (epath net plan d) l
+    → ((nat_eq d child || not (nat_eq child index.backup_root)) && (stands_below index d child && not (is_cut_before index d child)))
+    ≡ has_link (epath net plan d) l
 has_link_by net plan index d l child law within link is member other =
     let forest = forest_of net plan law.fits law.structured in
     let size : length index.spans ≡ length net.devices = law.spans in
@@ -395,18 +431,21 @@ has_link_by net plan index d l child law within link is member other =
     ∙ sym (ap (λ things. has_link things l) (cut_path net plan d (not-true (is_root plan d) other)))
 
 -- it has none that carries nobody
-pub has_no_link_by : (net : Network) (plan : Plan) (index : Indexed) (d l : ℕ) → IsIndexOf net plan index → d < length index.spans → l < length index.carried → get_or index.carried l None ≡ None
+pub has_no_link_by : (net : Network) (plan : Plan) (index : Indexed) (d l : ℕ) → IsIndexOf net plan index → d < length index.spans → l < length index.carried
+    → get_or index.carried l None ≡ None
     → not (is_root plan d) ≡ true → false ≡ has_link (epath net plan d) l
 has_no_link_by net plan index d l law within link is other =
     let forest = forest_of net plan law.fits law.structured in
     let size : length index.spans ≡ length net.devices = law.spans in
-    let none : (x : ℕ) → x < length net.devices → goes_over plan l x ≡ false = λ x inside. none_found (goes_over plan l) (length net.devices) x (sym (carried_is net plan index l law link) ∙ is) inside in
+    let none : (x : ℕ) → x < length net.devices → goes_over plan l x ≡ false =
+    λ x inside. none_found (goes_over plan l) (length net.devices) x (sym (carried_is net plan index l law link) ∙ is) inside in
     sym
     (ap (λ things. has_link things l) (cut_path net plan d (not-true (is_root plan d) other))
     ∙ cut_link_off plan (walk net plan d) l (link_off net plan forest l none d (omega arith)))
 
 -- whether a whole path has a link that carries a device
-pub walk_link_by : (net : Network) (plan : Plan) (index : Indexed) (d l child : ℕ) → IsIndexOf net plan index → d < length index.spans → l < length index.carried → get_or index.carried l None ≡ Some child
+pub walk_link_by : (net : Network) (plan : Plan) (index : Indexed) (d l child : ℕ) → IsIndexOf net plan index → d < length index.spans
+    → l < length index.carried → get_or index.carried l None ≡ Some child
     → is_member plan d ≡ true → stands_below index d child ≡ has_link (path net plan d) l
 walk_link_by net plan index d l child law within link is member =
     let forest = forest_of net plan law.fits law.structured in
@@ -416,16 +455,19 @@ walk_link_by net plan index d l child law within link is member =
     law.below d child first found.0 member ∙ link_on net plan forest l child found.0 found.1 d first
 
 -- it has none that carries nobody
-pub walk_no_link_by : (net : Network) (plan : Plan) (index : Indexed) (d l : ℕ) → IsIndexOf net plan index → d < length index.spans → l < length index.carried → get_or index.carried l None ≡ None
+pub walk_no_link_by : (net : Network) (plan : Plan) (index : Indexed) (d l : ℕ) → IsIndexOf net plan index → d < length index.spans → l < length index.carried
+    → get_or index.carried l None ≡ None
     → false ≡ has_link (path net plan d) l
 walk_no_link_by net plan index d l law within link is =
     let forest = forest_of net plan law.fits law.structured in
     let size : length index.spans ≡ length net.devices = law.spans in
     sym
-    (link_off net plan forest l (λ x inside. none_found (goes_over plan l) (length net.devices) x (sym (carried_is net plan index l law link) ∙ is) inside) d (omega arith))
+    (link_off net plan forest l (λ x inside. none_found (goes_over plan l) (length net.devices) x (sym (carried_is net plan index l law link) ∙ is) inside) d
+    (omega arith))
 
 -- what a link carries is a device
-pub child_within : (n : ℕ) (carried seen : List (Option ℕ)) (l child : ℕ) → Each (IsSomeBelow n) carried → carried ≡ seen → l < length seen → Some child ≡ get_or seen l None → child < n
+pub child_within : (n : ℕ) (carried seen : List (Option ℕ)) (l child : ℕ) → Each (IsSomeBelow n) carried → carried ≡ seen → l < length seen
+    → Some child ≡ get_or seen l None → child < n
 child_within n carried seen l child each view within is =
     let there : slice_get carried l ≡ Some (Some child) =
     ap (λ xs. slice_get xs l) view ∙ slice_get-get_or seen l None within ∙ ap (λ (o : Option ℕ). Some o) (sym is)

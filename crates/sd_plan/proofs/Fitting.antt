@@ -19,7 +19,8 @@ both : (net : Network) (primary backup : Hop) → IsHop net primary → IsHop ne
 both net primary backup one two = (one, λ h is. subst (λ (found : Option Hop). IfSome found (IsHop net)) is two)
 
 -- a hop below given bounds
-within : (net : Network) (parent link devices links : ℕ) → length net.devices ≡ devices → length net.links ≡ links → parent < devices → link < links → IsHop net (hop parent link)
+within : (net : Network) (parent link devices links : ℕ) → length net.devices ≡ devices → length net.links ≡ links → parent < devices → link < links
+    → IsHop net (hop parent link)
 within net parent link devices links is are p l = (subst (λ (n : ℕ). parent < n) (sym is) p, subst (λ (n : ℕ). link < n) (sym are) l)
 
 -- each row of a list fits
@@ -37,10 +38,14 @@ fabric_fits net fabric =
     let five : length net.devices ≡ 5 = fabric.devices in
     let six : length net.links ≡ 6 = fabric.links in
     let is : (parent link : ℕ) → parent < 5 → link < 6 → IsHop net (hop parent link) = λ parent link p l. within net parent link 5 6 five six p l in
-    let second : IsRow net (row (hop 2 3) (Some (hop 3 4))) = both net (hop 2 3) (hop 3 4) (is 2 3 (omega arith) (omega arith)) (is 3 4 (omega arith) (omega arith)) in
-    let third : IsRow net (row (hop 0 0) (Some (hop 1 3))) = both net (hop 0 0) (hop 1 3) (is 0 0 (omega arith) (omega arith)) (is 1 3 (omega arith) (omega arith)) in
-    let fourth : IsRow net (row (hop 0 1) (Some (hop 1 4))) = both net (hop 0 1) (hop 1 4) (is 0 1 (omega arith) (omega arith)) (is 1 4 (omega arith) (omega arith)) in
-    let fifth : IsRow net (row (hop 0 2) (Some (hop 1 5))) = both net (hop 0 2) (hop 1 5) (is 0 2 (omega arith) (omega arith)) (is 1 5 (omega arith) (omega arith)) in
+    let second : IsRow net (row (hop 2 3) (Some (hop 3 4))) =
+    both net (hop 2 3) (hop 3 4) (is 2 3 (omega arith) (omega arith)) (is 3 4 (omega arith) (omega arith)) in
+    let third : IsRow net (row (hop 0 0) (Some (hop 1 3))) =
+    both net (hop 0 0) (hop 1 3) (is 0 0 (omega arith) (omega arith)) (is 1 3 (omega arith) (omega arith)) in
+    let fourth : IsRow net (row (hop 0 1) (Some (hop 1 4))) =
+    both net (hop 0 1) (hop 1 4) (is 0 1 (omega arith) (omega arith)) (is 1 4 (omega arith) (omega arith)) in
+    let fifth : IsRow net (row (hop 0 2) (Some (hop 1 5))) =
+    both net (hop 0 2) (hop 1 5) (is 0 2 (omega arith) (omega arith)) (is 1 5 (omega arith) (omega arith)) in
     record {
       root = omega arith;
       backup_root = omega arith;

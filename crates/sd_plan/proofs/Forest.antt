@@ -60,7 +60,8 @@ same_more ends d (Some hop) f g right same = by_end (ends hop.parent) refl right
     by_end false is right = ap (λ hs. hop ∷ hs) (same hop.parent is right)
 
 -- hops that come to the end are all
-enough : (ends : ℕ → Bool) (plan : Plan) (n d : ℕ) → ends d ≡ false → ends (end_of d (hops ends plan n d)) ≡ true → hops ends plan (suc n) d ≡ hops ends plan n d
+enough : (ends : ℕ → Bool) (plan : Plan) (n d : ℕ) → ends d ≡ false → ends (end_of d (hops ends plan n d)) ≡ true
+    → hops ends plan (suc n) d ≡ hops ends plan n d
 enough ends plan zero d other right = cc
 enough ends plan (suc n) d other right =
     same_more ends d (primary_of plan d) (hops ends plan (suc n)) (hops ends plan n) right (λ p other right. enough ends plan n p other right)
@@ -100,9 +101,11 @@ row_there true true row right is other = cc
 row_there false root row right is other = cc
 
 -- a right hop
-right_hop : (net : Network) (plan : Plan) (d : ℕ) (found : Option Hop) (hop : Hop) → found ≡ Some hop → hop_is_right net plan d found ≡ true → (is_member plan hop.parent ≡ true) × (joins net hop.link d hop.parent ≡ true)
+right_hop : (net : Network) (plan : Plan) (d : ℕ) (found : Option Hop) (hop : Hop) → found ≡ Some hop → hop_is_right net plan d found ≡ true
+    → (is_member plan hop.parent ≡ true) × (joins net hop.link d hop.parent ≡ true)
 right_hop net plan d found hop is right =
-    let front : (is_member plan hop.parent && is_present plan hop.link && joins net hop.link d hop.parent) ≡ true = subst (λ (o : Option Hop). hop_is_right net plan d o ≡ true) is right in
+    let front : (is_member plan hop.parent && is_present plan hop.link && joins net hop.link d hop.parent) ≡ true =
+    subst (λ (o : Option Hop). hop_is_right net plan d o ≡ true) is right in
     let (two, joined) = and_parts (is_member plan hop.parent && is_present plan hop.link) (joins net hop.link d hop.parent) front in
     let (member, present) = and_parts (is_member plan hop.parent) (is_present plan hop.link) two in
     (member, joined)
@@ -124,7 +127,8 @@ forest_of net plan fits structured =
     record {
       up = λ d hop within is. step rules d hop within is;
       top = λ d none. no_walk (is_root plan d) (is_root plan) plan net.params.depth d none;
-      hop = λ d within member other. hop_of_row (row_of plan d) (row_there (is_member plan d) (is_root plan d) (has_row plan d) (rules.rows d within) member other);
+      hop = λ d within member other. hop_of_row (row_of plan d)
+          (row_there (is_member plan d) (is_root plan d) (has_row plan d) (rules.rows d within) member other);
       outside = λ d past. ap (λ o. option_map (λ row. row.primary) (of_some o None (λ row. row))) (slice_get_past plan.rows d (omega (arith, fits.entries)));
       root = fits.root;
       member = rules.root;
@@ -136,8 +140,10 @@ forest_of net plan fits structured =
         let (primary, backup) = and_parts (hop_is_right net plan d (primary_of plan d)) (hop_is_right net plan d (backup_of plan d)) (rules.hops d within) in
         let (above, joined) = right_hop net plan d (primary_of plan d) hop is primary in
         let there = primary_within net plan d hop fits.rows is in
-        let reached : is_root plan (end_of d (walk net plan d)) ≡ true = subst (λ (b : Bool). (not b || is_root plan (end_of d (walk net plan d))) ≡ true) member (rules.reaches d within) in
-        let right : is_root plan (end_of d (hops (is_root plan) plan net.params.depth d)) ≡ true = subst (λ (hs : List Hop). is_root plan (end_of d hs) ≡ true) (other_walk net plan d other) reached in
+        let reached : is_root plan (end_of d (walk net plan d)) ≡ true =
+        subst (λ (b : Bool). (not b || is_root plan (end_of d (walk net plan d))) ≡ true) member (rules.reaches d within) in
+        let right : is_root plan (end_of d (hops (is_root plan) plan net.params.depth d)) ≡ true =
+        subst (λ (hs : List Hop). is_root plan (end_of d hs) ≡ true) (other_walk net plan d other) reached in
         record {
           within = there.0;
           link = there.1;
@@ -176,7 +182,8 @@ pub on_top : (net : Network) (plan : Plan) (d x : ℕ) → walk net plan d ≡ [
 on_top net plan d x none = ap (λ hs. has (devices_of d hs) x) none ∙ or_none (nat_eq x d)
 
 -- another one has the device and the walk of its parent
-pub on_up : (net : Network) (plan : Plan) (d x : ℕ) (hop : Hop) → walk net plan d ≡ hop ∷ walk net plan hop.parent → on_walk net plan d x ≡ (nat_eq x d || on_walk net plan hop.parent x)
+pub on_up : (net : Network) (plan : Plan) (d x : ℕ) (hop : Hop) → walk net plan d ≡ hop ∷ walk net plan hop.parent
+    → on_walk net plan d x ≡ (nat_eq x d || on_walk net plan hop.parent x)
 on_up net plan d x hop more = ap (λ hs. has (devices_of d hs) x) more
 
 -- a device is on its own walk
@@ -184,7 +191,8 @@ pub on_itself : (net : Network) (plan : Plan) (d : ℕ) → on_walk net plan d d
 on_itself net plan d = ap (λ b. b || list_any (nat_eq d) (map (λ hop. hop.parent) (walk net plan d))) (eq-eqb d d refl)
 
 -- what is on a walk is its beginning or lies nearer to the root
-pub nearer : (net : Network) (plan : Plan) → IsForest net plan → (x d : ℕ) → d < length net.devices → on_walk net plan d x ≡ true → (x ≡ d) ⊎ (height net plan x < height net plan d)
+pub nearer : (net : Network) (plan : Plan) → IsForest net plan → (x d : ℕ) → d < length net.devices → on_walk net plan d x ≡ true
+    → (x ≡ d) ⊎ (height net plan x < height net plan d)
 nearer net plan forest x = climb net plan forest (λ d. on_walk net plan d x ≡ true → (x ≡ d) ⊎ (height net plan x < height net plan d))
     (λ d within none on. inl (eqb-true x d (sym (on_top net plan d x (forest.top d none)) ∙ on)))
     (λ d hop within is step above on.
@@ -205,7 +213,8 @@ on_within net plan forest x = climb net plan forest (λ d. on_walk net plan d x 
     ])
 
 -- of a member it is a member
-pub on_member : (net : Network) (plan : Plan) → IsForest net plan → (x d : ℕ) → d < length net.devices → is_member plan d ≡ true → on_walk net plan d x ≡ true → is_member plan x ≡ true
+pub on_member : (net : Network) (plan : Plan) → IsForest net plan → (x d : ℕ) → d < length net.devices → is_member plan d ≡ true → on_walk net plan d x ≡ true
+    → is_member plan x ≡ true
 on_member net plan forest x = climb net plan forest (λ d. is_member plan d ≡ true → on_walk net plan d x ≡ true → is_member plan x ≡ true)
     (λ d within none member on. subst (λ y. is_member plan y ≡ true) (sym (eqb-true x d (sym (on_top net plan d x (forest.top d none)) ∙ on))) member)
     (λ d hop within is step above member on.
@@ -215,17 +224,20 @@ on_member net plan forest x = climb net plan forest (λ d. is_member plan d ≡ 
     ])
 
 -- the root is on the walk of each member
-pub on_root : (net : Network) (plan : Plan) → IsForest net plan → (d : ℕ) → d < length net.devices → is_member plan d ≡ true → on_walk net plan d plan.root ≡ true
+pub on_root : (net : Network) (plan : Plan) → IsForest net plan → (d : ℕ) → d < length net.devices → is_member plan d ≡ true
+    → on_walk net plan d plan.root ≡ true
 on_root net plan forest = climb net plan forest (λ d. is_member plan d ≡ true → on_walk net plan d plan.root ≡ true)
     (λ d within none member.
     elim (cases_Bool (is_root plan d)) [
       | inl root ↦ (on_top net plan d plan.root (forest.top d none) ∙ root)
       | inr other ↦ (let (hop, is) = forest.hop d within member other in cc)
     ])
-    (λ d hop within is step above member. on_up net plan d plan.root hop step.walk ∙ or_right (nat_eq plan.root d) (on_walk net plan hop.parent plan.root) (above step.above))
+    (λ d hop within is step above member. on_up net plan d plan.root hop step.walk
+    ∙ or_right (nat_eq plan.root d) (on_walk net plan hop.parent plan.root) (above step.above))
 
 -- what is on the walk of a device on a walk is on this
-pub on_through : (net : Network) (plan : Plan) → IsForest net plan → (x a b : ℕ) → x < length net.devices → on_walk net plan x a ≡ true → on_walk net plan a b ≡ true → on_walk net plan x b ≡ true
+pub on_through : (net : Network) (plan : Plan) → IsForest net plan → (x a b : ℕ) → x < length net.devices → on_walk net plan x a ≡ true
+    → on_walk net plan a b ≡ true → on_walk net plan x b ≡ true
 on_through net plan forest x a b within = climb net plan forest (λ x. on_walk net plan x a ≡ true → on_walk net plan a b ≡ true → on_walk net plan x b ≡ true)
     (λ x within none first second. subst (λ y. on_walk net plan y b ≡ true) (eqb-true a x (sym (on_top net plan x a (forest.top x none)) ∙ first)) second)
     (λ x hop within is step above first second.
@@ -236,7 +248,8 @@ on_through net plan forest x a b within = climb net plan forest (λ x. on_walk n
     x within
 
 -- two devices of a walk that lie as far from the root are one
-pub on_level : (net : Network) (plan : Plan) → IsForest net plan → (x a b : ℕ) → x < length net.devices → height net plan a ≡ height net plan b → on_walk net plan x a ≡ true → on_walk net plan x b ≡ true → a ≡ b
+pub on_level : (net : Network) (plan : Plan) → IsForest net plan → (x a b : ℕ) → x < length net.devices → height net plan a ≡ height net plan b
+    → on_walk net plan x a ≡ true → on_walk net plan x b ≡ true → a ≡ b
 on_level net plan forest x a b within level = climb net plan forest (λ x. on_walk net plan x a ≡ true → on_walk net plan x b ≡ true → a ≡ b)
     (λ x within none first second.
     eqb-true a x (sym (on_top net plan x a (forest.top x none)) ∙ first) ∙ sym (eqb-true b x (sym (on_top net plan x b (forest.top x none)) ∙ second)))
@@ -268,7 +281,8 @@ not_above net plan forest d hop step =
     elim (nearer net plan forest d hop.parent step.within on) [ inl same ↦ (let equal = ap (height net plan) same in omega arith) | inr less ↦ omega arith ])
 
 -- of two devices just one can lie above the other
-pub one_above : (net : Network) (plan : Plan) → IsForest net plan → (a b : ℕ) → a < length net.devices → b < length net.devices → on_walk net plan a b ≡ true → on_walk net plan b a ≡ true → a ≡ b
+pub one_above : (net : Network) (plan : Plan) → IsForest net plan → (a b : ℕ) → a < length net.devices → b < length net.devices → on_walk net plan a b ≡ true
+    → on_walk net plan b a ≡ true → a ≡ b
 one_above net plan forest a b first second below above =
     elim (nearer net plan forest b a first below) [
       | inl same ↦ sym same
@@ -287,7 +301,8 @@ hop_over plan l d goes =
     no_hop (Some hop) none goes = cc
 
 -- no two devices' hops go over one link
-pub one_over_link : (net : Network) (plan : Plan) → IsForest net plan → (l c d : ℕ) → c < length net.devices → d < length net.devices → goes_over plan l c ≡ true → goes_over plan l d ≡ true → c ≡ d
+pub one_over_link : (net : Network) (plan : Plan) → IsForest net plan → (l c d : ℕ) → c < length net.devices → d < length net.devices
+    → goes_over plan l c ≡ true → goes_over plan l d ≡ true → c ≡ d
 one_over_link net plan forest l c d first second one two =
     let (hop, is, over) = hop_over plan l c one in
     let (other, here, also) = hop_over plan l d two in
@@ -331,7 +346,8 @@ most_hops ends plan (suc n) d = by_hop (primary_of plan d) (λ p. most_hops ends
   where
     by_hop : (o : Option Hop) → ((p : ℕ) → length (hops ends plan n p) ≤ n) → length (first ends o (hops ends plan n)) ≤ suc n
     by_hop None most = omega arith
-    by_hop (Some hop) most = let tail : length (until (ends hop.parent) (hops ends plan n hop.parent)) ≤ n = until_most n (ends hop.parent) (hops ends plan n hop.parent) (most hop.parent) in omega arith
+    by_hop (Some hop) most = let tail : length (until (ends hop.parent) (hops ends plan n hop.parent)) ≤ n =
+        until_most n (ends hop.parent) (hops ends plan n hop.parent) (most hop.parent) in omega arith
 
 -- no device lies deeper than the network allows
 pub height_most : (net : Network) (plan : Plan) (d : ℕ) → height net plan d ≤ net.params.depth
@@ -350,7 +366,8 @@ on_inside net plan forest x d within on =
     ]
 
 -- a device on whose walk the root is is a member
-pub rooted_member : (net : Network) (plan : Plan) → IsForest net plan → (d : ℕ) → d < length net.devices → on_walk net plan d plan.root ≡ true → is_member plan d ≡ true
+pub rooted_member : (net : Network) (plan : Plan) → IsForest net plan → (d : ℕ) → d < length net.devices → on_walk net plan d plan.root ≡ true
+    → is_member plan d ≡ true
 rooted_member net plan forest d within on =
     by_option (primary_of plan d) (is_member plan d ≡ true)
     (λ none. subst (λ x. is_member plan x ≡ true) (eqb-true plan.root d (sym (on_top net plan d plan.root (forest.top d none)) ∙ on)) forest.member)

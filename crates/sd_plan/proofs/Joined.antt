@@ -23,7 +23,8 @@ part_last : {A : Type 0} (xs more : List A) → slice_range (xs ++ more) (length
 part_last xs more = between_to_end (xs ++ more) (length xs) (length (xs ++ more)) (omega arith) ∙ drop_at xs more (length xs) refl
 
 -- one more list
-pub joined_more : {A : Type 0} (lists : List (List A)) (count : ℕ) (items more : List A) (offsets : List ℕ) → AreJoined lists count items offsets → more ≡ get_or lists count []
+pub joined_more : {A : Type 0} (lists : List (List A)) (count : ℕ) (items more : List A) (offsets : List ℕ) → AreJoined lists count items offsets
+    → more ≡ get_or lists count []
     → AreJoined lists (count + 1) (items ++ more) (offsets ++ length (items ++ more) ∷ [])
 joined_more {A} lists count items more offsets joined is = record {
   ordered = record { entries = length_push offsets (length (items ++ more)) ∙ ap (λ n. n + 1) joined.ordered.entries; rising = rising; within = within };
@@ -62,14 +63,18 @@ joined_more {A} lists count items more offsets joined is = record {
         elim (cases_lt d count) [
           | inl early ↦
               (rw (old d before, old (d + 1) (omega arith))
-              (part_before items more (get_or offsets d 0) (get_or offsets (d + 1) 0) (joined.ordered.rising d early) (joined.ordered.within d early) ∙ joined.each d early))
+              (part_before items more (get_or offsets d 0) (get_or offsets (d + 1) 0) (joined.ordered.rising d early) (joined.ordered.within d early)
+              ∙ joined.each d early))
           | inr late ↦ (let same : d ≡ count = omega arith in rw (same, old count (omega arith), new, joined.last) (part_last items more ∙ is))
         ]
 
 -- the same, where all that there is then is known by other names
-pub joined_added : {A : Type 0} (lists : List (List A)) (count : ℕ) (items more all : List A) (offsets new : List ℕ) (size : ℕ) → AreJoined lists count items offsets
-    → count < length lists → more ≡ get_or lists count more → all ≡ items ++ more → new ≡ offsets ++ size ∷ [] → size ≡ length all → AreJoined lists (count + 1) all new
+pub joined_added : {A : Type 0} (lists : List (List A)) (count : ℕ) (items more all : List A) (offsets new : List ℕ) (size : ℕ)
+    → AreJoined lists count items offsets
+    → count < length lists → more ≡ get_or lists count more → all ≡ items ++ more → new ≡ offsets ++ size ∷ [] → size ≡ length all
+    → AreJoined lists (count + 1) all new
 joined_added {A} lists count items more all offsets new size joined within is added pushed sized =
     let front : new ≡ offsets ++ length (items ++ more) ∷ [] = pushed ∙ ap (λ n. offsets ++ n ∷ []) (sized ∙ ap length added) in
     subst (λ (xs : List A). AreJoined lists (count + 1) xs new) (sym added)
-    (subst (λ (ns : List ℕ). AreJoined lists (count + 1) (items ++ more) ns) (sym front) (joined_more lists count items more offsets joined (get_or_read lists count more within is [])))
+    (subst (λ (ns : List ℕ). AreJoined lists (count + 1) (items ++ more) ns) (sym front)
+    (joined_more lists count items more offsets joined (get_or_read lists count more within is [])))

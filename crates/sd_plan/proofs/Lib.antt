@@ -16,3 +16,5 @@ mod Times
 mod Below
 pub mod Listing
 mod Indexing
+-- Handed on: what crates above name of those below.
+pub use Rattle.sd_topo.proofs as Topo

@@ -85,7 +85,8 @@ found_passes test (suc n) c found = by_early (found_passes test n c) (find test 
     by_test true passes found = let same : n ≡ c = cc in (omega arith, subst (λ x. test x ≡ true) same passes)
     by_test false fails found = cc
 
-    by_early : (find test (below n) ≡ Some c → (c < n) × (test c ≡ true)) → (o : Option ℕ) → find test (below n) ≡ o → option_or o (find test (n ∷ [])) ≡ Some c → (c < suc n) × (test c ≡ true)
+    by_early : (find test (below n) ≡ Some c → (c < n) × (test c ≡ true)) → (o : Option ℕ) → find test (below n) ≡ o → option_or o (find test (n ∷ [])) ≡ Some c
+        → (c < suc n) × (test c ≡ true)
     by_early before None none found = by_test (test n) refl found
     by_early before (Some x) some found = let (less, passes) = before (some ∙ found) in (omega arith, passes)
 

@@ -13,7 +13,8 @@ use Rattle.sd_plan.proofs.Numbered.{numbered_is, get_or-numbered, length-numbere
 use Rattle.sd_plan.proofs.Rules.{KeepsRules, both_led}
 
 -- who follows a device over a link is joined to it by this
-follower_joined : (net : Network) (plan : Plan) (d l c : ℕ) → KeepsRules net plan → c < length net.devices → follows_over plan d l c ≡ true → joins net l c d ≡ true
+follower_joined : (net : Network) (plan : Plan) (d l c : ℕ) → KeepsRules net plan → c < length net.devices → follows_over plan d l c ≡ true
+    → joins net l c d ≡ true
 follower_joined net plan d l c rules within follows =
     let (primary, backup) = both_led net plan d l c rules within in
     elim (or_cases (leads_to d l (primary_of plan c)) (leads_to d l (backup_of plan c)) follows) [ inl first ↦ primary first | inr second ↦ backup second ]
@@ -55,7 +56,8 @@ one_over net plan l d a b apart first second ends = by_side (cases_eq d a) (case
     none : ((x : ℕ) → x < length net.devices → follows_over plan d l x ≡ true → ⊥) → filter_map (end_over net plan d) (l ∷ []) ≡ []
     none nobody =
         one_filtered (end_over net plan d) (λ x. None) l
-        (ap (option_map (over l)) (find_none (follows_over plan d l) (length net.devices) (λ x within. false_from_ne_true (follows_over plan d l x) (nobody x within))))
+        (ap (option_map (over l))
+        (find_none (follows_over plan d l) (length net.devices) (λ x within. false_from_ne_true (follows_over plan d l x) (nobody x within))))
 
     alone : (t : Bool) → cond t (over l b ∷ []) [] ≡ cond t (over l b ∷ []) [] ++ []
     alone true = refl
@@ -76,14 +78,16 @@ one_over net plan l d a b apart first second ends = by_side (cases_eq d a) (case
 -- one more link
 pub ends_more : (net : Network) (plan : Plan) (l d : ℕ) → IsNetwork net → KeepsRules net plan → l < length net.links
     → ends_before net plan (l + 1) d
-    ≡ (ends_before net plan l d ++ end_below plan l (link_of net l).end_a (link_of net l).end_b d) ++ end_below plan l (link_of net l).end_b (link_of net l).end_a d
+    ≡ (ends_before net plan l d ++ end_below plan l (link_of net l).end_a (link_of net l).end_b d)
+    ++ end_below plan l (link_of net l).end_b (link_of net l).end_a d
 ends_more net plan l d law rules within =
     let is_link = link_law net l law within in
     filtered_more (end_over net plan d) l
     ∙ ap (λ more. ends_before net plan l d ++ more)
     (one_over net plan l d (link_of net l).end_a (link_of net l).end_b is_link.apart is_link.first is_link.second
     (λ c present follows. ends_are (link_of net l).end_a (link_of net l).end_b c d (follower_joined net plan d l c rules present follows)))
-    ∙ sym (append_assoc (ends_before net plan l d) (end_below plan l (link_of net l).end_a (link_of net l).end_b d) (end_below plan l (link_of net l).end_b (link_of net l).end_a d))
+    ∙ sym (append_assoc (ends_before net plan l d) (end_below plan l (link_of net l).end_a (link_of net l).end_b d)
+    (end_below plan l (link_of net l).end_b (link_of net l).end_a d))
 
 -- the rows after both ends of one more link
 pub rows_more : (net : Network) (plan : Plan) (l : ℕ) (rows some all : List (List End)) → IsNetwork net → KeepsRules net plan → l < length net.links
@@ -94,7 +98,8 @@ pub rows_more : (net : Network) (plan : Plan) (l : ℕ) (rows some all : List (L
 rows_more net plan l rows some all law rules within before some_size all_size first second =
     let size : length rows ≡ length net.devices = ap length before ∙ length-numbered (ends_before net plan l) (length net.devices) in
     numbered_is (ends_before net plan (l + 1)) (length net.devices) [] all (all_size ∙ size) (λ d present.
-    let was : get_or rows d [] ≡ ends_before net plan l d = ap (λ xs. get_or xs d []) before ∙ get_or-numbered (ends_before net plan l) (length net.devices) d [] present in
+    let was : get_or rows d [] ≡ ends_before net plan l d =
+    ap (λ xs. get_or xs d []) before ∙ get_or-numbered (ends_before net plan l) (length net.devices) d [] present in
     second d (omega arith)
     ∙ ap (λ xs. xs ++ end_below plan l (link_of net l).end_b (link_of net l).end_a d)
     (first d (omega arith) ∙ ap (λ xs. xs ++ end_below plan l (link_of net l).end_a (link_of net l).end_b d) was)
@@ -106,6 +111,8 @@ on_ok (Ok x) f p = f p
 on_ok (Err e) f p = tt
 
 -- before the first link nothing lies below any device
-pub none_before : (net : Network) (plan : Plan) (count : ℕ) → count ≡ length net.devices → replicate count [] ≡ map (ends_before net plan 0) (device_numbers net)
+pub none_before : (net : Network) (plan : Plan) (count : ℕ) → count ≡ length net.devices
+    → replicate count [] ≡ map (ends_before net plan 0) (device_numbers net)
 none_before net plan count all =
-    numbered_is (ends_before net plan 0) (length net.devices) [] (replicate count []) (length-replicate count [] ∙ all) (λ d within. get_or-replicate count d [] [] (omega arith))
+    numbered_is (ends_before net plan 0) (length net.devices) [] (replicate count []) (length-replicate count [] ∙ all)
+    (λ d within. get_or-replicate count d [] [] (omega arith))

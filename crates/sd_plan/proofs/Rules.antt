@@ -29,7 +29,8 @@ none_mapped f (Some x) none = cc
 -- a rule that no device breaks
 kept : (net : Network) (rule : ℕ) (keeps : ℕ → Bool) (d : ℕ) → first_failing net rule keeps ≡ None → d < length net.devices → keeps d ≡ true
 kept net rule keeps d none within =
-    not-false (keeps d) (none_found (λ x. not (keeps x)) (length net.devices) d (none_mapped (λ x. (rule, x)) (find (λ x. not (keeps x)) (device_numbers net)) none) within)
+    not-false (keeps d)
+    (none_found (λ x. not (keeps x)) (length net.devices) d (none_mapped (λ x. (rule, x)) (find (λ x. not (keeps x)) (device_numbers net)) none) within)
 
 -- the rules from the fourth on
 abbrev last_rules : Network → Plan → Option (ℕ × ℕ)
@@ -58,7 +59,8 @@ backup_root_breach plan = if not (is_member plan plan.backup_root) || nat_eq pla
 -- a plan without a breach keeps the rules
 pub keeps_rules : (net : Network) (plan : Plan) → structure_breach net plan ≡ None → KeepsRules net plan
 keeps_rules net plan structured =
-    let (first, after_first) = both_none (option_map (λ d. (1, d)) (roots_breach plan)) (option_or (first_failing net 2 (row_is_right plan)) (hop_rules net plan)) structured in
+    let (first, after_first) =
+    both_none (option_map (λ d. (1, d)) (roots_breach plan)) (option_or (first_failing net 2 (row_is_right plan)) (hop_rules net plan)) structured in
     let (second, after_second) = both_none (first_failing net 2 (row_is_right plan)) (hop_rules net plan) after_first in
     let (third, after_third) = both_none (first_failing net 3 (hops_are_right net plan)) (last_rules net plan) after_second in
     let (fourth, after_fourth) = both_none (first_failing net 4 (links_differ plan)) (walk_rules net plan) after_third in
@@ -92,13 +94,15 @@ hops_within net plan d fits = by_place (slice_get plan.rows d) (λ row at. fits.
     by_backup (Some hop) each = each hop refl
 
     by_place : (o : Option (Option PlanRow)) → ((row : Option PlanRow) → o ≡ Some row → IsRow net row)
-        → IfSome (option_map (λ row. row.primary) (of_some o None (λ row. row))) (IsHop net) × IfSome (of_some (of_some o None (λ row. row)) None (λ row. row.backup)) (IsHop net)
+        → IfSome (option_map (λ row. row.primary) (of_some o None (λ row. row))) (IsHop net)
+        × IfSome (of_some (of_some o None (λ row. row)) None (λ row. row.backup)) (IsHop net)
     by_place None rows = (tt, tt)
     by_place (Some None) rows = (tt, tt)
     by_place (Some (Some row)) rows = let both = rows (Some row) refl in (both.0, by_backup row.backup both.1)
 
 -- a hop leads to a device only over a link that joins them
-led : (net : Network) (plan : Plan) (c d l : ℕ) (hop : Option Hop) → hop_is_right net plan c hop ≡ true → of_some hop (nat_eq 0 1) (λ h. nat_eq h.parent d && nat_eq h.link l) ≡ true → joins net l c d ≡ true
+led : (net : Network) (plan : Plan) (c d l : ℕ) (hop : Option Hop) → hop_is_right net plan c hop ≡ true
+    → of_some hop (nat_eq 0 1) (λ h. nat_eq h.parent d && nat_eq h.link l) ≡ true → joins net l c d ≡ true
 led net plan c d l None right leads = cc
 led net plan c d l (Some h) right leads =
     let (parent, link) = and_parts (nat_eq h.parent d) (nat_eq h.link l) leads in

@@ -25,7 +25,8 @@ within_left lists zero d i within some = (let none = ap length within.1 in absur
 within_left lists (suc n) d i within some = omega arith
 
 -- less lies below a child
-pub within_child : (lists : List (List ℕ)) (n d i e : ℕ) → IsWithin lists n d → i < length (listed lists d) → IsWithin lists (n - 1) (get_or (listed lists d) i e)
+pub within_child : (lists : List (List ℕ)) (n d i e : ℕ) → IsWithin lists n d → i < length (listed lists d)
+    → IsWithin lists (n - 1) (get_or (listed lists d) i e)
 unfolding IsWithin
 within_child lists zero d i e within some = (let none = ap length within.1 in absurd (omega arith))
 within_child lists (suc n) d i e within some = subst (λ m. IsWithin lists m (get_or (listed lists d) i e)) (one_less n) (within.1 i e some)
@@ -55,7 +56,9 @@ subtree_same lists zero zero d one two = refl
 subtree_same lists zero (suc m) d one two = ap (λ cs. d ∷ flat_map (subtree lists m) cs) (sym one.1)
 subtree_same lists (suc n) zero d one two = ap (λ cs. d ∷ flat_map (subtree lists n) cs) two.1
 subtree_same lists (suc n) (suc m) d one two =
-    ap (λ xs. d ∷ xs) (same_flat (subtree lists n) (subtree lists m) (listed lists d) (λ k e inside. subtree_same lists n m (get_or (listed lists d) k e) (one.1 k e inside) (two.1 k e inside)))
+    ap (λ xs. d ∷ xs)
+    (same_flat (subtree lists n) (subtree lists m) (listed lists d)
+    (λ k e inside. subtree_same lists n m (get_or (listed lists d) k e) (one.1 k e inside) (two.1 k e inside)))
 
 -- what one of two lists has both have
 pub has-append : (xs ys : List ℕ) (a : ℕ) → has (xs ++ ys) a ≡ (has xs a || has ys a)
@@ -93,7 +96,8 @@ placed_both lists first second before between after old some new one two = recor
   order = two.order ∙ ap (λ xs. xs ++ second) one.order ∙ append_assoc before first second;
   size = two.size ∙ one.size;
   placed = λ a there. by_second a (has second a) refl (sym (has-append first second a) ∙ there);
-  others = λ a other. (let (missed, none) = neither (has first a) (has second a) (sym (has-append first second a) ∙ other) in two.others a none ∙ one.others a missed);
+  others = λ a other. (let (missed, none) = neither (has first a) (has second a) (sym (has-append first second a) ∙ other) in
+      two.others a none ∙ one.others a missed);
 }
   where
     neither : (p q : Bool) → (p || q) ≡ false → (p ≡ false) × (q ≡ false)
@@ -109,19 +113,24 @@ placed_both lists first second before between after old some new one two = recor
     by_second a true there either = two.placed a there
     by_second a false other either =
         subst (λ (span : Span). IsSpan lists after a span) (sym (two.others a other))
-        (subst (λ (xs : List ℕ). IsSpan lists xs a (get_or some a no_span)) (sym two.order) (span_kept lists between second a (get_or some a no_span) (one.placed a (or_first (has first a) (has second a) either other))))
+        (subst (λ (xs : List ℕ). IsSpan lists xs a (get_or some a no_span)) (sym two.order)
+        (span_kept lists between second a (get_or some a no_span) (one.placed a (or_first (has first a) (has second a) either other))))
 
 -- one more of the children
 pub placed_more : (lists : List (List ℕ)) (f : ℕ → List ℕ) (cs : List ℕ) (i : ℕ) (before between after : List ℕ) (old some new : List Span) → i < length cs
-    → ArePlaced lists (flat_map f (take i cs)) before between old some → ArePlaced lists (f (get_or cs i 0)) between after some new → ArePlaced lists (flat_map f (take (i + 1) cs)) before after old new
+    → ArePlaced lists (flat_map f (take i cs)) before between old some → ArePlaced lists (f (get_or cs i 0)) between after some new
+    → ArePlaced lists (flat_map f (take (i + 1) cs)) before after old new
 placed_more lists f cs i before between after old some new within one two =
     let all : flat_map f (take (i + 1) cs) ≡ flat_map f (take i cs) ++ f (get_or cs i 0) =
-    ap (flat_map f) (take_more cs i 0 within) ∙ flat_map-append f (take i cs) (get_or cs i 0 ∷ []) ∙ ap (λ xs. flat_map f (take i cs) ++ xs) (append-nil (f (get_or cs i 0)))
+    ap (flat_map f) (take_more cs i 0 within) ∙ flat_map-append f (take i cs) (get_or cs i 0 ∷ [])
+    ∙ ap (λ xs. flat_map f (take i cs) ++ xs) (append-nil (f (get_or cs i 0)))
     in
-    subst (λ (xs : List ℕ). ArePlaced lists xs before after old new) (sym all) (placed_both lists (flat_map f (take i cs)) (f (get_or cs i 0)) before between after old some new one two)
+    subst (λ (xs : List ℕ). ArePlaced lists xs before after old new) (sym all)
+    (placed_both lists (flat_map f (take i cs)) (f (get_or cs i 0)) before between after old some new one two)
 
 -- the device itself gets its span last
-pub placed_itself : (lists : List (List ℕ)) (n d : ℕ) (before after : List ℕ) (old new : List Span) (from to : ℕ) → IsWithin lists n d → d < length old → from ≡ length before → to ≡ length after
+pub placed_itself : (lists : List (List ℕ)) (n d : ℕ) (before after : List ℕ) (old new : List Span) (from to : ℕ) → IsWithin lists n d → d < length old
+    → from ≡ length before → to ≡ length after
     → ArePlaced lists (flat_map (subtree lists (n - 1)) (listed lists d)) (before ++ d ∷ []) after old new
     → ArePlaced lists (subtree lists n d) before after old (set new d (record { from = from; to = to }))
 placed_itself lists n d before after old new from to within inside begins ends placed =
@@ -129,7 +138,8 @@ placed_itself lists n d before after old new from to within inside begins ends p
       order = all;
       size = length-set new d span ∙ placed.size;
       placed = λ a there. by_place a (cases_eq a d) there;
-      others = λ a other. (let (apart, none) = neither (nat_eq a d) (has rest a) other in get_or-set_other new d a span no_span (λ same. absurd (cc (eq-eqb a d same, apart))) ∙ placed.others a none);
+      others = λ a other. (let (apart, none) = neither (nat_eq a d) (has rest a) other in
+          get_or-set_other new d a span no_span (λ same. absurd (cc (eq-eqb a d same, apart))) ∙ placed.others a none);
     })
   where
     span : Span
@@ -151,7 +161,8 @@ placed_itself lists n d before after old new from to within inside begins ends p
 
     part : slice_range after from to ≡ d ∷ rest
     part =
-        ap (λ m. slice_range after m to) begins ∙ ap (λ m. slice_range after (length before) m) (ends ∙ ap length all) ∙ ap (λ xs. slice_range xs (length before) (length (before ++ (d ∷ rest)))) all
+        ap (λ m. slice_range after m to) begins ∙ ap (λ m. slice_range after (length before) m) (ends ∙ ap length all)
+        ∙ ap (λ xs. slice_range xs (length before) (length (before ++ (d ∷ rest)))) all
         ∙ part_last before (d ∷ rest)
 
     own : IsSpan lists after d span
@@ -166,7 +177,8 @@ placed_itself lists n d before after old new from to within inside begins ends p
         subst (λ (x : ℕ). IsSpan lists after x (get_or (set new d span) x no_span)) (sym same)
         (subst (λ (s : Span). IsSpan lists after d s) (sym (get_or-set_same new d span no_span (omega (arith, placed.size)))) own)
     by_place a (inr apart) there =
-        subst (λ (s : Span). IsSpan lists after a s) (sym (get_or-set_other new d a span no_span apart)) (placed.placed a (ap (λ b. b || has rest a) (sym (ne_eqb a d apart)) ∙ there))
+        subst (λ (s : Span). IsSpan lists after a s) (sym (get_or-set_other new d a span no_span apart))
+        (placed.placed a (ap (λ b. b || has rest a) (sym (ne_eqb a d apart)) ∙ there))
 
 -- there is room for one more of the children
 pub room_more : (lists : List (List ℕ)) (n d i : ℕ) (before between : List ℕ) (old new : List Span) → IsWithin lists n d → i < length (listed lists d)
@@ -174,21 +186,37 @@ pub room_more : (lists : List (List ℕ)) (n d i : ℕ) (before between : List �
     → length between + length (subtree lists (n - 1) (get_or (listed lists d) i 0)) ≤ length before + length (subtree lists n d)
 room_more lists n d i before between old new within some placed =
     let f : ℕ → List ℕ = subtree lists (n - 1) in
-    omega
-    (arith, length-flat_map-take f (listed lists d) i 0 some, ap length (subtree_is lists n d within), ap length placed.order, length-append (before ++ d ∷ []) (flat_map f (take i (listed lists d))), length_push before d)
+    omega (
+      arith,
+      length-flat_map-take f (listed lists d) i 0 some,
+      ap length (subtree_is lists n d within),
+      ap length placed.order,
+      length-append (before ++ d ∷ [])
+          (flat_map f (take i (listed lists d))),
+      length_push before d,
+    )
 
 -- the children that are read
-pub read_children : (lists : List (List ℕ)) (d : ℕ) (item below : List ℕ) → d < length lists → item ≡ get_or lists d item → below ≡ item → below ≡ listed lists d
+pub read_children : (lists : List (List ℕ)) (d : ℕ) (item below : List ℕ) → d < length lists → item ≡ get_or lists d item → below ≡ item
+    → below ≡ listed lists d
 read_children lists d item below within is same = same ∙ get_or_read lists d item within is []
 
 -- all children are placed
 pub placed_all : (lists : List (List ℕ)) (f : ℕ → List ℕ) (cs : List ℕ) (i : ℕ) (before after : List ℕ) (old new : List Span) → length cs ≤ i
     → ArePlaced lists (flat_map f (take i cs)) before after old new → ArePlaced lists (flat_map f cs) before after old new
-placed_all lists f cs i before after old new past placed = subst (λ (xs : List ℕ). ArePlaced lists (flat_map f xs) before after old new) (take_all i cs past) placed
+placed_all lists f cs i before after old new past placed =
+    subst (λ (xs : List ℕ). ArePlaced lists (flat_map f xs) before after old new) (take_all i cs past) placed
 
 -- how long the order is then
 pub length_all : (lists : List (List ℕ)) (n d : ℕ) (before after : List ℕ) (old new : List Span) → IsWithin lists n d
-    → ArePlaced lists (flat_map (subtree lists (n - 1)) (listed lists d)) (before ++ d ∷ []) after old new → length after ≡ length before + length (subtree lists n d)
+    → ArePlaced lists (flat_map (subtree lists (n - 1)) (listed lists d)) (before ++ d ∷ []) after old new
+    → length after ≡ length before + length (subtree lists n d)
 length_all lists n d before after old new within placed =
-    omega
-    (arith, ap length (subtree_is lists n d within), ap length placed.order, length-append (before ++ d ∷ []) (flat_map (subtree lists (n - 1)) (listed lists d)), length_push before d)
+    omega (
+      arith,
+      ap length (subtree_is lists n d within),
+      ap length placed.order,
+      length-append (before ++ d ∷ [])
+          (flat_map (subtree lists (n - 1)) (listed lists d)),
+      length_push before d,
+    )

@@ -21,7 +21,8 @@ pub has_row_at-table : (net : Network) (plan : Plan) (epoch d : ℕ) → d < len
 has_row_at-table net plan epoch d within = ap (λ o. of_some o false (λ row. true)) (row_at-table net plan epoch d within) ∙ by_test (is_member plan d)
   where
     by_test : (b : Bool)
-        → of_some (option_map (λ duty. record { duty = duty; downstream = ends_of net plan d }) (if b then Some (duty_of net plan epoch d) else None)) false (λ (row : TableRow). true) ≡ b
+        → of_some (option_map (λ duty. record { duty = duty; downstream = ends_of net plan d }) (if b then Some (duty_of net plan epoch d) else None)) false
+        (λ (row : TableRow). true) ≡ b
     by_test true = refl
     by_test false = refl
 

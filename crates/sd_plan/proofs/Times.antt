@@ -61,7 +61,8 @@ total_none f p (suc n) none =
     by_test false none = refl
 
 -- where f gives something of one alone there is just this
-pub total_one : (f : ℕ → ℕ) (p : ℕ → Bool) (n b : ℕ) → b < n → p b ≡ true → ((c : ℕ) → c < n → p c ≡ true → c ≢ b → f c ≡ 0) → total f (filter p (below n)) ≡ f b
+pub total_one : (f : ℕ → ℕ) (p : ℕ → Bool) (n b : ℕ) → b < n → p b ≡ true → ((c : ℕ) → c < n → p c ≡ true → c ≢ b → f c ≡ 0)
+    → total f (filter p (below n)) ≡ f b
 total_one f p zero b within passes others = absurd (omega arith)
 total_one f p (suc n) b within passes others =
     elim (cases_lt b n) [
@@ -70,7 +71,8 @@ total_one f p (suc n) b within passes others =
           ∙ last (p n) (λ other. others n (omega arith) other (λ same. absurd (omega arith))))
       | inr past ↦
           (let same : b ≡ n = omega arith in
-          total_more f p n ∙ ap (λ m. m + cond (p n) (f n) 0) (total_none f p n (λ c inside other. others c (omega arith) other (λ equal. absurd (omega arith))))
+          total_more f p n
+          ∙ ap (λ m. m + cond (p n) (f n) 0) (total_none f p n (λ c inside other. others c (omega arith) other (λ equal. absurd (omega arith))))
           ∙ ap (λ t. 0 + cond t (f n) 0) (subst (λ x. p x ≡ true) same passes) ∙ zero_more (f n) ∙ ap f (sym same))
     ]
   where
@@ -103,7 +105,8 @@ pub times_place : (xs : List ℕ) (x : ℕ) → 1 ≤ times x xs → (i : ℕ) �
 times_place [] x some = absurd (omega arith)
 times_place (y ∷ ys) x some = by_test (nat_eq x y) refl some (times_place ys x)
   where
-    by_test : (b : Bool) → nat_eq x y ≡ b → 1 ≤ cond b 1 0 + times x ys → (1 ≤ times x ys → (i : ℕ) × (slice_get ys i ≡ Some x)) → (i : ℕ) × (slice_get (y ∷ ys) i ≡ Some x)
+    by_test : (b : Bool) → nat_eq x y ≡ b → 1 ≤ cond b 1 0 + times x ys → (1 ≤ times x ys → (i : ℕ) × (slice_get ys i ≡ Some x))
+        → (i : ℕ) × (slice_get (y ∷ ys) i ≡ Some x)
     by_test true here some more = (0, ap (λ z. Some z) (sym (eqb-true x y here)))
     by_test false apart some more = let (i, at) = more (omega arith) in (suc i, at)
 
@@ -132,7 +135,11 @@ pub one_place : (xs : List ℕ) (i j x : ℕ) → times x xs ≤ 1 → slice_get
 one_place xs i j x once first second =
     elim (cases_order i j) [
       | inl same ↦ same
-      | inr other ↦ elim other [ inl less ↦ (let two = twice xs i j x less first second in absurd (omega arith)) | inr more ↦ (let two = twice xs j i x more second first in absurd (omega arith)) ]
+      | inr other ↦ elim other [
+        | inl less ↦ (let two = twice xs i j x less first second in
+            absurd (omega arith))
+        | inr more ↦ (let two = twice xs j i x more second first in absurd (omega arith))
+      ]
     ]
 
 -- numbers below a bound of which none stands twice are as many at most
@@ -142,7 +149,8 @@ few xs n once within = length-le_from_distinct_below xs n (IsDistinct-from_apart
     apart : (i j d : ℕ) → i < j → j < length xs → nat_eq (get_or xs i d) (get_or xs j d) ≡ false
     apart i j d less inside =
         ne_eqb (get_or xs i d) (get_or xs j d) (λ same.
-        let equal = one_place xs i j (get_or xs j d) (once (get_or xs j d)) (slice_get-get_or xs i d (omega arith) ∙ ap (λ z. Some z) same) (slice_get-get_or xs j d inside) in omega arith)
+        let equal = one_place xs i j (get_or xs j d) (once (get_or xs j d)) (slice_get-get_or xs i d (omega arith) ∙ ap (λ z. Some z) same)
+        (slice_get-get_or xs j d inside) in omega arith)
 
 -- a number below the bound that passes is one of those that do
 pub has-filter : (p : ℕ → Bool) (n c : ℕ) → c < n → p c ≡ true → 1 ≤ times c (filter p (below n))
@@ -153,7 +161,8 @@ has-filter p (suc n) c within passes =
       | inl less ↦ omega (arith, split, has-filter p n c less passes)
       | inr past ↦
           (let same : c ≡ n = omega arith in
-          let here : times c (filter p (n ∷ [])) ≡ 1 = ap (λ b. times c (cond b (n ∷ []) [])) (subst (λ x. p x ≡ true) same passes) ∙ ap (λ b. cond b 1 0 + 0) (eq-eqb c n same) in
+          let here : times c (filter p (n ∷ [])) ≡ 1 = ap (λ b. times c (cond b (n ∷ []) [])) (subst (λ x. p x ≡ true) same passes)
+          ∙ ap (λ b. cond b 1 0 + 0) (eq-eqb c n same) in
           omega (arith, split, here))
     ]
 

@@ -11,9 +11,11 @@ hops_left plan n x = if is_root plan x then [] else hops (is_root plan) plan n x
 
 -- after a hop the walk ends where its parent's ends
 step : (root : ℕ → Bool) (found : Option Hop) (more : ℕ → List Hop) (here : ℕ) (hop : Hop) → found ≡ Some hop
-    → end_of here (elim found [ None ↦ [] | Some h ↦ h ∷ (elim (root h.parent) [ true ↦ [] | false ↦ more h.parent ]) ]) ≡ end_of hop.parent (if root hop.parent then [] else more hop.parent)
+    → end_of here (elim found [ None ↦ [] | Some h ↦ h ∷ (elim (root h.parent) [ true ↦ [] | false ↦ more h.parent ]) ])
+    ≡ end_of hop.parent (if root hop.parent then [] else more hop.parent)
 step root found more here hop is =
-    subst (λ (f : Option Hop). end_of here (elim f [ None ↦ [] | Some h ↦ h ∷ (elim (root h.parent) [ true ↦ [] | false ↦ more h.parent ]) ]) ≡ end_of hop.parent (if root hop.parent then [] else more hop.parent)) (sym is)
+    subst (λ (f : Option Hop). end_of here (elim f [ None ↦ [] | Some h ↦ h ∷ (elim (root h.parent) [ true ↦ [] | false ↦ more h.parent ]) ])
+    ≡ end_of hop.parent (if root hop.parent then [] else more hop.parent)) (sym is)
     (by_root (root hop.parent))
   where
     by_root : (b : Bool) → end_of hop.parent (elim b [ true ↦ [] | false ↦ more hop.parent ]) ≡ end_of hop.parent (if b then [] else more hop.parent)
@@ -52,7 +54,8 @@ ends_without_row plan zero here none = ends_with_none_left plan 0 here refl
 ends_without_row plan (suc n) here none = by_root (is_root plan here)
   where
     nothing : hops (is_root plan) plan (suc n) here ≡ []
-    nothing = subst (λ (f : Option Hop). (elim f [ None ↦ [] | Some h ↦ h ∷ (elim (is_root plan h.parent) [ true ↦ [] | false ↦ hops (is_root plan) plan n h.parent ]) ]) ≡ []) (sym none) refl
+    nothing = subst (λ (f : Option Hop). (elim f
+        [ None ↦ [] | Some h ↦ h ∷ (elim (is_root plan h.parent) [ true ↦ [] | false ↦ hops (is_root plan) plan n h.parent ]) ]) ≡ []) (sym none) refl
 
     by_root : (b : Bool) → end_of here (if b then [] else hops (is_root plan) plan (suc n) here) ≡ here
     by_root true = refl

@@ -22,11 +22,13 @@ with_ends ends told = option_map (λ duty. record { duty = duty; downstream = en
 pub same_length : (net : Network) (plan : Plan) (epoch : ℕ) (duties : List (Option Duty)) (rows : List (List End))
     → duties ≡ map (told_of net plan epoch) (device_numbers net) → rows ≡ map (ends_of net plan) (device_numbers net) → length rows ≡ length duties
 same_length net plan epoch duties rows told below =
-    ap length below ∙ length-numbered (ends_of net plan) (length net.devices) ∙ sym (length-numbered (told_of net plan epoch) (length net.devices)) ∙ sym (ap length told)
+    ap length below ∙ length-numbered (ends_of net plan) (length net.devices) ∙ sym (length-numbered (told_of net plan epoch) (length net.devices))
+    ∙ sym (ap length told)
 
 -- duties and joined rows are the table
 pub whole : (net : Network) (plan : Plan) (epoch : ℕ) (duties : List (Option Duty)) (rows : List (List End)) (ends : List End) (offsets : List ℕ)
-    → duties ≡ map (told_of net plan epoch) (device_numbers net) → rows ≡ map (ends_of net plan) (device_numbers net) → AreJoined rows (length rows) ends offsets
+    → duties ≡ map (told_of net plan epoch) (device_numbers net) → rows ≡ map (ends_of net plan) (device_numbers net)
+    → AreJoined rows (length rows) ends offsets
     → map (row_seen duties ends offsets) (below (length duties)) ≡ table_of net plan epoch
 whole net plan epoch duties rows ends offsets told down joined =
     let count : length duties ≡ length net.devices = ap length told ∙ length-numbered (told_of net plan epoch) (length net.devices) in
@@ -36,7 +38,8 @@ whole net plan epoch duties rows ends offsets told down joined =
     let part : part_of ends offsets d ≡ ends_of net plan d =
     joined.each d (omega arith) ∙ ap (λ xs. get_or xs d []) down ∙ get_or-numbered (ends_of net plan) (length net.devices) d [] within
     in
-    let duty : get_or duties d None ≡ told_of net plan epoch d = ap (λ xs. get_or xs d None) told ∙ get_or-numbered (told_of net plan epoch) (length net.devices) d None within in
+    let duty : get_or duties d None ≡ told_of net plan epoch d =
+    ap (λ xs. get_or xs d None) told ∙ get_or-numbered (told_of net plan epoch) (length net.devices) d None within in
     get_or-numbered (row_seen duties ends offsets) (length duties) d None (omega arith)
     ∙ ap (λ below. with_ends below (get_or duties d None)) part ∙ ap (with_ends (ends_of net plan d)) duty)
 
@@ -71,8 +74,10 @@ has_row-seen table duties ends offsets d told view within is =
     by_duty (Some duty) = refl
 
 -- it has this duty and these ends
-pub row-seen : (table : List (Option TableRow)) (duties : List (Option Duty)) (ends down : List End) (offsets : List ℕ) (d : ℕ) (told : Option Duty) (duty : Duty)
-    → map (row_seen duties ends offsets) (below (length duties)) ≡ table → d < length duties → told ≡ get_or duties d told → told ≡ Some duty → down ≡ part_of ends offsets d
+pub row-seen : (table : List (Option TableRow)) (duties : List (Option Duty)) (ends down : List End) (offsets : List ℕ) (d : ℕ) (told : Option Duty)
+    (duty : Duty)
+    → map (row_seen duties ends offsets) (below (length duties)) ≡ table → d < length duties → told ≡ get_or duties d told → told ≡ Some duty
+    → down ≡ part_of ends offsets d
     → row_at table d ≡ Some (record { duty = duty; downstream = down })
 row-seen table duties ends down offsets d told duty view within is some below =
     seen_at table duties ends offsets d view within

@@ -145,7 +145,8 @@ impl WalkIndex {
         requires device { d < length self.now.spans }
         requires above { a < length self.now.spans }
         requires backup_root { self.now.backup_root < length self.now.spans }
-        ensures { result ≡ (indexed.stands_below self.now d a && not (indexed.is_cut_before self.now d a)) }
+        ensures { result
+            ≡ (indexed.stands_below self.now d a && not (indexed.is_cut_before self.now d a)) }
     {
         self.stands_below(d, a) && !self.is_cut_before(d, a)
     }
@@ -166,7 +167,8 @@ impl WalkIndex {
     pub fn on_walk(&self, d: u32, a: u32) -> bool
         requires device { d < length self.now.spans }
         requires above { a < length self.now.spans }
-        ensures { (net : Network) (plan : PlanSeen) → IsIndexOf net plan self.now → IsTrue (is_member plan d)
+        ensures { (net : Network) (plan : PlanSeen) → IsIndexOf net plan self.now
+            → IsTrue (is_member plan d)
             → result ≡ walks.on_walk net plan d a }
     {
         self.stands_below(d, a)
@@ -177,7 +179,8 @@ impl WalkIndex {
     pub fn epath_has_device(&self, d: u32, a: u32) -> bool
         requires device { d < length self.now.spans }
         requires above { a < length self.now.spans }
-        ensures { (net : Network) (plan : PlanSeen) → IsIndexOf net plan self.now → IsTrue (is_member plan d)
+        ensures { (net : Network) (plan : PlanSeen) → IsIndexOf net plan self.now
+            → IsTrue (is_member plan d)
             → IsTrue (not (plans.is_root plan d)) → result ≡ has_device (walks.epath net plan d) a }
     {
         let _ = &self.order;
@@ -188,8 +191,10 @@ impl WalkIndex {
     pub fn epath_has_link(&self, d: u32, link: u32) -> bool
         requires device { d < length self.now.spans }
         requires range { link < length self.now.carried }
-        ensures { (net : Network) (plan : PlanSeen) → IsIndexOf net plan self.now → IsTrue (is_member plan d)
-            → IsTrue (not (plans.is_root plan d)) → result ≡ has_link (walks.epath net plan d) link }
+        ensures { (net : Network) (plan : PlanSeen) → IsIndexOf net plan self.now
+            → IsTrue (is_member plan d)
+            → IsTrue (not (plans.is_root plan d))
+            → result ≡ has_link (walks.epath net plan d) link }
     {
         let _ = &self.order;
         match self.carried_over(link) {
@@ -202,7 +207,8 @@ impl WalkIndex {
     pub fn walk_has_link(&self, d: u32, link: u32) -> bool
         requires device { d < length self.now.spans }
         requires range { link < length self.now.carried }
-        ensures { (net : Network) (plan : PlanSeen) → IsIndexOf net plan self.now → IsTrue (is_member plan d)
+        ensures { (net : Network) (plan : PlanSeen) → IsIndexOf net plan self.now
+            → IsTrue (is_member plan d)
             → result ≡ has_link (walks.path net plan d) link }
     {
         let _ = &self.order;

@@ -1,5 +1,5 @@
 //! Short lists that are built one by one.
-ghost use Rattle.std.specs.Prelude.{◌≡◌, ◌++◌, [], ◌∷◌, OnOk, OnErr};
+ghost use Rattle.std.specs.Prelude.{◌≡◌, ◌++◌, [], ◌∷◌, OnOk, OnErr, IfOk, replicate};
 
 use crate::PlanRow;
 use sd_num::NoMemory;
@@ -62,6 +62,19 @@ impl DeviceList {
     {
         self.items
     }
+}
+
+/// So many empty lists.
+pub fn empty_lists(alloc: Global, count: u32) -> Result<Vec<DeviceList>, NoMemory>
+    ensures { IfOk result (λ lists. lists.items ≡ replicate count []) }
+{
+    let mut lists = Vec::new(alloc);
+    for _ in 0..count {
+        let Ok(()) = lists.push(DeviceList::new(alloc)) else {
+            return Err(NoMemory);
+        };
+    }
+    Ok(lists)
 }
 
 /// Perhaps a row for each device.

@@ -50,7 +50,9 @@ fn cut_path(
 ) -> Result<ThingList, NoMemory>
     requires fits { Fits (network topo.now) plan.now }
     requires range { d < length (network topo.now).devices }
-    ensures { IfOk result (λ things. things ≡ walks.things_of (walks.hops (ends_at cut plan.now) plan.now (network topo.now).params.depth d)) }
+    ensures { IfOk result (λ things. things
+        ≡ walks.things_of
+        (walks.hops (ends_at cut plan.now) plan.now (network topo.now).params.depth d)) }
 {
     let mut things = ThingList::new(alloc);
     let mut here = d;

@@ -166,7 +166,8 @@ impl Rule {
     /// The rule, with the lowest device that breaks it by itself.
     fn first_failing(self, topo: &Topology, plan: &Plan) -> Option<(Rule, u32)>
         requires fits { Fits (network topo.now) plan.now }
-        ensures { option_map rules.numbered result ≡ structure.first_failing (network topo.now) (rules.number_of self)
+        ensures { option_map rules.numbered result
+            ≡ structure.first_failing (network topo.now) (rules.number_of self)
             (rules.keeps self (network topo.now) plan.now) }
     {
         for d in 0..topo.devices() {
@@ -195,7 +196,8 @@ fn roots_breach(plan: &Plan) -> Option<u32>
 /// The first rule of structure that a plan breaks, and the lowest device that breaks it.
 pub fn structure_breach(topo: &Topology, plan: &Plan) -> Option<(Rule, u32)>
     requires fits { Fits (network topo.now) plan.now }
-    ensures { option_map rules.numbered result ≡ structure.structure_breach (network topo.now) plan.now }
+    ensures { option_map rules.numbered result
+        ≡ structure.structure_breach (network topo.now) plan.now }
 {
     if let Some(device) = roots_breach(plan) {
         return Some((Rule::Roots, device));

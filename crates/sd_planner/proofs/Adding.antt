@@ -11,14 +11,14 @@ use Rattle.sd_topo.specs.Network.{Network, domain_of}
 use Rattle.sd_plan.specs.declared.Absent.{Absent}
 use Rattle.sd_plan.specs.declared.Hop.{Hop}
 use Rattle.sd_plan.specs.Walks.{links_of}
-use Rattle.sd_place.specs.declared.placement.Placed.{Placed}
-use Rattle.sd_place.specs.Spreading.{placed_at}
-use Rattle.sd_place.specs.Placing.{Grows}
+use Rattle.sd_planner_place.specs.declared.placement.Placed.{Placed}
+use Rattle.sd_planner_place.specs.Spreading.{placed_at}
+use Rattle.sd_planner_place.specs.Placing.{Grows}
 use Rattle.sd_planner.specs.Climbs.{way_up}
 use Rattle.sd_planner.specs.Flags.{is_set, AreSet}
 use Rattle.sd_planner.specs.Things.{AddsAll, meets, met_device, met_link, parents_of}
 use Rattle.sd_planner.specs.declared.backups.things.Things.{Things}
-use Rattle.sd_place.proofs.Growing.{found_own}
+use Rattle.sd_planner_place.proofs.Growing.{found_own}
 use Rattle.sd_planner.proofs.Trees.{stands, behind, way_step, way_none}
 
 pub or_false : (t : Bool) → (t || false) ≡ t
@@ -38,7 +38,8 @@ unset n x = by_less (cases_lt x n)
     by_less (inr past) = get_or_past (replicate n false) x false (rw (length-replicate n false) past)
 
 -- two sets of numbers that were set to true
-pub adds_of : (net : Network) (devices links : List ℕ) (old new : Things) → AreSet devices true old.devices.items new.devices.items → AreSet links true old.links.items new.links.items
+pub adds_of : (net : Network) (devices links : List ℕ) (old new : Things) → AreSet devices true old.devices.items new.devices.items
+    → AreSet links true old.links.items new.links.items
     → AddsAll (has devices) (has links) old new
 adds_of net devices links old new first second =
     record {
@@ -56,13 +57,20 @@ adds_of net devices links old new first second =
 
 -- the flags of no domains
 pub met_none : (net : Network) (others old : Things) → AddsAll (met_device net others 0) (met_link net others 0) old old
-met_none net others old = record { device_size = refl; link_size = refl; device = λ x. sym (or_false (is_set old.devices.items x)); link = λ x. sym (or_false (is_set old.links.items x)) }
+met_none net others old =
+    record {
+      device_size = refl;
+      link_size = refl;
+      device = λ x. sym (or_false (is_set old.devices.items x));
+      link = λ x. sym (or_false (is_set old.links.items x));
+    }
 
 any_more : (test : ℕ → Bool) (n : ℕ) → list_any test (below (n + 1)) ≡ (list_any test (below n) || test n)
 any_more test n = rw add-one (list_any-append test (below n) (n ∷ []) ∙ ap (λ t. list_any test (below n) || t) (or_false (test n)))
 
 -- a domain that has nothing of the others
-pub met_same : (net : Network) (others old new : Things) (n : ℕ) → AddsAll (met_device net others n) (met_link net others n) old new → meets net others n ≡ false
+pub met_same : (net : Network) (others old new : Things) (n : ℕ) → AddsAll (met_device net others n) (met_link net others n) old new
+    → meets net others n ≡ false
     → AddsAll (met_device net others (n + 1)) (met_link net others (n + 1)) old new
 met_same net others old new n so_far not_met =
     record {
@@ -72,16 +80,20 @@ met_same net others old new n so_far not_met =
           so_far.device x
           ∙ ap (λ t. is_set old.devices.items x || t)
           (sym
-          (any_more (λ k. meets net others k && has (domain_of net k).devices x) n ∙ ap (λ t. met_device net others n x || (t && has (domain_of net n).devices x)) not_met ∙ or_false (met_device net others n x)));
+          (any_more (λ k. meets net others k && has (domain_of net k).devices x) n
+          ∙ ap (λ t. met_device net others n x || (t && has (domain_of net n).devices x)) not_met ∙ or_false (met_device net others n x)));
       link = λ x.
           so_far.link x
           ∙ ap (λ t. is_set old.links.items x || t)
-          (sym (any_more (λ k. meets net others k && has (domain_of net k).links x) n ∙ ap (λ t. met_link net others n x || (t && has (domain_of net n).links x)) not_met ∙ or_false (met_link net others n x)));
+          (sym (any_more (λ k. meets net others k && has (domain_of net k).links x) n
+          ∙ ap (λ t. met_link net others n x || (t && has (domain_of net n).links x)) not_met ∙ or_false (met_link net others n x)));
     }
 
 -- a domain that has something of them
-pub met_more : (net : Network) (others old new newer : Things) (n : ℕ) → AddsAll (met_device net others n) (met_link net others n) old new → meets net others n ≡ true
-    → AddsAll (has (domain_of net n).devices) (has (domain_of net n).links) new newer → AddsAll (met_device net others (n + 1)) (met_link net others (n + 1)) old newer
+pub met_more : (net : Network) (others old new newer : Things) (n : ℕ) → AddsAll (met_device net others n) (met_link net others n) old new
+    → meets net others n ≡ true
+    → AddsAll (has (domain_of net n).devices) (has (domain_of net n).links) new newer
+    → AddsAll (met_device net others (n + 1)) (met_link net others (n + 1)) old newer
 met_more net others old new newer n so_far met added =
     record {
       device_size = added.device_size ∙ so_far.device_size;
@@ -91,13 +103,15 @@ met_more net others old new newer n so_far met added =
           ∙ ap (λ t. t || has (domain_of net n).devices x) (so_far.device x)
           ∙ or_assoc (is_set old.devices.items x) (met_device net others n x) (has (domain_of net n).devices x)
           ∙ ap (λ t. is_set old.devices.items x || t)
-          (sym (any_more (λ k. meets net others k && has (domain_of net k).devices x) n ∙ ap (λ t. met_device net others n x || (t && has (domain_of net n).devices x)) met));
+          (sym (any_more (λ k. meets net others k && has (domain_of net k).devices x) n
+          ∙ ap (λ t. met_device net others n x || (t && has (domain_of net n).devices x)) met));
       link = λ x.
           added.link x
           ∙ ap (λ t. t || has (domain_of net n).links x) (so_far.link x)
           ∙ or_assoc (is_set old.links.items x) (met_link net others n x) (has (domain_of net n).links x)
           ∙ ap (λ t. is_set old.links.items x || t)
-          (sym (any_more (λ k. meets net others k && has (domain_of net k).links x) n ∙ ap (λ t. met_link net others n x || (t && has (domain_of net n).links x)) met));
+          (sym (any_more (λ k. meets net others k && has (domain_of net k).links x) n
+          ∙ ap (λ t. met_link net others n x || (t && has (domain_of net n).links x)) met));
     }
 
 -- what is seen from a placed device that has a hop
@@ -109,7 +123,8 @@ pub record GoesUp (net : Network) (list : List Placed) (p : Placed) (hop : Hop) 
   pub within : hop.parent < length net.devices
   pub link : hop.link < length net.links
 
-pub goes_up : (net : Network) (root : ℕ) (absent : Absent) (list : List Placed) (p : Placed) (hop : Hop) → Grows net root absent list → placed_at list p.device ≡ Some p → p.hop ≡ Some hop → GoesUp net list p hop
+pub goes_up : (net : Network) (root : ℕ) (absent : Absent) (list : List Placed) (p : Placed) (hop : Hop) → Grows net root absent list
+    → placed_at list p.device ≡ Some p → p.hop ≡ Some hop → GoesUp net list p hop
 goes_up net root absent list p hop tree found has_hop = let s = stands list p.device p found in by_place s.place s.at
   where
     by_place : (i : ℕ) → slice_get list i ≡ Some p → GoesUp net list p hop
@@ -131,7 +146,8 @@ goes_up net root absent list p hop tree found has_hop = let s = stands list p.de
         })
 
 -- from one that has none
-pub way_ends : (net : Network) (root : ℕ) (absent : Absent) (list : List Placed) (p : Placed) → Grows net root absent list → placed_at list p.device ≡ Some p → p.hop ≡ None → way_up list p.device ≡ []
+pub way_ends : (net : Network) (root : ℕ) (absent : Absent) (list : List Placed) (p : Placed) → Grows net root absent list → placed_at list p.device ≡ Some p
+    → p.hop ≡ None → way_up list p.device ≡ []
 way_ends net root absent list p tree found none = way_none net root absent list tree p.device (ap (option_and_then (λ q. q.hop)) found ∙ none)
 
 -- what is left of a walk, and what was added of it
@@ -139,14 +155,19 @@ pub record IsUnderWay (list : List Placed) (own here : Placed) (old new : Things
   pub found : placed_at list here.device ≡ Some here
   pub device_size : length new.devices.items ≡ length old.devices.items
   pub link_size : length new.links.items ≡ length old.links.items
-  pub device : (x : ℕ) → (is_set new.devices.items x || has (parents_of (way_up list here.device)) x) ≡ (is_set old.devices.items x || has (parents_of (way_up list own.device)) x)
-  pub link : (x : ℕ) → (is_set new.links.items x || has (links_of (way_up list here.device)) x) ≡ (is_set old.links.items x || has (links_of (way_up list own.device)) x)
+  pub device : (x : ℕ)
+      → (is_set new.devices.items x || has (parents_of (way_up list here.device)) x)
+      ≡ (is_set old.devices.items x || has (parents_of (way_up list own.device)) x)
+  pub link : (x : ℕ)
+      → (is_set new.links.items x || has (links_of (way_up list here.device)) x) ≡ (is_set old.links.items x || has (links_of (way_up list own.device)) x)
 
 pub under_way : (list : List Placed) (own : Placed) (old : Things) → placed_at list own.device ≡ Some own → IsUnderWay list own own old old
 under_way list own old found = record { found = found; device_size = refl; link_size = refl; device = λ x. refl; link = λ x. refl }
 
-pub one_hop : (list : List Placed) (own here parent : Placed) (hop : Hop) (old new newer : Things) → IsUnderWay list own here old new → AddsAll (λ x. nat_eq x hop.parent) (λ x. nat_eq x hop.link) new newer
-    → way_up list here.device ≡ hop ∷ way_up list hop.parent → parent.device ≡ hop.parent → placed_at list parent.device ≡ Some parent → IsUnderWay list own parent old newer
+pub one_hop : (list : List Placed) (own here parent : Placed) (hop : Hop) (old new newer : Things) → IsUnderWay list own here old new
+    → AddsAll (λ x. nat_eq x hop.parent) (λ x. nat_eq x hop.link) new newer
+    → way_up list here.device ≡ hop ∷ way_up list hop.parent → parent.device ≡ hop.parent → placed_at list parent.device ≡ Some parent
+    → IsUnderWay list own parent old newer
 one_hop list own here parent hop old new newer so_far added way same found =
     record {
       found = found;

@@ -9,7 +9,8 @@ use Rattle.sd_check_root.specs.Timing.{round_gap, silence}
 grown : (ppm x : ℕ) → ppm * x ≤ 1000000 * x → grow ppm x ≤ x + 1
 grown ppm x less = omega (arith, less)
 
-ups_bound : (devices : List Device) (x : ℕ) → ((k : ℕ) (v : Device) → slice_get devices k ≡ Some v → IsRates v.rates) → greatest (map (λ device. up device.rates x) devices) ≤ 2 * x + 2 ^ 40
+ups_bound : (devices : List Device) (x : ℕ) → ((k : ℕ) (v : Device) → slice_get devices k ≡ Some v → IsRates v.rates)
+    → greatest (map (λ device. up device.rates x) devices) ≤ 2 * x + 2 ^ 40
 ups_bound [] x each = omega arith
 ups_bound (v ∷ vs) x each =
     let rates : IsRates v.rates = each 0 v refl in
@@ -17,14 +18,16 @@ ups_bound (v ∷ vs) x each =
     let rest = ups_bound vs x (λ k u at. each (suc k) u at) in
     omega (arith, grown v.rates.ppm x product, rates.1, rest)
 
-delays_bound : (links : List Link) (n : ℕ) → ((k : ℕ) (v : Link) → slice_get links k ≡ Some v → IsLink n v.entry) → greatest (flat_map (λ link. link.entry.max ∷ link.entry.back_max ∷ []) links) ≤ 10 ^ 12
+delays_bound : (links : List Link) (n : ℕ) → ((k : ℕ) (v : Link) → slice_get links k ≡ Some v → IsLink n v.entry)
+    → greatest (flat_map (λ link. link.entry.max ∷ link.entry.back_max ∷ []) links) ≤ 10 ^ 12
 delays_bound [] n each = omega arith
 delays_bound (v ∷ vs) n each =
     let law : IsLink n v.entry = each 0 v refl in
     let rest = delays_bound vs n (λ k u at. each (suc k) u at) in
     omega (arith, law.bounds.1, law.back_bounds.1, rest)
 
-by_numbers : (lost gap four delay tick : ℕ) → lost ≤ 102 * gap → four ≤ 260 * delay → gap ≤ 2 * 10 ^ 12 + 2 ^ 40 + 10 ^ 12 → delay ≤ 10 ^ 12 → tick ≤ 10 ^ 12 → lost + four + tick ≤ 2 ^ 50
+by_numbers : (lost gap four delay tick : ℕ) → lost ≤ 102 * gap → four ≤ 260 * delay → gap ≤ 2 * 10 ^ 12 + 2 ^ 40 + 10 ^ 12 → delay ≤ 10 ^ 12 → tick ≤ 10 ^ 12
+    → lost + four + tick ≤ 2 ^ 50
 by_numbers lost gap four delay tick one two three four_bound five = omega (arith, one, two, three, four_bound, five)
 
 -- the silence and a tick

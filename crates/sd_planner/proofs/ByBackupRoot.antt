@@ -3,14 +3,14 @@ use Rattle.std.proofs.Common.{◌≡◌, ℕ, Bool, true, false, ◌&&◌, ◌||
 use Rattle.std.specs.List.{list_any}
 use Rattle.std.proofs.lemmas.Bool.{eq-eqb}
 use Rattle.sd_topo.specs.Network.{Network}
-use Rattle.sd_domain.specs.Domains.{domains, holds_device, holds_link, hits}
+use Rattle.sd_plan.specs.Domain.Domains.{domains, holds_device, holds_link, hits}
 use Rattle.sd_plan.specs.declared.Hop.{Hop}
 use Rattle.sd_plan.specs.declared.Absent.{Absent}
 use Rattle.sd_plan.specs.Walks.{things_of, devices_of, links_of}
-use Rattle.sd_place.specs.Usable.{hops_from}
-use Rattle.sd_place.specs.declared.placement.Placed.{Placed}
-use Rattle.sd_place.specs.Spreading.{placed_at}
-use Rattle.sd_place.specs.Placing.{backup_root_of, placed, Grows}
+use Rattle.sd_planner_place.specs.Usable.{hops_from}
+use Rattle.sd_planner_place.specs.declared.placement.Placed.{Placed}
+use Rattle.sd_planner_place.specs.Spreading.{placed_at}
+use Rattle.sd_planner_place.specs.Placing.{backup_root_of, placed, Grows}
 use Rattle.sd_planner.specs.Climbs.{way_up}
 use Rattle.sd_planner.specs.Flags.{is_set}
 use Rattle.sd_planner.specs.Serving.{walk_up, are_walks_joined, serves, serves_backup_root, backup_for}
@@ -35,7 +35,8 @@ is_joined false true same = refl
 is_joined front false same = cc
 
 -- one that meets them
-pub meets_all : (link placed behind joined : Bool) → link ≡ false → placed ≡ true → behind ≡ false → not joined ≡ (not link && placed && not behind && not joined)
+pub meets_all : (link placed behind joined : Bool) → link ≡ false → placed ≡ true → behind ≡ false
+    → not joined ≡ (not link && placed && not behind && not joined)
 meets_all false true false joined one two three = refl
 meets_all true placed behind joined one two three = cc
 meets_all link false behind joined one two three = cc
@@ -50,7 +51,8 @@ module _ (net : Network) (root : ℕ) (absent : Absent) (grows : Grows net root 
       ≡ ((shares_link net (way_up order b) hop.link || list_any (shares_link net (way_up order b)) (links_of (way_up order hop.parent)))
       || list_any (λ x. not (nat_eq x root) && shares_device net (way_up order b) x) (devices_of hop.parent (way_up order hop.parent)))
   joined_parts b hop =
-      by_parts (λ f. hits net f (things_of (walk_up net root absent b))) (λ f. holds_link net f hop.link) (holds_link net) (holds_device net) (λ x. not (nat_eq x root))
+      by_parts (λ f. hits net f (things_of (walk_up net root absent b))) (λ f. holds_link net f hop.link) (holds_link net) (holds_device net)
+      (λ x. not (nat_eq x root))
       (links_of (walk_up net root absent hop.parent)) (devices_of hop.parent (walk_up net root absent hop.parent)) (domains net)
       ∙ ap
       (λ hops. (shares_link net hops hop.link || list_any (shares_link net hops) (links_of (walk_up net root absent hop.parent)))
@@ -62,7 +64,8 @@ module _ (net : Network) (root : ℕ) (absent : Absent) (grows : Grows net root 
       (walk_is net root absent grows hop.parent)
 
   -- a flagged link joins them
-  pub link_joins : (b : ℕ) (hop : Hop) (unfit : Things) → AreUnfit net root order (way_up order b) unfit → is_set unfit.links.items hop.link ≡ true → are_walks_joined net root absent b hop ≡ true
+  pub link_joins : (b : ℕ) (hop : Hop) (unfit : Things) → AreUnfit net root order (way_up order b) unfit → is_set unfit.links.items hop.link ≡ true
+      → are_walks_joined net root absent b hop ≡ true
   link_joins b hop unfit are set =
       joined_parts b hop
       ∙ ap
@@ -71,7 +74,8 @@ module _ (net : Network) (root : ℕ) (absent : Absent) (grows : Grows net root 
       (sym (are.link hop.link) ∙ set)
 
   -- else the flag of the parent tells
-  pub parent_joins : (b : ℕ) (hop : Hop) (p : Placed) (unfit : Things) → AreUnfit net root order (way_up order b) unfit → placed_at order hop.parent ≡ Some p → is_set unfit.links.items hop.link ≡ false
+  pub parent_joins : (b : ℕ) (hop : Hop) (p : Placed) (unfit : Things) → AreUnfit net root order (way_up order b) unfit → placed_at order hop.parent ≡ Some p
+      → is_set unfit.links.items hop.link ≡ false
       → are_walks_joined net root absent b hop ≡ is_set unfit.devices.items hop.parent
   parent_joins b hop p unfit are found unset =
       joined_parts b hop
@@ -94,5 +98,6 @@ pub backup_is : (net : Network) (root : ℕ) (absent : Absent) (d : ℕ) (primar
     → find (serves_backup_root net root absent d primary) (hops_from net absent d) ≡ backup_for net root absent d primary
 backup_is net root absent d primary same =
     sym
-    (ap (λ b. if b then find (serves_backup_root net root absent d primary) (hops_from net absent d) else find (serves net root absent d primary) (hops_from net absent d))
+    (ap (λ b. if b then find (serves_backup_root net root absent d primary) (hops_from net absent d) else find (serves net root absent d primary)
+    (hops_from net absent d))
     (eq-eqb d (backup_root_of net root absent) same))

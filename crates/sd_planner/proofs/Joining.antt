@@ -5,8 +5,8 @@ use Rattle.std.proofs.lemmas.Bool.{and_parts, ltb-true, lt-ltb, cases_lt}
 use Rattle.std.proofs.lemmas.List.{get_or_past}
 use Rattle.sd_num.specs.Lists.{below, has, of_some}
 use Rattle.sd_topo.specs.Network.{Network, Domain, domain_of, no_domain}
-use Rattle.sd_domain.specs.Domains.{holds_device, holds_link}
-use Rattle.sd_domain.specs.declared.DomainId.TheVariants.{Listed}
+use Rattle.sd_plan.specs.Domain.Domains.{holds_device, holds_link}
+use Rattle.sd_plan.specs.Domain.declared.DomainId.TheVariants.{Listed}
 use Rattle.sd_plan.specs.declared.Hop.{Hop}
 use Rattle.sd_planner.specs.Serving.{hits_hop, are_joined}
 use Rattle.sd_planner.specs.Flags.{is_set, AreSet}
@@ -48,7 +48,8 @@ module _ (net : Network) (lists : Lists) (are : AreListed net (length net.domain
   devices_within d k there = listed_within (λ j. (domain_of net j).devices) (length net.domains) lists.devices d k are.devices there
 
   -- the flags after three steps
-  pub joining_set : (d : ℕ) (primary : Hop) (clear first second third : List Bool) → AreClear net clear → AreSet (listed lists.links primary.link) true clear first
+  pub joining_set : (d : ℕ) (primary : Hop) (clear first second third : List Bool) → AreClear net clear
+      → AreSet (listed lists.links primary.link) true clear first
       → AreSet (listed lists.devices primary.parent) true first second → AreSet (listed lists.devices d) false second third → AreJoining net d primary third
   joining_set d primary clear first second third none one two three =
       record {
@@ -59,7 +60,8 @@ module _ (net : Network) (lists : Lists) (are : AreListed net (length net.domain
             ∙ ap (λ t. if holds_device net (Listed k) d then false else t)
             (two.each k ∙ ap (λ t. if t then true else is_set first k) (in_devices primary.parent k within)
             ∙ ap (λ t. if holds_device net (Listed k) primary.parent then true else t)
-            (one.each k ∙ ap (λ t. if t then true else is_set clear k) (in_links primary.link k within) ∙ ap (λ t. if holds_link net (Listed k) primary.link then true else t) (none.each k)))
+            (one.each k ∙ ap (λ t. if t then true else is_set clear k) (in_links primary.link k within)
+            ∙ ap (λ t. if holds_link net (Listed k) primary.link then true else t) (none.each k)))
             ∙ by_tests (holds_device net (Listed k) d) (holds_device net (Listed k) primary.parent) (holds_link net (Listed k) primary.link);
       }
     where
@@ -71,7 +73,8 @@ module _ (net : Network) (lists : Lists) (are : AreListed net (length net.domain
       by_tests false false false = refl
 
   -- and after they are taken away
-  pub joining_cleared : (d : ℕ) (primary : Hop) (joining first second : List Bool) → AreJoining net d primary joining → AreSet (listed lists.links primary.link) false joining first
+  pub joining_cleared : (d : ℕ) (primary : Hop) (joining first second : List Bool) → AreJoining net d primary joining
+      → AreSet (listed lists.links primary.link) false joining first
       → AreSet (listed lists.devices primary.parent) false first second → AreClear net second
   joining_cleared d primary joining first second some one two = record { size = two.size ∙ one.size ∙ some.size; each = each }
     where
@@ -109,9 +112,11 @@ module _ (net : Network) (lists : Lists) (are : AreListed net (length net.domain
       sym
       (any-map Listed (λ domain. not (holds_device net domain d) && hits_hop net domain primary && hits_hop net domain hop) (below (length net.domains))
       ∙ any_among (λ k. not (holds_device net (Listed k) d) && hits_hop net (Listed k) primary && hits_hop net (Listed k) hop)
-      (is_set joining) (listed lists.links hop.link) (listed lists.devices hop.parent) (length net.domains) (λ k. has (domain_of net k).links hop.link) (λ k. has (domain_of net k).devices hop.parent)
+      (is_set joining) (listed lists.links hop.link) (listed lists.devices hop.parent) (length net.domains) (λ k. has (domain_of net k).links hop.link)
+      (λ k. has (domain_of net k).devices hop.parent)
       (are.links hop.link) (are.devices hop.parent)
       (λ k within.
       ap (λ t. t && hits_hop net (Listed k) hop) (sym (some.each k within))
       ∙ ap (λ t. is_set joining k && t)
-      (ap (λ t. t || holds_device net (Listed k) hop.parent) (link_listed net k hop.link) ∙ ap (λ t. has (domain_of net k).links hop.link || t) (device_listed net k hop.parent))))
+      (ap (λ t. t || holds_device net (Listed k) hop.parent) (link_listed net k hop.link)
+      ∙ ap (λ t. has (domain_of net k).links hop.link || t) (device_listed net k hop.parent))))

@@ -6,13 +6,14 @@ use Rattle.std.proofs.lemmas.List.{length-set, get_or-set_same, get_or-set_other
 use Rattle.sd_num.specs.Lists.{of_some}
 use Rattle.sd_topo.specs.Network.{Network}
 use Rattle.sd_plan.specs.declared.Absent.{Absent}
-use Rattle.sd_place.specs.declared.placement.Placed.{Placed}
-use Rattle.sd_place.specs.Placing.{Grows}
+use Rattle.sd_planner_place.specs.declared.placement.Placed.{Placed}
+use Rattle.sd_planner_place.specs.Placing.{Grows}
 use Rattle.sd_planner.specs.Climbs.{leads_over}
 use Rattle.sd_planner.specs.Flags.{is_set, AreOver}
 use Rattle.sd_planner.proofs.Trees.{behind, over_step, over_first}
 
-module _ (net : Network) (root : ℕ) (absent : Absent) (list : List Placed) (tree : Grows net root absent list) (devices links : List Bool) (sized : length devices ≡ length net.devices) where
+module _ (net : Network) (root : ℕ) (absent : Absent) (list : List Placed) (tree : Grows net root absent list) (devices links : List Bool)
+    (sized : length devices ≡ length net.devices) where
   -- nothing is known of none
   pub over_none : (flags : List Bool) → length flags ≡ length devices → AreOver devices links list 0 flags
   over_none flags size = record { size = size; each = λ i p before at. absurd (omega arith) }

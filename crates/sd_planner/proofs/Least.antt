@@ -61,7 +61,8 @@ pub wait_least : (rates : Rates) (long x : ℕ) → IsRates rates → 1 ≤ long
 wait_least rates long x law some there =
     let left = 1000000 - rates.ppm in
     let split : x * left + rates.ppm * x ≡ x * 1000000 = parts rates.ppm x law.0 in
-    no_more ((long + rates.grain) * 1000000) left x (omega (arith, law.0)) (back long rates.grain x (rates.ppm * x) (x * left) (grow rates.ppm x) some there split (grow_least rates.ppm x))
+    no_more ((long + rates.grain) * 1000000) left x (omega (arith, law.0))
+    (back long rates.grain x (rates.ppm * x) (x * left) (grow rates.ppm x) some there split (grow_least rates.ppm x))
 
 pub wait_bound : (rates : Rates) (long : ℕ) → IsRates rates → up_by ((long + rates.grain) * 1000000) (1000000 - rates.ppm) ≤ 2 * (long + 2 ^ 40)
 wait_bound rates long law =
@@ -70,12 +71,14 @@ wait_bound rates long law =
     no_more ((long + rates.grain) * 1000000) left (2 * (long + 2 ^ 40)) (omega (arith, law.0)) (omega (arith, twice, law.1))
 
 -- all devices together
-pub low_of_all : (devices : List Device) (long x : ℕ) → 1 ≤ length devices → ((k : ℕ) (v : Device) → slice_get devices k ≡ Some v → long ≤ low v.rates x) → long ≤ least (map (λ device. low device.rates x) devices)
+pub low_of_all : (devices : List Device) (long x : ℕ) → 1 ≤ length devices → ((k : ℕ) (v : Device) → slice_get devices k ≡ Some v → long ≤ low v.rates x)
+    → long ≤ least (map (λ device. low device.rates x) devices)
 low_of_all [] long x some each = absurd (omega arith)
 low_of_all (v ∷ []) long x some each = each 0 v refl
 low_of_all (v ∷ w ∷ ws) long x some each = omega (arith, each 0 v refl, low_of_all (w ∷ ws) long x (omega arith) (λ k u at. each (suc k) u at))
 
-pub all_of_low : (devices : List Device) (long x : ℕ) → long ≤ least (map (λ device. low device.rates x) devices) → (k : ℕ) (v : Device) → slice_get devices k ≡ Some v → long ≤ low v.rates x
+pub all_of_low : (devices : List Device) (long x : ℕ) → long ≤ least (map (λ device. low device.rates x) devices) → (k : ℕ) (v : Device)
+    → slice_get devices k ≡ Some v → long ≤ low v.rates x
 all_of_low [] long x there k v at = cc
 all_of_low (v ∷ []) long x there zero u at = subst (λ (w : Device). long ≤ low w.rates x) (same_Some v u at) there
 all_of_low (v ∷ []) long x there (suc k) u at = cc
@@ -91,7 +94,8 @@ pub record IsLeastOf (net : Network) (long count wait : ℕ) : Type 0 where
 pub least_none : (net : Network) (long : ℕ) → IsLeastOf net long 0 0
 least_none net long = record { enough = λ x wait k within. absurd (omega arith); least = λ x each. omega arith; bound = omega arith }
 
-pub least_more : (net : Network) (long count wait more : ℕ) → IsLeastOf net long count wait → ((x : ℕ) → more ≤ x → long ≤ low (rates_of net count) x) → ((x : ℕ) → long ≤ low (rates_of net count) x → more ≤ x)
+pub least_more : (net : Network) (long count wait more : ℕ) → IsLeastOf net long count wait → ((x : ℕ) → more ≤ x → long ≤ low (rates_of net count) x)
+    → ((x : ℕ) → long ≤ low (rates_of net count) x → more ≤ x)
     → more ≤ 2 * (long + 2 ^ 40) → IsLeastOf net long (count + 1) (max wait more)
 least_more net long count wait more so_far enough fewest bound =
     record {
@@ -99,7 +103,8 @@ least_more net long count wait more so_far enough fewest bound =
         | inl before ↦ so_far.enough x (omega (arith, there)) k before
         | inr last ↦ (let same : count ≡ k = omega arith in subst (λ j. long ≤ low (rates_of net j) x) same (enough x (omega (arith, there))))
       ];
-      least = λ x each. (let one = so_far.least x (λ k within. each k (omega arith)) in let two = fewest x (each count (omega arith)) in omega (arith, one, two));
+      least = λ x each. (let one = so_far.least x (λ k within. each k (omega arith)) in let two = fewest x (each count (omega arith)) in
+          omega (arith, one, two));
       bound = omega (arith, so_far.bound, bound);
     }
 
@@ -108,7 +113,8 @@ least_is net long wait law all =
     record {
       enough =
           low_of_all net.devices long wait law.devices.0
-          (λ k v at. subst (λ (r : Rates). long ≤ low r wait) (ap (λ o. of_some o no_rates (λ device. device.rates)) at) (all.enough wait (omega arith) k (slice_get_within net.devices k v at)));
+          (λ k v at. subst (λ (r : Rates). long ≤ low r wait) (ap (λ o. of_some o no_rates (λ device. device.rates)) at)
+          (all.enough wait (omega arith) k (slice_get_within net.devices k v at)));
       least = λ y there. all.least y (λ k within.
           (let d = get_or net.devices k no_device in
           let at : slice_get net.devices k ≡ Some d = slice_get-get_or net.devices k no_device within in

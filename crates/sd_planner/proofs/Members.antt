@@ -6,7 +6,7 @@ use Rattle.std.proofs.lemmas.List.Elements.{All-head, All-tail}
 use Rattle.std.proofs.lemmas.List.Folds.{list_any-append}
 use Rattle.sd_num.specs.Lists.{below, has}
 use Rattle.sd_num.proofs.Places.{has_at}
-use Rattle.sd_place.proofs.Elements.{any_at}
+use Rattle.sd_planner_place.proofs.Elements.{any_at}
 
 -- two tests that imply each other
 pub same_test : (a b : Bool) → (a ≡ true → b ≡ true) → (b ≡ true → a ≡ true) → a ≡ b
@@ -67,12 +67,14 @@ has_below n k = same_test (has (below n) k) (nat_lt k n) (there n) (back n)
         list_any-append (nat_eq k) (below m) (m ∷ [])
         ∙ elim (cases_lt k m) [
           | inl before ↦ or_left (has (below m) k) (nat_eq k m || false) (back m (lt-ltb k m before))
-          | inr last ↦ or_right (has (below m) k) (nat_eq k m || false) (or_left (nat_eq k m) false (eq-eqb k m (let l = ltb-true k (suc m) less in omega arith)))
+          | inr last ↦ or_right (has (below m) k) (nat_eq k m || false)
+              (or_left (nat_eq k m) false (eq-eqb k m (let l = ltb-true k (suc m) less in omega arith)))
         ]
 
 -- a test of the numbers below a bound that are in one of two lists
 pub any_among : (p q : ℕ → Bool) (xs ys : List ℕ) (n : ℕ) (inside other : ℕ → Bool)
-    → ((k : ℕ) → has xs k ≡ (nat_lt k n && inside k)) → ((k : ℕ) → has ys k ≡ (nat_lt k n && other k)) → ((k : ℕ) → k < n → p k ≡ (q k && (inside k || other k)))
+    → ((k : ℕ) → has xs k ≡ (nat_lt k n && inside k)) → ((k : ℕ) → has ys k ≡ (nat_lt k n && other k))
+    → ((k : ℕ) → k < n → p k ≡ (q k && (inside k || other k)))
     → list_any p (below n) ≡ (list_any q xs || list_any q ys)
 any_among p q xs ys n inside other first second is = same_test (list_any p (below n)) (list_any q xs || list_any q ys) there back
   where
@@ -82,8 +84,10 @@ any_among p q xs ys n inside other first second is = same_test (list_any p (belo
         let less : nat_lt h.element n ≡ true = sym (has_below n h.element) ∙ h.there in
         let parts = and_parts (q h.element) (inside h.element || other h.element) (sym (is h.element (ltb-true h.element n less)) ∙ h.passes) in
         elim (or_cases (inside h.element) (other h.element) parts.1) [
-          | inl one ↦ or_left (list_any q xs) (list_any q ys) (any_has q xs h.element (first h.element ∙ and_from (nat_lt h.element n) (inside h.element) less one) parts.0)
-          | inr two ↦ or_right (list_any q xs) (list_any q ys) (any_has q ys h.element (second h.element ∙ and_from (nat_lt h.element n) (other h.element) less two) parts.0)
+          | inl one ↦ or_left (list_any q xs) (list_any q ys)
+              (any_has q xs h.element (first h.element ∙ and_from (nat_lt h.element n) (inside h.element) less one) parts.0)
+          | inr two ↦ or_right (list_any q xs) (list_any q ys)
+              (any_has q ys h.element (second h.element ∙ and_from (nat_lt h.element n) (other h.element) less two) parts.0)
         ]
 
     from : (k : ℕ) → nat_lt k n ≡ true → q k ≡ true → (inside k || other k) ≡ true → list_any p (below n) ≡ true

@@ -7,13 +7,13 @@ use Rattle.std.proofs.lemmas.Option.{slice_get_within}
 use Rattle.std.proofs.lemmas.List.Folds.{list_any-append}
 use Rattle.sd_num.specs.Lists.{below, has}
 use Rattle.sd_topo.specs.Network.{Network, domain_of, device_numbers, link_numbers}
-use Rattle.sd_domain.specs.Domains.{domains, holds_device, holds_link, hits}
-use Rattle.sd_domain.specs.declared.DomainId.{DomainId}
-use Rattle.sd_domain.specs.declared.DomainId.TheVariants as domain
+use Rattle.sd_plan.specs.Domain.Domains.{domains, holds_device, holds_link, hits}
+use Rattle.sd_plan.specs.Domain.declared.DomainId.{DomainId}
+use Rattle.sd_plan.specs.Domain.declared.DomainId.TheVariants as domain
 use Rattle.sd_plan.specs.declared.Hop.{Hop}
 use Rattle.sd_plan.specs.Walks.{things_of, devices_of, links_of}
-use Rattle.sd_place.specs.declared.placement.Placed.{Placed}
-use Rattle.sd_place.proofs.Elements.{any_at}
+use Rattle.sd_planner_place.specs.declared.placement.Placed.{Placed}
+use Rattle.sd_planner_place.proofs.Elements.{any_at}
 use Rattle.sd_planner.specs.Climbs.{way_up, leads_over}
 use Rattle.sd_planner.specs.Flags.{is_set, AreSet, AreOver}
 use Rattle.sd_planner.specs.Things.{AddsAll, AreNone, AreNear, AreUnfit, meets, met_device, met_link, parents_of, shares_device, shares_link}
@@ -37,11 +37,13 @@ or_swap false true = refl
 or_swap false false = refl
 
 -- hops are hit by what has one of their links or devices
-pub hits_parts : (net : Network) (f : DomainId) (hops : List Hop) → hits net f (things_of hops) ≡ (list_any (holds_link net f) (links_of hops) || list_any (holds_device net f) (parents_of hops))
+pub hits_parts : (net : Network) (f : DomainId) (hops : List Hop)
+    → hits net f (things_of hops) ≡ (list_any (holds_link net f) (links_of hops) || list_any (holds_device net f) (parents_of hops))
 hits_parts net f [] = refl
 hits_parts net f (hop ∷ hops) =
     ap (λ t. holds_link net f hop.link || (holds_device net f hop.parent || t)) (hits_parts net f hops)
-    ∙ regroup (holds_link net f hop.link) (holds_device net f hop.parent) (list_any (holds_link net f) (links_of hops)) (list_any (holds_device net f) (parents_of hops))
+    ∙ regroup (holds_link net f hop.link) (holds_device net f hop.parent) (list_any (holds_link net f) (links_of hops))
+    (list_any (holds_device net f) (parents_of hops))
   where
     regroup : (a b c d : Bool) → (a || (b || (c || d))) ≡ ((a || c) || (b || d))
     regroup true b c d = refl
@@ -58,10 +60,12 @@ any_only : (test : ℕ → Bool) (n x : ℕ) → (test x ≡ true → x < n) →
 any_only test n x within = same_test (list_any (λ e. test e && nat_eq e x) (below n)) (test x) there back
   where
     there : list_any (λ e. test e && nat_eq e x) (below n) ≡ true → test x ≡ true
-    there any = let h = had (λ e. test e && nat_eq e x) (below n) any in let parts = and_parts (test h.element) (nat_eq h.element x) h.passes in ap test (sym (eqb-true h.element x parts.1)) ∙ parts.0
+    there any = let h = had (λ e. test e && nat_eq e x) (below n) any in let parts = and_parts (test h.element) (nat_eq h.element x) h.passes in
+        ap test (sym (eqb-true h.element x parts.1)) ∙ parts.0
 
     back : test x ≡ true → list_any (λ e. test e && nat_eq e x) (below n) ≡ true
-    back passes = any_has (λ e. test e && nat_eq e x) (below n) x (has_below n x ∙ lt-ltb x n (within passes)) (and_from (test x) (nat_eq x x) passes (eq-eqb x x refl))
+    back passes =
+        any_has (λ e. test e && nat_eq e x) (below n) x (has_below n x ∙ lt-ltb x n (within passes)) (and_from (test x) (nat_eq x x) passes (eq-eqb x x refl))
 
 any_false : {X : Type 0} (test : X → Bool) (xs : List X) → list_any (λ x. test x && false) xs ≡ false
 any_false test xs = any_same (λ x. test x && false) (λ x. false) xs (λ x. never (test x)) ∙ any_never xs
@@ -73,33 +77,39 @@ any_false test xs = any_same (λ x. test x && false) (λ x. false) xs (λ x. nev
 -- a test of all domains is one of the three kinds
 any_domain : (net : Network) (test : DomainId → Bool)
     → list_any test (domains net)
-    ≡ ((list_any (λ k. test (domain.Listed k)) (below (length net.domains)) || list_any (λ e. test (domain.Device e)) (device_numbers net)) || list_any (λ m. test (domain.Link m)) (link_numbers net))
+    ≡ ((list_any (λ k. test (domain.Listed k)) (below (length net.domains)) || list_any (λ e. test (domain.Device e)) (device_numbers net))
+    || list_any (λ m. test (domain.Link m)) (link_numbers net))
 any_domain net test =
     list_any-append test (map domain.Listed (below (length net.domains)) ++ map domain.Device (device_numbers net)) (map domain.Link (link_numbers net))
     ∙ ap (λ t. t || list_any test (map domain.Link (link_numbers net)))
     (list_any-append test (map domain.Listed (below (length net.domains))) (map domain.Device (device_numbers net))
     ∙ ap (λ t. t || list_any test (map domain.Device (device_numbers net))) (any-map domain.Listed test (below (length net.domains)))
     ∙ ap (λ t. list_any (λ k. test (domain.Listed k)) (below (length net.domains)) || t) (any-map domain.Device test (device_numbers net)))
-    ∙ ap (λ t. (list_any (λ k. test (domain.Listed k)) (below (length net.domains)) || list_any (λ e. test (domain.Device e)) (device_numbers net)) || t) (any-map domain.Link test (link_numbers net))
+    ∙ ap (λ t. (list_any (λ k. test (domain.Listed k)) (below (length net.domains)) || list_any (λ e. test (domain.Device e)) (device_numbers net)) || t)
+    (any-map domain.Link test (link_numbers net))
 
-module _ (net : Network) (hops : List Hop) (devices_within : (x : ℕ) → has (parents_of hops) x ≡ true → x < length net.devices) (links_within : (x : ℕ) → has (links_of hops) x ≡ true → x < length net.links) where
+module _ (net : Network) (hops : List Hop) (devices_within : (x : ℕ) → has (parents_of hops) x ≡ true → x < length net.devices) (links_within : (x : ℕ)
+    → has (links_of hops) x ≡ true → x < length net.links) where
   hits_device : (e : ℕ) → hits net (domain.Device e) (things_of hops) ≡ has (parents_of hops) e
   hits_device e = hits_parts net (domain.Device e) hops ∙ ap (λ t. t || has (parents_of hops) e) (any_never (links_of hops))
 
   hits_link : (m : ℕ) → hits net (domain.Link m) (things_of hops) ≡ has (links_of hops) m
   hits_link m = hits_parts net (domain.Link m) hops ∙ ap (λ t. has (links_of hops) m || t) (any_never (parents_of hops)) ∙ or_false (has (links_of hops) m)
 
-  module _ (walk : Things) (device : (x : ℕ) → is_set walk.devices.items x ≡ has (parents_of hops) x) (link : (x : ℕ) → is_set walk.links.items x ≡ has (links_of hops) x) where
+  module _ (walk : Things) (device : (x : ℕ) → is_set walk.devices.items x ≡ has (parents_of hops) x) (link : (x : ℕ)
+      → is_set walk.links.items x ≡ has (links_of hops) x) where
     -- a listed domain hits the hops where it has something flagged
     hits_listed : (k : ℕ) → hits net (domain.Listed k) (things_of hops) ≡ meets net walk k
     hits_listed k =
         hits_parts net (domain.Listed k) hops
         ∙ or_swap (list_any (holds_link net (domain.Listed k)) (links_of hops)) (list_any (holds_device net (domain.Listed k)) (parents_of hops))
         ∙ ap (λ t. t || list_any (holds_link net (domain.Listed k)) (links_of hops))
-        (any_same (holds_device net (domain.Listed k)) (has (domain_of net k).devices) (parents_of hops) (device_listed net k) ∙ in_common (domain_of net k).devices (parents_of hops)
+        (any_same (holds_device net (domain.Listed k)) (has (domain_of net k).devices) (parents_of hops) (device_listed net k)
+        ∙ in_common (domain_of net k).devices (parents_of hops)
         ∙ any_same (has (parents_of hops)) (is_set walk.devices.items) (domain_of net k).devices (λ x. sym (device x)))
         ∙ ap (λ t. list_any (is_set walk.devices.items) (domain_of net k).devices || t)
-        (any_same (holds_link net (domain.Listed k)) (has (domain_of net k).links) (links_of hops) (link_listed net k) ∙ in_common (domain_of net k).links (links_of hops)
+        (any_same (holds_link net (domain.Listed k)) (has (domain_of net k).links) (links_of hops) (link_listed net k)
+        ∙ in_common (domain_of net k).links (links_of hops)
         ∙ any_same (has (links_of hops)) (is_set walk.links.items) (domain_of net k).links (λ x. sym (link x)))
 
     pub near_device : (x : ℕ) → (met_device net walk (length net.domains) x || has (parents_of hops) x) ≡ shares_device net hops x
@@ -107,12 +117,16 @@ module _ (net : Network) (hops : List Hop) (devices_within : (x : ℕ) → has (
         sym
         (any_domain net (λ f. hits net f (things_of hops) && holds_device net f x)
         ∙ ap
-        (λ t. (t || list_any (λ e. hits net (domain.Device e) (things_of hops) && nat_eq e x) (device_numbers net)) || list_any (λ m. hits net (domain.Link m) (things_of hops) && false) (link_numbers net))
-        (any_same (λ k. hits net (domain.Listed k) (things_of hops) && holds_device net (domain.Listed k) x) (λ k. meets net walk k && has (domain_of net k).devices x) (below (length net.domains))
+        (λ t. (t || list_any (λ e. hits net (domain.Device e) (things_of hops) && nat_eq e x) (device_numbers net))
+        || list_any (λ m. hits net (domain.Link m) (things_of hops) && false) (link_numbers net))
+        (any_same (λ k. hits net (domain.Listed k) (things_of hops) && holds_device net (domain.Listed k) x)
+        (λ k. meets net walk k && has (domain_of net k).devices x) (below (length net.domains))
         (λ k. ap (λ t. t && holds_device net (domain.Listed k) x) (hits_listed k) ∙ ap (λ t. meets net walk k && t) (device_listed net k x)))
         ∙ ap (λ t. (met_device net walk (length net.domains) x || t) || list_any (λ m. hits net (domain.Link m) (things_of hops) && false) (link_numbers net))
-        (any_only (λ e. hits net (domain.Device e) (things_of hops)) (length net.devices) x (λ hit. devices_within x (sym (hits_device x) ∙ hit)) ∙ hits_device x)
-        ∙ ap (λ t. (met_device net walk (length net.domains) x || has (parents_of hops) x) || t) (any_false (λ m. hits net (domain.Link m) (things_of hops)) (link_numbers net))
+        (any_only (λ e. hits net (domain.Device e) (things_of hops)) (length net.devices) x (λ hit. devices_within x (sym (hits_device x) ∙ hit))
+        ∙ hits_device x)
+        ∙ ap (λ t. (met_device net walk (length net.domains) x || has (parents_of hops) x) || t)
+        (any_false (λ m. hits net (domain.Link m) (things_of hops)) (link_numbers net))
         ∙ or_false (met_device net walk (length net.domains) x || has (parents_of hops) x))
 
     pub near_link : (x : ℕ) → (met_link net walk (length net.domains) x || has (links_of hops) x) ≡ shares_link net hops x
@@ -120,21 +134,29 @@ module _ (net : Network) (hops : List Hop) (devices_within : (x : ℕ) → has (
         sym
         (any_domain net (λ f. hits net f (things_of hops) && holds_link net f x)
         ∙ ap
-        (λ t. (t || list_any (λ e. hits net (domain.Device e) (things_of hops) && false) (device_numbers net)) || list_any (λ m. hits net (domain.Link m) (things_of hops) && nat_eq m x) (link_numbers net))
-        (any_same (λ k. hits net (domain.Listed k) (things_of hops) && holds_link net (domain.Listed k) x) (λ k. meets net walk k && has (domain_of net k).links x) (below (length net.domains))
+        (λ t. (t || list_any (λ e. hits net (domain.Device e) (things_of hops) && false) (device_numbers net))
+        || list_any (λ m. hits net (domain.Link m) (things_of hops) && nat_eq m x) (link_numbers net))
+        (any_same (λ k. hits net (domain.Listed k) (things_of hops) && holds_link net (domain.Listed k) x)
+        (λ k. meets net walk k && has (domain_of net k).links x) (below (length net.domains))
         (λ k. ap (λ t. t && holds_link net (domain.Listed k) x) (hits_listed k) ∙ ap (λ t. meets net walk k && t) (link_listed net k x)))
-        ∙ ap (λ t. (met_link net walk (length net.domains) x || t) || list_any (λ m. hits net (domain.Link m) (things_of hops) && nat_eq m x) (link_numbers net))
+        ∙ ap (λ t. (met_link net walk (length net.domains) x || t)
+        || list_any (λ m. hits net (domain.Link m) (things_of hops) && nat_eq m x) (link_numbers net))
         (any_false (λ e. hits net (domain.Device e) (things_of hops)) (device_numbers net))
-        ∙ ap (λ t. t || list_any (λ m. hits net (domain.Link m) (things_of hops) && nat_eq m x) (link_numbers net)) (or_false (met_link net walk (length net.domains) x))
+        ∙ ap (λ t. t || list_any (λ m. hits net (domain.Link m) (things_of hops) && nat_eq m x) (link_numbers net))
+        (or_false (met_link net walk (length net.domains) x))
         ∙ ap (λ t. met_link net walk (length net.domains) x || t)
         (any_only (λ m. hits net (domain.Link m) (things_of hops)) (length net.links) x (λ hit. links_within x (sym (hits_link x) ∙ hit)) ∙ hits_link x))
 
   -- from two walks and the domains that the first meets
-  pub near_is : (walk_none walk near_none met near : Things) → AreNone net walk_none → AddsAll (has (parents_of hops)) (has (links_of hops)) walk_none walk → AreNone net near_none
-      → AddsAll (met_device net walk (length net.domains)) (met_link net walk (length net.domains)) near_none met → AddsAll (has (parents_of hops)) (has (links_of hops)) met near → AreNear net hops near
+  pub near_is : (walk_none walk near_none met near : Things) → AreNone net walk_none → AddsAll (has (parents_of hops)) (has (links_of hops)) walk_none walk
+      → AreNone net near_none
+      → AddsAll (met_device net walk (length net.domains)) (met_link net walk (length net.domains)) near_none met
+      → AddsAll (has (parents_of hops)) (has (links_of hops)) met near → AreNear net hops near
   near_is walk_none walk near_none met near first one second two three =
-      let device : (x : ℕ) → is_set walk.devices.items x ≡ has (parents_of hops) x = λ x. one.device x ∙ ap (λ t. t || has (parents_of hops) x) (ap (λ flags. is_set flags x) first.devices ∙ unset (length net.devices) x) in
-      let link : (x : ℕ) → is_set walk.links.items x ≡ has (links_of hops) x = λ x. one.link x ∙ ap (λ t. t || has (links_of hops) x) (ap (λ flags. is_set flags x) first.links ∙ unset (length net.links) x) in
+      let device : (x : ℕ) → is_set walk.devices.items x ≡ has (parents_of hops) x =
+      λ x. one.device x ∙ ap (λ t. t || has (parents_of hops) x) (ap (λ flags. is_set flags x) first.devices ∙ unset (length net.devices) x) in
+      let link : (x : ℕ) → is_set walk.links.items x ≡ has (links_of hops) x =
+      λ x. one.link x ∙ ap (λ t. t || has (links_of hops) x) (ap (λ flags. is_set flags x) first.links ∙ unset (length net.links) x) in
       record {
         sized = record {
           devices = three.device_size ∙ two.device_size ∙ ap length second.devices ∙ length-replicate (length net.devices) false;
@@ -143,7 +165,8 @@ module _ (net : Network) (hops : List Hop) (devices_within : (x : ℕ) → has (
         device = λ x.
             three.device x
             ∙ ap (λ t. t || has (parents_of hops) x)
-            (two.device x ∙ ap (λ t. t || met_device net walk (length net.domains) x) (ap (λ flags. is_set flags x) second.devices ∙ unset (length net.devices) x))
+            (two.device x
+            ∙ ap (λ t. t || met_device net walk (length net.domains) x) (ap (λ flags. is_set flags x) second.devices ∙ unset (length net.devices) x))
             ∙ near_device walk device link x;
         link = λ x.
             three.link x
@@ -153,7 +176,8 @@ module _ (net : Network) (hops : List Hop) (devices_within : (x : ℕ) → has (
       }
 
 -- who follows the root over what is near, the root apart
-pub unfit_is : (net : Network) (root : ℕ) (order : List Placed) (hops : List Hop) (near over : Things) (devices : List Bool) → AreNear net hops near → AreSet (root ∷ []) false near.devices.items devices
+pub unfit_is : (net : Network) (root : ℕ) (order : List Placed) (hops : List Hop) (near over : Things) (devices : List Bool) → AreNear net hops near
+    → AreSet (root ∷ []) false near.devices.items devices
     → AreOver devices near.links.items order (length order) over.devices.items → over.links.items ≡ near.links.items → AreUnfit net root order hops over
 unfit_is net root order hops near over devices near_ones without are links =
     record {
@@ -206,14 +230,17 @@ module _ {D : Type 0} (hit own : D → Bool) (link device : D → ℕ → Bool) 
           | inl here ↦ or_left one two (any_at (λ g. hit g && own g) ds h.place f h.at (and_from (hit f) (own f) parts.0 here))
           | inr some ↦
               (let m = passed (link f) links some in
-              or_right one two (any_at (λ x. list_any (λ g. hit g && link g x) ds) links m.place m.element m.at (any_at (λ g. hit g && link g m.element) ds h.place f h.at (and_from (hit f) (link f m.element) parts.0 m.passes))))
+              or_right one two
+              (any_at (λ x. list_any (λ g. hit g && link g x) ds) links m.place m.element m.at
+              (any_at (λ g. hit g && link g m.element) ds h.place f h.at (and_from (hit f) (link f m.element) parts.0 m.passes))))
         ])
         | inr late ↦
             (let m = passed (λ x. apart x && device f x) devices late in
             let both = and_parts (apart m.element) (device f m.element) m.passes in
             or_right (one || two) three
             (any_at (λ x. apart x && list_any (λ g. hit g && device g x) ds) devices m.place m.element m.at
-            (and_from (apart m.element) (list_any (λ g. hit g && device g m.element) ds) both.0 (any_at (λ g. hit g && device g m.element) ds h.place f h.at (and_from (hit f) (device f m.element) parts.0 both.1)))))
+            (and_from (apart m.element) (list_any (λ g. hit g && device g m.element) ds) both.0
+            (any_at (λ g. hit g && device g m.element) ds h.place f h.at (and_from (hit f) (device f m.element) parts.0 both.1)))))
       ]
 
   back : right ≡ true → left ≡ true
@@ -224,7 +251,8 @@ module _ {D : Type 0} (hit own : D → Bool) (link device : D → ℕ → Bool) 
           let f = h.element in
           let parts = and_parts (hit f) (own f) h.passes in
           any_at (λ g. hit g && takes g) ds h.place f h.at
-          (and_from (hit f) (takes f) parts.0 (or_left (own f || list_any (link f) links) (list_any (λ x. apart x && device f x) devices) (or_left (own f) (list_any (link f) links) parts.1))))
+          (and_from (hit f) (takes f) parts.0
+          (or_left (own f || list_any (link f) links) (list_any (λ x. apart x && device f x) devices) (or_left (own f) (list_any (link f) links) parts.1))))
       | inr some ↦
           (let m = passed (λ x. list_any (λ f. hit f && link f x) ds) links some in
           let h = passed (λ f. hit f && link f m.element) ds m.passes in
@@ -232,7 +260,8 @@ module _ {D : Type 0} (hit own : D → Bool) (link device : D → ℕ → Bool) 
           let parts = and_parts (hit f) (link f m.element) h.passes in
           any_at (λ g. hit g && takes g) ds h.place f h.at
           (and_from (hit f) (takes f) parts.0
-          (or_left (own f || list_any (link f) links) (list_any (λ x. apart x && device f x) devices) (or_right (own f) (list_any (link f) links) (any_at (link f) links m.place m.element m.at parts.1)))))
+          (or_left (own f || list_any (link f) links) (list_any (λ x. apart x && device f x) devices)
+          (or_right (own f) (list_any (link f) links) (any_at (link f) links m.place m.element m.at parts.1)))))
     ]
     | inr late ↦
         (let m = passed (λ x. apart x && list_any (λ f. hit f && device f x) ds) devices late in

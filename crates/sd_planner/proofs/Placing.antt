@@ -9,12 +9,12 @@ use Rattle.sd_num.specs.Lists.{has, of_some}
 use Rattle.sd_topo.specs.Network.{Network, IsNetwork, Each}
 use Rattle.sd_plan.specs.declared.Absent.{Absent}
 use Rattle.sd_plan.specs.Walks.{devices_of, links_of}
-use Rattle.sd_place.specs.Usable.{takes_part}
-use Rattle.sd_place.specs.declared.placement.Placed.{Placed}
-use Rattle.sd_place.specs.Spreading.{placed_at, is_placed}
-use Rattle.sd_place.specs.Placing.{backup_root_of, Grows}
-use Rattle.sd_place.proofs.Elements.{any_found}
-use Rattle.sd_place.proofs.Growing.{placed_grows}
+use Rattle.sd_planner_place.specs.Usable.{takes_part}
+use Rattle.sd_planner_place.specs.declared.placement.Placed.{Placed}
+use Rattle.sd_planner_place.specs.Spreading.{placed_at, is_placed}
+use Rattle.sd_planner_place.specs.Placing.{backup_root_of, Grows}
+use Rattle.sd_planner_place.proofs.Elements.{any_found}
+use Rattle.sd_planner_place.proofs.Growing.{placed_grows}
 use Rattle.sd_planner.specs.Climbs.{way_up}
 use Rattle.sd_planner.specs.Flags.{is_set, AreOver}
 use Rattle.sd_planner.specs.Surveys.{net_in, absent_in, order_of}
@@ -32,21 +32,25 @@ pub is_found : (list : List Placed) (d : ℕ) → is_some (placed_at list d) ≡
 is_found list d = sym (any_found (λ p. nat_eq p.device d) list)
 
 -- the backup root is a device
-pub backup_root_within : (net : Network) (root : ℕ) (absent : Absent) → IsNetwork net → root < length net.devices → backup_root_of net root absent < length net.devices
+pub backup_root_within : (net : Network) (root : ℕ) (absent : Absent) → IsNetwork net → root < length net.devices
+    → backup_root_of net root absent < length net.devices
 backup_root_within net root absent law within = by_list net.roots law.each_root.1.0
   where
-    by_test : (t : Bool) (x : ℕ) (rest : Option ℕ) → x < length net.devices → of_some rest root (λ d. d) < length net.devices → of_some (cond t (Some x) rest) root (λ d. d) < length net.devices
+    by_test : (t : Bool) (x : ℕ) (rest : Option ℕ) → x < length net.devices → of_some rest root (λ d. d) < length net.devices
+        → of_some (cond t (Some x) rest) root (λ d. d) < length net.devices
     by_test true x rest here later = here
     by_test false x rest here later = later
 
-    by_list : (xs : List ℕ) → Each (λ x. x < length net.devices) xs → of_some (find (λ d. takes_part net absent d && not (nat_eq d root)) xs) root (λ d. d) < length net.devices
+    by_list : (xs : List ℕ) → Each (λ x. x < length net.devices) xs
+        → of_some (find (λ d. takes_part net absent d && not (nat_eq d root)) xs) root (λ d. d) < length net.devices
     by_list [] each = within
     by_list (x ∷ xs) each =
         by_test (takes_part net absent x && not (nat_eq x root)) x (find (λ d. takes_part net absent d && not (nat_eq d root)) xs) (each 0 x refl)
         (by_list xs (λ i y at. each (suc i) y at))
 
 -- a walk leads over one flagged device where it has this device
-pub over_one : (list : List Placed) (d count more : ℕ) (devices links : List Bool) (over : List Bool) → d < count → devices ≡ set (replicate count false) d true → links ≡ replicate more false
+pub over_one : (list : List Placed) (d count more : ℕ) (devices links : List Bool) (over : List Bool) → d < count → devices ≡ set (replicate count false) d true
+    → links ≡ replicate more false
     → AreOver devices links list (length list) over
     → (i : ℕ) (p : Placed) → slice_get list i ≡ Some p → is_set over p.device ≡ has (devices_of p.device (way_up list p.device)) d
 over_one list d count more devices links over within one none are i p at =
@@ -74,7 +78,8 @@ over_one list d count more devices links over within one none are i p at =
     only x =
         ap (λ flags. is_set flags x) one
         ∙ elim (cases_eq x d) [
-          | inl same ↦ ap (is_set (set (replicate count false) d true)) same ∙ get_or-set_same (replicate count false) d true false (rw (length-replicate count false) within) ∙ sym (eq-eqb d x (sym same))
+          | inl same ↦ ap (is_set (set (replicate count false) d true)) same
+              ∙ get_or-set_same (replicate count false) d true false (rw (length-replicate count false) within) ∙ sym (eq-eqb d x (sym same))
           | inr apart ↦ get_or-set_other (replicate count false) d x true false apart ∙ unset count x ∙ sym (ne_eqb d x (λ same. apart (sym same)))
         ]
 

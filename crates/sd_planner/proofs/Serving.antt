@@ -1,8 +1,8 @@
 -- The tests of a hop, one by one.
 use Rattle.std.proofs.Common.{◌≡◌, ℕ, Bool, true, false, ◌&&◌, ◌||◌, not, nat_eq, List, Some, None, is_some, refl, sym, ap, ◌∙◌}
 use Rattle.std.proofs.lemmas.Bool.{ne_eqb, or_left}
-use Rattle.sd_place.specs.declared.placement.Placed.{Placed}
-use Rattle.sd_place.specs.Spreading.{is_placed, placed_at}
+use Rattle.sd_planner_place.specs.declared.placement.Placed.{Placed}
+use Rattle.sd_planner_place.specs.Spreading.{is_placed, placed_at}
 use Rattle.sd_planner.proofs.Placing.{is_found}
 
 -- one of two tests
@@ -13,7 +13,8 @@ pub or_second : (r s a b : Bool) → r ≡ a → s ≡ b → r ≡ false → s �
 or_second r s a b first second fails = second ∙ sym (ap (λ t. t || b) (sym first ∙ fails))
 
 -- a hop to a placed device, over another link and to another parent than the primary
-pub all_tests : (link primary_link parent primary_parent : ℕ) (placed follows joined : Bool) → (link ≡ primary_link → ⊥) → (parent ≡ primary_parent → ⊥) → placed ≡ true → follows ≡ true
+pub all_tests : (link primary_link parent primary_parent : ℕ) (placed follows joined : Bool) → (link ≡ primary_link → ⊥) → (parent ≡ primary_parent → ⊥)
+    → placed ≡ true → follows ≡ true
     → not joined ≡ (not (nat_eq link primary_link) && placed && not (nat_eq parent primary_parent) && follows && not joined)
 all_tests link primary_link parent primary_parent placed follows joined links parents there may =
     sym

@@ -33,7 +33,8 @@ written t value old new x k inside before = elim (cases_eq k x) [
     same_or true = refl
     same_or false = refl
 
-pub set_more : (numbers : List ℕ) (value : Bool) (old new : List Bool) (i : ℕ) → i < length numbers → get_or numbers i 0 < length old → AreSet (take i numbers) value old new
+pub set_more : (numbers : List ℕ) (value : Bool) (old new : List Bool) (i : ℕ) → i < length numbers → get_or numbers i 0 < length old
+    → AreSet (take i numbers) value old new
     → AreSet (take (i + 1) numbers) value old (set new (get_or numbers i 0) value)
 set_more numbers value old new i within inside so_far =
     let x = get_or numbers i 0 in

@@ -16,7 +16,8 @@ whole root backup_root first second ordinary absent rows =
     record { root = root; backup_root = backup_root; wait_first = first; wait_second = second; wait = ordinary; absent = absent; rows = rows }
 
 -- plans with the same parts
-same_parts : (p q : Plan) → p.root ≡ q.root → p.backup_root ≡ q.backup_root → p.wait_first ≡ q.wait_first → p.wait_second ≡ q.wait_second → p.wait ≡ q.wait → p.absent ≡ q.absent → p.rows ≡ q.rows → p ≡ q
+same_parts : (p q : Plan) → p.root ≡ q.root → p.backup_root ≡ q.backup_root → p.wait_first ≡ q.wait_first → p.wait_second ≡ q.wait_second → p.wait ≡ q.wait
+    → p.absent ≡ q.absent → p.rows ≡ q.rows → p ≡ q
 same_parts p q root backup_root first second ordinary absent rows =
     ap (λ r. whole r p.backup_root p.wait_first p.wait_second p.wait p.absent p.rows) root
     ∙ ap (λ b. whole q.root b p.wait_first p.wait_second p.wait p.absent p.rows) backup_root
@@ -32,5 +33,7 @@ same_greedy net root absent p q a b =
     let second : p.wait_second ≡ q.wait_second = same_wait net _ p.wait_second q.wait_second a.second b.second in
     let long : ℕ → ℕ → ℕ = λ x y. greatest_up net x + greatest_up net y + 6 * (silence net + net.params.tick) in
     let ordinary : IsLeastWait net (long q.wait_first q.wait_second) p.wait =
-    subst (λ (x : ℕ). IsLeastWait net (long q.wait_first x) p.wait) second (subst (λ (x : ℕ). IsLeastWait net (long x p.wait_second) p.wait) first a.ordinary) in
-    same_parts p q (a.from_root ∙ sym b.from_root) (a.to_backup_root ∙ sym b.to_backup_root) first second (same_wait net _ p.wait q.wait ordinary b.ordinary) (a.leaves_out ∙ sym b.leaves_out) (a.rows ∙ sym b.rows)
+    subst (λ (x : ℕ). IsLeastWait net (long q.wait_first x) p.wait) second
+    (subst (λ (x : ℕ). IsLeastWait net (long x p.wait_second) p.wait) first a.ordinary) in
+    same_parts p q (a.from_root ∙ sym b.from_root) (a.to_backup_root ∙ sym b.to_backup_root) first second (same_wait net _ p.wait q.wait ordinary b.ordinary)
+    (a.leaves_out ∙ sym b.leaves_out) (a.rows ∙ sym b.rows)

@@ -9,10 +9,10 @@ use Rattle.sd_topo.specs.Network.{Network}
 use Rattle.sd_plan.specs.declared.Absent.{Absent}
 use Rattle.sd_plan.specs.declared.Hop.{Hop}
 use Rattle.sd_plan.specs.Walks.{devices_of, links_of}
-use Rattle.sd_place.specs.declared.placement.Placed.{Placed}
-use Rattle.sd_place.specs.Spreading.{placed_at, IsBelow}
-use Rattle.sd_place.specs.Placing.{Grows}
-use Rattle.sd_place.proofs.Growing.{at_taken, found_own}
+use Rattle.sd_planner_place.specs.declared.placement.Placed.{Placed}
+use Rattle.sd_planner_place.specs.Spreading.{placed_at, IsBelow}
+use Rattle.sd_planner_place.specs.Placing.{Grows}
+use Rattle.sd_planner_place.proofs.Growing.{at_taken, found_own}
 use Rattle.sd_planner.specs.Climbs.{hop_up, climb, way_up, leads_over}
 
 -- what is found stands somewhere
@@ -25,7 +25,8 @@ pub stands : (list : List Placed) (d : ℕ) (p : Placed) → placed_at list d �
 stands [] d p found = cc
 stands (q ∷ list) d p found = by_test (λ later. stands list d p later) (nat_eq q.device d) refl found
   where
-    by_test : (placed_at list d ≡ Some p → Stands list d p) → (t : Bool) → nat_eq q.device d ≡ t → cond t (Some q) (placed_at list d) ≡ Some p → Stands (q ∷ list) d p
+    by_test : (placed_at list d ≡ Some p → Stands list d p) → (t : Bool) → nat_eq q.device d ≡ t → cond t (Some q) (placed_at list d) ≡ Some p
+        → Stands (q ∷ list) d p
     by_test more true same found = record { place = 0; at = found; is = subst (λ x. x.device ≡ d) (same_Some q p found) (eqb-true q.device d same) }
     by_test more false other found = let rest = more found in record { place = suc rest.place; at = rest.at; is = rest.is }
 
@@ -90,7 +91,9 @@ module _ (net : Network) (root : ℕ) (absent : Absent) (list : List Placed) (tr
       let b = behind (suc i) p (omega arith) at in
       climb_some n p.device b.hop b.up
       ∙ ap (λ hops. b.hop ∷ hops)
-      (ap (climb list n) (sym b.leads) ∙ climb_enough bound b.place n m b.parent (omega (arith, b.earlier)) b.at (omega (arith, b.earlier)) (omega (arith, b.earlier)) ∙ ap (climb list m) b.leads)
+      (ap (climb list n) (sym b.leads)
+      ∙ climb_enough bound b.place n m b.parent (omega (arith, b.earlier)) b.at (omega (arith, b.earlier)) (omega (arith, b.earlier))
+      ∙ ap (climb list m) b.leads)
       ∙ sym (climb_some m p.device b.hop b.up)
 
   -- the walk of the first is empty
@@ -125,7 +128,8 @@ module _ (net : Network) (root : ℕ) (absent : Absent) (list : List Placed) (tr
         → leads_over device link list p.device ≡ ((device p.device || link b.hop.link) || leads_over device link list b.hop.parent)
     over_step i p at b =
         ap (λ hops. list_any device (devices_of p.device hops) || list_any link (links_of hops)) (way_step i p at b)
-        ∙ grouped (device p.device) (list_any device (devices_of b.hop.parent (way_up list b.hop.parent))) (link b.hop.link) (list_any link (links_of (way_up list b.hop.parent)))
+        ∙ grouped (device p.device) (list_any device (devices_of b.hop.parent (way_up list b.hop.parent))) (link b.hop.link)
+        (list_any link (links_of (way_up list b.hop.parent)))
 
     pub over_first : (p : Placed) → slice_get list 0 ≡ Some p → leads_over device link list p.device ≡ device p.device
     over_first p at =

@@ -11,9 +11,9 @@ use Rattle.sd_plan.specs.declared.Absent.{Absent}
 use Rattle.sd_plan.specs.Plans.{primary_of, is_root}
 use Rattle.sd_plan.specs.Walks.{hops}
 use Rattle.sd_plan.proofs.Numbered.{at-numbered, length-numbered}
-use Rattle.sd_place.specs.declared.placement.Placed.{Placed}
-use Rattle.sd_place.specs.Spreading.{placed_at}
-use Rattle.sd_place.specs.Placing.{placed, Grows}
+use Rattle.sd_planner_place.specs.declared.placement.Placed.{Placed}
+use Rattle.sd_planner_place.specs.Spreading.{placed_at}
+use Rattle.sd_planner_place.specs.Placing.{placed, Grows}
 use Rattle.sd_planner.specs.Climbs.{hop_up, climb, way_up}
 use Rattle.sd_planner.specs.Serving.{primary_row, primaries, walk_up}
 use Rattle.sd_planner.proofs.Trees.{stands, Stands}
@@ -59,11 +59,13 @@ module _ (net : Network) (root : ℕ) (absent : Absent) (grows : Grows net root 
   unfolding primaries
   primary_is d = elim (cases_lt d (length net.devices)) [
     | inl inside ↦
-        ap (λ (o : Option PlanRow). option_map (λ (row : PlanRow). row.primary) o) (at-numbered (primary_row net root absent) (length net.devices) d None (λ row. row) inside)
+        ap (λ (o : Option PlanRow). option_map (λ (row : PlanRow). row.primary) o)
+        (at-numbered (primary_row net root absent) (length net.devices) d None (λ row. row) inside)
         ∙ unmade (option_and_then (λ p. p.hop) (placed_at list d))
     | inr past ↦
         ap (λ (o : Option (Option PlanRow)). option_map (λ (row : PlanRow). row.primary) (of_some o None (λ row. row)))
-        (slice_get_past (map (primary_row net root absent) (device_numbers net)) d (rw (length-numbered (primary_row net root absent) (length net.devices)) past))
+        (slice_get_past (map (primary_row net root absent) (device_numbers net)) d
+        (rw (length-numbered (primary_row net root absent) (length net.devices)) past))
         ∙ sym (ap (option_and_then (λ p. p.hop)) (past_none net root absent list grows d past))
   ]
     where
@@ -84,24 +86,39 @@ module _ (net : Network) (root : ℕ) (absent : Absent) (grows : Grows net root 
   unfolding climb
   hops_are zero d = refl
   hops_are (suc n) d =
-      ap (λ o. elim o [ None ↦ [] | Some hop ↦ hop ∷ (elim (is_root (primaries net root absent) hop.parent) [ true ↦ [] | false ↦ hops (is_root (primaries net root absent)) (primaries net root absent) n hop.parent ]) ]) (primary_is d)
+      ap (λ o. elim o [
+        | None ↦ []
+        | Some
+            hop ↦ hop ∷ (elim (is_root (primaries net root absent) hop.parent)
+            [ true ↦ [] | false ↦ hops (is_root (primaries net root absent)) (primaries net root absent) n hop.parent ])
+      ]) (primary_is d)
       ∙ by_hop (λ e. hops_are n e) (hop_up list d)
     where
-      by_end : (b : Bool) (e : ℕ) → is_root (primaries net root absent) e ≡ b → (more : List Hop) → more ≡ climb list n e → elim b [ true ↦ [] | false ↦ more ] ≡ climb list n e
+      by_end : (b : Bool) (e : ℕ) → is_root (primaries net root absent) e ≡ b → (more : List Hop) → more ≡ climb list n e
+          → elim b [ true ↦ [] | false ↦ more ] ≡ climb list n e
       by_end true e is more same = sym (climb_root n) ∙ ap (climb list n) (eqb-true root e (sym (root_is e) ∙ is))
       by_end false e is more same = same
 
       by_hop : ((e : ℕ) → hops (is_root (primaries net root absent)) (primaries net root absent) n e ≡ climb list n e) → (o : Option Hop)
-          → elim o [ None ↦ [] | Some hop ↦ hop ∷ (elim (is_root (primaries net root absent) hop.parent) [ true ↦ [] | false ↦ hops (is_root (primaries net root absent)) (primaries net root absent) n hop.parent ]) ]
+          → elim o [
+            | None ↦ []
+            | Some
+                hop ↦ hop ∷ (elim (is_root (primaries net root absent) hop.parent)
+                [ true ↦ [] | false ↦ hops (is_root (primaries net root absent)) (primaries net root absent) n hop.parent ])
+          ]
           ≡ of_some o [] (λ hop. hop ∷ climb list n hop.parent)
       by_hop rest None = refl
-      by_hop rest (Some hop) = ap (λ hops. hop ∷ hops) (by_end (is_root (primaries net root absent) hop.parent) hop.parent refl (hops (is_root (primaries net root absent)) (primaries net root absent) n hop.parent) (rest hop.parent))
+      by_hop rest (Some hop) =
+          ap (λ hops. hop ∷ hops)
+          (by_end (is_root (primaries net root absent) hop.parent) hop.parent refl
+          (hops (is_root (primaries net root absent)) (primaries net root absent) n hop.parent) (rest hop.parent))
 
   -- the walk of each device
   pub walk_is : (d : ℕ) → walk_up net root absent d ≡ way_up list d
   unfolding walk_up way_up
   walk_is d = by_root (nat_eq d root) refl
     where
-      by_root : (b : Bool) → nat_eq d root ≡ b → (if b then [] else hops (is_root (primaries net root absent)) (primaries net root absent) (length list) d) ≡ climb list (length list) d
+      by_root : (b : Bool) → nat_eq d root ≡ b
+          → (if b then [] else hops (is_root (primaries net root absent)) (primaries net root absent) (length list) d) ≡ climb list (length list) d
       by_root true same = sym (climb_root (length list)) ∙ ap (climb list (length list)) (sym (eqb-true d root same))
       by_root false apart = hops_are (length list) d

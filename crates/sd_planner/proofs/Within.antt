@@ -7,12 +7,12 @@ use Rattle.sd_topo.specs.Network.{Network}
 use Rattle.sd_plan.specs.declared.Absent.{Absent}
 use Rattle.sd_plan.specs.declared.Hop.{Hop}
 use Rattle.sd_plan.specs.Walks.{links_of}
-use Rattle.sd_place.specs.declared.placement.Placed.{Placed}
-use Rattle.sd_place.specs.Spreading.{placed_at}
-use Rattle.sd_place.specs.Placing.{Grows}
+use Rattle.sd_planner_place.specs.declared.placement.Placed.{Placed}
+use Rattle.sd_planner_place.specs.Spreading.{placed_at}
+use Rattle.sd_planner_place.specs.Placing.{Grows}
 use Rattle.sd_planner.specs.Climbs.{hop_up, climb, way_up}
 use Rattle.sd_planner.specs.Things.{parents_of}
-use Rattle.sd_place.proofs.Growing.{found_own}
+use Rattle.sd_planner_place.proofs.Growing.{found_own}
 use Rattle.sd_planner.proofs.Trees.{stands, Stands}
 use Rattle.sd_planner.proofs.Adding.{goes_up, GoesUp}
 
@@ -20,7 +20,8 @@ module _ (net : Network) (root : ℕ) (absent : Absent) (list : List Placed) (tr
   pub hop_within : (d : ℕ) (hop : Hop) → hop_up list d ≡ Some hop → (hop.parent < length net.devices) × (hop.link < length net.links)
   hop_within d hop up = by_found (placed_at list d) refl up
     where
-      by_found : (o : Option Placed) → placed_at list d ≡ o → option_and_then (λ p. p.hop) o ≡ Some hop → (hop.parent < length net.devices) × (hop.link < length net.links)
+      by_found : (o : Option Placed) → placed_at list d ≡ o → option_and_then (λ p. p.hop) o ≡ Some hop
+          → (hop.parent < length net.devices) × (hop.link < length net.links)
       by_found None is none = cc
       by_found (Some p) is has_hop =
           let s : Stands list d p = stands list d p is in

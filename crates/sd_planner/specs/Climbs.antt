@@ -4,8 +4,8 @@ use Rattle.std.specs.List.{list_any}
 use Rattle.sd_num.specs.Lists.{of_some}
 use Rattle.sd_plan.specs.declared.Hop.{Hop}
 use Rattle.sd_plan.specs.Walks.{devices_of, links_of}
-use Rattle.sd_place.specs.declared.placement.Placed.{Placed}
-use Rattle.sd_place.specs.Spreading.{placed_at}
+use Rattle.sd_planner_place.specs.declared.placement.Placed.{Placed}
+use Rattle.sd_planner_place.specs.Spreading.{placed_at}
 
 -- the hop of a placed device to its parent
 abbrev pub hop_up : List Placed → ℕ → Option Hop

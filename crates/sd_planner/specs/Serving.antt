@@ -3,18 +3,18 @@ use Rattle.std.specs.Prelude.{ℕ, Bool, ◌&&◌, ◌||◌, not, List, [], leng
 use Rattle.std.specs.List.{list_any}
 use Rattle.sd_num.specs.Lists.{below, has}
 use Rattle.sd_topo.specs.Network.{Network, device_numbers}
-use Rattle.sd_domain.specs.Domains.{domains, holds_device, holds_link, hits}
-use Rattle.sd_domain.specs.declared.DomainId.{DomainId}
-use Rattle.sd_domain.specs.declared.DomainId.TheVariants.{Listed}
+use Rattle.sd_plan.specs.Domain.Domains.{domains, holds_device, holds_link, hits}
+use Rattle.sd_plan.specs.Domain.declared.DomainId.{DomainId}
+use Rattle.sd_plan.specs.Domain.declared.DomainId.TheVariants.{Listed}
 use Rattle.sd_plan.specs.declared.Hop.{Hop}
 use Rattle.sd_plan.specs.declared.PlanRow.{PlanRow}
 use Rattle.sd_plan.specs.declared.Plan.{Plan}
 use Rattle.sd_plan.specs.declared.Absent.{Absent}
 use Rattle.sd_plan.specs.Plans.{primary_of, is_root}
 use Rattle.sd_plan.specs.Walks.{hops, things_of, devices_of, links_of}
-use Rattle.sd_place.specs.Usable.{hops_from}
-use Rattle.sd_place.specs.Spreading.{is_placed, placed_at, depth_of}
-use Rattle.sd_place.specs.Placing.{backup_root_of, placed}
+use Rattle.sd_planner_place.specs.Usable.{hops_from}
+use Rattle.sd_planner_place.specs.Spreading.{is_placed, placed_at, depth_of}
+use Rattle.sd_planner_place.specs.Placing.{backup_root_of, placed}
 
 -- the domain has the hop's link or parent
 abbrev pub hits_hop : Network → DomainId → Hop → Bool
@@ -29,7 +29,8 @@ differ a b = (a && not b) || (not a && b)
 
 -- a listed domain that leaves the device out joins its primary hop and the hop
 abbrev pub are_joined : Network → ℕ → Hop → Hop → Bool
-are_joined net d primary hop = list_any (λ domain. not (holds_device net domain d) && hits_hop net domain primary && hits_hop net domain hop) (listed_domains net)
+are_joined net d primary hop =
+    list_any (λ domain. not (holds_device net domain d) && hits_hop net domain primary && hits_hop net domain hop) (listed_domains net)
 
 module _ (net : Network) (root : ℕ) (absent : Absent) where
   -- a plan with the primaries alone

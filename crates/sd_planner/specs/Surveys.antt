@@ -1,13 +1,13 @@
 -- The words on a survey: all that is asked of while backups are chosen.
 use Rattle.std.specs.Prelude.{◌≡◌, ℕ, ◌<◌, Bool, false, ◌&&◌, not, List, length}
 use Rattle.sd_topo.specs.Network.{Network}
-use Rattle.sd_domain.specs.Domains.{holds_device}
-use Rattle.sd_domain.specs.declared.DomainId.TheVariants.{Listed}
+use Rattle.sd_plan.specs.Domain.Domains.{holds_device}
+use Rattle.sd_plan.specs.Domain.declared.DomainId.TheVariants.{Listed}
 use Rattle.sd_plan.specs.declared.Absent.{Absent}
 use Rattle.sd_plan.specs.declared.Hop.{Hop}
-use Rattle.sd_place.specs.Views as present
-use Rattle.sd_place.specs.declared.placement.Placed.{Placed}
-use Rattle.sd_place.specs.Placing.{placed}
+use Rattle.sd_planner_place.specs.Views as present
+use Rattle.sd_planner_place.specs.declared.placement.Placed.{Placed}
+use Rattle.sd_planner_place.specs.Placing.{placed}
 use Rattle.sd_planner.specs.Serving.{hits_hop}
 use Rattle.sd_planner.specs.Flags.{is_set}
 use Rattle.sd_planner.specs.declared.backups.survey.Survey.{Survey}

@@ -3,11 +3,11 @@ use Rattle.std.specs.Prelude.{◌≡◌, ℕ, Bool, false, ◌&&◌, ◌||◌, n
 use Rattle.std.specs.List.{list_any}
 use Rattle.sd_num.specs.Lists.{below, has}
 use Rattle.sd_topo.specs.Network.{Network, domain_of}
-use Rattle.sd_domain.specs.Domains.{domains, holds_device, holds_link, hits}
+use Rattle.sd_plan.specs.Domain.Domains.{domains, holds_device, holds_link, hits}
 use Rattle.sd_plan.specs.Walks.{things_of, devices_of, links_of}
 use Rattle.sd_plan.specs.declared.Hop.{Hop}
-use Rattle.sd_place.specs.declared.placement.Placed.{Placed}
-use Rattle.sd_place.specs.Spreading.{placed_at}
+use Rattle.sd_planner_place.specs.declared.placement.Placed.{Placed}
+use Rattle.sd_planner_place.specs.Spreading.{placed_at}
 use Rattle.sd_planner.specs.Climbs.{way_up}
 use Rattle.sd_planner.specs.Flags.{is_set}
 use Rattle.sd_planner.specs.declared.backups.things.Things.{Things}
@@ -60,5 +60,6 @@ pub record AreNear (net : Network) (hops : List Hop) (things : Things) : Type 0 
 -- the links are flagged that share a domain with hops, and the placed devices whose walks have something that does, the root apart
 pub record AreUnfit (net : Network) (root : ℕ) (order : List Placed) (hops : List Hop) (things : Things) : Type 0 where
   pub device : (d : ℕ) (p : Placed) → placed_at order d ≡ Some p → is_set things.devices.items d
-      ≡ (list_any (λ x. not (nat_eq x root) && shares_device net hops x) (devices_of d (way_up order d)) || list_any (shares_link net hops) (links_of (way_up order d)))
+      ≡ (list_any (λ x. not (nat_eq x root) && shares_device net hops x) (devices_of d (way_up order d))
+      || list_any (shares_link net hops) (links_of (way_up order d)))
   pub link : (x : ℕ) → is_set things.links.items x ≡ shares_link net hops x

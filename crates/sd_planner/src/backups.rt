@@ -2,9 +2,9 @@
 ghost use Rattle.std.specs.Prelude.{◌≡◌, ◌<◌, length, Some, IfOk, OnOk};
 ghost use Rattle.sd_topo.specs.Network.{Each};
 ghost use Rattle.sd_plan.specs.Plans.{IsRow};
-ghost use Rattle.sd_place.specs.Spreading.{placed_at};
-ghost use Rattle.sd_place.specs.Views.{net_of, left_out};
-ghost use Rattle.sd_place.specs.Placing.{placed};
+ghost use Rattle.sd_planner_place.specs.Spreading.{placed_at};
+ghost use Rattle.sd_planner_place.specs.Views.{net_of, left_out};
+ghost use Rattle.sd_planner_place.specs.Placing.{placed};
 ghost use Rattle.sd_planner.specs.Serving as serving;
 ghost use Rattle.sd_planner.specs.Surveys.{net_in, absent_in, order_of, AreClear};
 
@@ -18,8 +18,8 @@ mod things;
 
 use flags::no_flags;
 use sd_num::NoMemory;
-use sd_place::{Placed, Placement, Present};
 use sd_plan::{Hop, PlanRow, RowList};
+use sd_planner_place::{Placed, Placement, Present};
 use std::alloc::Global;
 use survey::Survey;
 
@@ -35,7 +35,9 @@ impl Survey<'_> {
         requires range { own.device < length (net_in self.now).devices }
         requires own { placed_at (order_of self.now) own.device ≡ Some own }
         requires clear { AreClear (net_in self.now) joining.old }
-        ensures backup { IfOk result (λ backup. backup ≡ serving.backup_for (net_in self.now) self.now.root (absent_in self.now) own.device primary) }
+        ensures backup { IfOk result (λ backup. backup
+            ≡ serving.backup_for (net_in self.now) self.now.root
+            (absent_in self.now) own.device primary) }
         ensures clear { OnOk result (AreClear (net_in self.now) joining.new) }
     {
         if own.device == self.backup_root {
@@ -49,7 +51,8 @@ impl Survey<'_> {
     fn row(&self, alloc: Global, joining: &mut [bool], d: u32) -> Result<Option<PlanRow>, NoMemory>
         requires range { d < length (net_in self.now).devices }
         requires clear { AreClear (net_in self.now) joining.old }
-        ensures row { IfOk result (λ row. row ≡ serving.greedy_row (net_in self.now) self.now.root (absent_in self.now) d) }
+        ensures row { IfOk result (λ row. row
+            ≡ serving.greedy_row (net_in self.now) self.now.root (absent_in self.now) d) }
         ensures clear { OnOk result (AreClear (net_in self.now) joining.new) }
     {
         let Some(own) = self.placed(d) else {
@@ -76,7 +79,8 @@ pub(crate) fn greedy_rows(
       order = placed (net_of present.now) root (left_out present.now);
       count = length (net_of present.now).devices;
     } }
-    ensures rows { IfOk result (λ rows. rows ≡ serving.greedy_rows (net_of present.now) root (left_out present.now)) }
+    ensures rows { IfOk result
+        (λ rows. rows ≡ serving.greedy_rows (net_of present.now) root (left_out present.now)) }
     ensures fit { IfOk result (Each (IsRow (net_of present.now))) }
 {
     let survey = Survey::new(alloc, present, placement, root)?;

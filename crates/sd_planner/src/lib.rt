@@ -5,7 +5,9 @@ mod backups;
 mod plan;
 mod waits;
 
+// Handed on to crates above.
 pub use plan::plan_for;
+pub use sd_checker as checker;
 use sd_checker::Breach;
 use sd_plan::Plan;
 

@@ -58,12 +58,15 @@ fn least_wait(topo: &Topology, long: u128) -> u64
 
 /// The least waits that meet the second, third and fourth timing rule.
 pub(crate) fn least_waits(topo: &Topology) -> Waits
-    ensures first { IsLeastWait (network topo.now) (2 * (silence (network topo.now) + (network topo.now).params.tick)) result.first }
-    ensures second { IsLeastWait (network topo.now) (2 * (silence (network topo.now) + (network topo.now).params.tick)) result.second }
+    ensures first { IsLeastWait (network topo.now)
+        (2 * (silence (network topo.now) + (network topo.now).params.tick)) result.first }
+    ensures second { IsLeastWait (network topo.now)
+        (2 * (silence (network topo.now) + (network topo.now).params.tick)) result.second }
     ensures ordinary { IsLeastWait (network topo.now) (greatest_up (network topo.now) result.first
         + greatest_up (network topo.now) result.second
         + 6 * (silence (network topo.now) + (network topo.now).params.tick)) result.ordinary }
-    ensures bounds { (result.first ≤ 2 ^ 60) × (result.second ≤ 2 ^ 60) × (result.ordinary ≤ 2 ^ 60) }
+    ensures bounds { (result.first ≤ 2 ^ 60) × (result.second ≤ 2 ^ 60)
+        × (result.ordinary ≤ 2 ^ 60) }
 {
     let silent = silence_and_tick(topo);
     let first = least_wait(topo, 2 * silent);

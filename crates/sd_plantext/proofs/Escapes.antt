@@ -29,7 +29,8 @@ plain_bytes (x ∷ xs) h =
     ap₂ (λ a b. a ++ b) (escape_byte_plain x (no_quote x first) (no_backslash x first) (no_control x first)) (plain_bytes xs rest)
 
 plain_name : (name : List ℕ) → is_name name ≡ true → escape name ≡ name
-plain_name name good = let (lengths, bytes) = and_parts (nat_le 1 (length name) && nat_le (length name) 64) (list_all is_name_byte name) good in plain_bytes name bytes
+plain_name name good = let (lengths, bytes) = and_parts (nat_le 1 (length name) && nat_le (length name) 64) (list_all is_name_byte name) good in
+    plain_bytes name bytes
 
 plain_at : (names : List (List ℕ)) (n : ℕ) → Each (λ name. IsTrue (is_name name)) names → escape (name_at names n) ≡ name_at names n
 plain_at names n good = by (slice_get names n) (λ name at. good n name at)

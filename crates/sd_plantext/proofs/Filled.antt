@@ -46,7 +46,8 @@ filled-free zero (x ∷ xs) = refl
 filled-free (suc k) (x ∷ xs) = filled-free k xs
 
 -- the next row is set
-pub filled-set : {A : Type 0} (k : ℕ) (xs : List (Option A)) (row : A) → at_place xs k None (λ r. r) ≡ Some row → set (filled k xs) k (Some row) ≡ filled (suc k) xs
+pub filled-set : {A : Type 0} (k : ℕ) (xs : List (Option A)) (row : A) → at_place xs k None (λ r. r) ≡ Some row
+    → set (filled k xs) k (Some row) ≡ filled (suc k) xs
 filled-set zero [] row at = cc
 filled-set (suc k) [] row at = cc
 filled-set zero (x ∷ xs) row at = ap (λ o. o ∷ filled zero xs) (sym at)

@@ -25,7 +25,8 @@ fails_on (faults.Version n) r f h = ap (λ x. x >>= f) h
 fails_on faults.Memory r f h = tt
 
 -- a row that fails makes all rows fail
-pub rows_fail : (net : Network) (fault : PlanFault) (entry : ℕ) (rows : List (Option PlanRow)) (v : Value) (vs rest : List Value) (all : Result (List (Option PlanRow)) PlanFault) → rest ≡ v ∷ vs
+pub rows_fail : (net : Network) (fault : PlanFault) (entry : ℕ) (rows : List (Option PlanRow)) (v : Value) (vs rest : List Value)
+    (all : Result (List (Option PlanRow)) PlanFault) → rest ≡ v ∷ vs
     → Fails fault (one_more_row net entry rows (view v)) → rows_from net entry rows (items_view rest) ≡ all → Fails fault all
 rows_fail net fault entry rows v vs rest all first fails is =
     let here = fails_on fault (one_more_row net entry rows (view v)) (λ more. rows_from net (entry + 1) more (items_view vs)) fails in
@@ -45,14 +46,16 @@ free_here rows n row within is =
 free_row : (rows : List (Option PlanRow)) (n : ℕ) → n < length rows → is_free rows n ≡ true → get_or rows n None ≡ None
 free_row rows n within free =
     let none : Option PlanRow = None in
-    nothing (get_or rows n none) (subst (λ (entry : Option (Option PlanRow)). is_none (of_some entry none (λ row. row)) ≡ true) (slice_get-get_or rows n none within) free)
+    nothing (get_or rows n none)
+    (subst (λ (entry : Option (Option PlanRow)). is_none (of_some entry none (λ row. row)) ≡ true) (slice_get-get_or rows n none within) free)
   where
     nothing : (row : Option PlanRow) → is_none row ≡ true → row ≡ None
     nothing None h = refl
     nothing (Some row) h = cc
 
 -- setting a free place makes one more
-pub one_more_filled : (rows : List (Option PlanRow)) (n : ℕ) (row : PlanRow) → n < length rows → is_free rows n ≡ true → filled (set rows n (Some row)) ≡ filled rows + 1
+pub one_more_filled : (rows : List (Option PlanRow)) (n : ℕ) (row : PlanRow) → n < length rows → is_free rows n ≡ true
+    → filled (set rows n (Some row)) ≡ filled rows + 1
 one_more_filled rows n row within free =
     let none : Option PlanRow = None in
     let sums = sum_by-set one_row rows n (Some row) none within in

@@ -71,4 +71,5 @@ plan_depth net plan =
 
 -- what is left out lies below the bound
 pub absent_within : (bound : ℕ) (xs ys : List ℕ) → IsTrue (ascends ys && all_below bound ys) → xs ≡ ys → All (λ x. x < bound) xs
-absent_within bound xs ys tests same = subst (λ (zs : List ℕ). All (λ x. x < bound) zs) (sym same) (within_all bound ys (and_parts (ascends ys) (all_below bound ys) tests).1)
+absent_within bound xs ys tests same =
+    subst (λ (zs : List ℕ). All (λ x. x < bound) zs) (sym same) (within_all bound ys (and_parts (ascends ys) (all_below bound ys) tests).1)

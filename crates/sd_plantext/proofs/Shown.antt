@@ -19,7 +19,8 @@ use Rattle.sd_plantext.proofs.Escapes.{device_quoted, link_quoted}
 joined_items : (d : Data) (ds : List Data) → items_text false (items_of (d ∷ ds)) ≡ join_with_byte 44 (compact_text d ∷ map compact_text ds) ++ 93 ∷ []
 joined_items d [] = refl
 joined_items d (e ∷ ds) =
-    ap (λ t. compact_text d ++ 44 ∷ t) (joined_items e ds) ∙ sym (append_assoc (compact_text d) (44 ∷ join_with_byte 44 (compact_text e ∷ map compact_text ds)) (93 ∷ []))
+    ap (λ t. compact_text d ++ 44 ∷ t) (joined_items e ds)
+    ∙ sym (append_assoc (compact_text d) (44 ∷ join_with_byte 44 (compact_text e ∷ map compact_text ds)) (93 ∷ []))
 
 array_shown : (ds : List Data) → compact_text (array (items_of ds)) ≡ array_text (map compact_text ds)
 array_shown [] = refl
@@ -41,13 +42,15 @@ member_shown m = with_key m.0 (compact_text m.1)
 one_member : (k v rest : List ℕ) → escape k ≡ k → json.quoted k ++ 58 ∷ (v ++ rest) ≡ with_key k v ++ rest
 one_member k v rest plain = ap (λ (t : List ℕ). (34 ∷ (t ++ 34 ∷ [])) ++ 58 ∷ (v ++ rest)) plain ∙ sym (append_assoc (quoted k) (58 ∷ v) rest)
 
-joined_members : (m : List ℕ × Data) (ms : List (List ℕ × Data)) → ArePlainKeys (m ∷ ms) → members_text false (members_from (m ∷ ms)) ≡ join_with_byte 44 (member_shown m ∷ map member_shown ms) ++ 125 ∷ []
+joined_members : (m : List ℕ × Data) (ms : List (List ℕ × Data)) → ArePlainKeys (m ∷ ms)
+    → members_text false (members_from (m ∷ ms)) ≡ join_with_byte 44 (member_shown m ∷ map member_shown ms) ++ 125 ∷ []
 joined_members m [] plain = one_member m.0 (compact_text m.1) (125 ∷ []) plain.0
 joined_members m (n ∷ ms) plain =
     one_member m.0 (compact_text m.1) (members_text true (members_from (n ∷ ms))) plain.0 ∙ ap (λ t. member_shown m ++ 44 ∷ t) (joined_members n ms plain.1)
     ∙ sym (append_assoc (member_shown m) (44 ∷ join_with_byte 44 (member_shown n ∷ map member_shown ms)) (125 ∷ []))
 
-object_shown : (m : List ℕ × Data) (ms : List (List ℕ × Data)) → ArePlainKeys (m ∷ ms) → compact_text (object_data (members_from (m ∷ ms))) ≡ object (map member_shown (m ∷ ms))
+object_shown : (m : List ℕ × Data) (ms : List (List ℕ × Data)) → ArePlainKeys (m ∷ ms)
+    → compact_text (object_data (members_from (m ∷ ms))) ≡ object (map member_shown (m ∷ ms))
 object_shown m ms plain = ap (λ t. 123 ∷ t) (joined_members m ms plain)
 
 -- names one after another
@@ -59,26 +62,38 @@ list_shown : (f : ℕ → Data) (g : ℕ → List ℕ) → ((n : ℕ) → compac
 list_shown f g same ns = array_shown (map f ns) ∙ ap array_text (names_shown f g same ns)
 
 -- what a row shows for its two hops
-row_of_parts : (net : Network) (d : ℕ) (row : PlanRow) (o : Option Hop) → row.backup ≡ o → IsNetwork net → compact_text (row_data net d row) ≡ row_text net d row
+row_of_parts : (net : Network) (d : ℕ) (row : PlanRow) (o : Option Hop) → row.backup ≡ o → IsNetwork net
+    → compact_text (row_data net d row) ≡ row_text net d row
 unfolding row_members escape_byte
 row_of_parts net d row None is law =
-    rw is (object_shown (codes "device", device_data net d) ((codes "link", link_data net row.primary.link) ∷ (codes "parent", device_data net row.primary.parent) ∷ []) (refl, (refl, (refl, tt)))
-    ∙ (λ i. object (with_key (codes "device") (device_quoted net d law i) ∷ with_key (codes "link") (link_quoted net row.primary.link law i) ∷ with_key (codes "parent") (device_quoted net row.primary.parent law i) ∷ [])))
+    rw is (object_shown (codes "device", device_data net d)
+    ((codes "link", link_data net row.primary.link) ∷ (codes "parent", device_data net row.primary.parent) ∷ []) (refl, (refl, (refl, tt)))
+    ∙ (λ i. object
+    (with_key (codes "device") (device_quoted net d law i) ∷ with_key (codes "link") (link_quoted net row.primary.link law i) ∷ with_key (codes "parent")
+    (device_quoted net row.primary.parent law i) ∷ [])))
 row_of_parts net d row (Some hop) is law =
     rw is (object_shown (codes "backup", device_data net hop.parent)
-    ((codes "backup_link", link_data net hop.link) ∷ (codes "device", device_data net d) ∷ (codes "link", link_data net row.primary.link) ∷ (codes "parent", device_data net row.primary.parent) ∷ []) (refl, (refl, (refl, (refl, (refl, tt)))))
+    ((codes "backup_link", link_data net hop.link) ∷ (codes "device", device_data net d) ∷ (
+      codes "link",
+      link_data net
+          row.primary.link,
+    ) ∷ (codes "parent", device_data net row.primary.parent) ∷ []) (refl, (refl, (refl, (refl, (refl, tt)))))
     ∙ (λ i. object (with_key (codes "backup") (device_quoted net hop.parent law i) ∷ with_key (codes "backup_link") (link_quoted net hop.link law i)
-    ∷ with_key (codes "device") (device_quoted net d law i) ∷ with_key (codes "link") (link_quoted net row.primary.link law i) ∷ with_key (codes "parent") (device_quoted net row.primary.parent law i) ∷ [])))
+    ∷ with_key (codes "device") (device_quoted net d law i) ∷ with_key (codes "link") (link_quoted net row.primary.link law i) ∷ with_key (codes "parent")
+    (device_quoted net row.primary.parent law i) ∷ [])))
 
 row_shown : (net : Network) (d : ℕ) (row : PlanRow) → IsNetwork net → compact_text (row_data net d row) ≡ row_text net d row
 row_shown net d row law = row_of_parts net d row row.backup refl law
 
 -- the rows that there are
-listed_shown : (net : Network) (plan : PlanShown) (ds : List ℕ) → IsNetwork net → map compact_text (rows_listed net plan ds) ≡ filter_map (λ d. option_map (row_text net d) (row_of plan d)) ds
+listed_shown : (net : Network) (plan : PlanShown) (ds : List ℕ) → IsNetwork net
+    → map compact_text (rows_listed net plan ds) ≡ filter_map (λ d. option_map (row_text net d) (row_of plan d)) ds
 listed_shown net plan [] law = refl
-listed_shown net plan (d ∷ ds) law = by (row_of plan d) (rows_listed net plan ds) (filter_map (λ e. option_map (row_text net e) (row_of plan e)) ds) (listed_shown net plan ds law)
+listed_shown net plan (d ∷ ds) law =
+    by (row_of plan d) (rows_listed net plan ds) (filter_map (λ e. option_map (row_text net e) (row_of plan e)) ds) (listed_shown net plan ds law)
   where
-    by : (o : Option PlanRow) (xs : List Data) (ts : List (List ℕ)) → map compact_text xs ≡ ts → map compact_text (cons_option (option_map (row_data net d) o) xs) ≡ cons_option (option_map (row_text net d) o) ts
+    by : (o : Option PlanRow) (xs : List Data) (ts : List (List ℕ)) → map compact_text xs ≡ ts
+        → map compact_text (cons_option (option_map (row_data net d) o) xs) ≡ cons_option (option_map (row_text net d) o) ts
     by None xs ts rest = rest
     by (Some row) xs ts rest = ap₂ (λ u us. u ∷ us) (row_shown net d row law) rest
 
@@ -92,9 +107,20 @@ plan_shown net plan law =
     let devices = list_shown (device_data net) (λ d. quoted (device_name net d)) (λ d. device_quoted net d law) plan.absent.devices in
     let links = list_shown (link_data net) (λ l. quoted (link_name net l)) (λ l. link_quoted net l law) plan.absent.links in
     ap (λ (t : List ℕ). t ++ 10 ∷ []) (object_shown (codes "absent_devices", list_data (device_data net) plan.absent.devices)
-    ((codes "absent_links", list_data (link_data net) plan.absent.links) ∷ (codes "backup_root", device_data net plan.backup_root) ∷ (codes "root", device_data net plan.root) ∷ (codes "rows", rows_data net plan (device_numbers net))
-    ∷ (codes "version", count 1) ∷ (codes "wait", count plan.wait) ∷ (codes "wait_first", count plan.wait_first) ∷ (codes "wait_second", count plan.wait_second) ∷ [])
+    ((codes "absent_links", list_data (link_data net) plan.absent.links) ∷ (codes "backup_root", device_data net plan.backup_root) ∷ (
+      codes "root",
+      device_data
+          net plan.root,
+    ) ∷ (codes "rows", rows_data net plan (device_numbers net))
+    ∷ (codes "version", count 1) ∷ (codes "wait", count plan.wait) ∷ (codes "wait_first", count plan.wait_first) ∷ (
+      codes "wait_second",
+      count
+          plan.wait_second,
+    ) ∷ [])
     (refl, (refl, (refl, (refl, (refl, (refl, (refl, (refl, (refl, tt)))))))))
-    ∙ (λ i. object (with_key (codes "absent_devices") (devices i) ∷ with_key (codes "absent_links") (links i) ∷ with_key (codes "backup_root") (device_quoted net plan.backup_root law i)
+    ∙ (λ i. object
+    (with_key (codes "absent_devices") (devices i) ∷ with_key (codes "absent_links") (links i) ∷ with_key (codes "backup_root")
+    (device_quoted net plan.backup_root law i)
     ∷ with_key (codes "root") (device_quoted net plan.root law i) ∷ with_key (codes "rows") (rows_shown net plan law i) ∷ with_key (codes "version") (decimal 1)
-    ∷ with_key (codes "wait") (decimal plan.wait) ∷ with_key (codes "wait_first") (decimal plan.wait_first) ∷ with_key (codes "wait_second") (decimal plan.wait_second) ∷ [])))
+    ∷ with_key (codes "wait") (decimal plan.wait) ∷ with_key (codes "wait_first") (decimal plan.wait_first) ∷ with_key (codes "wait_second")
+    (decimal plan.wait_second) ∷ [])))

@@ -92,7 +92,8 @@ link_named : (net : Network) (key : PlanKey) (entry : ℕ) (d : Data) (n : ℕ) 
 link_named net key entry d n h = subst (λ (count : ℕ). n < count) (link_count net) (named_ok key entry (link_names net) d n h)
 
 -- one more listed thing is there, and new
-one_more_ok : (p : PlanPlace) (names : List (List ℕ)) (seen : List ℕ) (d : Data) (more : List ℕ) → one_more_name p names seen d ≡ Ok more → (n : ℕ) × (more ≡ seen ++ n ∷ []) × (n < length names) × (has seen n ≡ false)
+one_more_ok : (p : PlanPlace) (names : List (List ℕ)) (seen : List ℕ) (d : Data) (more : List ℕ) → one_more_name p names seen d ≡ Ok more
+    → (n : ℕ) × (more ≡ seen ++ n ∷ []) × (n < length names) × (has seen n ≡ false)
 unfolding one_more_name
 one_more_ok p names seen d more h =
     let (n, at, last) = bind_ok (referred p names d) (λ n. allowed (not (has seen n)) (TwiceNamed p) (seen ++ n ∷ [])) more h in
@@ -100,7 +101,8 @@ one_more_ok p names seen d more h =
     (n, sym same, referred_ok p names d n at, not_true (has seen n) new)
 
 -- listed things are there
-pub listed_ok : (p : PlanPlace) (names : List (List ℕ)) (seen : List ℕ) (ds : Items) (out : List ℕ) → All (λ n. n < length names) seen → names_from p names seen ds ≡ Ok out → All (λ n. n < length names) out
+pub listed_ok : (p : PlanPlace) (names : List (List ℕ)) (seen : List ℕ) (ds : Items) (out : List ℕ) → All (λ n. n < length names) seen
+    → names_from p names seen ds ≡ Ok out → All (λ n. n < length names) out
 listed_ok p names seen no_items out within h = let same : seen ≡ out = cc in subst (All (λ n. n < length names)) same within
 listed_ok p names seen (item d ds) out within h =
     let (more, first, rest) = bind_ok (one_more_name p names seen d) (λ more. names_from p names more ds) out h in
@@ -108,7 +110,8 @@ listed_ok p names seen (item d ds) out within h =
     listed_ok p names more ds out (subst (All (λ n. n < length names)) (sym is) (All-push (λ n. n < length names) seen n within below)) rest
 
 -- a list of names from its array
-pub names_are : (key : PlanKey) (names : List (List ℕ)) (d : Data) (ds : Items) (xs v : List ℕ) → array key d ≡ Ok ds → names_from (place key 0) names [] ds ≡ Ok xs
+pub names_are : (key : PlanKey) (names : List (List ℕ)) (d : Data) (ds : Items) (xs v : List ℕ) → array key d ≡ Ok ds
+    → names_from (place key 0) names [] ds ≡ Ok xs
     → ((count : ℕ) → All (λ n. n < count) xs → v ≡ ascending count xs) → names_in key names d ≡ Ok v
 unfolding names_in
 names_are key names d ds xs v there listed is =
@@ -124,24 +127,30 @@ rising : (count : ℕ) (xs : List ℕ) → IsRising count (ascending count xs)
 rising count xs = let (up, within) = ascending_ok count xs in rw (up, within) refl
 
 -- what is listed at a key ascends
-names_ok : (key : PlanKey) (names : List (List ℕ)) (count : ℕ) (d : Data) (out : List ℕ) → length names ≡ count → names_in key names d ≡ Ok out → IsRising count out
+names_ok : (key : PlanKey) (names : List (List ℕ)) (count : ℕ) (d : Data) (out : List ℕ) → length names ≡ count → names_in key names d ≡ Ok out
+    → IsRising count out
 unfolding names_in
 names_ok key names count d out long h =
     let end : List ℕ → Result (List ℕ) PlanFault = λ numbers. Ok (ascending (length names) numbers) in
     let (ds, a, h1) = bind_ok (array key d) (λ ds. names_from (place key 0) names [] ds >>= end) out h in
     let (numbers, b, h2) = bind_ok (names_from (place key 0) names [] ds) end out h1 in
-    subst (λ (n : ℕ). IsRising n out) long (subst (IsRising (length names)) (ok_inside (ascending (length names) numbers) out h2) (rising (length names) numbers))
+    subst (λ (n : ℕ). IsRising n out) long
+    (subst (IsRising (length names)) (ok_inside (ascending (length names) numbers) out h2) (rising (length names) numbers))
 
 -- what is left out ascends
-pub absent_ok : (net : Network) (d : Data) (absent : Left) → absent_in net d ≡ Ok absent → IsRising (length net.devices) absent.devices × IsRising (length net.links) absent.links
+pub absent_ok : (net : Network) (d : Data) (absent : Left) → absent_in net d ≡ Ok absent
+    → IsRising (length net.devices) absent.devices × IsRising (length net.links) absent.links
 unfolding absent_in
 absent_ok net d absent h =
     let made : List ℕ → List ℕ → Left = λ devices links. record { devices = devices; links = links } in
     let end : List ℕ → Result Left PlanFault = λ devices. names_in keys.AbsentLinks (link_names net) d >>= (λ links. Ok (made devices links)) in
     let (devices, a, h1) = bind_ok (names_in keys.AbsentDevices (device_names net) d) end absent h in
     let (links, b, h2) = bind_ok (names_in keys.AbsentLinks (link_names net) d) (λ links. Ok (made devices links)) absent h1 in
-    subst (λ (l : Left). IsRising (length net.devices) l.devices × IsRising (length net.links) l.links) (ok_inside (made devices links) absent h2)
-    (names_ok keys.AbsentDevices (device_names net) (length net.devices) d devices (device_count net) a, names_ok keys.AbsentLinks (link_names net) (length net.links) d links (link_count net) b)
+    subst (λ (l : Left). IsRising (length net.devices) l.devices × IsRising (length net.links) l.links) (ok_inside (made devices links) absent h2) (
+      names_ok keys.AbsentDevices (device_names net) (length net.devices) d devices (device_count net) a,
+      names_ok keys.AbsentLinks (link_names net)
+          (length net.links) d links (link_count net) b,
+    )
 
 -- a hop's parent and link are there
 hop_ok : (net : Network) (parent link : PlanKey) (entry : ℕ) (d : Data) (hop : Hop) → hop_in net parent link entry d ≡ Ok hop → IsHop net hop
@@ -180,7 +189,8 @@ row_ok net entry d row h =
     (hop_ok net keys.RowsParent keys.RowsLink entry d primary a, λ hop is. subst (λ (o : Option Hop). IfSome o (IsHop net)) is good)
 
 -- a row's device is there, and free
-pub device_ok : (net : Network) (entry : ℕ) (rows : List (Option PlanRow)) (d : Data) (n : ℕ) → device_in net entry rows d ≡ Ok n → (n < length net.devices) × (is_free rows n ≡ true)
+pub device_ok : (net : Network) (entry : ℕ) (rows : List (Option PlanRow)) (d : Data) (n : ℕ) → device_in net entry rows d ≡ Ok n
+    → (n < length net.devices) × (is_free rows n ≡ true)
 unfolding device_in
 device_ok net entry rows d n h =
     let fault = TwiceNamed (place keys.RowsDevice entry) in
@@ -194,7 +204,8 @@ record AreRows (net : Network) (rows : List (Option PlanRow)) : Type 0 where
   good : All (IsRow net) rows
 
 -- one more row is good
-row_step : (net : Network) (entry : ℕ) (rows : List (Option PlanRow)) (d : Data) (more : List (Option PlanRow)) → AreRows net rows → one_more_row net entry rows d ≡ Ok more → AreRows net more
+row_step : (net : Network) (entry : ℕ) (rows : List (Option PlanRow)) (d : Data) (more : List (Option PlanRow)) → AreRows net rows
+    → one_more_row net entry rows d ≡ Ok more → AreRows net more
 unfolding one_more_row
 row_step net entry rows d more known h =
     let made : ℕ → PlanRow → List (Option PlanRow) = λ device row. set rows device (Some row) in
@@ -209,7 +220,8 @@ row_step net entry rows d more known h =
     })
 
 -- all rows are good
-rows_from_ok : (net : Network) (entry : ℕ) (rows out : List (Option PlanRow)) (ds : Items) → AreRows net rows → rows_from net entry rows ds ≡ Ok out → AreRows net out
+rows_from_ok : (net : Network) (entry : ℕ) (rows out : List (Option PlanRow)) (ds : Items) → AreRows net rows → rows_from net entry rows ds ≡ Ok out
+    → AreRows net out
 rows_from_ok net entry rows out no_items known h = let same : rows ≡ out = cc in subst (AreRows net) same known
 rows_from_ok net entry rows out (item d ds) known h =
     let (more, first, rest) = bind_ok (one_more_row net entry rows d) (λ more. rows_from net (entry + 1) more ds) out h in
@@ -220,7 +232,8 @@ unfolding rows_in
 rows_ok net d rows h =
     let (ds, a, last) = bind_ok (array keys.Rows d) (λ ds. rows_from net 1 (no_rows net) ds) rows h in
     let none : Option PlanRow = None in
-    rows_from_ok net 1 (no_rows net) rows ds (record { long = length-replicate (length net.devices) none; good = All-replicate (IsRow net) (length net.devices) none tt }) last
+    rows_from_ok net 1 (no_rows net) rows ds
+    (record { long = length-replicate (length net.devices) none; good = All-replicate (IsRow net) (length net.devices) none tt }) last
 
 -- a plan of its parts
 abbrev made : ℕ → ℕ → ℕ → ℕ → ℕ → Left → List (Option PlanRow) → Plan
@@ -256,7 +269,8 @@ record AreNumbers (net : Network) (r b f s w : ℕ) : Type 0 where
   waits : (f ≤ 2 ^ 60) × (s ≤ 2 ^ 60) × (w ≤ 2 ^ 60)
 
 -- such numbers with what is left out and rows fit
-fits_of : (net : Network) (d : Data) (r b f s w : ℕ) (absent : Left) (rows : List (Option PlanRow)) → AreNumbers net r b f s w → absent_in net d ≡ Ok absent → AreRows net rows → Fits net (made r b f s w absent rows)
+fits_of : (net : Network) (d : Data) (r b f s w : ℕ) (absent : Left) (rows : List (Option PlanRow)) → AreNumbers net r b f s w → absent_in net d ≡ Ok absent
+    → AreRows net rows → Fits net (made r b f s w absent rows)
 fits_of net d r b f s w absent rows numbers left good =
     let rise = absent_ok net d absent left in
     record {
@@ -277,13 +291,19 @@ lists_ok net d r b f s w plan numbers h =
     subst (Fits net) (ok_inside (made r b f s w absent rows) plan h2) (fits_of net d r b f s w absent rows numbers left (rows_ok net d rows read))
 
 -- what is read after the roots fits
-waits_ok : (net : Network) (d : Data) (r b : ℕ) (plan : Plan) → r < length net.devices → b < length net.devices → after_roots net d r b ≡ Ok plan → Fits net plan
+waits_ok : (net : Network) (d : Data) (r b : ℕ) (plan : Plan) → r < length net.devices → b < length net.devices → after_roots net d r b ≡ Ok plan
+    → Fits net plan
 waits_ok net d r b plan root backup_root h =
     let (f, first, h1) = bind_ok (wait_in keys.WaitFirst d) (after_first net d r b) plan h in
     let (s, second, h2) = bind_ok (wait_in keys.WaitSecond d) (after_second net d r b f) plan h1 in
     let (w, ordinary, h3) = bind_ok (wait_in keys.Wait d) (after_waits net d r b f s) plan h2 in
     lists_ok net d r b f s w plan
-    (record { root = root; backup_root = backup_root; waits = (wait_ok keys.WaitFirst d f first, wait_ok keys.WaitSecond d s second, wait_ok keys.Wait d w ordinary) }) h3
+    (record {
+      root = root;
+      backup_root = backup_root;
+      waits =
+          (wait_ok keys.WaitFirst d f first, wait_ok keys.WaitSecond d s second, wait_ok keys.Wait d w ordinary);
+    }) h3
 
 -- what a plan's tree means fits
 pub plan_ok : (net : Network) (d : Data) (plan : Plan) → plan_in net d ≡ Ok plan → Fits net plan

@@ -9,7 +9,7 @@ abbrev pub ◌>>=◌ : {A B : Type 0} → Result A PlanFault → (A → Result B
 (Ok x) >>= f = f x
 (Err e) >>= f = Err e
 
--- want of memory is free, and each other fault is the first one
+-- out of memory is free, and each other fault is the first one
 abbrev pub Fails : {Y : Type 0} → PlanFault → Result Y PlanFault → Type 0
 Fails faults.NotJson read = read ≡ Err faults.NotJson
 Fails (faults.Missing p) read = read ≡ Err (faults.Missing p)

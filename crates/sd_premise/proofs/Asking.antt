@@ -6,8 +6,8 @@ use Rattle.sd_num.specs.Lists.{of_some}
 use Rattle.sd_topo.specs.Network.{Network}
 use Rattle.sd_sched.specs.Events.{is_commit}
 use Rattle.sd_history.specs.World.{Setting, Seen, window, window_is_open, has_commit, epoch_in_force}
-use Rattle.sd_world.proofs.Answers.{named_stands}
-use Rattle.sd_premise_rounds.proofs.InOrder.{device_known, link_known}
+use Rattle.sd_fleet_state.proofs.world.Answers.{named_stands}
+use Rattle.sd_premise_loss.proofs.rounds.InOrder.{device_known, link_known}
 use Rattle.sd_premise_renewal.proofs.Allowed.{is_allowed, commit_opened}
 use Rattle.sd_premise.specs.Order.{CanFollow}
 use Rattle.sd_premise.specs.Standing.{StandsFor, CanObserve, room_of}
@@ -22,16 +22,19 @@ closing_opened setting earlier s can closes = by s.closed (is_commit s.event) (h
     committed None test there = cc
     committed (Some w) test there = refl
 
-    by : (closed commit had : Bool) → is_commit s.event ≡ commit → has_commit earlier ≡ had → closed ≡ true → (not closed || commit || had) ≡ true → window_is_open earlier ≡ true
+    by : (closed commit had : Bool) → is_commit s.event ≡ commit → has_commit earlier ≡ had → closed ≡ true → (not closed || commit || had) ≡ true
+        → window_is_open earlier ≡ true
     by true true had is was closes' can' = commit_opened setting earlier s.event can.allowed is
     by true false true is was closes' can' = committed (window earlier) _ was
     by true false false is was closes' can' = cc
     by false commit had is was closes' can' = cc
 
-pub can_observe : (premises : Premises) (setting : Setting) (earlier : List Seen) (s : Seen) → StandsFor premises setting earlier → CanFollow setting earlier s → length s.sent ≤ room_of premises → CanObserve premises s
+pub can_observe : (premises : Premises) (setting : Setting) (earlier : List Seen) (s : Seen) → StandsFor premises setting earlier → CanFollow setting earlier s
+    → length s.sent ≤ room_of premises → CanObserve premises s
 can_observe premises setting earlier s stands can room = record {
   room = room;
-  named = named_stands premises.world setting earlier s.event stands.world (device_known setting earlier s.event can.allowed) (link_known setting earlier s.event can.allowed);
+  named = named_stands premises.world setting earlier s.event stands.world (device_known setting earlier s.event can.allowed)
+      (link_known setting earlier s.event can.allowed);
   activated = subst (λ (net : Network). IfSome s.activated (λ d. d < length net.devices)) stands.net can.activated;
   taken = λ f is. subst (λ (net : Network). f.link < length net.links) stands.net (sent_known setting earlier f stands.order (can.taken f is).sent);
   events = omega (arith, stands.world.events, leb-false (2 ^ 26) (length earlier) (is_allowed setting earlier s.event can.allowed).few);

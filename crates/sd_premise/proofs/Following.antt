@@ -9,15 +9,17 @@ use Rattle.sd_msg.specs.declared.Flight.{Flight}
 use Rattle.sd_sched.specs.Events.{reference_of}
 use Rattle.sd_history.specs.World.{Setting, Seen}
 use Rattle.sd_history.specs.Premises.{flights}
-use Rattle.sd_premise_rounds.specs.Order as rounds
-use Rattle.sd_premise_rounds.proofs.InOrder.{le_greatest}
+use Rattle.sd_premise_loss.specs.rounds.Order as rounds
+use Rattle.sd_premise_loss.proofs.rounds.InOrder.{le_greatest}
 use Rattle.sd_premise.specs.Order.{IsSentAt, CanFollow, ComesInOrder}
 
 -- for the monitor of loss
 pub follows : (setting : Setting) (earlier : List Seen) (s : Seen) → CanFollow setting earlier s → rounds.Follows setting earlier s
 follows setting earlier s can = record {
   allowed = can.allowed;
-  due = λ k f within. (let due : (get_or s.sent k f).due ≡ reference_of s.event + (delay_of setting.net (get_or s.sent k f).link (get_or s.sent k f).receiver).max = (can.sent k f within).due in omega (arith, due));
+  due = λ k f within. (let due : (get_or s.sent k f).due
+      ≡ reference_of s.event + (delay_of setting.net (get_or s.sent k f).link (get_or s.sent k f).receiver).max = (can.sent k f within).due in
+      omega (arith, due));
   numbers = can.numbers;
   taken = by s.taken refl;
 }
@@ -29,8 +31,10 @@ follows setting earlier s can = record {
 -- each flight that was sent goes over a link of the network
 pub sent_known : (setting : Setting) (seen : List Seen) (f : Flight) → ComesInOrder setting seen → Contains (flights seen) f → f.link < length setting.net.links
 sent_known setting [] f order (k, within, at) = absurd (omega (arith, within))
-sent_known setting (s ∷ earlier) f order sent = by (Contains-append_cases s.sent (flights earlier) f sent) (λ before. sent_known setting earlier f order.0 before)
+sent_known setting (s ∷ earlier) f order sent =
+    by (Contains-append_cases s.sent (flights earlier) f sent) (λ before. sent_known setting earlier f order.0 before)
   where
-    by : Contains s.sent f ⊎ Contains (flights earlier) f → (Contains (flights earlier) f → f.link < length setting.net.links) → f.link < length setting.net.links
+    by : Contains s.sent f ⊎ Contains (flights earlier) f → (Contains (flights earlier) f → f.link < length setting.net.links)
+        → f.link < length setting.net.links
     by (inl now) rest = (All-contains (λ (g : Flight). IsSentAt setting (reference_of s.event) g) s.sent f order.1.sent now).link
     by (inr before) rest = rest before

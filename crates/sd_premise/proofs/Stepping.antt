@@ -20,12 +20,12 @@ use Rattle.sd_history.specs.Premises as premises
 use Rattle.sd_history.proofs.Among.{Among, first, later, found, either_side}
 use Rattle.sd_history.proofs.Contained.{none_holds}
 use Rattle.sd_history.proofs.Known.{named_is_known}
-use Rattle.sd_history_flights.specs.Flights.{AreNumberedOn}
-use Rattle.sd_history_flights.proofs.Sending.{step_numbered, counted, WasSent, was_sent}
-use Rattle.sd_history_flights.proofs.Numbers.{numbers_within}
-use Rattle.sd_history_flights.proofs.Places.{IsOfNetwork, flights_of_network}
-use Rattle.sd_premise_rounds.specs.Order.{last_sent}
-use Rattle.sd_premise_rounds.proofs.InOrder.{last_sent_with}
+use Rattle.sd_history.specs.flights.Flights.{AreNumberedOn}
+use Rattle.sd_history.proofs.flights.Sending.{step_numbered, counted, WasSent, was_sent}
+use Rattle.sd_history.proofs.flights.Numbers.{numbers_within}
+use Rattle.sd_history.proofs.flights.Places.{IsOfNetwork, flights_of_network}
+use Rattle.sd_premise_loss.specs.rounds.Order.{last_sent}
+use Rattle.sd_premise_loss.proofs.rounds.InOrder.{last_sent_with}
 use Rattle.sd_premise.specs.Order.{IsSentAt, IsOnTheWay, CanFollow, ComesInOrder}
 
 -- Lists
@@ -44,7 +44,9 @@ kept_at : (p : Flight → Bool) (xs : List Flight) (k : ℕ) (d : Flight) → k 
 kept_at p [] k d within = absurd (omega (arith, within))
 kept_at p (x ∷ xs) k d within = by (p x) k within (λ j. kept_at p xs j d)
   where
-    by : (b : Bool) (k : ℕ) → k < length (cond b (x ∷ filter p xs) (filter p xs)) → ((j : ℕ) → j < length (filter p xs) → Among (slice_index_or (filter p xs) j d) xs) → Among (slice_index_or (cond b (x ∷ filter p xs) (filter p xs)) k d) (x ∷ xs)
+    by : (b : Bool) (k : ℕ) → k < length (cond b (x ∷ filter p xs) (filter p xs))
+        → ((j : ℕ) → j < length (filter p xs) → Among (slice_index_or (filter p xs) j d) xs)
+        → Among (slice_index_or (cond b (x ∷ filter p xs) (filter p xs)) k d) (x ∷ xs)
     by true zero within rest = first
     by true (suc j) within rest = later (rest j (omega (arith, within)))
     by false k within rest = later (rest k within)
@@ -69,19 +71,24 @@ kept_ascend p floor n (f ∷ fs) numbered low =
   where
     by : (b : Bool) → ascends (f.number ∷ map (λ f. f.number) (filter p fs)) ≡ true → ascends (floor ∷ map (λ f. f.number) (filter p fs)) ≡ true
         → ascends (floor ∷ map (λ f. f.number) (cond b (f ∷ filter p fs) (filter p fs))) ≡ true
-    by true here rest = and_from (nat_le (floor + 1) f.number) (ascends (f.number ∷ map (λ f. f.number) (filter p fs))) (le-leb (floor + 1) f.number (omega (arith, numbered.0, low))) here
+    by true here rest =
+        and_from (nat_le (floor + 1) f.number) (ascends (f.number ∷ map (λ f. f.number) (filter p fs)))
+        (le-leb (floor + 1) f.number (omega (arith, numbered.0, low))) here
     by false here rest = rest
 
 -- The event may be seen
 
-fourteen : (a b c d e f g h i j k l m n : Bool) → a ≡ false → b ≡ false → c ≡ false → d ≡ false → e ≡ false → f ≡ false → g ≡ false → h ≡ false → i ≡ false → j ≡ false → k ≡ false → l ≡ false → m ≡ false → n ≡ false
+fourteen : (a b c d e f g h i j k l m n : Bool) → a ≡ false → b ≡ false → c ≡ false → d ≡ false → e ≡ false → f ≡ false → g ≡ false → h ≡ false → i ≡ false
+    → j ≡ false → k ≡ false → l ≡ false → m ≡ false → n ≡ false
     → not (a || b || c || d || e || f || g || h || i || j || k || l || m || n) ≡ true
 fourteen a b c d e f g h i j k l m n pa pb pc pd pe pf pg ph pi pj pk pl pm pn = rw (pa, pb, pc, pd, pe, pf, pg, ph, pi, pj, pk, pl, pm, pn) refl
 
 pub allowed : (setting : Setting) (steps : List Step) (e : Event) → refusal setting steps e ≡ None → may_be_seen setting (seen_of steps) e ≡ true
 allowed setting steps e none =
-    fourteen (unknown_device setting e) (unknown_link setting e) (dead_device (seen_of steps) e) (dead_link (seen_of steps) e) (time_falls (seen_of steps) e) (counter_falls (seen_of steps) e) (not_started (seen_of steps) e)
-    (started_twice setting (seen_of steps) e) (no_plan_left setting (seen_of steps) e) (window_order_seen setting (seen_of steps) e) (after_end (seen_of steps)) (not_failed (seen_of steps) e) (not_member setting (seen_of steps) e) (too_many (seen_of steps))
+    fourteen (unknown_device setting e) (unknown_link setting e) (dead_device (seen_of steps) e) (dead_link (seen_of steps) e) (time_falls (seen_of steps) e)
+    (counter_falls (seen_of steps) e) (not_started (seen_of steps) e)
+    (started_twice setting (seen_of steps) e) (no_plan_left setting (seen_of steps) e) (window_order_seen setting (seen_of steps) e) (after_end (seen_of steps))
+    (not_failed (seen_of steps) e) (not_member setting (seen_of steps) e) (too_many (seen_of steps))
     (none_holds (causes setting steps e) _ none first)
     (none_holds (causes setting steps e) _ none (later first))
     (none_holds (causes setting steps e) _ none (later (later first)))
@@ -91,18 +98,23 @@ allowed setting steps e none =
     (none_holds (causes setting steps e) _ none (later (later (later (later (later (later (later (later (later first))))))))))
     (none_holds (causes setting steps e) _ none (later (later (later (later (later (later (later (later (later (later first)))))))))))
     (none_holds (causes setting steps e) _ none (later (later (later (later (later (later (later (later (later (later (later first))))))))))))
-    (or_parts (window_order_seen setting (seen_of steps) e) (window_order_within steps e) (none_holds (causes setting steps e) _ none (later (later (later (later (later (later (later (later (later (later (later (later first)))))))))))))).0
+    (or_parts (window_order_seen setting (seen_of steps) e) (window_order_within steps e)
+    (none_holds (causes setting steps e) _ none (later (later (later (later (later (later (later (later (later (later (later (later first)))))))))))))).0
     (none_holds (causes setting steps e) _ none (later (later (later (later (later (later (later (later (later (later (later (later (later first))))))))))))))
-    (none_holds (causes setting steps e) _ none (later (later (later (later (later (later (later (later (later (later (later (later (later (later first)))))))))))))))
-    (none_holds (causes setting steps e) _ none (later (later (later (later (later (later (later (later (later (later (later (later (later (later (later first))))))))))))))))
-    (none_holds (causes setting steps e) _ none (later (later (later (later (later (later (later (later (later (later (later (later (later (later (later (later first)))))))))))))))))
+    (none_holds (causes setting steps e) _ none
+    (later (later (later (later (later (later (later (later (later (later (later (later (later (later first)))))))))))))))
+    (none_holds (causes setting steps e) _ none
+    (later (later (later (later (later (later (later (later (later (later (later (later (later (later (later first))))))))))))))))
+    (none_holds (causes setting steps e) _ none
+    (later (later (later (later (later (later (later (later (later (later (later (later (later (later (later (later first)))))))))))))))))
 
 -- A window closes at its commit or later
 
 closes_late : (s : Seen) (earlier : List Seen) → s.closed ≡ false → has_commit (s ∷ earlier) ≡ true → (is_commit s.event || has_commit earlier) ≡ true
 closes_late s earlier stays had = by s.closed (is_stage s.event) (window earlier) stays had
   where
-    by : (closed stage : Bool) (o : Option (List Seen)) → closed ≡ false → of_some (if closed then None else if stage then Some [] else option_map (λ w. s ∷ w) o) false (list_any (λ x. is_commit x.event)) ≡ true
+    by : (closed stage : Bool) (o : Option (List Seen)) → closed ≡ false
+        → of_some (if closed then None else if stage then Some [] else option_map (λ w. s ∷ w) o) false (list_any (λ x. is_commit x.event)) ≡ true
         → (is_commit s.event || of_some o false (list_any (λ x. is_commit x.event))) ≡ true
     by true stage o stays' had' = cc
     by false true o stays' had' = cc
@@ -119,18 +131,23 @@ module _ (setting : Setting) (s : Step) (earlier : List Step) (steps : AreSteps 
       by false stays = refl
       by true closes =
           closes_late (first_step setting earlier s.seen.event s.told).seen (seen_of earlier) refl
-          (and_parts (has_commit (seen_of (first_step setting earlier s.seen.event s.told ∷ earlier))) _ (sym (ap (λ (x : Step). x.seen.closed) steps.2) ∙ closes)).0
+          (and_parts (has_commit (seen_of (first_step setting earlier s.seen.event s.told ∷ earlier))) _
+          (sym (ap (λ (x : Step). x.seen.closed) steps.2) ∙ closes)).0
 
   activated : IfSome s.seen.activated (λ d. d < length setting.net.devices)
-  activated = subst (λ (o : Option ℕ). IfSome o (λ d. d < length setting.net.devices)) (sym (ap (λ (x : Step). x.seen.activated) steps.2)) (by (device_of s.seen.event) refl)
+  activated = subst (λ (o : Option ℕ). IfSome o (λ d. d < length setting.net.devices)) (sym (ap (λ (x : Step). x.seen.activated) steps.2))
+      (by (device_of s.seen.event) refl)
     where
       turned : (d : ℕ) (b : Bool) → d < length setting.net.devices → IfSome (if b then Some d else None) (λ d. d < length setting.net.devices)
       turned d true within = within
       turned d false within = tt
 
-      by : (o : Option ℕ) → device_of s.seen.event ≡ o → IfSome (of_some o None (λ d. if has_turned earlier (first_step setting earlier s.seen.event s.told) d then Some d else None)) (λ d. d < length setting.net.devices)
+      by : (o : Option ℕ) → device_of s.seen.event ≡ o
+          → IfSome (of_some o None (λ d. if has_turned earlier (first_step setting earlier s.seen.event s.told) d then Some d else None))
+          (λ d. d < length setting.net.devices)
       by None names = tt
-      by (Some d) names = turned d (has_turned earlier (first_step setting earlier s.seen.event s.told) d) (named_is_known setting earlier s.seen.event d steps.1 names)
+      by (Some d) names =
+          turned d (has_turned earlier (first_step setting earlier s.seen.event s.told) d) (named_is_known setting earlier s.seen.event d steps.1 names)
 
   -- what is seen of what is sent
   reach : s.seen.sent ≡ filter (λ f. f.reaches) s.sent
@@ -176,7 +193,8 @@ last_low setting (s ∷ earlier) is = omega (arith, last_sent_with s.seen (seen_
 -- Flights that are received
 
 -- what was sent and reaches is seen to be sent
-seen_sent : (setting : Setting) (steps : List Step) (f : Flight) → AreSteps setting steps → Among f (flights steps) → f.reaches ≡ true → Contains (premises.flights (seen_of steps)) f
+seen_sent : (setting : Setting) (steps : List Step) (f : Flight) → AreSteps setting steps → Among f (flights steps) → f.reaches ≡ true
+    → Contains (premises.flights (seen_of steps)) f
 seen_sent setting [] f is a reaches = elim a [ ]
 seen_sent setting (s ∷ earlier) f is a reaches = elim (either_side s.sent (flights earlier) a) [
   | inl now ↦
@@ -194,7 +212,8 @@ found_numbered : (n : ℕ) (fs : List Flight) (f : Flight) → find (λ g. nat_e
 found_numbered n [] f is = cc
 found_numbered n (g ∷ gs) f is = by (nat_eq g.number n) refl is (found_numbered n gs f)
   where
-    by : (b : Bool) → nat_eq g.number n ≡ b → cond b (Some g) (find (λ g. nat_eq g.number n) gs) ≡ Some f → (find (λ g. nat_eq g.number n) gs ≡ Some f → f.number ≡ n) → f.number ≡ n
+    by : (b : Bool) → nat_eq g.number n ≡ b → cond b (Some g) (find (λ g. nat_eq g.number n) gs) ≡ Some f
+        → (find (λ g. nat_eq g.number n) gs ≡ Some f → f.number ≡ n) → f.number ≡ n
     by true same there rest = subst (λ (x : Flight). x.number ≡ n) (same_Some g f there) (eqb-true g.number n same)
     by false other there rest = rest there
 
@@ -219,21 +238,27 @@ step_takes : (setting : Setting) (s : Step) (earlier : List Step) → AreSteps s
 step_takes setting s earlier is = ap (λ (x : Step). x.seen.taken) is.2
 
 -- what was received was used
-unreceived : (setting : Setting) (steps : List Step) (n : ℕ) → AreSteps setting steps → was_used steps n ≡ false → premises.was_received (seen_of steps) n ≡ false
+unreceived : (setting : Setting) (steps : List Step) (n : ℕ) → AreSteps setting steps → was_used steps n ≡ false
+    → premises.was_received (seen_of steps) n ≡ false
 unreceived setting [] n is unused = refl
-unreceived setting (s ∷ earlier) n is unused = or_from (of_some s.seen.taken false (λ f. nat_eq f.number n)) (premises.was_received (seen_of earlier) n) (by s.seen.taken refl) (unreceived setting earlier n is.0 two.1)
+unreceived setting (s ∷ earlier) n is unused =
+    or_from (of_some s.seen.taken false (λ f. nat_eq f.number n)) (premises.was_received (seen_of earlier) n) (by s.seen.taken refl)
+    (unreceived setting earlier n is.0 two.1)
   where
     two : (same_number (message_of s.seen.event) n ≡ false) × (was_used earlier n ≡ false)
     two = or_parts (same_number (message_of s.seen.event) n) (was_used earlier n) unused
 
     by : (o : Option Flight) → s.seen.taken ≡ o → of_some o false (λ f. nat_eq f.number n) ≡ false
     by None none = refl
-    by (Some f) some = sym (ap (λ (m : Option ℕ). same_number m n) (taken_is earlier s.seen.event f (sym (step_takes setting s earlier is) ∙ some)).message) ∙ two.0
+    by (Some f) some = sym (ap (λ (m : Option ℕ). same_number m n) (taken_is earlier s.seen.event f (sym (step_takes setting s earlier is) ∙ some)).message)
+        ∙ two.0
 
 on_the_way : (setting : Setting) (s : Step) (earlier : List Step) → AreSteps setting (s ∷ earlier) → ForSome s.seen.taken (IsOnTheWay (seen_of earlier))
 on_the_way setting s earlier is f takes = record {
   sent = seen_sent setting earlier f is.0 (found (λ g. nat_eq g.number f.number) f (flights earlier) taken.there) (not-false f.reaches open_.1);
-  unreceived = unreceived setting earlier f.number is.0 (or_parts (was_used earlier f.number) (was_swept earlier f) (or_parts (was_used earlier f.number || was_swept earlier f) _ open_.0).0).0;
+  unreceived =
+      unreceived setting earlier f.number is.0
+      (or_parts (was_used earlier f.number) (was_swept earlier f) (or_parts (was_used earlier f.number || was_swept earlier f) _ open_.0).0).0;
 }
   where
     taken : IsTaken earlier s.seen.event f
@@ -241,12 +266,15 @@ on_the_way setting s earlier is f takes = record {
 
     unspent : is_spent earlier (reference_of s.seen.event) f ≡ false
     unspent =
-        sym (ap (λ (o : Option ℕ). of_some o false (λ n. of_some (flight_numbered earlier n) false (is_spent earlier (reference_of s.seen.event)))) taken.message
+        sym (ap (λ (o : Option ℕ). of_some o false (λ n. of_some (flight_numbered earlier n) false (is_spent earlier (reference_of s.seen.event))))
+        taken.message
         ∙ ap (λ (o : Option Flight). of_some o false (is_spent earlier (reference_of s.seen.event))) taken.there)
         ∙ none_holds (causes setting earlier s.seen.event) _ is.1 (later (later (later (later (later first)))))
 
-    open_ : ((was_used earlier f.number || was_swept earlier f || nat_lt f.last (max (reference_of s.seen.event) (latest_reference (seen_of earlier)))) ≡ false) × (not f.reaches ≡ false)
-    open_ = or_parts (was_used earlier f.number || was_swept earlier f || nat_lt f.last (max (reference_of s.seen.event) (latest_reference (seen_of earlier)))) (not f.reaches) unspent
+    open_ : ((was_used earlier f.number || was_swept earlier f || nat_lt f.last (max (reference_of s.seen.event) (latest_reference (seen_of earlier)))) ≡ false)
+        × (not f.reaches ≡ false)
+    open_ = or_parts (was_used earlier f.number || was_swept earlier f || nat_lt f.last (max (reference_of s.seen.event) (latest_reference (seen_of earlier))))
+        (not f.reaches) unspent
 
 -- All of it
 
@@ -259,7 +287,8 @@ can_follow setting s earlier is = record {
   sent = sent setting s earlier is;
   numbers =
       subst (λ (fs : List Flight). ascends (last_sent (seen_of earlier) ∷ map (λ f. f.number) fs) ≡ true) (sym (reach setting s earlier is))
-      (kept_ascend (λ f. f.reaches) (last_sent (seen_of earlier)) (flight_count earlier + 1) s.sent (step_numbered setting s earlier is) (omega (arith, last_low setting earlier is.0)));
+      (kept_ascend (λ f. f.reaches) (last_sent (seen_of earlier)) (flight_count earlier + 1) s.sent (step_numbered setting s earlier is)
+      (omega (arith, last_low setting earlier is.0)));
   taken = on_the_way setting s earlier is;
 }
 

@@ -2,22 +2,25 @@
 use Rattle.std.proofs.Common.{◌≡◌, ◌+◌, Bool, true, false, List, ◌∷◌, length, refl, sym, ap, subst}
 use Rattle.std.specs.Prelude.{if◌then◌else◌}
 use Rattle.sd_history.specs.World.{Setting, Seen}
-use Rattle.sd_world.specs.Registers.{Registers, registers_after, registers_closed}
-use Rattle.sd_world.specs.Standing.{Stands}
-use Rattle.sd_world.proofs.Slots.{length_devices, length_links}
-use Rattle.sd_world.proofs.Keeping.{stands_after, stands_closed}
+use Rattle.sd_fleet_state.specs.world.Registers.{Registers, registers_after, registers_closed}
+use Rattle.sd_fleet_state.specs.world.Standing.{Stands}
+use Rattle.sd_fleet_state.proofs.world.Slots.{length_devices, length_links}
+use Rattle.sd_fleet_state.proofs.world.Keeping.{stands_after, stands_closed}
 use Rattle.sd_premise.specs.Worlds.{world_after}
 
-pub world_stands : (r : Registers) (setting : Setting) (s : Seen) (earlier : List Seen) → Stands r setting earlier → Stands (world_after r s) setting (s ∷ earlier)
+pub world_stands : (r : Registers) (setting : Setting) (s : Seen) (earlier : List Seen) → Stands r setting earlier
+    → Stands (world_after r s) setting (s ∷ earlier)
 world_stands r setting s earlier stands = by s.closed refl
   where
     same : (b : Bool) → s.closed ≡ b → record s { closed = b } ≡ s
     same b is = ap (λ (c : Bool). record s { closed = c }) (sym is)
 
-    by : (closed : Bool) → s.closed ≡ closed → Stands (if closed then registers_closed (registers_after r s.event) else registers_after r s.event) setting (s ∷ earlier)
+    by : (closed : Bool) → s.closed ≡ closed
+        → Stands (if closed then registers_closed (registers_after r s.event) else registers_after r s.event) setting (s ∷ earlier)
     by true closes =
         subst (λ (x : Seen). Stands (registers_closed (registers_after r s.event)) setting (x ∷ earlier)) (same true closes)
-        (stands_closed (registers_after r s.event) setting earlier (record s { closed = false }) refl (stands_after r setting earlier (record s { closed = false }) refl stands))
+        (stands_closed (registers_after r s.event) setting earlier (record s { closed = false }) refl
+        (stands_after r setting earlier (record s { closed = false }) refl stands))
     by false stays = stands_after r setting earlier s stays stands
 
 -- by whether the window closes
@@ -38,7 +41,8 @@ world_devices r s = by s.closed
 pub world_links : (r : Registers) (s : Seen) → length (world_after r s).failed_links ≡ length r.failed_links
 world_links r s = by s.closed
   where
-    by : (closed : Bool) → length (if closed then registers_closed (registers_after r s.event) else registers_after r s.event).failed_links ≡ length r.failed_links
+    by : (closed : Bool)
+        → length (if closed then registers_closed (registers_after r s.event) else registers_after r s.event).failed_links ≡ length r.failed_links
     by true = length_links s.event r.failed_links
     by false = length_links s.event r.failed_links
 

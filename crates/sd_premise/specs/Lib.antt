@@ -2,3 +2,5 @@
 pub mod Order
 pub mod Worlds
 pub mod Standing
+-- Handed on: what crates above name of those below.
+pub use Rattle.sd_fleet_state.specs as FleetState

@@ -8,7 +8,7 @@ use Rattle.sd_sched.specs.Events.{reference_of, is_commit}
 use Rattle.sd_history.specs.World.{Setting, Seen, has_commit}
 use Rattle.sd_history.specs.Refusals.{may_be_seen}
 use Rattle.sd_history.specs.Premises.{flights, was_received}
-use Rattle.sd_premise_rounds.specs.Order.{last_sent}
+use Rattle.sd_premise_loss.specs.rounds.Order.{last_sent}
 
 -- a flight that is sent at the reference: it is due when the greatest delay of its direction has passed, and is purged when twice that has
 pub record IsSentAt (setting : Setting) (reference : ℕ) (f : Flight) : Type 0 where

@@ -5,16 +5,15 @@ use Rattle.sd_topo.specs.Network.{Network}
 use Rattle.sd_topo.specs.Topologies.{network}
 use Rattle.sd_history.specs.World.{Setting, Seen}
 use Rattle.sd_history.specs.Premises.{broken_in}
-use Rattle.sd_roster.specs.Plans.{AreSound}
-use Rattle.sd_world.specs.Registers.{HasNamed}
-use Rattle.sd_world.specs.Standing.{Stands}
-use Rattle.sd_premise_clocks.specs.Memberships.{AreMembers}
+use Rattle.sd_fleet_state.specs.membership.Plans.{AreSound}
+use Rattle.sd_fleet_state.specs.world.Registers.{HasNamed}
+use Rattle.sd_fleet_state.specs.world.Standing.{Stands}
+use Rattle.sd_premise_clocks.specs.Memberships.{AreMembers, ArePresent}
 use Rattle.sd_premise_clocks.specs.Starts.{StartStands}
 use Rattle.sd_premise_clocks.specs.Drifts.{DriftStands}
 use Rattle.sd_premise_clocks.specs.Delays.{DelayStands}
 use Rattle.sd_premise_clocks.specs.Tickings.{TickStands}
-use Rattle.sd_premise_rounds.specs.Standing as rounds
-use Rattle.sd_premise_renewal.specs.Links.{ArePresent}
+use Rattle.sd_premise_loss.specs.rounds.Standing as rounds
 use Rattle.sd_premise_renewal.specs.Domains.{DomainStands}
 use Rattle.sd_premise_renewal.specs.Renewals.{RenewalStands}
 use Rattle.sd_premise.specs.Order.{ComesInOrder}

@@ -2,25 +2,23 @@
 ghost use Rattle.std.specs.Prelude.{◌≡◌, [], IfOk};
 ghost use Rattle.sd_topo.specs.Topologies.{network};
 ghost use Rattle.sd_history.specs.World.{Setting};
-ghost use Rattle.sd_roster.specs.Plans.{AreSound};
-ghost use Rattle.sd_world.specs.Standing.{Stands};
-ghost use Rattle.sd_premise_clocks.specs.Memberships.{AreMembers};
-ghost use Rattle.sd_premise_renewal.specs.Links.{ArePresent};
+ghost use Rattle.sd_fleet_state.specs.membership.Plans.{AreSound};
+ghost use Rattle.sd_fleet_state.specs.world.Standing.{Stands};
+ghost use Rattle.sd_premise_clocks.specs.Memberships.{AreMembers, ArePresent};
 
+use sd_fleet_state::world::World;
 use sd_num::NoMemory;
 use sd_plan::Plan;
-use sd_premise_clocks::Members;
-use sd_premise_renewal::PresentLinks;
+use sd_premise_clocks::PresentRows;
 use sd_topo::Topology;
-use sd_world::World;
 use std::alloc::Global;
 
 /// What the monitors ask: the topology, what the plans say of it, and the world in registers.
 #[derive(Drop)]
 pub(crate) struct Ground {
     pub(crate) topology: Topology,
-    pub(crate) members: Members,
-    pub(crate) links: PresentLinks,
+    pub(crate) members: PresentRows,
+    pub(crate) links: PresentRows,
     pub(crate) world: World,
 }
 
@@ -30,14 +28,16 @@ impl Ground {
         requires sound { AreSound (network topo.now) plans.now }
         ensures network { IfOk result (λ ground. network ground.topology ≡ network topo.now) }
         ensures members { IfOk result (λ ground. (setting : Setting)
-            → setting.net ≡ network topo.now → setting.plans ≡ plans.now → AreMembers setting ground.members) }
+            → setting.net ≡ network topo.now → setting.plans ≡ plans.now
+            → AreMembers setting ground.members) }
         ensures links { IfOk result (λ ground. (setting : Setting)
-            → setting.net ≡ network topo.now → setting.plans ≡ plans.now → ArePresent setting ground.links) }
+            → setting.net ≡ network topo.now → setting.plans ≡ plans.now
+            → ArePresent setting ground.links) }
         ensures world { IfOk result (λ ground. (setting : Setting)
             → setting.net ≡ network topo.now → Stands ground.world setting []) }
     {
-        let members = Members::new(alloc, topo, plans)?;
-        let links = PresentLinks::new(alloc, topo, plans)?;
+        let members = PresentRows::of_devices(alloc, topo, plans)?;
+        let links = PresentRows::of_links(alloc, topo, plans)?;
         let world = World::new(alloc, topo.devices(), topo.links())?;
         // Last, since each exit after it would drop it: it is the largest.
         let topology = topo.copy(alloc)?;

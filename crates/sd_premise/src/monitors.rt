@@ -1,20 +1,20 @@
 //! The monitors that take memory.
 ghost use Rattle.std.specs.Prelude.{◌≡◌, [], length, IfOk};
 ghost use Rattle.sd_topo.specs.Topologies.{network};
-ghost use Rattle.sd_domain.specs.Failing.{HasRoomFor};
+ghost use Rattle.sd_plan.specs.Domain.Failing.{HasRoomFor};
 ghost use Rattle.sd_history.specs.World.{Setting};
 ghost use Rattle.sd_premise_clocks.specs.Memberships.{AreMembers};
 ghost use Rattle.sd_premise_clocks.specs.Drifts.{DriftStands};
 ghost use Rattle.sd_premise_clocks.specs.Tickings.{TickStands};
-ghost use Rattle.sd_premise_rounds.specs.Standing as rounds;
+ghost use Rattle.sd_premise_loss.specs.rounds.Standing as rounds;
 ghost use Rattle.sd_premise_renewal.specs.Domains.{DomainStands};
 ghost use Rattle.sd_premise_renewal.specs.Progressing.{HasDevices};
 ghost use Rattle.sd_premise_renewal.specs.Renewals.{RenewalStands};
 
 use sd_num::NoMemory;
-use sd_premise_clocks::{DriftMonitor, Members, TickMonitor};
+use sd_premise_clocks::{DriftMonitor, PresentRows, TickMonitor};
+use sd_premise_loss::rounds::Rounds;
 use sd_premise_renewal::{DomainMonitor, RenewalMonitor};
-use sd_premise_rounds::Rounds;
 use sd_topo::Topology;
 use std::alloc::Global;
 
@@ -33,19 +33,26 @@ impl Monitors {
     pub(crate) fn new(
         alloc: Global,
         topo: &Topology,
-        members: &Members,
+        members: &PresentRows,
     ) -> Result<Monitors, NoMemory>
-        ensures drift_devices { IfOk result (λ monitors. length monitors.drift.lives ≡ length (network topo.now).devices) }
-        ensures tick_devices { IfOk result (λ monitors. length monitors.tick.owed ≡ length (network topo.now).devices) }
+        ensures drift_devices { IfOk result (λ monitors. length monitors.drift.lives
+            ≡ length (network topo.now).devices) }
+        ensures tick_devices { IfOk result (λ monitors. length monitors.tick.owed
+            ≡ length (network topo.now).devices) }
         ensures domain_room { IfOk result (λ monitors. HasRoomFor (network topo.now) monitors.domain.failed) }
-        ensures renew_devices { IfOk result (λ monitors. HasDevices (length (network topo.now).devices) monitors.renew.progress) }
+        ensures renew_devices { IfOk result
+            (λ monitors. HasDevices (length (network topo.now).devices) monitors.renew.progress) }
         ensures renew_windows { IfOk result (λ monitors. monitors.renew.progress.windows ≡ 0) }
-        ensures drift { IfOk result (λ monitors. (setting : Setting) → setting.net ≡ network topo.now → DriftStands setting monitors.drift []) }
+        ensures drift { IfOk result (λ monitors. (setting : Setting) → setting.net ≡ network topo.now
+            → DriftStands setting monitors.drift []) }
         ensures tick { IfOk result (λ monitors. (setting : Setting) → setting.net ≡ network topo.now
             → AreMembers setting members.now → TickStands setting monitors.tick []) }
-        ensures loss { IfOk result (λ monitors. (setting : Setting) → setting.net ≡ network topo.now → rounds.StandsFor monitors.loss setting []) }
-        ensures domain { IfOk result (λ monitors. (setting : Setting) → setting.net ≡ network topo.now → DomainStands setting monitors.domain []) }
-        ensures renew { IfOk result (λ monitors. (setting : Setting) → setting.net ≡ network topo.now → RenewalStands setting monitors.renew []) }
+        ensures loss { IfOk result (λ monitors. (setting : Setting) → setting.net ≡ network topo.now
+            → rounds.StandsFor monitors.loss setting []) }
+        ensures domain { IfOk result (λ monitors. (setting : Setting) → setting.net ≡ network topo.now
+            → DomainStands setting monitors.domain []) }
+        ensures renew { IfOk result (λ monitors. (setting : Setting) → setting.net ≡ network topo.now
+            → RenewalStands setting monitors.renew []) }
     {
         let drift = DriftMonitor::new(alloc, topo)?;
         let tick = TickMonitor::new(alloc, topo, members)?;

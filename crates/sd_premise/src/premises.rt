@@ -1,14 +1,14 @@
 //! All seven premises over one world.
 ghost use Rattle.std.specs.Prelude.{◌≡◌, true, ◌+◌, ◌-◌, ◌<◌, ◌≤◌, ◌^◌, ◌∷◌, [], List, length, OnOk, IfOk};
 ghost use Rattle.sd_topo.specs.Topologies.{network};
-ghost use Rattle.sd_domain.specs.Failing.{HasRoomFor};
+ghost use Rattle.sd_plan.specs.Domain.Failing.{HasRoomFor};
 ghost use Rattle.sd_history.specs.Premises.{breaks, broken_in};
 ghost use Rattle.sd_history.specs.World.{Setting, Seen as Sight};
-ghost use Rattle.sd_roster.specs.Plans.{AreSound};
-ghost use Rattle.sd_world.specs.Registers.{HasNamed};
-ghost use Rattle.sd_world.specs.Standing.{Stands};
+ghost use Rattle.sd_fleet_state.specs.membership.Plans.{AreSound};
+ghost use Rattle.sd_fleet_state.specs.world.Registers.{HasNamed};
+ghost use Rattle.sd_fleet_state.specs.world.Standing.{Stands};
 ghost use Rattle.sd_premise_clocks.specs.Sights.{sight_of};
-ghost use Rattle.sd_premise_rounds.specs.Loss.{number_taken};
+ghost use Rattle.sd_premise_loss.specs.rounds.Loss.{number_taken};
 ghost use Rattle.sd_premise_renewal.specs.Progressing.{HasDevices};
 ghost use Rattle.sd_premise.specs.Order.{CanFollow};
 ghost use Rattle.sd_premise.specs.Worlds.{world_after};
@@ -19,14 +19,14 @@ mod tests;
 use crate::ground::Ground;
 use crate::monitors::Monitors;
 use crate::sets::{NONE_BROKEN, newly_broken};
+use sd_fleet_state::world::World;
 use sd_history::BrokenSet;
 use sd_num::NoMemory;
 use sd_plan::Plan;
-use sd_premise_clocks::{DelayMonitor, DriftMonitor, Members, Seen, StartMonitor, TickMonitor};
-use sd_premise_renewal::{DomainMonitor, Moment, PresentLinks, RenewalMonitor};
-use sd_premise_rounds::Rounds;
+use sd_premise_clocks::{DelayMonitor, DriftMonitor, PresentRows, Seen, StartMonitor, TickMonitor};
+use sd_premise_loss::rounds::Rounds;
+use sd_premise_renewal::{DomainMonitor, Moment, RenewalMonitor};
 use sd_topo::Topology;
-use sd_world::World;
 use std::alloc::Global;
 
 /// Judges the seven premises event by event. It keeps what later events can ask for: the world in
@@ -34,8 +34,8 @@ use std::alloc::Global;
 #[derive(Drop)]
 pub struct Premises {
     topology: Topology,
-    members: Members,
-    links: PresentLinks,
+    members: PresentRows,
+    links: PresentRows,
     world: World,
     start: StartMonitor,
     drift: DriftMonitor,
@@ -90,7 +90,8 @@ impl Premises {
         requires sound { AreSound (network topo.now) plans.now }
         ensures network { IfOk result (λ premises. net_of premises ≡ network topo.now) }
         ensures stands { IfOk result (λ premises. (setting : Setting)
-            → setting.net ≡ network topo.now → setting.plans ≡ plans.now → StandsFor premises setting []) }
+            → setting.net ≡ network topo.now → setting.plans ≡ plans.now
+            → StandsFor premises setting []) }
     {
         let ground = Ground::new(alloc, topo, plans)?;
         let monitors = Monitors::new(alloc, topo, &ground.members)?;
@@ -116,7 +117,8 @@ impl Premises {
         ensures grows { room_of self.old ≤ room_of self.new }
         ensures world { self.new.world ≡ self.old.world }
         ensures network { net_of self.new ≡ net_of self.old }
-        ensures stands { (setting : Setting) (seen : List Sight) → StandsFor self.old setting seen → StandsFor self.new setting seen }
+        ensures stands { (setting : Setting) (seen : List Sight) → StandsFor self.old setting seen
+            → StandsFor self.new setting seen }
     {
         self.loss.ready(alloc, sent)
     }
@@ -125,10 +127,14 @@ impl Premises {
     /// before and does not hold with this one. It takes no memory.
     pub fn observe(&mut self, seen: &Seen<'_>) -> BrokenSet
         requires { CanObserve self.old (sight_of seen.now) }
-        ensures stands { (setting : Setting) (earlier : List Sight) → CanFollow setting earlier (sight_of seen.now)
-            → StandsFor self.old setting earlier → StandsFor self.new setting (sight_of seen.now ∷ earlier) }
-        ensures breaks { (setting : Setting) (earlier : List Sight) → CanFollow setting earlier (sight_of seen.now)
-            → StandsFor self.old setting earlier → result ≡ breaks setting (sight_of seen.now ∷ earlier) }
+        ensures stands { (setting : Setting) (earlier : List Sight)
+            → CanFollow setting earlier (sight_of seen.now)
+            → StandsFor self.old setting earlier
+            → StandsFor self.new setting (sight_of seen.now ∷ earlier) }
+        ensures breaks { (setting : Setting) (earlier : List Sight)
+            → CanFollow setting earlier (sight_of seen.now)
+            → StandsFor self.old setting earlier
+            → result ≡ breaks setting (sight_of seen.now ∷ earlier) }
         ensures room { room_of self.old ≤ room_of self.new + length seen.now.sent.now }
         ensures world { self.new.world ≡ world_after self.old.world (sight_of seen.now) }
         ensures network { net_of self.new ≡ net_of self.old }
@@ -159,7 +165,8 @@ impl Premises {
 
     /// Which premises are broken so far.
     pub fn broken(&self) -> BrokenSet
-        ensures { (setting : Setting) (seen : List Sight) → StandsFor self.now setting seen → result ≡ broken_in setting seen }
+        ensures { (setting : Setting) (seen : List Sight) → StandsFor self.now setting seen
+            → result ≡ broken_in setting seen }
     {
         self.broken
     }

@@ -88,7 +88,8 @@ rule_of_life rates x ppm_fits t_fits c_fits (r ∷ rs) after =
     ∙ ap (λ (t : Bool). keeps rates x r && t) (rule_of_life rates x ppm_fits t_fits c_fits rs parts.1)
 
 -- as the code has it, of offsets that are those of the reading
-pub rule_at : (rates : Rates) (x : ℕ × ℕ) (y : Offsets) → rates.ppm < 2 ^ 32 → x.0 < 2 ^ 64 → x.1 < 2 ^ 64 → y ≡ offsets_at rates.ppm x → (readings : List (ℕ × ℕ))
+pub rule_at : (rates : Rates) (x : ℕ × ℕ) (y : Offsets) → rates.ppm < 2 ^ 32 → x.0 < 2 ^ 64 → x.1 < 2 ^ 64 → y ≡ offsets_at rates.ppm x
+    → (readings : List (ℕ × ℕ))
     → is_after_each readings x ≡ true → are_within rates.grain (least_offsets rates.ppm readings) y ≡ keeps_rates_with rates readings x
 rule_at rates x y ppm_fits t_fits c_fits same readings after =
     ap (are_within rates.grain (least_offsets rates.ppm readings)) same ∙ rule_of_life rates x ppm_fits t_fits c_fits readings after

@@ -8,9 +8,9 @@ use Rattle.sd_num.proofs.Places.{at_written, at_unwritten}
 use Rattle.sd_num.specs.declared.Rates.{Rates}
 use Rattle.sd_topo.specs.Network.{rates_of}
 use Rattle.sd_sched.specs.Events.{reference_of}
-use Rattle.sd_history.specs.World.{Setting, Seen, latest_reference, latest_reading}
-use Rattle.sd_history.specs.Premises.{readings, reads_honestly, drift_holds}
-use Rattle.sd_history.specs.Refusals.{makes_some, may_be_seen}
+use Rattle.sd_fleet_state.specs.History.World.{Setting, Seen, latest_reference, latest_reading}
+use Rattle.sd_fleet_state.specs.History.Premises.{readings, reads_honestly, drift_holds}
+use Rattle.sd_fleet_state.specs.History.Refusals.{makes_some, may_be_seen}
 use Rattle.sd_premise_clocks.specs.declared.offsets.Reading.{Reading}
 use Rattle.sd_premise_clocks.specs.declared.offsets.Offsets.{Offsets}
 use Rattle.sd_premise_clocks.specs.Readings.{pair_of, keeps_rates_with, is_after_each, no_offsets, offsets_at, lesser, are_within, least_offsets}
@@ -31,17 +31,20 @@ after_more xs t c t' c' time counter after =
 
 -- An event that is no reading
 
-pub stands_unread : (setting : Setting) (kept : DriftKept) (earlier : List Seen) (s : Seen) → reading_of s.event ≡ None → DriftStands setting kept earlier → may_be_seen setting earlier s.event ≡ true
+pub stands_unread : (setting : Setting) (kept : DriftKept) (earlier : List Seen) (s : Seen) → reading_of s.event ≡ None → DriftStands setting kept earlier
+    → may_be_seen setting earlier s.event ≡ true
     → DriftStands setting kept (s ∷ earlier)
 stands_unread setting kept earlier s unread stands may = record {
-  holds = stands.holds ∙ sym (ap (λ (b : Bool). drift_holds setting earlier && b) (honest_unread setting s earlier unread) ∙ and_true (drift_holds setting earlier));
+  holds = stands.holds
+      ∙ sym (ap (λ (b : Bool). drift_holds setting earlier && b) (honest_unread setting s earlier unread) ∙ and_true (drift_holds setting earlier));
   devices = stands.devices;
   lives = λ d life at. stands.lives d life at ∙ ap (least_offsets (rates_of setting.net d).ppm) (sym (readings_unread s earlier d unread));
   in_order = λ d.
       (let rises : latest_reference earlier ≤ reference_of s.event = time_rises setting earlier s.event may in
       let same : latest_reading (s ∷ earlier) d ≡ latest_reading earlier d = latest_unread s earlier d unread in
       subst (λ (xs : List (ℕ × ℕ)). is_after_each xs (reference_of s.event, latest_reading (s ∷ earlier) d) ≡ true) (sym (readings_unread s earlier d unread))
-      (after_more (readings earlier d) (latest_reference earlier) (latest_reading earlier d) (reference_of s.event) (latest_reading (s ∷ earlier) d) rises (omega arith) (stands.in_order d)));
+      (after_more (readings earlier d) (latest_reference earlier) (latest_reading earlier d) (reference_of s.event) (latest_reading (s ∷ earlier) d) rises
+      (omega arith) (stands.in_order d)));
 }
   where
     and_true : (b : Bool) → (b && true) ≡ b
@@ -55,7 +58,8 @@ abbrev pub past_of : List Seen → Seen → ℕ → List (ℕ × ℕ)
 past_of earlier s d = cond (makes_some s.event) [] (readings earlier d)
 
 -- they lie before it
-past_before : (setting : Setting) (kept : DriftKept) (earlier : List Seen) (s : Seen) (d : ℕ) (r : Reading) → Reads s.event d r → DriftStands setting kept earlier → may_be_seen setting earlier s.event ≡ true
+past_before : (setting : Setting) (kept : DriftKept) (earlier : List Seen) (s : Seen) (d : ℕ) (r : Reading) → Reads s.event d r
+    → DriftStands setting kept earlier → may_be_seen setting earlier s.event ≡ true
     → is_after_each (past_of earlier s d) (pair_of r) ≡ true
 past_before setting kept earlier s d r read stands may = by (makes_some s.event) refl
   where
@@ -82,7 +86,9 @@ judged_here : (setting : Setting) (earlier : List Seen) (s : Seen) (d : ℕ) (r 
     → reads_honestly setting s earlier ≡ keeps_rates_with (rates_of setting.net d) (past_of earlier s d) (pair_of r)
 judged_here setting earlier s d r read = honest_here setting s earlier d r read ∙ by (makes_some s.event)
   where
-    by : (b : Bool) → (b || keeps_rates_with (rates_of setting.net d) (readings earlier d) (pair_of r)) ≡ keeps_rates_with (rates_of setting.net d) (cond b [] (readings earlier d)) (pair_of r)
+    by : (b : Bool)
+        → (b || keeps_rates_with (rates_of setting.net d) (readings earlier d) (pair_of r))
+        ≡ keeps_rates_with (rates_of setting.net d) (cond b [] (readings earlier d)) (pair_of r)
     by true = refl
     by false = refl
 
@@ -92,24 +98,31 @@ pub record TakesIn (rates : Rates) (s : Seen) (d : ℕ) (r : Reading) (before of
   pub begun : begins ≡ true → before ≡ no_offsets
   pub held : begins ≡ false → slice_get old.lives d ≡ Some before
   pub offsets_are : offsets ≡ offsets_at rates.ppm (pair_of r)
-  pub judged : (xs : List (ℕ × ℕ)) → is_after_each xs (pair_of r) ≡ true → are_within rates.grain (least_offsets rates.ppm xs) offsets ≡ keeps_rates_with rates xs (pair_of r)
+  pub judged : (xs : List (ℕ × ℕ)) → is_after_each xs (pair_of r) ≡ true
+      → are_within rates.grain (least_offsets rates.ppm xs) offsets ≡ keeps_rates_with rates xs (pair_of r)
   pub holds : new.holds ≡ (old.holds && are_within rates.grain before offsets)
   pub lives : new.lives ≡ set old.lives d (lesser before offsets)
   pub within : d < length old.lives
 
-pub stands_reading : (setting : Setting) (rates : Rates) (s : Seen) (d : ℕ) (r : Reading) (before offsets : Offsets) (begins : Bool) (old new : DriftKept) (earlier : List Seen)
-    → Reads s.event d r → rates ≡ rates_of setting.net d → TakesIn rates s d r before offsets begins old new → DriftStands setting old earlier → may_be_seen setting earlier s.event ≡ true
+pub stands_reading : (setting : Setting) (rates : Rates) (s : Seen) (d : ℕ) (r : Reading) (before offsets : Offsets) (begins : Bool) (old new : DriftKept)
+    (earlier : List Seen)
+    → Reads s.event d r → rates ≡ rates_of setting.net d → TakesIn rates s d r before offsets begins old new → DriftStands setting old earlier
+    → may_be_seen setting earlier s.event ≡ true
     → DriftStands setting new (s ∷ earlier)
 stands_reading setting rates s d r before offsets begins old new earlier read own takes_in stands may =
-    let takes : TakesIn (rates_of setting.net d) s d r before offsets begins old new = subst (λ (own : Rates). TakesIn own s d r before offsets begins old new) own takes_in in
-    let life : before ≡ least_offsets (rates_of setting.net d).ppm (past_of earlier s d) = past_life setting old earlier s d begins before takes.begins_life takes.begun takes.held stands in
+    let takes : TakesIn (rates_of setting.net d) s d r before offsets begins old new =
+    subst (λ (own : Rates). TakesIn own s d r before offsets begins old new) own takes_in in
+    let life : before ≡ least_offsets (rates_of setting.net d).ppm (past_of earlier s d) =
+    past_life setting old earlier s d begins before takes.begins_life takes.begun takes.held stands in
     let first : is_after_each (past_of earlier s d) (pair_of r) ≡ true = past_before setting old earlier s d r read stands may in
     record {
       holds = takes.holds ∙ ap (λ (b : Bool). b && are_within (rates_of setting.net d).grain before offsets) stands.holds
-          ∙ ap (λ (b : Bool). drift_holds setting earlier && b) (ap (λ (o : Offsets). are_within (rates_of setting.net d).grain o offsets) life ∙ takes.judged (past_of earlier s d) first
+          ∙ ap (λ (b : Bool). drift_holds setting earlier && b)
+          (ap (λ (o : Offsets). are_within (rates_of setting.net d).grain o offsets) life ∙ takes.judged (past_of earlier s d) first
           ∙ sym (judged_here setting earlier s d r read));
       devices = ap length takes.lives ∙ length-set old.lives d (lesser before offsets) ∙ stands.devices;
-      lives = λ x kept at. lives_at x kept takes.within (grown takes.offsets_are life) (ap (λ (ls : List Offsets). slice_get ls x) (sym takes.lives) ∙ at) (cases_eq x d);
+      lives = λ x kept at. lives_at x kept takes.within (grown takes.offsets_are life) (ap (λ (ls : List Offsets). slice_get ls x) (sym takes.lives) ∙ at)
+          (cases_eq x d);
       in_order = λ x. order_at x first (cases_eq x d);
     }
   where
@@ -122,10 +135,13 @@ stands_reading setting rates s d r before offsets begins old new earlier read ow
         ∙ ap (least_offsets (rates_of setting.net d).ppm) (sym (readings_here s earlier d r read))
 
     lives_at : (x : ℕ) (kept : Offsets) → d < length old.lives → lesser before offsets ≡ least_offsets (rates_of setting.net d).ppm (readings (s ∷ earlier) d)
-        → slice_get (set old.lives d (lesser before offsets)) x ≡ Some kept → (x ≡ d) ⊎ (x ≡ d → ⊥) → kept ≡ least_offsets (rates_of setting.net x).ppm (readings (s ∷ earlier) x)
+        → slice_get (set old.lives d (lesser before offsets)) x ≡ Some kept → (x ≡ d) ⊎ (x ≡ d → ⊥)
+        → kept ≡ least_offsets (rates_of setting.net x).ppm (readings (s ∷ earlier) x)
     lives_at x kept within grown at (inl same) =
-        let at_d : slice_get (set old.lives d (lesser before offsets)) d ≡ Some kept = ap (slice_get (set old.lives d (lesser before offsets))) (sym same) ∙ at in
-        let is_after : lesser before offsets ≡ kept = same_Some (lesser before offsets) kept (sym (at_written old.lives d (lesser before offsets) within) ∙ at_d) in
+        let at_d : slice_get (set old.lives d (lesser before offsets)) d ≡ Some kept =
+        ap (slice_get (set old.lives d (lesser before offsets))) (sym same) ∙ at in
+        let is_after : lesser before offsets ≡ kept =
+        same_Some (lesser before offsets) kept (sym (at_written old.lives d (lesser before offsets) within) ∙ at_d) in
         sym is_after ∙ grown ∙ ap (λ (k : ℕ). least_offsets (rates_of setting.net k).ppm (readings (s ∷ earlier) k)) (sym same)
     lives_at x kept within grown at (inr other) =
         stands.lives x kept (sym (at_unwritten old.lives d x (lesser before offsets) other) ∙ at)
@@ -136,7 +152,8 @@ stands_reading setting rates s d r before offsets begins old new earlier read ow
     order_at x first (inl same) =
         let here : is_after_each (pair_of r ∷ past_of earlier s d) (r.reference, r.counter) ≡ true =
         and_from (nat_le r.reference r.reference && nat_le r.counter r.counter) (is_after_each (past_of earlier s d) (pair_of r))
-        (and_from (nat_le r.reference r.reference) (nat_le r.counter r.counter) (le-leb r.reference r.reference (omega arith)) (le-leb r.counter r.counter (omega arith))) first in
+        (and_from (nat_le r.reference r.reference) (nat_le r.counter r.counter) (le-leb r.reference r.reference (omega arith))
+        (le-leb r.counter r.counter (omega arith))) first in
         subst (λ (k : ℕ). is_after_each (readings (s ∷ earlier) k) (reference_of s.event, latest_reading (s ∷ earlier) k) ≡ true) (sym same)
         (subst (λ (c : ℕ). is_after_each (readings (s ∷ earlier) d) (reference_of s.event, c) ≡ true) (sym (latest_here s earlier d r read))
         (subst (λ (t : ℕ). is_after_each (readings (s ∷ earlier) d) (t, r.counter) ≡ true) (sym read.reference)
@@ -145,5 +162,7 @@ stands_reading setting rates s d r before offsets begins old new earlier read ow
         let rises : latest_reference earlier ≤ reference_of s.event = time_rises setting earlier s.event may in
         let apart : d ≢ x = λ e. other (sym e) in
         let same : latest_reading (s ∷ earlier) x ≡ latest_reading earlier x = latest_elsewhere s earlier d x r read apart in
-        subst (λ (xs : List (ℕ × ℕ)). is_after_each xs (reference_of s.event, latest_reading (s ∷ earlier) x) ≡ true) (sym (readings_elsewhere s earlier d x r read apart))
-        (after_more (readings earlier x) (latest_reference earlier) (latest_reading earlier x) (reference_of s.event) (latest_reading (s ∷ earlier) x) rises (omega arith) (stands.in_order x))
+        subst (λ (xs : List (ℕ × ℕ)). is_after_each xs (reference_of s.event, latest_reading (s ∷ earlier) x) ≡ true)
+        (sym (readings_elsewhere s earlier d x r read apart))
+        (after_more (readings earlier x) (latest_reference earlier) (latest_reading earlier x) (reference_of s.event) (latest_reading (s ∷ earlier) x) rises
+        (omega arith) (stands.in_order x))

@@ -12,8 +12,8 @@ use Rattle.sd_topo.specs.Network.{device_numbers}
 use Rattle.sd_topo.specs.declared.Thing.TheVariants as thing
 use Rattle.sd_plan.specs.Plans.{is_member, members}
 use Rattle.sd_sched.specs.Events.{reference_of}
-use Rattle.sd_history.specs.World.{Setting, Seen, makes, fails, is_up, was_made, has_ever_failed, is_untouched, plan_numbered}
-use Rattle.sd_history.specs.Premises.{latest_tick, is_current_member, first_reference, ticks_in_time}
+use Rattle.sd_fleet_state.specs.History.World.{Setting, Seen, makes, fails, is_up, was_made, has_ever_failed, is_untouched, plan_numbered}
+use Rattle.sd_fleet_state.specs.History.Premises.{latest_tick, is_current_member, first_reference, ticks_in_time}
 use Rattle.sd_premise_clocks.specs.Owing.{is_awaited, first_of, owed_at}
 use Rattle.sd_premise_clocks.specs.Tickings.{AreOwed}
 
@@ -32,13 +32,15 @@ pub from_each_below : (test : ℕ → Bool) (n : ℕ) → ((d : ℕ) → d < n �
 from_each_below test zero each = refl
 from_each_below test (suc n) each =
     list_all-append test (below n) (n ∷ [])
-    ∙ and_from (list_all test (below n)) (test n && true) (from_each_below test n (λ d within. each d (omega arith))) (and_from (test n) true (each n (omega arith)) refl)
+    ∙ and_from (list_all test (below n)) (test n && true) (from_each_below test n (λ d within. each d (omega arith)))
+    (and_from (test n) true (each n (omega arith)) refl)
 
 pub all_filter : (test keep : ℕ → Bool) (xs : List ℕ) → list_all test (filter keep xs) ≡ list_all (λ x. not (keep x) || test x) xs
 all_filter test keep [] = refl
 all_filter test keep (x ∷ xs) = by (keep x) (all_filter test keep xs)
   where
-    by : (b : Bool) → list_all test (filter keep xs) ≡ list_all (λ x. not (keep x) || test x) xs → list_all test (cond b (x ∷ filter keep xs) (filter keep xs)) ≡ ((not b || test x) && list_all (λ x. not (keep x) || test x) xs)
+    by : (b : Bool) → list_all test (filter keep xs) ≡ list_all (λ x. not (keep x) || test x) xs
+        → list_all test (cond b (x ∷ filter keep xs) (filter keep xs)) ≡ ((not b || test x) && list_all (λ x. not (keep x) || test x) xs)
     by true rest = ap (λ (b : Bool). test x && b) rest
     by false rest = rest
 
@@ -59,7 +61,8 @@ untouched_down seen d untouched = by (is_up seen d) refl
   where
     by : (b : Bool) → is_up seen d ≡ b → b ≡ false
     by true up =
-        absurd (both_ways (was_made seen d) (not-true (was_made seen d) (and_parts (not (was_made seen d)) (not (has_ever_failed seen d)) untouched).0) (up_made seen d up))
+        absurd (both_ways (was_made seen d) (not-true (was_made seen d) (and_parts (not (was_made seen d)) (not (has_ever_failed seen d)) untouched).0)
+        (up_made seen d up))
     by false down = refl
 
 -- What a device owes, case by case
@@ -68,14 +71,17 @@ abbrev ticks_on : Setting → List Seen → ℕ → Bool
 ticks_on setting seen d = is_up seen d && is_current_member setting seen d
 
 owed_tick : (setting : Setting) (seen : List Seen) (d : ℕ) → ticks_on setting seen d ≡ true → owed_at setting seen d ≡ latest_tick seen d
-owed_tick setting seen d ticks = ap (λ (b : Bool). unwrap_or (cond b (Some (latest_tick seen d)) (cond (is_awaited setting seen d) (first_of seen) None)) (2 ^ 64 - 1)) ticks
+owed_tick setting seen d ticks =
+    ap (λ (b : Bool). unwrap_or (cond b (Some (latest_tick seen d)) (cond (is_awaited setting seen d) (first_of seen) None)) (2 ^ 64 - 1)) ticks
 
-owed_start : (setting : Setting) (seen : List Seen) (d : ℕ) → ticks_on setting seen d ≡ false → is_awaited setting seen d ≡ true → owed_at setting seen d ≡ unwrap_or (first_of seen) (2 ^ 64 - 1)
+owed_start : (setting : Setting) (seen : List Seen) (d : ℕ) → ticks_on setting seen d ≡ false → is_awaited setting seen d ≡ true
+    → owed_at setting seen d ≡ unwrap_or (first_of seen) (2 ^ 64 - 1)
 owed_start setting seen d ticks awaited =
     ap (λ (b : Bool). unwrap_or (cond b (Some (latest_tick seen d)) (cond (is_awaited setting seen d) (first_of seen) None)) (2 ^ 64 - 1)) ticks
     ∙ ap (λ (b : Bool). unwrap_or (cond b (first_of seen) None) (2 ^ 64 - 1)) awaited
 
-owed_never : (setting : Setting) (seen : List Seen) (d : ℕ) → ticks_on setting seen d ≡ false → is_awaited setting seen d ≡ false → owed_at setting seen d ≡ 2 ^ 64 - 1
+owed_never : (setting : Setting) (seen : List Seen) (d : ℕ) → ticks_on setting seen d ≡ false → is_awaited setting seen d ≡ false
+    → owed_at setting seen d ≡ 2 ^ 64 - 1
 owed_never setting seen d ticks awaited =
     ap (λ (b : Bool). unwrap_or (cond b (Some (latest_tick seen d)) (cond (is_awaited setting seen d) (first_of seen) None)) (2 ^ 64 - 1)) ticks
     ∙ ap (λ (b : Bool). unwrap_or (cond b (first_of seen) None) (2 ^ 64 - 1)) awaited
@@ -89,7 +95,8 @@ tick_test setting s earlier d = not (ticks_on setting earlier d) || nat_le (refe
 abbrev start_test : Setting → Seen → List Seen → ℕ → Bool
 start_test setting s earlier d = not (is_untouched earlier d) || nat_le (reference_of s.event) (first_reference earlier s + setting.net.params.tick)
 
-tick_in_time : (setting : Setting) (s : Seen) (earlier : List Seen) (d : ℕ) → reference_of s.event - setting.net.params.tick ≤ owed_at setting earlier d → tick_test setting s earlier d ≡ true
+tick_in_time : (setting : Setting) (s : Seen) (earlier : List Seen) (d : ℕ) → reference_of s.event - setting.net.params.tick ≤ owed_at setting earlier d
+    → tick_test setting s earlier d ≡ true
 tick_in_time setting s earlier d in_time = by (ticks_on setting earlier d) refl
   where
     by : (b : Bool) → ticks_on setting earlier d ≡ b → (not b || nat_le (reference_of s.event) (latest_tick earlier d + setting.net.params.tick)) ≡ true
@@ -115,7 +122,8 @@ start_in_time setting s earlier d in_time member = by (is_untouched earlier d) r
     by false untouched = refl
 
 both_in_time : (setting : Setting) (s : Seen) (earlier : List Seen) (d : ℕ) → reference_of s.event < 2 ^ 64 → tick_test setting s earlier d ≡ true
-    → (is_member (plan_numbered setting 1) d ≡ true → start_test setting s earlier d ≡ true) → reference_of s.event - setting.net.params.tick ≤ owed_at setting earlier d
+    → (is_member (plan_numbered setting 1) d ≡ true → start_test setting s earlier d ≡ true)
+    → reference_of s.event - setting.net.params.tick ≤ owed_at setting earlier d
 both_in_time setting s earlier d small ticked started = by (ticks_on setting earlier d) (is_awaited setting earlier d) refl refl
   where
     first : (earlier : List Seen) → nat_le (reference_of s.event) (first_reference earlier s + setting.net.params.tick) ≡ true
@@ -123,7 +131,8 @@ both_in_time setting s earlier d small ticked started = by (ticks_on setting ear
     first [] in_time = omega (arith, small)
     first (x ∷ earlier) in_time = omega (arith, leb-true (reference_of s.event) (first_reference earlier x + setting.net.params.tick) in_time)
 
-    by : (ticks awaited : Bool) → ticks_on setting earlier d ≡ ticks → is_awaited setting earlier d ≡ awaited → reference_of s.event - setting.net.params.tick ≤ owed_at setting earlier d
+    by : (ticks awaited : Bool) → ticks_on setting earlier d ≡ ticks → is_awaited setting earlier d ≡ awaited
+        → reference_of s.event - setting.net.params.tick ≤ owed_at setting earlier d
     by true awaited on waits =
         let test : nat_le (reference_of s.event) (latest_tick earlier d + setting.net.params.tick) ≡ true =
         sym (ap (λ (b : Bool). not b || nat_le (reference_of s.event) (latest_tick earlier d + setting.net.params.tick)) on) ∙ ticked in
@@ -143,21 +152,26 @@ InTime setting s earlier = (d : ℕ) → d < length setting.net.devices → refe
 
 holds_in_time : (setting : Setting) (s : Seen) (earlier : List Seen) → InTime setting s earlier → ticks_in_time setting s earlier ≡ true
 holds_in_time setting s earlier in_time =
-    and_from (list_all (tick_test setting s earlier) (device_numbers setting.net)) (list_all (start_test setting s earlier) (members setting.net (plan_numbered setting 1)))
+    and_from (list_all (tick_test setting s earlier) (device_numbers setting.net))
+    (list_all (start_test setting s earlier) (members setting.net (plan_numbered setting 1)))
     (from_each_below (tick_test setting s earlier) (length setting.net.devices) (λ d within. tick_in_time setting s earlier d (in_time d within)))
     (all_filter (start_test setting s earlier) (is_member (plan_numbered setting 1)) (device_numbers setting.net)
-    ∙ from_each_below (λ d. not (is_member (plan_numbered setting 1) d) || start_test setting s earlier d) (length setting.net.devices) (λ d within. one d (in_time d within)))
+    ∙ from_each_below (λ d. not (is_member (plan_numbered setting 1) d) || start_test setting s earlier d) (length setting.net.devices)
+    (λ d within. one d (in_time d within)))
   where
-    one : (d : ℕ) → reference_of s.event - setting.net.params.tick ≤ owed_at setting earlier d → (not (is_member (plan_numbered setting 1) d) || start_test setting s earlier d) ≡ true
+    one : (d : ℕ) → reference_of s.event - setting.net.params.tick ≤ owed_at setting earlier d
+        → (not (is_member (plan_numbered setting 1) d) || start_test setting s earlier d) ≡ true
     one d in_time = by (is_member (plan_numbered setting 1) d) refl
       where
         by : (b : Bool) → is_member (plan_numbered setting 1) d ≡ b → (not b || start_test setting s earlier d) ≡ true
         by true member = start_in_time setting s earlier d in_time member
         by false member = refl
 
-in_time_holds : (setting : Setting) (s : Seen) (earlier : List Seen) → reference_of s.event < 2 ^ 64 → ticks_in_time setting s earlier ≡ true → InTime setting s earlier
+in_time_holds : (setting : Setting) (s : Seen) (earlier : List Seen) → reference_of s.event < 2 ^ 64 → ticks_in_time setting s earlier ≡ true
+    → InTime setting s earlier
 in_time_holds setting s earlier small holds d within =
-    let parts = and_parts (list_all (tick_test setting s earlier) (device_numbers setting.net)) (list_all (start_test setting s earlier) (members setting.net (plan_numbered setting 1))) holds in
+    let parts = and_parts (list_all (tick_test setting s earlier) (device_numbers setting.net))
+    (list_all (start_test setting s earlier) (members setting.net (plan_numbered setting 1))) holds in
     let start : (not (is_member (plan_numbered setting 1) d) || start_test setting s earlier d) ≡ true =
     each_below (λ d. not (is_member (plan_numbered setting 1) d) || start_test setting s earlier d) (length setting.net.devices)
     (sym (all_filter (start_test setting s earlier) (is_member (plan_numbered setting 1)) (device_numbers setting.net)) ∙ parts.1) d within in

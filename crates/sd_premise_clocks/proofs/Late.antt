@@ -5,8 +5,8 @@ use Rattle.std.specs.List.{list_all}
 use Rattle.std.proofs.lemmas.Bool.{or_parts, both_ways, cases_eq}
 use Rattle.std.proofs.lemmas.Option.{same_Some}
 use Rattle.sd_sched.specs.Events.{reference_of, device_of, is_stage}
-use Rattle.sd_history.specs.World.{Setting, Seen}
-use Rattle.sd_history.specs.Premises.{tick_holds, ticks_in_time}
+use Rattle.sd_fleet_state.specs.History.World.{Setting, Seen}
+use Rattle.sd_fleet_state.specs.History.Premises.{tick_holds, ticks_in_time}
 use Rattle.sd_premise_clocks.specs.Owing.{owed_at, TicksKept, ticks_after, TicksStand}
 use Rattle.sd_premise_clocks.specs.Tickings.{AreOwed, TickKept, TickStands}
 use Rattle.sd_premise_clocks.proofs.Ticking.{owed_kept, ticks_stand}
@@ -31,9 +31,11 @@ judged setting s earlier old small stands =
     ap (λ (n : ℕ). list_all (nat_le (reference_of s.event - n)) old.owed) stands.limit ∙ all_tell setting s earlier old.owed small stands.devices stands.owed
 
 -- since when each device owes a tick after the event
-owed_after : (setting : Setting) (s : Seen) (earlier : List Seen) (all : Bool) (old new : TickKept) → TickStands setting old earlier → Observes setting s earlier all old new
+owed_after : (setting : Setting) (s : Seen) (earlier : List Seen) (all : Bool) (old new : TickKept) → TickStands setting old earlier
+    → Observes setting s earlier all old new
     → all ≡ false → AreOwed setting (s ∷ earlier) new.owed
-owed_after setting s [] all old new stands observes some k within = absurd (both_ways all some (observes.is_all ∙ ap (λ (o : Option ℕ). is_none o || s.closed || is_stage s.event) stands.ticks.first))
+owed_after setting s [] all old new stands observes some k within =
+    absurd (both_ways all some (observes.is_all ∙ ap (λ (o : Option ℕ). is_none o || s.closed || is_stage s.event) stands.ticks.first))
 owed_after setting s (x ∷ earlier) all old new stands observes some k within = by (device_of s.event) refl
   where
     stays : (s.closed ≡ false) × (is_stage s.event ≡ false)
@@ -56,7 +58,8 @@ owed_after setting s (x ∷ earlier) all old new stands observes some k within =
       | inr apart ↦ other (λ at. apart (same_Some k d (sym at ∙ names)))
     ]
 
-pub tick_stands : (setting : Setting) (s : Seen) (earlier : List Seen) (all : Bool) (old new : TickKept) → TickStands setting old earlier → Observes setting s earlier all old new
+pub tick_stands : (setting : Setting) (s : Seen) (earlier : List Seen) (all : Bool) (old new : TickKept) → TickStands setting old earlier
+    → Observes setting s earlier all old new
     → TickStands setting new (s ∷ earlier)
 tick_stands setting s earlier all old new stands observes = record {
   holds = observes.holds ∙ ap (λ (b : Bool). b && list_all (nat_le (reference_of s.event - old.limit)) old.owed) stands.holds

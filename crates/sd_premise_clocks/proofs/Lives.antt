@@ -10,9 +10,9 @@ use Rattle.sd_topo.specs.Network.{rates_of}
 use Rattle.sd_sched.specs.declared.Event.{Event}
 use Rattle.sd_sched.specs.declared.Event.TheVariants.{Start, Join}
 use Rattle.sd_sched.specs.Events.{reference_of, device_of, counter_of}
-use Rattle.sd_history.specs.World.{Setting, Seen, makes, latest_reading}
-use Rattle.sd_history.specs.Premises.{readings, reads_honestly}
-use Rattle.sd_history.specs.Refusals.{makes_some}
+use Rattle.sd_fleet_state.specs.History.World.{Setting, Seen, makes, latest_reading}
+use Rattle.sd_fleet_state.specs.History.Premises.{readings, reads_honestly}
+use Rattle.sd_fleet_state.specs.History.Refusals.{makes_some}
 use Rattle.sd_premise_clocks.specs.declared.offsets.Reading.{Reading}
 use Rattle.sd_premise_clocks.specs.Readings.{pair_of, keeps_rates_with}
 use Rattle.sd_premise_clocks.specs.Drifts.{reading_with, reading_of}
@@ -43,7 +43,8 @@ reads e d r is = by (device_of e) (counter_of e) refl refl is
 pub reads_not : (e : Event) → reading_of e ≡ None → (device_of e ≡ None) ⊎ (counter_of e ≡ None)
 reads_not e is = by (device_of e) (counter_of e) refl refl is
   where
-    by : (device counter : Option ℕ) → device_of e ≡ device → counter_of e ≡ counter → reading_with device counter (reference_of e) ≡ None → (device_of e ≡ None) ⊎ (counter_of e ≡ None)
+    by : (device counter : Option ℕ) → device_of e ≡ device → counter_of e ≡ counter → reading_with device counter (reference_of e) ≡ None
+        → (device_of e ≡ None) ⊎ (counter_of e ≡ None)
     by None counter has_device has_counter is = inl has_device
     by (Some x) None has_device has_counter is = inr has_counter
     by (Some x) (Some c) has_device has_counter is = cc
@@ -83,11 +84,13 @@ readings_here s earlier d r read =
     by true = refl
     by false = refl
 
-pub readings_elsewhere : (s : Seen) (earlier : List Seen) (d other : ℕ) (r : Reading) → Reads s.event d r → d ≢ other → readings (s ∷ earlier) other ≡ readings earlier other
+pub readings_elsewhere : (s : Seen) (earlier : List Seen) (d other : ℕ) (r : Reading) → Reads s.event d r → d ≢ other
+    → readings (s ∷ earlier) other ≡ readings earlier other
 readings_elsewhere s earlier d other r read apart =
     ap (λ (o : Option ℕ). shape o (counter_of s.event) (reference_of s.event) (makes other s.event) other (readings earlier other)) read.device
     ∙ ap (λ (b : Bool). cond b (cond (makes other s.event) (option_to_list (option_map (λ (c : ℕ). (reference_of s.event, c)) (counter_of s.event)))
-    (option_to_list (option_map (λ (c : ℕ). (reference_of s.event, c)) (counter_of s.event)) ++ readings earlier other)) (readings earlier other)) (ne_eqb d other apart)
+    (option_to_list (option_map (λ (c : ℕ). (reference_of s.event, c)) (counter_of s.event)) ++ readings earlier other)) (readings earlier other))
+    (ne_eqb d other apart)
 
 pub readings_unread : (s : Seen) (earlier : List Seen) (d : ℕ) → reading_of s.event ≡ None → readings (s ∷ earlier) d ≡ readings earlier d
 readings_unread s earlier d unread = by (reads_not s.event unread)
@@ -114,7 +117,8 @@ latest_here s earlier d r read =
     ∙ ap (λ (o : Option ℕ). told (Some d) o d (latest_reading earlier d)) read.counter
     ∙ ap (λ (b : Bool). of_some (cond b (Some r.counter) None) (latest_reading earlier d) (λ c. c)) (eq-eqb d d refl)
 
-pub latest_elsewhere : (s : Seen) (earlier : List Seen) (d other : ℕ) (r : Reading) → Reads s.event d r → d ≢ other → latest_reading (s ∷ earlier) other ≡ latest_reading earlier other
+pub latest_elsewhere : (s : Seen) (earlier : List Seen) (d other : ℕ) (r : Reading) → Reads s.event d r → d ≢ other
+    → latest_reading (s ∷ earlier) other ≡ latest_reading earlier other
 latest_elsewhere s earlier d other r read apart =
     ap (λ (o : Option ℕ). told o (counter_of s.event) other (latest_reading earlier other)) read.device
     ∙ ap (λ (b : Bool). of_some (cond b (counter_of s.event) None) (latest_reading earlier other) (λ c. c)) (ne_eqb d other apart)
@@ -142,7 +146,8 @@ pub honest_here : (setting : Setting) (s : Seen) (earlier : List Seen) (d : ℕ)
 honest_here setting s earlier d r read =
     ap (λ (o : Option ℕ). judged setting s earlier o (counter_of s.event)) read.device
     ∙ ap (λ (o : Option ℕ). judged setting s earlier (Some d) o) read.counter
-    ∙ ap (λ (b : Bool). b || list_all (λ x. keeps_rate (rates_of setting.net d) (r.counter - x.1) (reference_of s.event - x.0)) (readings earlier d)) (makes_named s.event d read.device)
+    ∙ ap (λ (b : Bool). b || list_all (λ x. keeps_rate (rates_of setting.net d) (r.counter - x.1) (reference_of s.event - x.0)) (readings earlier d))
+    (makes_named s.event d read.device)
     ∙ ap (λ (t : ℕ). makes_some s.event || list_all (λ x. keeps_rate (rates_of setting.net d) (r.counter - x.1) (t - x.0)) (readings earlier d)) read.reference
 
 pub honest_unread : (setting : Setting) (s : Seen) (earlier : List Seen) → reading_of s.event ≡ None → reads_honestly setting s earlier ≡ true

@@ -28,13 +28,15 @@ pub leaf_reaches : (nodes : List ℕ) (places leaf bound : ℕ) → length nodes
 leaf_reaches nodes places leaf bound size behind within reach =
     let long : length (drop places nodes) ≡ length nodes - places = length-drop places nodes in
     let here : bound ≤ get_or (drop places nodes) (leaf - places) 0 = reach (leaf - places) 0 (omega arith) in
-    let at : get_or (drop places nodes) (leaf - places) 0 ≡ get_or nodes (places + (leaf - places)) 0 = at_leaf nodes places (leaf - places) 0 size (omega arith) in
+    let at : get_or (drop places nodes) (leaf - places) 0 ≡ get_or nodes (places + (leaf - places)) 0 =
+    at_leaf nodes places (leaf - places) 0 size (omega arith) in
     let same : get_or nodes (places + (leaf - places)) 0 ≡ get_or nodes leaf 0 = ap (λ k. get_or nodes k 0) (omega arith) in
     omega arith
 
 -- a root that reaches the bound wherever all numbers do tells whether they do
 pub root_tells : (nodes : List ℕ) (places bound : ℕ) → 1 ≤ places → length nodes ≡ 2 * places → AreOrdered nodes
-    → (All (λ number. bound ≤ number) (drop places nodes) → bound ≤ get_or nodes 1 0) → nat_le bound (get_or nodes 1 0) ≡ list_all (nat_le bound) (drop places nodes)
+    → (All (λ number. bound ≤ number) (drop places nodes) → bound ≤ get_or nodes 1 0)
+    → nat_le bound (get_or nodes 1 0) ≡ list_all (nat_le bound) (drop places nodes)
 root_tells nodes places bound some size ordered reached =
     same_from_decides (nat_le bound (get_or nodes 1 0)) (list_all (nat_le bound) (drop places nodes))
     (λ root. each (leb-true bound (get_or nodes 1 0) root), λ all. le-leb bound (get_or nodes 1 0) (reached all)) (
@@ -46,5 +48,6 @@ root_tells nodes places bound some size ordered reached =
     each root k d within =
         let long : length (drop places nodes) ≡ length nodes - places = length-drop places nodes in
         let at : get_or (drop places nodes) k d ≡ get_or nodes (places + k) 0 = at_leaf nodes places k d size (omega arith) in
-        let most : get_or nodes 1 0 ≤ get_or nodes (places + k) 0 = root_least nodes (places + k) (places + k) ordered (omega arith) (omega arith) (omega arith) in
+        let most : get_or nodes 1 0 ≤ get_or nodes (places + k) 0 =
+        root_least nodes (places + k) (places + k) ordered (omega arith) (omega arith) (omega arith) in
         omega arith

@@ -4,8 +4,8 @@ use Rattle.std.proofs.lemmas.Bool.{or_parts, not-true, ltb-false}
 use Rattle.sd_num.specs.Lists.{of_some}
 use Rattle.sd_sched.specs.declared.Event.{Event}
 use Rattle.sd_sched.specs.Events.{reference_of, device_of, counter_of}
-use Rattle.sd_history.specs.World.{Setting, Seen, latest_reference, latest_reading}
-use Rattle.sd_history.specs.Refusals.{may_be_seen, makes_some, unknown_device, unknown_link, dead_device, dead_link, time_falls, counter_falls, not_started, started_twice, no_plan_left, window_order_seen, after_end, not_failed, not_member, too_many}
+use Rattle.sd_fleet_state.specs.History.World.{Setting, Seen, latest_reference, latest_reading}
+use Rattle.sd_fleet_state.specs.History.Refusals.{may_be_seen, makes_some, unknown_device, unknown_link, dead_device, dead_link, time_falls, counter_falls, not_started, started_twice, no_plan_left, window_order_seen, after_end, not_failed, not_member, too_many}
 
 -- two of fourteen causes that do not hold
 two_of : (a b c d e f g h i j k l m n : Bool) → not (a || b || c || d || e || f || g || h || i || j || k || l || m || n) ≡ true → (e ≡ false) × (f ≡ false)
@@ -22,10 +22,13 @@ two_of a b c d e f g h i j k l m n none =
     let last = or_parts (a || b || c || d || e) f at_f in
     ((or_parts (a || b || c || d) e last.0).1, last.1)
 
-neither_falls : (setting : Setting) (earlier : List Seen) (e : Event) → may_be_seen setting earlier e ≡ true → (time_falls earlier e ≡ false) × (counter_falls earlier e ≡ false)
+neither_falls : (setting : Setting) (earlier : List Seen) (e : Event) → may_be_seen setting earlier e ≡ true
+    → (time_falls earlier e ≡ false) × (counter_falls earlier e ≡ false)
 neither_falls setting earlier e may =
-    two_of (unknown_device setting e) (unknown_link setting e) (dead_device earlier e) (dead_link earlier e) (time_falls earlier e) (counter_falls earlier e) (not_started earlier e)
-    (started_twice setting earlier e) (no_plan_left setting earlier e) (window_order_seen setting earlier e) (after_end earlier) (not_failed earlier e) (not_member setting earlier e) (too_many earlier) may
+    two_of (unknown_device setting e) (unknown_link setting e) (dead_device earlier e) (dead_link earlier e) (time_falls earlier e) (counter_falls earlier e)
+    (not_started earlier e)
+    (started_twice setting earlier e) (no_plan_left setting earlier e) (window_order_seen setting earlier e) (after_end earlier) (not_failed earlier e)
+    (not_member setting earlier e) (too_many earlier) may
 
 pub time_rises : (setting : Setting) (earlier : List Seen) (e : Event) → may_be_seen setting earlier e ≡ true → latest_reference earlier ≤ reference_of e
 time_rises setting earlier e may = ltb-false (reference_of e) (latest_reference earlier) (neither_falls setting earlier e may).0
@@ -35,7 +38,8 @@ pub counter_rises : (setting : Setting) (earlier : List Seen) (e : Event) (d c :
     → device_of e ≡ Some d → counter_of e ≡ Some c → latest_reading earlier d ≤ c
 counter_rises setting earlier e d c may makes device counter =
     let falls : counter_falls earlier e ≡ false = (neither_falls setting earlier e may).1 in
-    let at : (not (makes_some e) && of_some (device_of e) false (λ d. of_some (counter_of e) false (λ c. nat_lt c (latest_reading earlier d)))) ≡ nat_lt c (latest_reading earlier d) =
+    let at : (not (makes_some e) && of_some (device_of e) false (λ d. of_some (counter_of e) false (λ c. nat_lt c (latest_reading earlier d))))
+    ≡ nat_lt c (latest_reading earlier d) =
     ap (λ (b : Bool). not b && of_some (device_of e) false (λ d. of_some (counter_of e) false (λ c. nat_lt c (latest_reading earlier d)))) makes
     ∙ ap (λ (o : Option ℕ). of_some o false (λ d. of_some (counter_of e) false (λ c. nat_lt c (latest_reading earlier d)))) device
     ∙ ap (λ (o : Option ℕ). of_some o false (λ c. nat_lt c (latest_reading earlier d))) counter in

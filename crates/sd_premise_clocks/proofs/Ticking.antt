@@ -11,8 +11,8 @@ use Rattle.sd_plan.specs.Plans.{is_member}
 use Rattle.sd_sched.specs.declared.Event.{Event}
 use Rattle.sd_sched.specs.declared.Event.TheVariants.{Start, Tick, FailDevice, Join}
 use Rattle.sd_sched.specs.Events.{reference_of, device_of, ticked, is_stage}
-use Rattle.sd_history.specs.World.{Setting, Seen, makes, fails, is_up, was_made, has_ever_failed, is_untouched, window, epoch_in_force, plan_numbered}
-use Rattle.sd_history.specs.Premises.{latest_tick, is_current_member}
+use Rattle.sd_fleet_state.specs.History.World.{Setting, Seen, makes, fails, is_up, was_made, has_ever_failed, is_untouched, window, epoch_in_force, plan_numbered}
+use Rattle.sd_fleet_state.specs.History.Premises.{latest_tick, is_current_member}
 use Rattle.sd_premise_clocks.specs.declared.ticks.TickState.{TickState}
 use Rattle.sd_premise_clocks.specs.Owing.{is_awaited, first_of, owed_at, TicksKept, no_state, state_after, ticks_after, TicksStandAt, TicksStand}
 
@@ -52,7 +52,8 @@ untouched_kept s earlier d apart =
     ap (λ (b : Bool). touched_then b (was_made earlier d) (fails (thing.Device d) s.event) (has_ever_failed earlier d)) (makes_not s.event d apart)
     ∙ ap (λ (b : Bool). touched_then false (was_made earlier d) b (has_ever_failed earlier d)) (fails_not s.event d apart)
 
-pub awaited_kept : (setting : Setting) (s : Seen) (earlier : List Seen) (d : ℕ) → NamesNot s.event d → is_awaited setting (s ∷ earlier) d ≡ is_awaited setting earlier d
+pub awaited_kept : (setting : Setting) (s : Seen) (earlier : List Seen) (d : ℕ) → NamesNot s.event d
+    → is_awaited setting (s ∷ earlier) d ≡ is_awaited setting earlier d
 awaited_kept setting s earlier d apart = ap (λ (b : Bool). b && is_member (plan_numbered setting 1) d) (untouched_kept s earlier d apart)
 
 abbrev up_then : Bool → Bool → Bool → Bool
@@ -68,24 +69,31 @@ up_kept s earlier d apart =
 pub epoch_kept : (s : Seen) (earlier : List Seen) → s.closed ≡ false → epoch_in_force (s ∷ earlier) ≡ epoch_in_force earlier
 epoch_kept s earlier stays =
     ap (λ (n : ℕ). n + 1) (sum_by-cons (λ (x : Seen). cond x.closed 1 0) s earlier)
-    ∙ ap (λ (b : Bool). cond b 1 0 + count_by (λ (x : Seen). x.closed) earlier + 1) stays ∙ ap (λ (n : ℕ). n + 1) (zero_first (count_by (λ (x : Seen). x.closed) earlier))
+    ∙ ap (λ (b : Bool). cond b 1 0 + count_by (λ (x : Seen). x.closed) earlier + 1) stays
+    ∙ ap (λ (n : ℕ). n + 1) (zero_first (count_by (λ (x : Seen). x.closed) earlier))
   where
     zero_first : (n : ℕ) → 0 + n ≡ n
     zero_first n = omega arith
 
-pub window_kept : (s : Seen) (earlier : List Seen) → s.closed ≡ false → is_stage s.event ≡ false → window (s ∷ earlier) ≡ option_map (λ w. s ∷ w) (window earlier)
+pub window_kept : (s : Seen) (earlier : List Seen) → s.closed ≡ false → is_stage s.event ≡ false
+    → window (s ∷ earlier) ≡ option_map (λ w. s ∷ w) (window earlier)
 window_kept s earlier stays stages =
     ap (λ (b : Bool). cond b None (cond (is_stage s.event) (Some []) (option_map (λ w. s ∷ w) (window earlier)))) stays
     ∙ ap (λ (b : Bool). cond b (Some []) (option_map (λ w. s ∷ w) (window earlier))) stages
 
-current_kept : (setting : Setting) (s : Seen) (earlier : List Seen) (d : ℕ) → s.closed ≡ false → is_stage s.event ≡ false → is_current_member setting (s ∷ earlier) d ≡ is_current_member setting earlier d
+current_kept : (setting : Setting) (s : Seen) (earlier : List Seen) (d : ℕ) → s.closed ≡ false → is_stage s.event ≡ false
+    → is_current_member setting (s ∷ earlier) d ≡ is_current_member setting earlier d
 current_kept setting s earlier d stays stages =
-    ap (λ (e : ℕ). is_member (plan_numbered setting e) d || of_some (option_map (λ w. plan_numbered setting (e + 1)) (window (s ∷ earlier))) false (λ plan. is_member plan d)) (epoch_kept s earlier stays)
-    ∙ ap (λ (o : Option (List Seen)). is_member (plan_numbered setting (epoch_in_force earlier)) d || of_some (option_map (λ w. plan_numbered setting (epoch_in_force earlier + 1)) o) false (λ plan. is_member plan d))
+    ap (λ (e : ℕ). is_member (plan_numbered setting e) d || of_some (option_map (λ w. plan_numbered setting (e + 1)) (window (s ∷ earlier))) false
+    (λ plan. is_member plan d)) (epoch_kept s earlier stays)
+    ∙ ap (λ (o : Option (List Seen)). is_member (plan_numbered setting (epoch_in_force earlier)) d
+    || of_some (option_map (λ w. plan_numbered setting (epoch_in_force earlier + 1)) o) false (λ plan. is_member plan d))
     (window_kept s earlier stays stages)
     ∙ ap (λ (b : Bool). is_member (plan_numbered setting (epoch_in_force earlier)) d || b) (by (window earlier))
   where
-    by : (o : Option (List Seen)) → of_some (option_map (λ (w : List Seen). plan_numbered setting (epoch_in_force earlier + 1)) (option_map (λ w. s ∷ w) o)) false (λ plan. is_member plan d)
+    by : (o : Option (List Seen))
+        → of_some (option_map (λ (w : List Seen). plan_numbered setting (epoch_in_force earlier + 1)) (option_map (λ w. s ∷ w) o)) false
+        (λ plan. is_member plan d)
         ≡ of_some (option_map (λ (w : List Seen). plan_numbered setting (epoch_in_force earlier + 1)) o) false (λ plan. is_member plan d)
     by None = refl
     by (Some w) = refl
@@ -98,14 +106,19 @@ pub owed_kept : (setting : Setting) (s x : Seen) (earlier : List Seen) (d : ℕ)
     → owed_at setting (s ∷ x ∷ earlier) d ≡ owed_at setting (x ∷ earlier) d
 owed_kept setting s x earlier d apart stays stages =
     ap (λ (o : Option ℕ). unwrap_or o (2 ^ 64 - 1))
-    (ap (λ (b : Bool). owed_by b (is_current_member setting (s ∷ x ∷ earlier) d) (latest_tick (s ∷ x ∷ earlier) d) (is_awaited setting (s ∷ x ∷ earlier) d) (first_of (x ∷ earlier))) (up_kept s (x ∷ earlier) d apart)
-    ∙ ap (λ (b : Bool). owed_by (is_up (x ∷ earlier) d) b (latest_tick (s ∷ x ∷ earlier) d) (is_awaited setting (s ∷ x ∷ earlier) d) (first_of (x ∷ earlier))) (current_kept setting s (x ∷ earlier) d stays stages)
-    ∙ ap (λ (t : ℕ). owed_by (is_up (x ∷ earlier) d) (is_current_member setting (x ∷ earlier) d) t (is_awaited setting (s ∷ x ∷ earlier) d) (first_of (x ∷ earlier))) (tick_kept s (x ∷ earlier) d apart)
-    ∙ ap (λ (b : Bool). owed_by (is_up (x ∷ earlier) d) (is_current_member setting (x ∷ earlier) d) (latest_tick (x ∷ earlier) d) b (first_of (x ∷ earlier))) (awaited_kept setting s (x ∷ earlier) d apart))
+    (ap (λ (b : Bool). owed_by b (is_current_member setting (s ∷ x ∷ earlier) d) (latest_tick (s ∷ x ∷ earlier) d) (is_awaited setting (s ∷ x ∷ earlier) d)
+    (first_of (x ∷ earlier))) (up_kept s (x ∷ earlier) d apart)
+    ∙ ap (λ (b : Bool). owed_by (is_up (x ∷ earlier) d) b (latest_tick (s ∷ x ∷ earlier) d) (is_awaited setting (s ∷ x ∷ earlier) d) (first_of (x ∷ earlier)))
+    (current_kept setting s (x ∷ earlier) d stays stages)
+    ∙ ap (λ (t : ℕ). owed_by (is_up (x ∷ earlier) d) (is_current_member setting (x ∷ earlier) d) t (is_awaited setting (s ∷ x ∷ earlier) d)
+    (first_of (x ∷ earlier))) (tick_kept s (x ∷ earlier) d apart)
+    ∙ ap (λ (b : Bool). owed_by (is_up (x ∷ earlier) d) (is_current_member setting (x ∷ earlier) d) (latest_tick (x ∷ earlier) d) b (first_of (x ∷ earlier)))
+    (awaited_kept setting s (x ∷ earlier) d apart))
 
 -- An event that names the device
 
-tick_named : (e : Event) (d : ℕ) (x : TickState) → device_of e ≡ Some d → (state_after e x).latest ≡ tick_then (same_number (ticked e) d) (makes d e) (reference_of e) x.latest
+tick_named : (e : Event) (d : ℕ) (x : TickState) → device_of e ≡ Some d
+    → (state_after e x).latest ≡ tick_then (same_number (ticked e) d) (makes d e) (reference_of e) x.latest
 tick_named (Tick reference device counter) d x names =
     sym (ap (λ (b : Bool). tick_then b false reference x.latest) (eq-eqb device d (same_Some device d names)))
 tick_named (Start reference device counter clock eps) d x names =
@@ -130,13 +143,15 @@ awaited_named _ d x made failed member names was = was
 
 -- What is kept
 
-at_named : (setting : Setting) (x : TickState) (s : Seen) (earlier : List Seen) (d : ℕ) → device_of s.event ≡ Some d → TicksStandAt setting x earlier d → TicksStandAt setting (state_after s.event x) (s ∷ earlier) d
+at_named : (setting : Setting) (x : TickState) (s : Seen) (earlier : List Seen) (d : ℕ) → device_of s.event ≡ Some d → TicksStandAt setting x earlier d
+    → TicksStandAt setting (state_after s.event x) (s ∷ earlier) d
 at_named setting x s earlier d names stands = record {
   latest = tick_named s.event d x names ∙ ap (tick_then (same_number (ticked s.event) d) (makes d s.event) (reference_of s.event)) stands.latest;
   awaited = awaited_named s.event d x (was_made earlier d) (has_ever_failed earlier d) (is_member (plan_numbered setting 1) d) names stands.awaited;
 }
 
-at_unnamed : (setting : Setting) (x : TickState) (s : Seen) (earlier : List Seen) (d : ℕ) → NamesNot s.event d → TicksStandAt setting x earlier d → TicksStandAt setting x (s ∷ earlier) d
+at_unnamed : (setting : Setting) (x : TickState) (s : Seen) (earlier : List Seen) (d : ℕ) → NamesNot s.event d → TicksStandAt setting x earlier d
+    → TicksStandAt setting x (s ∷ earlier) d
 at_unnamed setting x s earlier d apart stands = record {
   latest = stands.latest ∙ sym (tick_kept s earlier d apart);
   awaited = stands.awaited ∙ sym (awaited_kept setting s earlier d apart);
@@ -147,20 +162,24 @@ first_after s [] = refl
 first_after s (x ∷ earlier) = refl
 
 -- what is kept stands for what was seen and one event more
-pub ticks_stand : (setting : Setting) (kept : TicksKept) (s : Seen) (earlier : List Seen) → TicksStand setting kept earlier → TicksStand setting (ticks_after s.event kept) (s ∷ earlier)
+pub ticks_stand : (setting : Setting) (kept : TicksKept) (s : Seen) (earlier : List Seen) → TicksStand setting kept earlier
+    → TicksStand setting (ticks_after s.event kept) (s ∷ earlier)
 ticks_stand setting kept s earlier stands = record {
   devices = long (device_of s.event) ∙ stands.devices;
   states = λ d within. by (device_of s.event) refl d (subst (λ (n : ℕ). d < n) (long (device_of s.event)) within);
   first = ap (λ (o : Option ℕ). Some (unwrap_or o (reference_of s.event))) stands.first ∙ first_after s earlier;
 }
   where
-    long : (named : Option ℕ) → length (of_some named kept.states (λ d. set kept.states d (state_after s.event (get_or kept.states d no_state)))) ≡ length kept.states
+    long : (named : Option ℕ)
+        → length (of_some named kept.states (λ d. set kept.states d (state_after s.event (get_or kept.states d no_state)))) ≡ length kept.states
     long None = refl
     long (Some x) = length-set kept.states x (state_after s.event (get_or kept.states x no_state))
 
     by : (named : Option ℕ) → device_of s.event ≡ named → (d : ℕ) → d < length kept.states
-        → TicksStandAt setting (get_or (of_some named kept.states (λ d. set kept.states d (state_after s.event (get_or kept.states d no_state)))) d no_state) (s ∷ earlier) d
-    by None names d within = at_unnamed setting (get_or kept.states d no_state) s earlier d (λ other. absurd (none_some d (sym names ∙ other))) (stands.states d within)
+        → TicksStandAt setting (get_or (of_some named kept.states (λ d. set kept.states d (state_after s.event (get_or kept.states d no_state)))) d no_state)
+        (s ∷ earlier) d
+    by None names d within =
+        at_unnamed setting (get_or kept.states d no_state) s earlier d (λ other. absurd (none_some d (sym names ∙ other))) (stands.states d within)
       where
         none_some : (d : ℕ) → None ≡ Some d → ⊥
         none_some d h = cc
@@ -169,12 +188,16 @@ ticks_stand setting kept s earlier stands = record {
         here : (k : ℕ) → k ≡ x → device_of s.event ≡ Some k
         here k same = names ∙ ap Some (sym same)
 
-        at : (d ≡ x) ⊎ (d ≡ x → ⊥) → TicksStandAt setting (get_or (set kept.states x (state_after s.event (get_or kept.states x no_state))) d no_state) (s ∷ earlier) d
+        at : (d ≡ x) ⊎ (d ≡ x → ⊥)
+            → TicksStandAt setting (get_or (set kept.states x (state_after s.event (get_or kept.states x no_state))) d no_state) (s ∷ earlier) d
         at (inl same) =
-            subst (λ (k : ℕ). TicksStandAt setting (get_or (set kept.states x (state_after s.event (get_or kept.states x no_state))) k no_state) (s ∷ earlier) k) (sym same)
+            subst (λ (k : ℕ). TicksStandAt setting (get_or (set kept.states x (state_after s.event (get_or kept.states x no_state))) k no_state)
+            (s ∷ earlier) k) (sym same)
             (subst (λ (v : TickState). TicksStandAt setting v (s ∷ earlier) x)
-            (sym (get_or-set_same kept.states x (state_after s.event (get_or kept.states x no_state)) no_state (subst (λ (k : ℕ). k < length kept.states) same within)))
+            (sym (get_or-set_same kept.states x (state_after s.event (get_or kept.states x no_state)) no_state
+            (subst (λ (k : ℕ). k < length kept.states) same within)))
             (at_named setting (get_or kept.states x no_state) s earlier x names (stands.states x (subst (λ (k : ℕ). k < length kept.states) same within))))
         at (inr other) =
-            subst (λ (v : TickState). TicksStandAt setting v (s ∷ earlier) d) (sym (get_or-set_other kept.states x d (state_after s.event (get_or kept.states x no_state)) no_state other))
+            subst (λ (v : TickState). TicksStandAt setting v (s ∷ earlier) d)
+            (sym (get_or-set_other kept.states x d (state_after s.event (get_or kept.states x no_state)) no_state other))
             (at_unnamed setting (get_or kept.states d no_state) s earlier d (λ named. other (same_Some d x (sym named ∙ names))) (stands.states d within))

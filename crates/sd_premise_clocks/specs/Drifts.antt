@@ -3,8 +3,8 @@ use Rattle.std.specs.Prelude.{◌≡◌, ℕ, Bool, List, length, IsTrue, Option
 use Rattle.sd_topo.specs.Network.{rates_of}
 use Rattle.sd_sched.specs.declared.Event.{Event}
 use Rattle.sd_sched.specs.Events.{reference_of, device_of, counter_of}
-use Rattle.sd_history.specs.World.{Setting, Seen, latest_reference, latest_reading}
-use Rattle.sd_history.specs.Premises.{readings, drift_holds}
+use Rattle.sd_fleet_state.specs.History.World.{Setting, Seen, latest_reference, latest_reading}
+use Rattle.sd_fleet_state.specs.History.Premises.{readings, drift_holds}
 use Rattle.sd_premise_clocks.specs.declared.offsets.Reading.{Reading}
 use Rattle.sd_premise_clocks.specs.declared.offsets.Offsets.{Offsets}
 use Rattle.sd_premise_clocks.specs.Readings.{least_offsets, is_after_each}

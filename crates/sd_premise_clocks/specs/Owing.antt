@@ -5,8 +5,8 @@ use Rattle.sd_plan.specs.Plans.{is_member}
 use Rattle.sd_sched.specs.declared.Event.{Event}
 use Rattle.sd_sched.specs.declared.Event.TheVariants as event
 use Rattle.sd_sched.specs.Events.{reference_of, device_of}
-use Rattle.sd_history.specs.World.{Setting, Seen, is_up, is_untouched, plan_numbered}
-use Rattle.sd_history.specs.Premises.{latest_tick, is_current_member, first_reference}
+use Rattle.sd_fleet_state.specs.History.World.{Setting, Seen, is_up, is_untouched, plan_numbered}
+use Rattle.sd_fleet_state.specs.History.Premises.{latest_tick, is_current_member, first_reference}
 use Rattle.sd_premise_clocks.specs.declared.ticks.TickState.{TickState}
 
 -- What is owed

@@ -1,5 +1,5 @@
 -- What is seen of an event, as histories know it.
-use Rattle.sd_history.specs.World.{Seen}
+use Rattle.sd_fleet_state.specs.History.World.{Seen}
 use Rattle.sd_premise_clocks.specs.declared.seen.Seen as code
 
 -- the part of a history that the code's value tells

@@ -1,9 +1,9 @@
 -- For which lists the monitor of ticks stands.
 use Rattle.std.specs.Prelude.{◌≡◌, ℕ, ◌<◌, Bool, List, length, slice_index}
-use Rattle.sd_history.specs.World.{Setting, Seen}
-use Rattle.sd_history.specs.Premises.{tick_holds}
-use Rattle.sd_world.specs.Registers.{Registers}
-use Rattle.sd_world.specs.Standing.{Stands}
+use Rattle.sd_fleet_state.specs.History.World.{Setting, Seen}
+use Rattle.sd_fleet_state.specs.History.Premises.{tick_holds}
+use Rattle.sd_fleet_state.specs.world.Registers.{Registers}
+use Rattle.sd_fleet_state.specs.world.Standing.{Stands}
 use Rattle.sd_premise_clocks.specs.Memberships.{AreMembers}
 use Rattle.sd_premise_clocks.specs.Owing.{owed_at, TicksKept, TicksStand}
 

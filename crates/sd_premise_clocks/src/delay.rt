@@ -3,8 +3,8 @@ ghost use Rattle.std.specs.Prelude.{◌≡◌, ◌<◌, ◌∷◌, [], List, len
 ghost use Rattle.std.specs.Option.{ForSome};
 ghost use Rattle.sd_topo.specs.Topologies.{network};
 ghost use Rattle.sd_topo.specs.Network.{delay_towards};
-ghost use Rattle.sd_history.specs.World.{Setting, Seen as Sight};
-ghost use Rattle.sd_history.specs.Premises.{is_in_time, delay_holds};
+ghost use Rattle.sd_fleet_state.specs.History.World.{Setting, Seen as Sight};
+ghost use Rattle.sd_fleet_state.specs.History.Premises.{is_in_time, delay_holds};
 ghost use Rattle.sd_premise_clocks.specs.Sights.{sight_of};
 ghost use Rattle.sd_premise_clocks.specs.Delays.{DelayStands};
 
@@ -48,7 +48,8 @@ fn delay_towards(link: LinkEntry, receiver: u32) -> Delay
 /// Whether a flight that is received at the reference keeps the bounds of its link.
 fn keeps_bounds(topo: &Topology, reference: u64, flight: &Flight) -> bool
     requires { flight.now.link < length (network topo.now).links }
-    ensures { (setting : Setting) → setting.net ≡ network topo.now → result ≡ is_in_time setting reference flight.now }
+    ensures { (setting : Setting) → setting.net ≡ network topo.now
+        → result ≡ is_in_time setting reference flight.now }
 {
     let delay = delay_towards(topo.link(flight.link), flight.receiver);
     // No flight is received before it was sent.
@@ -66,11 +67,14 @@ impl DelayMonitor {
 
     /// Sees one event more, and tells whether the premise holds still.
     pub fn observe(&mut self, topo: &Topology, seen: &Seen<'_>) -> bool
-        requires { ForSome seen.now.taken (λ flight. flight.link < length (network topo.now).links) }
+        requires { ForSome seen.now.taken
+            (λ flight. flight.link < length (network topo.now).links) }
         ensures stands { (setting : Setting) (earlier : List Sight) → setting.net ≡ network topo.now
-            → DelayStands setting self.old earlier → DelayStands setting self.new (sight_of seen.now ∷ earlier) }
+            → DelayStands setting self.old earlier
+            → DelayStands setting self.new (sight_of seen.now ∷ earlier) }
         ensures holds { (setting : Setting) (earlier : List Sight) → setting.net ≡ network topo.now
-            → DelayStands setting self.old earlier → result ≡ delay_holds setting (sight_of seen.now ∷ earlier) }
+            → DelayStands setting self.old earlier
+            → result ≡ delay_holds setting (sight_of seen.now ∷ earlier) }
     {
         if let Some(flight) = &seen.taken {
             self.holds = self.holds && keeps_bounds(topo, seen.event.reference(), flight);

@@ -4,9 +4,9 @@ ghost use Rattle.std.specs.Prelude.{◌≡◌, ℕ, ◌<◌, ◌∷◌, [], List
 ghost use Rattle.std.specs.Option.{ForSome};
 ghost use Rattle.sd_topo.specs.Topologies.{network};
 ghost use Rattle.sd_sched.specs.Events.{device_of};
-ghost use Rattle.sd_history.specs.World.{Setting, Seen as Sight};
-ghost use Rattle.sd_history.specs.Premises.{drift_holds};
-ghost use Rattle.sd_history.specs.Refusals.{makes_some, may_be_seen};
+ghost use Rattle.sd_fleet_state.specs.History.World.{Setting, Seen as Sight};
+ghost use Rattle.sd_fleet_state.specs.History.Premises.{drift_holds};
+ghost use Rattle.sd_fleet_state.specs.History.Refusals.{makes_some, may_be_seen};
 ghost use Rattle.sd_premise_clocks.specs.Sights.{sight_of};
 ghost use Rattle.sd_premise_clocks.specs.Readings.{no_offsets};
 ghost use Rattle.sd_premise_clocks.specs.Drifts.{reading_of, DriftStands};
@@ -76,10 +76,12 @@ impl DriftMonitor {
         requires topology { length self.old.lives ≡ length (network topo.now).devices }
         requires device { ForSome (device_of seen.now.event) (λ d. d < length (network topo.now).devices) }
         ensures stands { (setting : Setting) (earlier : List Sight) → setting.net ≡ network topo.now
-            → DriftStands setting self.old earlier → IsTrue (may_be_seen setting earlier seen.now.event)
+            → DriftStands setting self.old earlier
+            → IsTrue (may_be_seen setting earlier seen.now.event)
             → DriftStands setting self.new (sight_of seen.now ∷ earlier) }
         ensures holds { (setting : Setting) (earlier : List Sight) → setting.net ≡ network topo.now
-            → DriftStands setting self.old earlier → IsTrue (may_be_seen setting earlier seen.now.event)
+            → DriftStands setting self.old earlier
+            → IsTrue (may_be_seen setting earlier seen.now.event)
             → result ≡ drift_holds setting (sight_of seen.now ∷ earlier) }
         ensures devices { length self.new.lives ≡ length self.old.lives }
     {

@@ -10,8 +10,8 @@
 
 mod delay;
 mod drift;
-mod members;
 mod offsets;
+mod present_rows;
 mod seen;
 mod start;
 mod tick;
@@ -20,7 +20,7 @@ mod tournament;
 
 pub use delay::DelayMonitor;
 pub use drift::DriftMonitor;
-pub use members::Members;
+pub use present_rows::PresentRows;
 pub use seen::Seen;
 pub use start::StartMonitor;
 pub use tick::TickMonitor;

@@ -44,7 +44,8 @@ impl Offsets {
     pub fn at(rates: Rates, reading: Reading) -> Offsets
         ensures offsets { result ≡ offsets_at rates.ppm (pair_of reading) }
         ensures rule { (readings : List (ℕ × ℕ)) → IsTrue (is_after_each readings (pair_of reading))
-            → are_within rates.grain (least_offsets rates.ppm readings) result ≡ keeps_rates_with rates readings (pair_of reading) }
+            → are_within rates.grain (least_offsets rates.ppm readings) result
+            ≡ keeps_rates_with rates readings (pair_of reading) }
     {
         let counter_left = u64::MAX - reading.counter;
         let reference_left = u64::MAX - reading.reference;

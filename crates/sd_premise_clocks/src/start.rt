@@ -1,7 +1,7 @@
 //! The premise on starts: the clock that a start, join or fix sets is within its uncertainty.
 ghost use Rattle.std.specs.Prelude.{◌≡◌, ◌∷◌, [], List};
-ghost use Rattle.sd_history.specs.World.{Seen as Sight};
-ghost use Rattle.sd_history.specs.Premises.{clock_set, sets_true_clock, start_holds};
+ghost use Rattle.sd_fleet_state.specs.History.World.{Seen as Sight};
+ghost use Rattle.sd_fleet_state.specs.History.Premises.{clock_set, sets_true_clock, start_holds};
 ghost use Rattle.sd_premise_clocks.specs.Sights.{sight_of};
 ghost use Rattle.sd_premise_clocks.specs.Starts.{StartStands};
 
@@ -55,8 +55,10 @@ impl StartMonitor {
 
     /// Sees one event more, and tells whether the premise holds still.
     pub fn observe(&mut self, seen: &Seen<'_>) -> bool
-        ensures stands { (earlier : List Sight) → StartStands self.old earlier → StartStands self.new (sight_of seen.now ∷ earlier) }
-        ensures holds { (earlier : List Sight) → StartStands self.old earlier → result ≡ start_holds (sight_of seen.now ∷ earlier) }
+        ensures stands { (earlier : List Sight) → StartStands self.old earlier
+            → StartStands self.new (sight_of seen.now ∷ earlier) }
+        ensures holds { (earlier : List Sight) → StartStands self.old earlier
+            → result ≡ start_holds (sight_of seen.now ∷ earlier) }
     {
         self.holds = self.holds && sets_true_clock(seen);
         self.holds

@@ -5,9 +5,9 @@ ghost use Rattle.std.specs.List.{list_all};
 ghost use Rattle.std.specs.Option.{ForSome};
 ghost use Rattle.sd_topo.specs.Topologies.{network};
 ghost use Rattle.sd_sched.specs.Events.{device_of, is_stage};
-ghost use Rattle.sd_history.specs.World.{Setting, Seen as Sight};
-ghost use Rattle.sd_history.specs.Premises.{tick_holds};
-ghost use Rattle.sd_world.specs.Standing.{Stands};
+ghost use Rattle.sd_fleet_state.specs.History.World.{Setting, Seen as Sight};
+ghost use Rattle.sd_fleet_state.specs.History.Premises.{tick_holds};
+ghost use Rattle.sd_fleet_state.specs.world.Standing.{Stands};
 ghost use Rattle.sd_premise_clocks.specs.Sights.{sight_of};
 ghost use Rattle.sd_premise_clocks.specs.Memberships.{AreMembers};
 ghost use Rattle.sd_premise_clocks.specs.Owing.{owed_at};
@@ -15,11 +15,11 @@ ghost use Rattle.sd_premise_clocks.specs.Tickings.{AreOwed, TickStands, TellOf};
 
 use crate::ticks::Ticks;
 use crate::tournament::Tournament;
-use crate::{Members, Seen};
+use crate::{PresentRows, Seen};
+use sd_fleet_state::world::World;
 use sd_num::NoMemory;
 use sd_sched::Event;
 use sd_topo::Topology;
-use sd_world::World;
 use std::alloc::Global;
 use std::marker::Model;
 
@@ -55,24 +55,26 @@ fn stages(event: &Event) -> bool
 }
 
 /// Notes since when a device owes a tick.
-fn note(owed: &mut Tournament, ticks: &Ticks, members: &Members, world: &World, d: u32)
+fn note(owed: &mut Tournament, ticks: &Ticks, members: &PresentRows, world: &World, d: u32)
     requires known { d < length owed.old }
     requires ticks { d < length ticks.now.states }
     requires world { d < length world.now.devices }
     ensures places { length owed.new ≡ length owed.old }
     ensures others { (k : ℕ) → k ≢ d → slice_index owed.new k ≡ slice_index owed.old k }
-    ensures here { (setting : Setting) (seen : List Sight) → TellOf setting seen members.now world.now ticks.now
+    ensures here { (setting : Setting) (seen : List Sight)
+        → TellOf setting seen members.now world.now ticks.now
         → slice_index owed.new d ≡ owed_at setting seen d }
 {
     owed.set(d as usize, ticks.owed(members, world, d));
 }
 
 /// Notes it of each device.
-fn note_all(owed: &mut Tournament, ticks: &Ticks, members: &Members, world: &World)
+fn note_all(owed: &mut Tournament, ticks: &Ticks, members: &PresentRows, world: &World)
     requires ticks { length ticks.now.states ≡ length owed.old }
     requires world { length world.now.devices ≡ length owed.old }
     ensures places { length owed.new ≡ length owed.old }
-    ensures each { (setting : Setting) (seen : List Sight) → TellOf setting seen members.now world.now ticks.now
+    ensures each { (setting : Setting) (seen : List Sight)
+        → TellOf setting seen members.now world.now ticks.now
         → AreOwed setting seen owed.new }
 {
     for d in 0..ticks.devices() {
@@ -91,7 +93,11 @@ fn holds_still(held: bool, owed: &mut Tournament, due: u64) -> bool
 
 impl TickMonitor {
     /// A monitor that has seen nothing of the devices of a topology and of the members of plans.
-    pub fn new(alloc: Global, topo: &Topology, members: &Members) -> Result<TickMonitor, NoMemory>
+    pub fn new(
+        alloc: Global,
+        topo: &Topology,
+        members: &PresentRows,
+    ) -> Result<TickMonitor, NoMemory>
         ensures devices { IfOk result (λ monitor. length monitor.owed ≡ length (network topo.now).devices) }
         ensures stands { IfOk result (λ monitor. (setting : Setting) → setting.net ≡ network topo.now
             → AreMembers setting members.now → TickStands setting monitor []) }
@@ -109,15 +115,17 @@ impl TickMonitor {
 
     /// Sees one event more, of which the world knows already, and tells whether the premise holds
     /// still.
-    pub fn observe(&mut self, members: &Members, after: &World, seen: &Seen<'_>) -> bool
+    pub fn observe(&mut self, members: &PresentRows, after: &World, seen: &Seen<'_>) -> bool
         requires device { ForSome (device_of seen.now.event) (λ d. d < length self.old.owed) }
         requires world { length after.now.devices ≡ length self.old.owed }
         ensures stands { (setting : Setting) (earlier : List Sight) → AreMembers setting members.now
             → Stands after.now setting (sight_of seen.now ∷ earlier)
-            → TickStands setting self.old earlier → TickStands setting self.new (sight_of seen.now ∷ earlier) }
+            → TickStands setting self.old earlier
+            → TickStands setting self.new (sight_of seen.now ∷ earlier) }
         ensures holds { (setting : Setting) (earlier : List Sight) → AreMembers setting members.now
             → Stands after.now setting (sight_of seen.now ∷ earlier)
-            → TickStands setting self.old earlier → result ≡ tick_holds setting (sight_of seen.now ∷ earlier) }
+            → TickStands setting self.old earlier
+            → result ≡ tick_holds setting (sight_of seen.now ∷ earlier) }
         ensures devices { length self.new.owed ≡ length self.old.owed }
     {
         let due = seen.event.reference().saturating_sub(self.limit);
@@ -135,7 +143,8 @@ impl TickMonitor {
     /// Whether the event can change of many devices at once since when they owe a tick: it is the
     /// first one, stages a plan or closes a window.
     fn is_changed_for_all(&self, seen: &Seen<'_>) -> bool
-        ensures { result ≡ (is_none self.now.ticks.first || seen.now.closed || is_stage seen.now.event) }
+        ensures { result
+            ≡ (is_none self.now.ticks.first || seen.now.closed || is_stage seen.now.event) }
     {
         self.ticks.is_new() || seen.closed || stages(&seen.event)
     }

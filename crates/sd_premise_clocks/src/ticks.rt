@@ -3,16 +3,16 @@ ghost use Rattle.std.specs.Prelude.{◌≡◌, ℕ, ◌<◌, ◌∷◌, [], List
 ghost use Rattle.std.specs.Option.{ForSome};
 ghost use Rattle.sd_sched.specs.Events.{device_of};
 ghost use Rattle.sd_topo.specs.Topologies.{network};
-ghost use Rattle.sd_history.specs.World.{Setting, Seen as Sight};
-ghost use Rattle.sd_history.specs.Premises.{is_current_member};
-ghost use Rattle.sd_world.specs.Standing.{Stands};
+ghost use Rattle.sd_fleet_state.specs.History.World.{Setting, Seen as Sight};
+ghost use Rattle.sd_fleet_state.specs.History.Premises.{is_current_member};
+ghost use Rattle.sd_fleet_state.specs.world.Standing.{Stands};
 ghost use Rattle.sd_premise_clocks.specs.Memberships.{AreMembers};
 ghost use Rattle.sd_premise_clocks.specs.Owing.{state_after, ticks_after, owed_at, TicksStand};
 
-use crate::Members;
+use crate::PresentRows;
+use sd_fleet_state::world::World;
 use sd_num::NoMemory;
 use sd_sched::Event;
-use sd_world::World;
 use std::alloc::Global;
 use std::marker::Model;
 
@@ -67,8 +67,9 @@ impl Model for Ticks {
 }
 
 /// Whether the device is a member of the plan in force or of the staged one.
-fn is_current(members: &Members, world: &World, d: u32) -> bool
-    ensures { (setting : Setting) (seen : List Sight) → AreMembers setting members.now → Stands world.now setting seen
+fn is_current(members: &PresentRows, world: &World, d: u32) -> bool
+    ensures { (setting : Setting) (seen : List Sight) → AreMembers setting members.now
+        → Stands world.now setting seen
         → d < length setting.net.devices → result ≡ is_current_member setting seen d }
 {
     let epoch = u64::from(world.epoch());
@@ -77,10 +78,11 @@ fn is_current(members: &Members, world: &World, d: u32) -> bool
 
 impl Ticks {
     /// Before any event, the members of the first plan are awaited.
-    pub fn new(alloc: Global, members: &Members, devices: u32) -> Result<Ticks, NoMemory>
+    pub fn new(alloc: Global, members: &PresentRows, devices: u32) -> Result<Ticks, NoMemory>
         ensures devices { IfOk result (λ ticks. length ticks.states ≡ devices) }
         ensures stands { IfOk result (λ ticks. (setting : Setting)
-            → length setting.net.devices ≡ devices → AreMembers setting members.now → TicksStand setting ticks []) }
+            → length setting.net.devices ≡ devices → AreMembers setting members.now
+            → TicksStand setting ticks []) }
     {
         let Ok(mut states) = Vec::with_capacity(alloc, devices as usize) else {
             return Err(NoMemory);
@@ -122,10 +124,11 @@ impl Ticks {
 
     /// The reference since which a device owes a tick, in ps, and the greatest number where it
     /// owes none.
-    pub fn owed(&self, members: &Members, world: &World, d: u32) -> u64
+    pub fn owed(&self, members: &PresentRows, world: &World, d: u32) -> u64
         requires known { d < length self.now.states }
         requires world { d < length world.now.devices }
-        ensures { (setting : Setting) (seen : List Sight) → AreMembers setting members.now → Stands world.now setting seen
+        ensures { (setting : Setting) (seen : List Sight) → AreMembers setting members.now
+            → Stands world.now setting seen
             → TicksStand setting self.now seen → result ≡ owed_at setting seen d }
     {
         let state = self.states[d as usize];

@@ -58,7 +58,8 @@ fn refresh(nodes: &mut [u64], places: usize, node: usize, bound: u64)
     ensures ordered { AreOrdered nodes.new }
     ensures risen { HaveRisen nodes.old nodes.new }
     ensures same { drop places nodes.new ≡ drop places nodes.old }
-    ensures reached { All (λ number. bound ≤ number) (drop places nodes.old) → bound ≤ slice_index nodes.new node }
+    ensures reached { All (λ number. bound ≤ number) (drop places nodes.old)
+        → bound ≤ slice_index nodes.new node }
 {
     if nodes[node] >= bound || node >= places {
         return;

@@ -5,16 +5,18 @@ use Rattle.std.proofs.lemmas.Bool.{or_parts, not-true, leb-false}
 use Rattle.sd_num.specs.Lists.{of_some}
 use Rattle.sd_sched.specs.declared.Event.{Event}
 use Rattle.sd_sched.specs.Events.{device_of, joined, given, is_stage, is_commit, is_seal}
-use Rattle.sd_history.specs.Things.{mended}
-use Rattle.sd_history.specs.World.{Setting, Seen, window, window_is_open, has_commit, epoch_in_force, staged}
-use Rattle.sd_history.specs.Refusals.{may_be_seen, unknown_device, unknown_link, dead_device, dead_link, time_falls, counter_falls, not_started, started_twice, no_plan_left, past_preparing, window_order_seen, after_end, not_failed, not_member, too_many}
+use Rattle.sd_fleet_state.specs.History.Things.{mended}
+use Rattle.sd_fleet_state.specs.History.World.{Setting, Seen, window, window_is_open, has_commit, epoch_in_force, staged}
+use Rattle.sd_fleet_state.specs.History.Refusals.{may_be_seen, unknown_device, unknown_link, dead_device, dead_link, time_falls, counter_falls, not_started, started_twice, no_plan_left, past_preparing, window_order_seen, after_end, not_failed, not_member, too_many}
 use Rattle.sd_premise_clocks.proofs.Ticking.{epoch_kept, window_kept}
 use Rattle.sd_premise_renewal.specs.Renewals.{IsPlanned}
 
 -- three of fourteen causes that do not hold
-three_of : (a b c d e f g h i j k l m n : Bool) → not (a || b || c || d || e || f || g || h || i || j || k || l || m || n) ≡ true → (i ≡ false) × (j ≡ false) × (n ≡ false)
+three_of : (a b c d e f g h i j k l m n : Bool) → not (a || b || c || d || e || f || g || h || i || j || k || l || m || n) ≡ true
+    → (i ≡ false) × (j ≡ false) × (n ≡ false)
 three_of a b c d e f g h i j k l m n none =
-    let at_n = or_parts (a || b || c || d || e || f || g || h || i || j || k || l || m) n (not-true (a || b || c || d || e || f || g || h || i || j || k || l || m || n) none) in
+    let at_n = or_parts (a || b || c || d || e || f || g || h || i || j || k || l || m) n
+    (not-true (a || b || c || d || e || f || g || h || i || j || k || l || m || n) none) in
     let at_m = or_parts (a || b || c || d || e || f || g || h || i || j || k || l) m at_n.0 in
     let at_l = or_parts (a || b || c || d || e || f || g || h || i || j || k) l at_m.0 in
     let at_k = or_parts (a || b || c || d || e || f || g || h || i || j) k at_l.0 in
@@ -28,8 +30,10 @@ pub record IsAllowed (setting : Setting) (earlier : List Seen) (e : Event) : Typ
 
 pub is_allowed : (setting : Setting) (earlier : List Seen) (e : Event) → may_be_seen setting earlier e ≡ true → IsAllowed setting earlier e
 is_allowed setting earlier e may =
-    let three = three_of (unknown_device setting e) (unknown_link setting e) (dead_device earlier e) (dead_link earlier e) (time_falls earlier e) (counter_falls earlier e) (not_started earlier e)
-    (started_twice setting earlier e) (no_plan_left setting earlier e) (window_order_seen setting earlier e) (after_end earlier) (not_failed earlier e) (not_member setting earlier e) (too_many earlier) may in
+    let three = three_of (unknown_device setting e) (unknown_link setting e) (dead_device earlier e) (dead_link earlier e) (time_falls earlier e)
+    (counter_falls earlier e) (not_started earlier e)
+    (started_twice setting earlier e) (no_plan_left setting earlier e) (window_order_seen setting earlier e) (after_end earlier) (not_failed earlier e)
+    (not_member setting earlier e) (too_many earlier) may in
     record { plan = three.0; order = three.1; few = three.2 }
 
 -- the four ways in which an event comes where the window does not allow it
@@ -51,14 +55,18 @@ in_place setting earlier e may = record { stage = two.0; preparing = two.1; seal
     other = is_commit e && of_some (device_of e) false (λ d. not (of_some (staged setting earlier) false (λ plan. nat_eq plan.root d)))
 
     last : ((stages || prepares || other) ≡ false) × ((is_seal e && (not (window_is_open earlier) || not (has_commit earlier))) ≡ false)
-    last = or_parts (stages || prepares || other) (is_seal e && (not (window_is_open earlier) || not (has_commit earlier))) (is_allowed setting earlier e may).order
+    last = or_parts (stages || prepares || other) (is_seal e && (not (window_is_open earlier) || not (has_commit earlier)))
+        (is_allowed setting earlier e may).order
 
     two : (stages ≡ false) × (prepares ≡ false)
     two = or_parts stages prepares (or_parts (stages || prepares) other last.0).0
 
 -- a commit comes in an open window
-pub commit_opened : (setting : Setting) (earlier : List Seen) (e : Event) → may_be_seen setting earlier e ≡ true → is_commit e ≡ true → window_is_open earlier ≡ true
-commit_opened setting earlier e may commits = by (is_some (given e) || is_some (joined e) || is_some (mended e)) (is_commit e) (window_is_open earlier) (has_commit earlier) commits (in_place setting earlier e may).preparing
+pub commit_opened : (setting : Setting) (earlier : List Seen) (e : Event) → may_be_seen setting earlier e ≡ true → is_commit e ≡ true
+    → window_is_open earlier ≡ true
+commit_opened setting earlier e may commits =
+    by (is_some (given e) || is_some (joined e) || is_some (mended e)) (is_commit e) (window_is_open earlier) (has_commit earlier) commits
+    (in_place setting earlier e may).preparing
   where
     by : (other commit opened committed : Bool) → commit ≡ true → ((other || commit) && (not opened || committed)) ≡ false → opened ≡ true
     by other true true committed is none = refl
@@ -67,7 +75,8 @@ commit_opened setting earlier e may commits = by (is_some (given e) || is_some (
     by other false opened committed is none = cc
 
 -- so does a seal
-pub seal_opened : (setting : Setting) (earlier : List Seen) (e : Event) → may_be_seen setting earlier e ≡ true → is_seal e ≡ true → window_is_open earlier ≡ true
+pub seal_opened : (setting : Setting) (earlier : List Seen) (e : Event) → may_be_seen setting earlier e ≡ true → is_seal e ≡ true
+    → window_is_open earlier ≡ true
 seal_opened setting earlier e may seals = by (is_seal e) (window_is_open earlier) (has_commit earlier) seals (in_place setting earlier e may).seal
   where
     by : (seal opened committed : Bool) → seal ≡ true → (seal && (not opened || not committed)) ≡ false → opened ≡ true
@@ -76,7 +85,8 @@ seal_opened setting earlier e may seals = by (is_seal e) (window_is_open earlier
     by false opened committed is none = cc
 
 -- an open window brings in a plan that there is, after the event too
-pub planned_next : (setting : Setting) (s : Seen) (earlier : List Seen) → may_be_seen setting earlier s.event ≡ true → IsPlanned setting earlier → IsPlanned setting (s ∷ earlier)
+pub planned_next : (setting : Setting) (s : Seen) (earlier : List Seen) → may_be_seen setting earlier s.event ≡ true → IsPlanned setting earlier
+    → IsPlanned setting (s ∷ earlier)
 planned_next setting s earlier may planned = by s.closed (is_stage s.event) refl refl
   where
     -- a stage has a plan left
@@ -93,12 +103,16 @@ planned_next setting s earlier may planned = by s.closed (is_stage s.event) refl
     still None opened = opened
     still (Some w) opened = refl
 
-    by : (closed stage : Bool) → s.closed ≡ closed → is_stage s.event ≡ stage → window_is_open (s ∷ earlier) ≡ true → epoch_in_force (s ∷ earlier) < length setting.plans
-    by true stage closes is opened = absurd (shut (window (s ∷ earlier)) (ap (λ (b : Bool). if b then None else if is_stage s.event then Some [] else option_map (λ w. s ∷ w) (window earlier)) closes) opened)
+    by : (closed stage : Bool) → s.closed ≡ closed → is_stage s.event ≡ stage → window_is_open (s ∷ earlier) ≡ true
+        → epoch_in_force (s ∷ earlier) < length setting.plans
+    by true stage closes is opened =
+        absurd (shut (window (s ∷ earlier))
+        (ap (λ (b : Bool). if b then None else if is_stage s.event then Some [] else option_map (λ w. s ∷ w) (window earlier)) closes) opened)
     by false true stays is opened =
         subst (λ (n : ℕ). n < length setting.plans) (sym (epoch_kept s earlier stays))
         (leb-false (length setting.plans) (epoch_in_force earlier)
-        (left (is_stage s.event) (window_is_open earlier) (nat_le (length setting.plans) (epoch_in_force earlier)) is (is_allowed setting earlier s.event may).plan (in_place setting earlier s.event may).stage))
+        (left (is_stage s.event) (window_is_open earlier) (nat_le (length setting.plans) (epoch_in_force earlier)) is
+        (is_allowed setting earlier s.event may).plan (in_place setting earlier s.event may).stage))
     by false false stays is opened =
         subst (λ (n : ℕ). n < length setting.plans) (sym (epoch_kept s earlier stays))
         (planned (still (window earlier) (sym (ap (λ (o : Option (List Seen)). is_some o) (window_kept s earlier stays is)) ∙ opened)))

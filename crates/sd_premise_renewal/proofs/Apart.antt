@@ -1,4 +1,5 @@
--- Where all members of a plan are up and its links are not failed, the devices that are up and left out are cut off from its root exactly where no link leads from a member to one of them.
+-- Where all members of a plan are up and its links are not failed, the devices that are up and left out are cut off from its root exactly where no link leads
+-- from a member to one of them.
 use Rattle.std.specs.Prelude.{◌≡◌, ℕ, zero, suc, ◌+◌, ◌-◌, ◌<◌, ◌≤◌, Bool, true, false, ◌&&◌, ◌||◌, not, List, [], ◌∷◌, length, nat_eq, Some, None, ◌⊎◌}
 use Rattle.std.specs.List.{list_any, AllByRecursion, IsDistinct}
 use Rattle.std.proofs.Common.{arith, ◌∙◌, sym, subst, inl, inr, refl}
@@ -39,11 +40,14 @@ weaker p q (x ∷ xs) more some = elim (or_cases (p x) (list_any p xs) some) [
 ]
 
 -- the two ends of a link that joins
-ends_joined : (net : Network) (l d e : ℕ) → joins net l d e ≡ true → (((link_of net l).end_a ≡ d) × ((link_of net l).end_b ≡ e)) ⊎ (((link_of net l).end_a ≡ e) × ((link_of net l).end_b ≡ d))
+ends_joined : (net : Network) (l d e : ℕ) → joins net l d e ≡ true
+    → (((link_of net l).end_a ≡ d) × ((link_of net l).end_b ≡ e)) ⊎ (((link_of net l).end_a ≡ e) × ((link_of net l).end_b ≡ d))
 ends_joined net l d e joined =
     elim (or_cases (nat_eq (link_of net l).end_a d && nat_eq (link_of net l).end_b e) (nat_eq (link_of net l).end_a e && nat_eq (link_of net l).end_b d) joined) [
-      | inl ahead ↦ (let parts = and_parts (nat_eq (link_of net l).end_a d) (nat_eq (link_of net l).end_b e) ahead in inl (eqb-true (link_of net l).end_a d parts.0, eqb-true (link_of net l).end_b e parts.1))
-      | inr back ↦ (let parts = and_parts (nat_eq (link_of net l).end_a e) (nat_eq (link_of net l).end_b d) back in inr (eqb-true (link_of net l).end_a e parts.0, eqb-true (link_of net l).end_b d parts.1))
+      | inl ahead ↦ (let parts = and_parts (nat_eq (link_of net l).end_a d) (nat_eq (link_of net l).end_b e) ahead in
+          inl (eqb-true (link_of net l).end_a d parts.0, eqb-true (link_of net l).end_b e parts.1))
+      | inr back ↦ (let parts = and_parts (nat_eq (link_of net l).end_a e) (nat_eq (link_of net l).end_b d) back in
+          inr (eqb-true (link_of net l).end_a e parts.0, eqb-true (link_of net l).end_b d parts.1))
     ]
 
 module _ (net : Network) (plan : Plan) (up live : ℕ → Bool) where
@@ -61,15 +65,19 @@ module _ (net : Network) (plan : Plan) (up live : ℕ → Bool) where
 
   part_so : (member other : ℕ) → is_member plan member ≡ true → is_member plan other ≡ false → up other ≡ true → parts_by member other ≡ true
   part_so member other is none rises =
-      and_from (is_member plan member && not (is_member plan other)) (up other) (and_from (is_member plan member) (not (is_member plan other)) is (not_from_false (is_member plan other) none)) rises
+      and_from (is_member plan member && not (is_member plan other)) (up other)
+      (and_from (is_member plan member) (not (is_member plan other)) is (not_from_false (is_member plan other) none)) rises
 
   leads_so : (l d e : ℕ) → live l ≡ true → joins net l d e ≡ true → is_member plan e ≡ true → is_member plan d ≡ false → up d ≡ true → leads_by l ≡ true
   leads_so l d e lives joined member none rises =
-      and_from (live l) (parts_by (link_of net l).end_a (link_of net l).end_b || parts_by (link_of net l).end_b (link_of net l).end_a) lives (elim (ends_joined net l d e joined) [
+      and_from (live l) (parts_by (link_of net l).end_a (link_of net l).end_b || parts_by (link_of net l).end_b (link_of net l).end_a) lives
+      (elim (ends_joined net l d e joined) [
         | inl ahead ↦ or_right (parts_by (link_of net l).end_a (link_of net l).end_b) (parts_by (link_of net l).end_b (link_of net l).end_a)
-            (subst (λ (a : ℕ). parts_by (link_of net l).end_b a ≡ true) (sym ahead.0) (subst (λ (b : ℕ). parts_by b d ≡ true) (sym ahead.1) (part_so e d member none rises)))
+            (subst (λ (a : ℕ). parts_by (link_of net l).end_b a ≡ true) (sym ahead.0)
+            (subst (λ (b : ℕ). parts_by b d ≡ true) (sym ahead.1) (part_so e d member none rises)))
         | inr back ↦ or_left (parts_by (link_of net l).end_a (link_of net l).end_b) (parts_by (link_of net l).end_b (link_of net l).end_a)
-            (subst (λ (a : ℕ). parts_by a (link_of net l).end_b ≡ true) (sym back.0) (subst (λ (b : ℕ). parts_by e b ≡ true) (sym back.1) (part_so e d member none rises)))
+            (subst (λ (a : ℕ). parts_by a (link_of net l).end_b ≡ true) (sym back.0)
+            (subst (λ (b : ℕ). parts_by e b ≡ true) (sym back.1) (part_so e d member none rises)))
       ])
 
   -- No link leads out
@@ -93,10 +101,12 @@ module _ (net : Network) (plan : Plan) (up live : ℕ → Bool) where
   -- Some link leads out
 
   -- one step of a walk of joined devices
-  step_within : (n d e x l : ℕ) → e < length net.devices → l < length net.links → up e ≡ true → live l ≡ true → joins net l d e ≡ true → joined_within net up live n e x ≡ true → joined_within net up live (suc n) d x ≡ true
+  step_within : (n d e x l : ℕ) → e < length net.devices → l < length net.links → up e ≡ true → live l ≡ true → joins net l d e ≡ true
+      → joined_within net up live n e x ≡ true → joined_within net up live (suc n) d x ≡ true
   step_within n d e x l known in_range rises lives joined rest =
       or_right (nat_eq d x) _
-      (any_below_at (λ y. (up y && list_any (λ k. live k && joins net k d y) (link_numbers net)) && joined_within net up live n y x) (length net.devices) e known
+      (any_below_at (λ y. (up y && list_any (λ k. live k && joins net k d y) (link_numbers net)) && joined_within net up live n y x)
+      (length net.devices) e known
       (and_from (up e && list_any (λ k. live k && joins net k d e) (link_numbers net)) (joined_within net up live n e x)
       (and_from (up e) (list_any (λ k. live k && joins net k d e) (link_numbers net)) rises
       (any_below_at (λ k. live k && joins net k d e) (length net.links) l in_range (and_from (live l) (joins net l d e) lives joined)))
@@ -133,10 +143,12 @@ module _ (net : Network) (plan : Plan) (up live : ℕ → Bool) where
       -- a member is joined to the root by its walk
       walks_up : (d : ℕ) → d < length net.devices → is_member plan d ≡ true → joined_within net up live (height net plan d) d plan.root ≡ true
       walks_up = climb net plan forest (λ d. is_member plan d ≡ true → joined_within net up live (height net plan d) d plan.root ≡ true)
-          (λ d within none member. subst (λ (hs : List Hop). joined_within net up live (length hs) d plan.root ≡ true) (sym (forest.top d none)) (at_top d within none member))
+          (λ d within none member. subst (λ (hs : List Hop). joined_within net up live (length hs) d plan.root ≡ true) (sym (forest.top d none))
+          (at_top d within none member))
           (λ d hop within is step above member.
           subst (λ (hs : List Hop). joined_within net up live (length hs) d plan.root ≡ true) (sym step.walk)
-          (step_within (height net plan hop.parent) d hop.parent plan.root hop.link step.within step.link (members_up hop.parent step.within step.above) (hops_live d hop within is) step.joined (above step.above)))
+          (step_within (height net plan hop.parent) d hop.parent plan.root hop.link step.within step.link (members_up hop.parent step.within step.above)
+          (hops_live d hop within is) step.joined (above step.above)))
         where
           at_top : (d : ℕ) → d < length net.devices → primary_of plan d ≡ None → is_member plan d ≡ true → nat_eq d plan.root ≡ true
           at_top d within none member = by (is_root plan d) refl
@@ -146,7 +158,8 @@ module _ (net : Network) (plan : Plan) (up live : ℕ → Bool) where
 
               by : (b : Bool) → is_root plan d ≡ b → nat_eq d plan.root ≡ true
               by true root = eq-eqb d plan.root (sym (eqb-true plan.root d root))
-              by false other = (let found : (hop : Hop) × (primary_of plan d ≡ Some hop) = forest.hop d within member other in absurd (lost found.0 (sym none ∙ found.1)))
+              by false other =
+                  (let found : (hop : Hop) × (primary_of plan d ≡ Some hop) = forest.hop d within member other in absurd (lost found.0 (sym none ∙ found.1)))
 
       -- no device comes twice on a walk
       walks_once : (d : ℕ) → d < length net.devices → IsDistinct nat_eq (devices_of d (walk net plan d))
@@ -157,11 +170,13 @@ module _ (net : Network) (plan : Plan) (up live : ℕ → Bool) where
           (distinct_more d (devices_of hop.parent (walk net plan hop.parent)) (not_above net plan forest d hop step) above))
 
       -- so a member lies at least two devices below their number, where some device is none
-      low : (d other : ℕ) → d < length net.devices → is_member plan d ≡ true → other < length net.devices → is_member plan other ≡ false → height net plan d + 2 ≤ length net.devices
+      low : (d other : ℕ) → d < length net.devices → is_member plan d ≡ true → other < length net.devices → is_member plan other ≡ false
+          → height net plan d + 2 ≤ length net.devices
       low d other within member known none = omega (arith, most, long)
         where
           apart : has (devices_of d (walk net plan d)) other ≡ false
-          apart = false_from_ne_true (has (devices_of d (walk net plan d)) other) (λ on. both_ways (is_member plan other) none (on_member net plan forest other d within member on))
+          apart = false_from_ne_true (has (devices_of d (walk net plan d)) other)
+              (λ on. both_ways (is_member plan other) none (on_member net plan forest other d within member on))
 
           all : (x : ℕ) → has (other ∷ devices_of d (walk net plan d)) x ≡ true → x < length net.devices
           all x on = elim (or_cases (nat_eq x other) (has (devices_of d (walk net plan d)) x) on) [
@@ -170,30 +185,43 @@ module _ (net : Network) (plan : Plan) (up live : ℕ → Bool) where
           ]
 
           most : length (other ∷ devices_of d (walk net plan d)) ≤ length net.devices
-          most = length-le_from_distinct_below (other ∷ devices_of d (walk net plan d)) (length net.devices) (distinct_more other (devices_of d (walk net plan d)) apart (walks_once d within)) all
+          most = length-le_from_distinct_below (other ∷ devices_of d (walk net plan d)) (length net.devices)
+              (distinct_more other (devices_of d (walk net plan d)) apart (walks_once d within)) all
 
           long : length (other ∷ devices_of d (walk net plan d)) ≡ height net plan d + 2
           long = omega (arith, length-map (walk net plan d) (λ (hop : Hop). hop.parent))
 
       -- a device over a live link from a member strays
-      strays_by : (l d e : ℕ) → l < length net.links → d < length net.devices → e < length net.devices → live l ≡ true → joins net l d e ≡ true → is_member plan e ≡ true → is_member plan d ≡ false → up d ≡ true → strays d ≡ true
+      strays_by : (l d e : ℕ) → l < length net.links → d < length net.devices → e < length net.devices → live l ≡ true → joins net l d e ≡ true
+          → is_member plan e ≡ true → is_member plan d ≡ false → up d ≡ true → strays d ≡ true
       strays_by l d e in_range known within lives joined member none rises =
           let far : height net plan e + 2 ≤ length net.devices = low e d within member known none in
           let near : joined_within net up live (suc (height net plan e)) d plan.root ≡ true =
           step_within (height net plan e) d e plan.root l within in_range (members_up e within member) lives joined (walks_up e within member) in
           let enough : joined_within net up live (length net.devices) d plan.root ≡ true =
-          subst (λ (m : ℕ). joined_within net up live m d plan.root ≡ true) (omega (arith, far)) (longer_by (length net.devices - suc (height net plan e)) (suc (height net plan e)) d plan.root near) in
-          and_from (up d && not (is_member plan d)) (joined_within net up live (length net.devices) d plan.root) (and_from (up d) (not (is_member plan d)) rises (not_from_false (is_member plan d) none)) enough
+          subst (λ (m : ℕ). joined_within net up live m d plan.root ≡ true) (omega (arith, far))
+          (longer_by (length net.devices - suc (height net plan e)) (suc (height net plan e)) d plan.root near) in
+          and_from (up d && not (is_member plan d)) (joined_within net up live (length net.devices) d plan.root)
+          (and_from (up d) (not (is_member plan d)) rises (not_from_false (is_member plan d) none)) enough
 
       -- so does one end of a link that leads out
-      pub some_strays : (l : ℕ) → l < length net.links → (link_of net l).end_a < length net.devices → (link_of net l).end_b < length net.devices → leads_by l ≡ true → (d : ℕ) × (d < length net.devices) × (strays d ≡ true)
+      pub some_strays : (l : ℕ) → l < length net.links → (link_of net l).end_a < length net.devices → (link_of net l).end_b < length net.devices
+          → leads_by l ≡ true → (d : ℕ) × (d < length net.devices) × (strays d ≡ true)
       some_strays l in_range first second leads =
           let parts = and_parts (live l) (parts_by (link_of net l).end_a (link_of net l).end_b || parts_by (link_of net l).end_b (link_of net l).end_a) leads in
           elim (or_cases (parts_by (link_of net l).end_a (link_of net l).end_b) (parts_by (link_of net l).end_b (link_of net l).end_a) parts.1) [
-            | inl ahead ↦ (let three = split (link_of net l).end_a (link_of net l).end_b ahead in
-                ((link_of net l).end_b, second, strays_by l (link_of net l).end_b (link_of net l).end_a in_range second first parts.0 back_joins three.0 three.1 three.2))
-            | inr back ↦ (let three = split (link_of net l).end_b (link_of net l).end_a back in
-                ((link_of net l).end_a, first, strays_by l (link_of net l).end_a (link_of net l).end_b in_range first second parts.0 joins_ahead three.0 three.1 three.2))
+            | inl ahead ↦ (let three = split (link_of net l).end_a (link_of net l).end_b ahead in (
+              (link_of net l).end_b,
+              second,
+              strays_by l (link_of net l).end_b
+                  (link_of net l).end_a in_range second first parts.0 back_joins three.0 three.1 three.2,
+            ))
+            | inr back ↦ (let three = split (link_of net l).end_b (link_of net l).end_a back in (
+              (link_of net l).end_a,
+              first,
+              strays_by l (link_of net l).end_a
+                  (link_of net l).end_b in_range first second parts.0 joins_ahead three.0 three.1 three.2,
+            ))
           ]
         where
           split : (member other : ℕ) → parts_by member other ≡ true → (is_member plan member ≡ true) × (is_member plan other ≡ false) × (up other ≡ true)
@@ -204,8 +232,10 @@ module _ (net : Network) (plan : Plan) (up live : ℕ → Bool) where
 
           joins_ahead : joins net l (link_of net l).end_a (link_of net l).end_b ≡ true
           joins_ahead = or_left (nat_eq (link_of net l).end_a (link_of net l).end_a && nat_eq (link_of net l).end_b (link_of net l).end_b) _
-              (and_from (nat_eq (link_of net l).end_a (link_of net l).end_a) (nat_eq (link_of net l).end_b (link_of net l).end_b) (eq-eqb (link_of net l).end_a (link_of net l).end_a refl) (eq-eqb (link_of net l).end_b (link_of net l).end_b refl))
+              (and_from (nat_eq (link_of net l).end_a (link_of net l).end_a) (nat_eq (link_of net l).end_b (link_of net l).end_b)
+              (eq-eqb (link_of net l).end_a (link_of net l).end_a refl) (eq-eqb (link_of net l).end_b (link_of net l).end_b refl))
 
           back_joins : joins net l (link_of net l).end_b (link_of net l).end_a ≡ true
           back_joins = or_right (nat_eq (link_of net l).end_a (link_of net l).end_b && nat_eq (link_of net l).end_b (link_of net l).end_a) _
-              (and_from (nat_eq (link_of net l).end_a (link_of net l).end_a) (nat_eq (link_of net l).end_b (link_of net l).end_b) (eq-eqb (link_of net l).end_a (link_of net l).end_a refl) (eq-eqb (link_of net l).end_b (link_of net l).end_b refl))
+              (and_from (nat_eq (link_of net l).end_a (link_of net l).end_a) (nat_eq (link_of net l).end_b (link_of net l).end_b)
+              (eq-eqb (link_of net l).end_a (link_of net l).end_a refl) (eq-eqb (link_of net l).end_b (link_of net l).end_b refl))

@@ -20,7 +20,8 @@ all_below_fails p n x within fails = list_all_at p (below n) x 0 (inside n x wit
 
 module _ (net : Network) (plan : Plan) (test : ℕ → Bool) where
   pub members_pass : ((d : ℕ) → d < length net.devices → is_member plan d ≡ true → test d ≡ true) → list_all test (members net plan) ≡ true
-  members_pass each = all_filter test (is_member plan) (below (length net.devices)) ∙ from_each_below (λ d. not (is_member plan d) || test d) (length net.devices) (λ d within. by d within (is_member plan d) refl)
+  members_pass each = all_filter test (is_member plan) (below (length net.devices))
+      ∙ from_each_below (λ d. not (is_member plan d) || test d) (length net.devices) (λ d within. by d within (is_member plan d) refl)
     where
       by : (d : ℕ) → d < length net.devices → (b : Bool) → is_member plan d ≡ b → (not b || test d) ≡ true
       by d within true member = each d within member
@@ -28,7 +29,9 @@ module _ (net : Network) (plan : Plan) (test : ℕ → Bool) where
 
   pub member_passes : list_all test (members net plan) ≡ true → (d : ℕ) → d < length net.devices → is_member plan d ≡ true → test d ≡ true
   member_passes all d within member =
-      ap (λ b. not b || test d) (sym member) ∙ each_below (λ d. not (is_member plan d) || test d) (length net.devices) (sym (all_filter test (is_member plan) (below (length net.devices))) ∙ all) d within
+      ap (λ b. not b || test d) (sym member)
+      ∙ each_below (λ d. not (is_member plan d) || test d) (length net.devices)
+      (sym (all_filter test (is_member plan) (below (length net.devices))) ∙ all) d within
 
   pub member_fails : (d : ℕ) → d < length net.devices → is_member plan d ≡ true → test d ≡ false → list_all test (members net plan) ≡ false
   member_fails d within member fails =

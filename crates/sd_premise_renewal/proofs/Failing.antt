@@ -12,9 +12,9 @@ use Rattle.sd_domain.specs.Failing.{HasRoomFor}
 use Rattle.sd_domain.specs.Failures.{FailedThings, nothing_of, with_thing, things_of, has_thing, same_thing}
 use Rattle.sd_domain.specs.declared.DomainId.TheVariants as domain
 use Rattle.sd_domain.proofs.Within.{has_thing-nothing_of, has_thing-with_thing, within_one-listed}
-use Rattle.sd_history.specs.Things.{failure_of}
-use Rattle.sd_history.specs.World.{Setting, Seen}
-use Rattle.sd_history.specs.Premises.{failures_since_closing, fails_within_one, domain_holds}
+use Rattle.sd_fleet_state.specs.History.Things.{failure_of}
+use Rattle.sd_fleet_state.specs.History.World.{Setting, Seen}
+use Rattle.sd_fleet_state.specs.History.Premises.{failures_since_closing, fails_within_one, domain_holds}
 use Rattle.sd_premise_renewal.specs.Domains.{DomainKept, with_failure, if_closed, domain_after, DomainStands}
 
 -- Nothing lies in one domain
@@ -50,13 +50,15 @@ failures_on : (s : Seen) (earlier : List Seen) → failures_since_closing (s ∷
 failures_on s earlier = by s.closed (failure_of s.event) refl
   where
     by : (closed : Bool) (o : Option Thing) → failure_of s.event ≡ o
-        → filter_map (λ x. failure_of x.event) (cond (not closed) (s ∷ leading (λ x. not x.closed) earlier) []) ≡ cond closed [] (option_to_list o ++ failures_since_closing earlier)
+        → filter_map (λ x. failure_of x.event) (cond (not closed) (s ∷ leading (λ x. not x.closed) earlier) [])
+        ≡ cond closed [] (option_to_list o ++ failures_since_closing earlier)
     by true o is = refl
     by false None is = ap (λ (x : Option Thing). cons_option x (failures_since_closing earlier)) is
     by false (Some x) is = ap (λ (x : Option Thing). cons_option x (failures_since_closing earlier)) is
 
 -- while the premise holds, what failed since the latest closing lies in one domain
-within_held : (setting : Setting) (seen : List Seen) → 0 < length setting.net.devices → domain_holds setting seen ≡ true → is_some (within_one setting.net (failures_since_closing seen)) ≡ true
+within_held : (setting : Setting) (seen : List Seen) → 0 < length setting.net.devices → domain_holds setting seen ≡ true
+    → is_some (within_one setting.net (failures_since_closing seen)) ≡ true
 within_held setting [] some held = nothing_within setting.net some
 within_held setting (s ∷ earlier) some held = ap (λ xs. is_some (within_one setting.net xs)) (failures_on s earlier) ∙ by s.closed
   where
@@ -65,7 +67,8 @@ within_held setting (s ∷ earlier) some held = ap (λ xs. is_some (within_one s
     by false = (and_parts (domain_holds setting earlier) (fails_within_one setting s earlier) held).1
 
 -- where nothing fails the premise holds as before
-held_still : (setting : Setting) (s : Seen) (earlier : List Seen) → 0 < length setting.net.devices → failure_of s.event ≡ None → domain_holds setting (s ∷ earlier) ≡ domain_holds setting earlier
+held_still : (setting : Setting) (s : Seen) (earlier : List Seen) → 0 < length setting.net.devices → failure_of s.event ≡ None
+    → domain_holds setting (s ∷ earlier) ≡ domain_holds setting earlier
 held_still setting s earlier some none =
     ap (λ (o : Option Thing). domain_holds setting earlier && is_some (within_one setting.net (option_to_list o ++ failures_since_closing earlier))) none
     ∙ by (domain_holds setting earlier) refl
@@ -110,7 +113,8 @@ judged_after setting kept s earlier some stands = by (failure_of s.event) refl
         }
 
 -- what is kept stands for what was seen and one event more
-pub domain_stands : (setting : Setting) (kept : DomainKept) (s : Seen) (earlier : List Seen) → 0 < length setting.net.devices → DomainStands setting kept earlier
+pub domain_stands : (setting : Setting) (kept : DomainKept) (s : Seen) (earlier : List Seen) → 0 < length setting.net.devices
+    → DomainStands setting kept earlier
     → DomainStands setting (domain_after setting.net s kept) (s ∷ earlier)
 domain_stands setting kept s earlier some stands = by s.closed refl
   where
@@ -122,7 +126,8 @@ domain_stands setting kept s earlier some stands = by s.closed refl
       holds = after.holds;
       room = record { devices = after.room.devices; links = after.room.links };
       failed =
-          λ x. has_thing-nothing_of (with_failure setting.net (failure_of s.event) kept).failed.device_room (with_failure setting.net (failure_of s.event) kept).failed.link_room x
+          λ x. has_thing-nothing_of (with_failure setting.net (failure_of s.event) kept).failed.device_room
+          (with_failure setting.net (failure_of s.event) kept).failed.link_room x
           ∙ ap (λ xs. list_any (same_thing x) xs) (sym (failures_on s earlier ∙ ap (λ b. cond b [] (judged s earlier)) closes));
     }
     by false stays = record {
@@ -132,7 +137,8 @@ domain_stands setting kept s earlier some stands = by s.closed refl
     }
 
 -- the monitor that has seen nothing
-pub domain_begins : (setting : Setting) (kept : DomainKept) → kept.failed ≡ nothing_of (length setting.net.devices) (length setting.net.links) → kept.holds ≡ true → DomainStands setting kept []
+pub domain_begins : (setting : Setting) (kept : DomainKept) → kept.failed ≡ nothing_of (length setting.net.devices) (length setting.net.links)
+    → kept.holds ≡ true → DomainStands setting kept []
 domain_begins setting kept nothing holds = record {
   holds = holds;
   room = record { devices = ap (λ f. f.device_room) nothing; links = ap (λ f. f.link_room) nothing };

@@ -1,5 +1,4 @@
 pub mod Failing
-pub mod Rows
 pub mod Marking
 pub mod Slots
 pub mod Belows

@@ -5,9 +5,9 @@ use Rattle.std.specs.List.{list_any}
 use Rattle.std.proofs.lemmas.Bool.{eq-eqb, ne_eqb}
 use Rattle.sd_num.specs.Lists.{of_some, same_number, latest, leading}
 use Rattle.sd_sched.specs.Events.{joined, given, is_stage, is_seal}
-use Rattle.sd_history.specs.Things.{mended}
-use Rattle.sd_history.specs.World.{Seen, window, window_is_open, has_entered}
-use Rattle.sd_history.specs.Premises.{has_mend, has_seal, was_given}
+use Rattle.sd_fleet_state.specs.History.Things.{mended}
+use Rattle.sd_fleet_state.specs.History.World.{Seen, window, window_is_open, has_entered}
+use Rattle.sd_fleet_state.specs.History.Premises.{has_mend, has_seal, was_given}
 use Rattle.sd_premise_renewal.specs.declared.mark.Mark.{Mark}
 use Rattle.sd_premise_renewal.specs.Marks.{is_marked, mark_after, MarkStands}
 use Rattle.sd_premise_renewal.specs.Windowed.{came_about, so_if, tells_mended, tells_sealed, tells_given, tells_entered}
@@ -18,7 +18,8 @@ any_latest : (test : Seen → Bool) (w : List Seen) → list_any test w ≡ late
 any_latest test [] = refl
 any_latest test (s ∷ w) = by (test s) (any_latest test w)
   where
-    by : (b : Bool) → list_any test w ≡ latest (λ x. so_if (test x)) w false → (b || list_any test w) ≡ of_some (so_if b) (latest (λ x. so_if (test x)) w false) (λ told. told)
+    by : (b : Bool) → list_any test w ≡ latest (λ x. so_if (test x)) w false
+        → (b || list_any test w) ≡ of_some (so_if b) (latest (λ x. so_if (test x)) w false) (λ told. told)
     by true rest = refl
     by false rest = rest
 
@@ -39,7 +40,8 @@ seal_came seen = by (window seen)
 pub given_came : (seen : List Seen) (d : ℕ) → was_given seen d ≡ came_about (tells_given d) seen
 given_came seen d = by (window seen)
   where
-    since : (w : List Seen) → list_any (λ s. same_number (given s.event) d) (leading (λ s. not (same_number (joined s.event) d)) w) ≡ latest (tells_given d) w false
+    since : (w : List Seen)
+        → list_any (λ s. same_number (given s.event) d) (leading (λ s. not (same_number (joined s.event) d)) w) ≡ latest (tells_given d) w false
     since [] = refl
     since (s ∷ w) = at (same_number (joined s.event) d) (same_number (given s.event) d) refl (since w)
       where
@@ -51,7 +53,9 @@ given_came seen d = by (window seen)
         at false true is rest = ap (λ b. b || list_any (λ x. same_number (given x.event) d) (leading (λ x. not (same_number (joined x.event) d)) w)) is
         at false false is rest = ap (λ b. b || list_any (λ x. same_number (given x.event) d) (leading (λ x. not (same_number (joined x.event) d)) w)) is ∙ rest
 
-    by : (o : Option (List Seen)) → of_some o false (λ w. list_any (λ s. same_number (given s.event) d) (leading (λ s. not (same_number (joined s.event) d)) w)) ≡ of_some o false (λ w. latest (tells_given d) w false)
+    by : (o : Option (List Seen))
+        → of_some o false (λ w. list_any (λ s. same_number (given s.event) d) (leading (λ s. not (same_number (joined s.event) d)) w))
+        ≡ of_some o false (λ w. latest (tells_given d) w false)
     by None = refl
     by (Some w) = since w
 
@@ -67,7 +71,8 @@ next_mark stage told windows mark = if stage then mark else mark_after told wind
 abbrev pub next_windows : Bool → ℕ → ℕ
 next_windows stage windows = if stage then windows + 1 else windows
 
-before_next : (stage : Bool) (told : Option Bool) (windows : ℕ) (mark : Mark) → IfSome mark.window (λ n. n ≤ windows) → IfSome (next_mark stage told windows mark).window (λ n. n ≤ next_windows stage windows)
+before_next : (stage : Bool) (told : Option Bool) (windows : ℕ) (mark : Mark) → IfSome mark.window (λ n. n ≤ windows)
+    → IfSome (next_mark stage told windows mark).window (λ n. n ≤ next_windows stage windows)
 before_next true told windows mark low = up mark.window low
   where
     up : (o : Option ℕ) → IfSome o (λ n. n ≤ windows) → IfSome o (λ n. n ≤ windows + 1)
@@ -80,7 +85,8 @@ before_next false (Some false) windows mark low = tt
 -- the event leaves what the mark tells what came about
 pub mark_next : (tells : Seen → Option Bool) (s : Seen) (earlier : List Seen) (windows : ℕ) (mark : Mark)
     → MarkStands (window_is_open earlier) windows mark (came_about tells earlier)
-    → MarkStands (window_is_open (s ∷ earlier)) (next_windows (is_stage s.event) windows) (next_mark (is_stage s.event) (tells s) windows mark) (came_about tells (s ∷ earlier))
+    → MarkStands (window_is_open (s ∷ earlier)) (next_windows (is_stage s.event) windows) (next_mark (is_stage s.event) (tells s) windows mark)
+    (came_about tells (s ∷ earlier))
 mark_next tells s earlier windows mark stands = record {
   is = by s.closed (is_stage s.event) (tells s) refl (window earlier) stands.is;
   before = before_next (is_stage s.event) (tells s) windows mark stands.before;
@@ -90,13 +96,16 @@ mark_next tells s earlier windows mark stands = record {
     apart None low = refl
     apart (Some n) low = ne_eqb n (windows + 1) (λ same. omega (arith, low, same))
 
-    open_told : (told : Option Bool) (w : List Seen) → tells s ≡ told → is_marked true windows mark ≡ latest tells w false → is_marked true windows (mark_after told windows mark) ≡ latest tells (s ∷ w) false
+    open_told : (told : Option Bool) (w : List Seen) → tells s ≡ told → is_marked true windows mark ≡ latest tells w false
+        → is_marked true windows (mark_after told windows mark) ≡ latest tells (s ∷ w) false
     open_told None w is was = was ∙ sym (ap (λ (o : Option Bool). of_some o (latest tells w false) (λ b. b)) is)
     open_told (Some true) w is was = eq-eqb windows windows refl ∙ sym (ap (λ (o : Option Bool). of_some o (latest tells w false) (λ b. b)) is)
     open_told (Some false) w is was = sym (ap (λ (o : Option Bool). of_some o (latest tells w false) (λ b. b)) is)
 
-    by : (closed stage : Bool) (told : Option Bool) → tells s ≡ told → (o : Option (List Seen)) → is_marked (is_some o) windows mark ≡ of_some o false (λ w. latest tells w false)
-        → is_marked (is_some (if closed then None else if stage then Some [] else option_map (λ w. s ∷ w) o)) (next_windows stage windows) (next_mark stage told windows mark)
+    by : (closed stage : Bool) (told : Option Bool) → tells s ≡ told → (o : Option (List Seen))
+        → is_marked (is_some o) windows mark ≡ of_some o false (λ w. latest tells w false)
+        → is_marked (is_some (if closed then None else if stage then Some [] else option_map (λ w. s ∷ w) o)) (next_windows stage windows)
+        (next_mark stage told windows mark)
         ≡ of_some (if closed then None else if stage then Some [] else option_map (λ w. s ∷ w) o) false (λ w. latest tells w false)
     by true stage told is o was = refl
     by false true told is o was = apart mark.window stands.before

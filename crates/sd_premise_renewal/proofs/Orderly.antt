@@ -6,9 +6,9 @@ use Rattle.sd_num.specs.Lists.{of_some}
 use Rattle.sd_plan.specs.declared.Plan.{Plan}
 use Rattle.sd_plan.specs.Plans.{is_member, members}
 use Rattle.sd_sched.specs.Events.{is_commit, is_seal}
-use Rattle.sd_history.specs.World.{Setting, Seen, window, window_is_open, is_up, has_entered, joined_in_window, in_force, staged, staged_epoch, plan_numbered}
-use Rattle.sd_history.specs.Premises.{was_given, is_prepared, leaves_out_failed, leaves_out_cleanly, commits_orderly, has_seal, seals_orderly}
-use Rattle.sd_history.specs.Refusals.{may_be_seen}
+use Rattle.sd_fleet_state.specs.History.World.{Setting, Seen, window, window_is_open, is_up, has_entered, joined_in_window, in_force, staged, staged_epoch, plan_numbered}
+use Rattle.sd_fleet_state.specs.History.Premises.{was_given, is_prepared, leaves_out_failed, leaves_out_cleanly, commits_orderly, has_seal, seals_orderly}
+use Rattle.sd_fleet_state.specs.History.Refusals.{may_be_seen}
 use Rattle.sd_premise_renewal.specs.Moments.{staged_plan, IsReady}
 use Rattle.sd_premise_renewal.specs.Progressing.{ProgressKept, HasDevices, progress_after, ProgressStands}
 use Rattle.sd_premise_renewal.specs.Renewals.{RenewalKept, IsPlanned, RenewalStands}
@@ -21,7 +21,8 @@ use Rattle.sd_premise_renewal.proofs.Allowed.{commit_opened, seal_opened, planne
 staged_is : (setting : Setting) (seen : List Seen) → window_is_open seen ≡ true → staged setting seen ≡ Some (staged_plan setting seen)
 staged_is setting seen = by (window seen)
   where
-    by : (o : Option (List Seen)) → is_some o ≡ true → option_map (λ (w : List Seen). plan_numbered setting (staged_epoch seen)) o ≡ Some (plan_numbered setting (staged_epoch seen))
+    by : (o : Option (List Seen)) → is_some o ≡ true
+        → option_map (λ (w : List Seen). plan_numbered setting (staged_epoch seen)) o ≡ Some (plan_numbered setting (staged_epoch seen))
     by None opened = cc
     by (Some w) opened = refl
 
@@ -33,17 +34,22 @@ commits_by setting s earlier may commits =
     ∙ ap (λ (o : Option Plan). s.acted && of_some o true asks) (staged_is setting earlier (commit_opened setting earlier s.event may commits))
   where
     asks : Plan → Bool
-    asks plan = list_all (is_prepared setting earlier) (members setting.net plan) && leaves_out_failed setting earlier plan && leaves_out_cleanly setting earlier plan
+    asks plan = list_all (is_prepared setting earlier) (members setting.net plan) && leaves_out_failed setting earlier plan
+        && leaves_out_cleanly setting earlier plan
 
 pub seals_by : (setting : Setting) (s : Seen) (earlier : List Seen) → may_be_seen setting earlier s.event ≡ true → is_seal s.event ≡ true
-    → seals_orderly setting s earlier ≡ (has_seal earlier || list_all (λ d. not (is_up earlier d) || has_entered earlier d) (members setting.net (staged_plan setting earlier)))
+    → seals_orderly setting s earlier
+    ≡ (has_seal earlier || list_all (λ d. not (is_up earlier d) || has_entered earlier d) (members setting.net (staged_plan setting earlier)))
 seals_by setting s earlier may seals =
-    ap (λ b. not b || has_seal earlier || of_some (staged setting earlier) true (λ plan. list_all (λ d. not (is_up earlier d) || has_entered earlier d) (members setting.net plan))) seals
-    ∙ ap (λ (o : Option Plan). has_seal earlier || of_some o true (λ plan. list_all (λ d. not (is_up earlier d) || has_entered earlier d) (members setting.net plan)))
+    ap (λ b. not b || has_seal earlier || of_some (staged setting earlier) true
+    (λ plan. list_all (λ d. not (is_up earlier d) || has_entered earlier d) (members setting.net plan))) seals
+    ∙ ap (λ (o : Option Plan). has_seal earlier || of_some o true
+    (λ plan. list_all (λ d. not (is_up earlier d) || has_entered earlier d) (members setting.net plan)))
     (staged_is setting earlier (seal_opened setting earlier s.event may seals))
 
 -- a staged plan whose members are prepared, and which leaves out what failed
-pub ready_so : (setting : Setting) (seen : List Seen) → window_is_open seen ≡ true → IsPlanned setting seen → is_ready setting seen ≡ true → IsReady setting seen
+pub ready_so : (setting : Setting) (seen : List Seen) → window_is_open seen ≡ true → IsPlanned setting seen → is_ready setting seen ≡ true
+    → IsReady setting seen
 ready_so setting seen opened planned ready = record {
   planned = planned opened;
   up = λ d within member.
@@ -53,28 +59,36 @@ ready_so setting seen opened planned ready = record {
   links = parts.1;
 }
   where
-    parts : (list_all (is_prepared setting seen) (members setting.net (staged_plan setting seen)) ≡ true) × (leaves_out_failed setting seen (staged_plan setting seen) ≡ true)
-    parts = and_parts (list_all (is_prepared setting seen) (members setting.net (staged_plan setting seen))) (leaves_out_failed setting seen (staged_plan setting seen)) ready
+    parts : (list_all (is_prepared setting seen) (members setting.net (staged_plan setting seen)) ≡ true)
+        × (leaves_out_failed setting seen (staged_plan setting seen) ≡ true)
+    parts = and_parts (list_all (is_prepared setting seen) (members setting.net (staged_plan setting seen)))
+        (leaves_out_failed setting seen (staged_plan setting seen)) ready
 
 -- Members, one by one
 
-pub none_lacks : (setting : Setting) (seen : List Seen) → ((d : ℕ) → d < length setting.net.devices → lacks setting seen d ≡ false) → list_all (is_prepared setting seen) (members setting.net (staged_plan setting seen)) ≡ true
-none_lacks setting seen none = members_pass setting.net (staged_plan setting seen) (is_prepared setting seen) (λ d within member. by (is_member (staged_plan setting seen) d) (is_prepared setting seen d) member (none d within))
+pub none_lacks : (setting : Setting) (seen : List Seen) → ((d : ℕ) → d < length setting.net.devices → lacks setting seen d ≡ false)
+    → list_all (is_prepared setting seen) (members setting.net (staged_plan setting seen)) ≡ true
+none_lacks setting seen none =
+    members_pass setting.net (staged_plan setting seen) (is_prepared setting seen)
+    (λ d within member. by (is_member (staged_plan setting seen) d) (is_prepared setting seen d) member (none d within))
   where
     by : (m p : Bool) → m ≡ true → (m && not p) ≡ false → p ≡ true
     by true true is lacks' = refl
     by true false is lacks' = cc
     by false p is lacks' = cc
 
-pub some_lacks : (setting : Setting) (seen : List Seen) (d : ℕ) → d < length setting.net.devices → lacks setting seen d ≡ true → list_all (is_prepared setting seen) (members setting.net (staged_plan setting seen)) ≡ false
+pub some_lacks : (setting : Setting) (seen : List Seen) (d : ℕ) → d < length setting.net.devices → lacks setting seen d ≡ true
+    → list_all (is_prepared setting seen) (members setting.net (staged_plan setting seen)) ≡ false
 some_lacks setting seen d within lack =
-    let parts : (is_member (staged_plan setting seen) d ≡ true) × (not (is_prepared setting seen d) ≡ true) = and_parts (is_member (staged_plan setting seen) d) (not (is_prepared setting seen d)) lack in
+    let parts : (is_member (staged_plan setting seen) d ≡ true) × (not (is_prepared setting seen d) ≡ true) =
+    and_parts (is_member (staged_plan setting seen) d) (not (is_prepared setting seen d)) lack in
     member_fails setting.net (staged_plan setting seen) (is_prepared setting seen) d within parts.0 (not-true (is_prepared setting seen d) parts.1)
 
 pub none_lags : (setting : Setting) (seen : List Seen) → ((d : ℕ) → d < length setting.net.devices → lags setting seen d ≡ false)
     → list_all (λ d. not (is_up seen d) || has_entered seen d) (members setting.net (staged_plan setting seen)) ≡ true
 none_lags setting seen none =
-    members_pass setting.net (staged_plan setting seen) (λ d. not (is_up seen d) || has_entered seen d) (λ d within member. by (is_member (staged_plan setting seen) d) (is_up seen d) (has_entered seen d) member (none d within))
+    members_pass setting.net (staged_plan setting seen) (λ d. not (is_up seen d) || has_entered seen d)
+    (λ d within member. by (is_member (staged_plan setting seen) d) (is_up seen d) (has_entered seen d) member (none d within))
   where
     by : (m u e : Bool) → m ≡ true → (m && u && not e) ≡ false → (not u || e) ≡ true
     by true true true is lags' = refl
@@ -86,7 +100,8 @@ pub some_lags : (setting : Setting) (seen : List Seen) (d : ℕ) → d < length 
     → list_all (λ d. not (is_up seen d) || has_entered seen d) (members setting.net (staged_plan setting seen)) ≡ false
 some_lags setting seen d within lag =
     member_fails setting.net (staged_plan setting seen) (λ d. not (is_up seen d) || has_entered seen d) d within
-    (and_parts (is_member (staged_plan setting seen) d) (is_up seen d) (and_parts (is_member (staged_plan setting seen) d && is_up seen d) (not (has_entered seen d)) lag).0).0
+    (and_parts (is_member (staged_plan setting seen) d) (is_up seen d)
+    (and_parts (is_member (staged_plan setting seen) d && is_up seen d) (not (has_entered seen d)) lag).0).0
     (by (is_member (staged_plan setting seen) d) (is_up seen d) (has_entered seen d) lag)
   where
     by : (m u e : Bool) → (m && u && not e) ≡ true → (not u || e) ≡ false
@@ -96,11 +111,14 @@ some_lags setting seen d within lag =
     by false u e is = cc
 
 -- what is kept stands for what was seen and one event more
-pub renewal_stands : (setting : Setting) (kept : RenewalKept) (s : Seen) (earlier : List Seen) (orderly : Bool) (after : RenewalKept) → may_be_seen setting earlier s.event ≡ true → RenewalStands setting kept earlier
-    → after.holds ≡ (kept.holds && orderly) → (kept.holds ≡ true → orderly ≡ is_orderly setting s earlier) → after.progress ≡ progress_after s kept.progress → RenewalStands setting after (s ∷ earlier)
+pub renewal_stands : (setting : Setting) (kept : RenewalKept) (s : Seen) (earlier : List Seen) (orderly : Bool) (after : RenewalKept)
+    → may_be_seen setting earlier s.event ≡ true → RenewalStands setting kept earlier
+    → after.holds ≡ (kept.holds && orderly) → (kept.holds ≡ true → orderly ≡ is_orderly setting s earlier) → after.progress ≡ progress_after s kept.progress
+    → RenewalStands setting after (s ∷ earlier)
 renewal_stands setting kept s earlier orderly after may stands holds judged progress = record {
   holds = holds ∙ by kept.holds refl ∙ ap (λ b. b && is_orderly setting s earlier) stands.holds;
-  devices = subst (λ (p : ProgressKept). HasDevices (length setting.net.devices) p) (sym progress) (devices_after (length setting.net.devices) s kept.progress stands.devices);
+  devices = subst (λ (p : ProgressKept). HasDevices (length setting.net.devices) p) (sym progress)
+      (devices_after (length setting.net.devices) s kept.progress stands.devices);
   progress = subst (λ (p : ProgressKept). ProgressStands p (s ∷ earlier)) (sym progress) (progress_stands kept.progress s earlier stands.progress);
   planned = planned_next setting s earlier may stands.planned;
 }

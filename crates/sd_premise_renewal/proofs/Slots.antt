@@ -6,7 +6,7 @@ use Rattle.std.proofs.Math.ListN.{length-set}
 use Rattle.sd_num.specs.Lists.{of_some, same_number}
 use Rattle.sd_sched.specs.declared.Event.{Event}
 use Rattle.sd_sched.specs.declared.Event.TheVariants as event
-use Rattle.sd_history.specs.World.{Seen, makes}
+use Rattle.sd_fleet_state.specs.History.World.{Seen, makes}
 use Rattle.sd_premise_renewal.specs.declared.mark.Mark.{Mark}
 use Rattle.sd_premise_renewal.specs.Marks.{no_mark, marked, mark_after}
 use Rattle.sd_premise_renewal.specs.Windowed.{tells_given, tells_entered}
@@ -24,7 +24,8 @@ put marks m d x within = by (nat_eq m d) refl
     by false other = get_or-set_other marks m d x no_mark (λ same. eqb-false m d other (sym same))
 
 -- which device was given its duty
-pub given_slot : (s : Seen) (windows : ℕ) (marks : List Mark) (d : ℕ) → d < length marks → at (given_after s.event windows marks) d ≡ mark_after (tells_given d s) windows (at marks d)
+pub given_slot : (s : Seen) (windows : ℕ) (marks : List Mark) (d : ℕ) → d < length marks
+    → at (given_after s.event windows marks) d ≡ mark_after (tells_given d s) windows (at marks d)
 given_slot s windows marks d within = by s.event
   where
     told : (b : Bool) (x : Mark) → cond b (marked windows) x ≡ mark_after (cond b (Some true) None) windows x
@@ -41,7 +42,8 @@ given_slot s windows marks d within = by s.event
     by _ = refl
 
 -- which device was made
-made_slot : (e : Event) (windows : ℕ) (marks : List Mark) (d : ℕ) → d < length marks → at (made_after e marks) d ≡ mark_after (if makes d e then Some false else None) windows (at marks d)
+made_slot : (e : Event) (windows : ℕ) (marks : List Mark) (d : ℕ) → d < length marks
+    → at (made_after e marks) d ≡ mark_after (if makes d e then Some false else None) windows (at marks d)
 made_slot e windows marks d within = by e
   where
     undone : (b : Bool) (x : Mark) → cond b no_mark x ≡ mark_after (cond b (Some false) None) windows x
@@ -70,12 +72,14 @@ length_made _ marks = refl
 pub length_entered : (s : Seen) (windows : ℕ) (marks : List Mark) → length (entered_after s windows marks) ≡ length marks
 length_entered s windows marks = by s.activated ∙ length_made s.event marks
   where
-    by : (o : Option ℕ) → length (of_some o (made_after s.event marks) (λ d. slice_set (made_after s.event marks) d (marked windows))) ≡ length (made_after s.event marks)
+    by : (o : Option ℕ)
+        → length (of_some o (made_after s.event marks) (λ d. slice_set (made_after s.event marks) d (marked windows))) ≡ length (made_after s.event marks)
     by None = refl
     by (Some d) = length-set (made_after s.event marks) d (marked windows)
 
 -- which device has entered the staged plan
-pub entered_slot : (s : Seen) (windows : ℕ) (marks : List Mark) (d : ℕ) → d < length marks → at (entered_after s windows marks) d ≡ mark_after (tells_entered d s) windows (at marks d)
+pub entered_slot : (s : Seen) (windows : ℕ) (marks : List Mark) (d : ℕ) → d < length marks
+    → at (entered_after s windows marks) d ≡ mark_after (tells_entered d s) windows (at marks d)
 entered_slot s windows marks d within = by s.activated
   where
     inside : d < length (made_after s.event marks)
@@ -90,4 +94,5 @@ entered_slot s windows marks d within = by s.activated
     by None = made_slot s.event windows marks d within
     by (Some m) =
         put (made_after s.event marks) m d (marked windows) inside
-        ∙ told (nat_eq m d) (at (made_after s.event marks) d) (at marks d) (if makes d s.event then Some false else None) (made_slot s.event windows marks d within)
+        ∙ told (nat_eq m d) (at (made_after s.event marks) d) (at marks d) (if makes d s.event then Some false else None)
+        (made_slot s.event windows marks d within)

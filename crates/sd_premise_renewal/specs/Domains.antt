@@ -7,9 +7,9 @@ use Rattle.sd_topo.specs.declared.Thing.{Thing}
 use Rattle.sd_domain.specs.Failing.{HasRoomFor}
 use Rattle.sd_domain.specs.Domains.{within_one}
 use Rattle.sd_domain.specs.Failures.{FailedThings, failed_code, nothing_of, with_thing, things_of, has_thing, same_thing}
-use Rattle.sd_history.specs.Things.{failure_of}
-use Rattle.sd_history.specs.World.{Setting, Seen}
-use Rattle.sd_history.specs.Premises.{failures_since_closing, domain_holds}
+use Rattle.sd_fleet_state.specs.History.Things.{failure_of}
+use Rattle.sd_fleet_state.specs.History.World.{Setting, Seen}
+use Rattle.sd_fleet_state.specs.History.Premises.{failures_since_closing, domain_holds}
 
 -- what is kept: what failed since the latest closing, and whether the premise holds
 pub record DomainKept : Type 0 where

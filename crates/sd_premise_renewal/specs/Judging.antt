@@ -2,8 +2,8 @@
 use Rattle.std.specs.Prelude.{ℕ, Bool, ◌&&◌, not, List}
 use Rattle.std.specs.List.{list_all}
 use Rattle.sd_plan.specs.Plans.{is_member, members}
-use Rattle.sd_history.specs.World.{Setting, Seen, is_up, has_entered}
-use Rattle.sd_history.specs.Premises.{is_prepared, leaves_out_failed, leaves_out_cleanly, commits_orderly, seals_orderly, fails_orderly, begins_orderly}
+use Rattle.sd_fleet_state.specs.History.World.{Setting, Seen, is_up, has_entered}
+use Rattle.sd_fleet_state.specs.History.Premises.{is_prepared, leaves_out_failed, leaves_out_cleanly, commits_orderly, seals_orderly, fails_orderly, begins_orderly}
 use Rattle.sd_premise_renewal.specs.Moments.{staged_plan, IsMomentOf}
 use Rattle.sd_premise_renewal.specs.Progressing.{ProgressStands}
 use Rattle.sd_premise_renewal.specs.Renewals.{IsPlanned}
@@ -11,7 +11,8 @@ use Rattle.sd_premise_renewal.specs.declared.judge.Judge.{Judge}
 
 -- the event keeps the order of renewals
 abbrev pub is_orderly : Setting → Seen → List Seen → Bool
-is_orderly setting s earlier = commits_orderly setting s earlier && seals_orderly setting s earlier && fails_orderly s earlier && begins_orderly setting s earlier
+is_orderly setting s earlier = commits_orderly setting s earlier && seals_orderly setting s earlier && fails_orderly s earlier
+    && begins_orderly setting s earlier
 
 -- the device is a member of the staged plan, and not prepared
 abbrev pub lacks : Setting → List Seen → ℕ → Bool
@@ -23,7 +24,8 @@ lags setting seen d = is_member (staged_plan setting seen) d && is_up seen d && 
 
 -- the members of the staged plan are prepared, and it leaves out each failed link
 abbrev pub is_ready : Setting → List Seen → Bool
-is_ready setting seen = list_all (is_prepared setting seen) (members setting.net (staged_plan setting seen)) && leaves_out_failed setting seen (staged_plan setting seen)
+is_ready setting seen = list_all (is_prepared setting seen) (members setting.net (staged_plan setting seen))
+    && leaves_out_failed setting seen (staged_plan setting seen)
 
 -- and no device that is up and left out is joined to its root
 abbrev pub is_met : Setting → List Seen → Bool

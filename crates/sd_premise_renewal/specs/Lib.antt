@@ -1,7 +1,6 @@
 -- What the monitors keep, and for which lists they stand.
 pub mod Domains
 pub mod DomainView
-pub mod Links
 pub mod Marks
 pub mod Windowed
 pub mod Moments

@@ -4,12 +4,11 @@ use Rattle.sd_topo.specs.Network.{link_of}
 use Rattle.sd_topo.specs.Topologies.{network}
 use Rattle.sd_plan.specs.Plans.{is_member, is_present}
 use Rattle.sd_plan.specs.declared.Plan.{Plan}
-use Rattle.sd_history.specs.World.{Setting, Seen, is_up, link_has_failed, epoch_in_force, staged_epoch, plan_numbered}
-use Rattle.sd_history.specs.Premises.{leaves_out_failed}
-use Rattle.sd_roster.specs.Plans.{AreSound}
-use Rattle.sd_world.specs.Standing.{Stands}
-use Rattle.sd_premise_clocks.specs.Memberships.{AreMembers}
-use Rattle.sd_premise_renewal.specs.Links.{ArePresent}
+use Rattle.sd_fleet_state.specs.History.World.{Setting, Seen, is_up, link_has_failed, epoch_in_force, staged_epoch, plan_numbered}
+use Rattle.sd_fleet_state.specs.History.Premises.{leaves_out_failed}
+use Rattle.sd_fleet_state.specs.membership.Plans.{AreSound}
+use Rattle.sd_fleet_state.specs.world.Standing.{Stands}
+use Rattle.sd_premise_clocks.specs.Memberships.{AreMembers, ArePresent}
 use Rattle.sd_premise_renewal.specs.declared.moment.Moment.{Moment}
 
 -- network, members, links and world are those of the setting and of what was seen
@@ -36,7 +35,8 @@ parts setting seen member other = is_member (staged_plan setting seen) member &&
 abbrev pub leads_out : Setting → List Seen → ℕ → Bool
 leads_out setting seen l =
     not (link_has_failed seen l)
-    && (parts setting seen (link_of setting.net l).end_a (link_of setting.net l).end_b || parts setting seen (link_of setting.net l).end_b (link_of setting.net l).end_a)
+    && (parts setting seen (link_of setting.net l).end_a (link_of setting.net l).end_b
+    || parts setting seen (link_of setting.net l).end_b (link_of setting.net l).end_a)
 
 -- there is such a plan, each member of it is up, and it leaves out each failed link
 pub record IsReady (setting : Setting) (seen : List Seen) : Type 0 where

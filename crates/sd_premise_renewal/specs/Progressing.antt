@@ -4,8 +4,8 @@ use Rattle.sd_num.specs.Lists.{of_some}
 use Rattle.sd_sched.specs.declared.Event.{Event}
 use Rattle.sd_sched.specs.declared.Event.TheVariants as event
 use Rattle.sd_sched.specs.Events.{is_stage}
-use Rattle.sd_history.specs.World.{Seen, window_is_open, has_entered}
-use Rattle.sd_history.specs.Premises.{has_mend, has_seal, was_given}
+use Rattle.sd_fleet_state.specs.History.World.{Seen, window_is_open, has_entered}
+use Rattle.sd_fleet_state.specs.History.Premises.{has_mend, has_seal, was_given}
 use Rattle.sd_premise_renewal.specs.declared.mark.Mark.{Mark}
 use Rattle.sd_premise_renewal.specs.Marks.{no_mark, marked, mark_after, MarkStands}
 use Rattle.sd_premise_renewal.specs.Windowed.{tells_mended, tells_sealed}

@@ -1,7 +1,7 @@
 -- For which lists the monitor of renewals stands.
 use Rattle.std.specs.Prelude.{◌≡◌, ◌<◌, Bool, true, List, length}
-use Rattle.sd_history.specs.World.{Setting, Seen, window_is_open, epoch_in_force}
-use Rattle.sd_history.specs.Premises.{renew_holds}
+use Rattle.sd_fleet_state.specs.History.World.{Setting, Seen, window_is_open, epoch_in_force}
+use Rattle.sd_fleet_state.specs.History.Premises.{renew_holds}
 use Rattle.sd_premise_renewal.specs.Progressing.{ProgressKept, HasDevices, ProgressStands}
 
 -- what is kept: how far the open window has come, and whether the premise holds

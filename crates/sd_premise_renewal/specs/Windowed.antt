@@ -2,8 +2,8 @@
 use Rattle.std.specs.Prelude.{ℕ, Bool, true, false, List, Option, Some, None, is_some, if◌then◌else◌}
 use Rattle.sd_num.specs.Lists.{of_some, same_number, latest}
 use Rattle.sd_sched.specs.Events.{joined, given, is_seal}
-use Rattle.sd_history.specs.Things.{mended}
-use Rattle.sd_history.specs.World.{Seen, window, makes}
+use Rattle.sd_fleet_state.specs.History.Things.{mended}
+use Rattle.sd_fleet_state.specs.History.World.{Seen, window, makes}
 
 -- what the latest event of the open window that tells something tells, and false where none does
 abbrev pub came_about : (Seen → Option Bool) → List Seen → Bool

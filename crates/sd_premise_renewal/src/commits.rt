@@ -3,8 +3,8 @@
 ghost use Rattle.std.specs.Prelude.{◌≡◌, ◌<◌, List, length};
 ghost use Rattle.sd_topo.specs.Topologies.{network};
 ghost use Rattle.sd_plan.specs.Plans.{is_member};
-ghost use Rattle.sd_history.specs.Premises.{leaves_out_cleanly, leaves_out_failed};
-ghost use Rattle.sd_history.specs.World.{Setting, Seen as Sight, in_force, staged_epoch, link_has_failed};
+ghost use Rattle.sd_fleet_state.specs.History.Premises.{leaves_out_cleanly, leaves_out_failed};
+ghost use Rattle.sd_fleet_state.specs.History.World.{Setting, Seen as Sight, in_force, staged_epoch, link_has_failed};
 ghost use Rattle.sd_premise_renewal.specs.Moments.{IsMomentOf, IsReady, staged_plan, uses_failed, parts, leads_out};
 
 use crate::Moment;
@@ -14,14 +14,16 @@ impl Moment<'_> {
     /// Whether a device is a member of the plan in force.
     pub(crate) fn is_in_force(&self, d: u32) -> bool
         requires { d < length (network self.now.topo.now).devices }
-        ensures { (setting : Setting) (seen : List Sight) → IsMomentOf self.now setting seen → result ≡ is_member (in_force setting seen) d }
+        ensures { (setting : Setting) (seen : List Sight) → IsMomentOf self.now setting seen
+            → result ≡ is_member (in_force setting seen) d }
     {
         self.members.is_member(u64::from(self.world.epoch()), d)
     }
 
     /// The number of the plan that a window brings in.
     fn staged(&self) -> u64
-        ensures { (setting : Setting) (seen : List Sight) → IsMomentOf self.now setting seen → result ≡ staged_epoch seen }
+        ensures { (setting : Setting) (seen : List Sight) → IsMomentOf self.now setting seen
+            → result ≡ staged_epoch seen }
     {
         u64::from(self.world.epoch()) + 1
     }
@@ -38,7 +40,8 @@ impl Moment<'_> {
     /// Whether a link is failed.
     fn has_failed(&self, l: u32) -> bool
         requires { l < length (network self.now.topo.now).links }
-        ensures { (setting : Setting) (seen : List Sight) → IsMomentOf self.now setting seen → result ≡ link_has_failed seen l }
+        ensures { (setting : Setting) (seen : List Sight) → IsMomentOf self.now setting seen
+            → result ≡ link_has_failed seen l }
     {
         self.world.has_failed(Thing::Link(l))
     }
@@ -59,7 +62,8 @@ impl Moment<'_> {
     /// Whether a link is failed, and that plan may use it.
     fn uses_failed(&self, l: u32) -> bool
         requires { l < length (network self.now.topo.now).links }
-        ensures { (setting : Setting) (seen : List Sight) → IsMomentOf self.now setting seen → result ≡ uses_failed setting seen l }
+        ensures { (setting : Setting) (seen : List Sight) → IsMomentOf self.now setting seen
+            → result ≡ uses_failed setting seen l }
     {
         self.has_failed(l) && self.links.is_present(self.staged(), l)
     }
@@ -78,7 +82,8 @@ impl Moment<'_> {
     /// and none.
     fn leads_out(&self, l: u32) -> bool
         requires { l < length (network self.now.topo.now).links }
-        ensures { (setting : Setting) (seen : List Sight) → IsMomentOf self.now setting seen → result ≡ leads_out setting seen l }
+        ensures { (setting : Setting) (seen : List Sight) → IsMomentOf self.now setting seen
+            → result ≡ leads_out setting seen l }
     {
         let link = self.topo.link(l);
         !self.has_failed(l)

@@ -4,17 +4,17 @@ ghost use Rattle.std.specs.Prelude.{◌≡◌, ◌∷◌, [], List, IfSome, IfOk
 ghost use Rattle.sd_topo.specs.Topologies.{network};
 ghost use Rattle.sd_domain.specs.Failing.{HasRoomFor};
 ghost use Rattle.sd_domain.specs.Failures.{HasRoom};
-ghost use Rattle.sd_history.specs.Things as things;
-ghost use Rattle.sd_history.specs.World.{Setting, Seen as Sight};
-ghost use Rattle.sd_history.specs.Premises.{domain_holds};
+ghost use Rattle.sd_fleet_state.specs.History.Things as things;
+ghost use Rattle.sd_fleet_state.specs.History.World.{Setting, Seen as Sight};
+ghost use Rattle.sd_fleet_state.specs.History.Premises.{domain_holds};
 ghost use Rattle.sd_premise_clocks.specs.Sights.{sight_of};
 ghost use Rattle.sd_premise_renewal.specs.Domains.{with_failure, if_closed, DomainStands};
 
 use sd_domain::{Failure, within_one};
+use sd_fleet_state::world::failure_of;
 use sd_num::NoMemory;
 use sd_premise_clocks::Seen;
 use sd_topo::{Thing, Topology};
-use sd_world::failure_of;
 use std::alloc::Global;
 use std::marker::Model;
 
@@ -56,10 +56,13 @@ impl DomainMonitor {
     pub fn observe(&mut self, topo: &Topology, seen: &Seen<'_>) -> bool
         requires { IfSome (things.failure_of seen.now.event) (HasRoom self.old.failed) }
         ensures stands { (setting : Setting) (earlier : List Sight) → setting.net ≡ network topo.now
-            → DomainStands setting self.old earlier → DomainStands setting self.new (sight_of seen.now ∷ earlier) }
+            → DomainStands setting self.old earlier
+            → DomainStands setting self.new (sight_of seen.now ∷ earlier) }
         ensures holds { (setting : Setting) (earlier : List Sight) → setting.net ≡ network topo.now
-            → DomainStands setting self.old earlier → result ≡ domain_holds setting (sight_of seen.now ∷ earlier) }
-        ensures room { HasRoomFor (network topo.now) self.old.failed → HasRoomFor (network topo.now) self.new.failed }
+            → DomainStands setting self.old earlier
+            → result ≡ domain_holds setting (sight_of seen.now ∷ earlier) }
+        ensures room { HasRoomFor (network topo.now) self.old.failed
+            → HasRoomFor (network topo.now) self.new.failed }
     {
         self.fail(topo, failure_of(&seen.event));
         self.close_if(seen.closed);

@@ -12,14 +12,12 @@ mod commits;
 mod domain;
 mod judge;
 mod judging;
-mod links;
 mod mark;
 mod moment;
 mod progress;
 mod renewal;
 
 pub use domain::DomainMonitor;
-pub use links::PresentLinks;
 pub use mark::Mark;
 pub use moment::Moment;
 pub use renewal::RenewalMonitor;

@@ -2,18 +2,17 @@
 ghost use Rattle.std.specs.Prelude.{◌≡◌, length};
 ghost use Rattle.sd_topo.specs.Topologies.{network};
 
-use crate::PresentLinks;
-use sd_premise_clocks::Members;
+use sd_fleet_state::world::World;
+use sd_premise_clocks::PresentRows;
 use sd_topo::Topology;
-use sd_world::World;
 
 /// What an event is judged by: the network, who and what takes part in each plan, and the world
 /// before the event.
 #[derive(Clone, Copy)]
 pub struct Moment<'a> {
     pub topo: &'a Topology,
-    pub members: &'a Members,
-    pub links: &'a PresentLinks,
+    pub members: &'a PresentRows,
+    pub links: &'a PresentRows,
     pub world: &'a World,
     pub ghost device_count: { length world.now.devices ≡ length (network topo.now).devices },
     pub ghost link_count: { length world.now.failed_links ≡ length (network topo.now).links },

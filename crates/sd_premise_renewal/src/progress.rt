@@ -2,17 +2,17 @@
 ghost use Rattle.std.specs.Prelude.{◌≡◌, ℕ, ◌<◌, ◌^◌, ◌∷◌, [], List, length, IfSome, IfOk};
 ghost use Rattle.std.specs.List.{list_any};
 ghost use Rattle.sd_sched.specs.Events.{device_of, is_stage, is_seal};
-ghost use Rattle.sd_history.specs.Premises.{has_mend, has_seal, was_given};
-ghost use Rattle.sd_history.specs.World.{Setting, Seen as Sight, has_entered};
-ghost use Rattle.sd_world.specs.Standing.{Stands};
+ghost use Rattle.sd_fleet_state.specs.History.Premises.{has_mend, has_seal, was_given};
+ghost use Rattle.sd_fleet_state.specs.History.World.{Setting, Seen as Sight, has_entered};
+ghost use Rattle.sd_fleet_state.specs.world.Standing.{Stands};
 ghost use Rattle.sd_premise_clocks.specs.Sights.{sight_of};
 ghost use Rattle.sd_premise_renewal.specs.Progressing.{HasDevices, given_after, made_after, entered_after, progress_within, progress_after, ProgressStands};
 
 use crate::Mark;
+use sd_fleet_state::world::{World, mended};
 use sd_num::NoMemory;
 use sd_premise_clocks::Seen;
 use sd_sched::Event;
-use sd_world::{World, mended};
 use std::alloc::Global;
 use std::marker::Model;
 
@@ -121,7 +121,8 @@ impl Progress {
         requires entered { IfSome (device_of seen.now.event) (λ d. d < length self.old.entered) }
         requires activated { IfSome seen.now.activated (λ d. d < length self.old.entered) }
         ensures kept { self.new ≡ progress_after (sight_of seen.now) self.old }
-        ensures stands { (earlier : List Sight) → ProgressStands self.old earlier → ProgressStands self.new (sight_of seen.now ∷ earlier) }
+        ensures stands { (earlier : List Sight) → ProgressStands self.old earlier
+            → ProgressStands self.new (sight_of seen.now ∷ earlier) }
     {
         if stages(&seen.event) {
             self.windows += 1;
@@ -149,14 +150,16 @@ impl Progress {
 
     /// Whether some window was opened so far.
     pub fn has_begun(&self) -> bool
-        ensures { (seen : List Sight) → ProgressStands self.now seen → result ≡ list_any (λ s. is_stage s.event) seen }
+        ensures { (seen : List Sight) → ProgressStands self.now seen
+            → result ≡ list_any (λ s. is_stage s.event) seen }
     {
         self.windows > 0
     }
 
     /// Whether something is mended in the open window of the world.
     pub fn has_mend(&self, world: &World) -> bool
-        ensures { (setting : Setting) (seen : List Sight) → Stands world.now setting seen → ProgressStands self.now seen
+        ensures { (setting : Setting) (seen : List Sight) → Stands world.now setting seen
+            → ProgressStands self.now seen
             → result ≡ has_mend seen }
     {
         self.mended.holds(world.window().is_open(), self.windows)
@@ -164,7 +167,8 @@ impl Progress {
 
     /// Whether some device is sealed in the open window of the world.
     pub fn has_seal(&self, world: &World) -> bool
-        ensures { (setting : Setting) (seen : List Sight) → Stands world.now setting seen → ProgressStands self.now seen
+        ensures { (setting : Setting) (seen : List Sight) → Stands world.now setting seen
+            → ProgressStands self.now seen
             → result ≡ has_seal seen }
     {
         self.sealed.holds(world.window().is_open(), self.windows)
@@ -174,7 +178,8 @@ impl Progress {
     /// join.
     pub fn was_given(&self, world: &World, d: u32) -> bool
         requires { d < length self.now.given }
-        ensures { (setting : Setting) (seen : List Sight) → Stands world.now setting seen → ProgressStands self.now seen
+        ensures { (setting : Setting) (seen : List Sight) → Stands world.now setting seen
+            → ProgressStands self.now seen
             → result ≡ was_given seen d }
     {
         self.given[d as usize].holds(world.window().is_open(), self.windows)
@@ -183,7 +188,8 @@ impl Progress {
     /// Whether the device has entered the staged plan, since it was made.
     pub fn has_entered(&self, world: &World, d: u32) -> bool
         requires { d < length self.now.entered }
-        ensures { (setting : Setting) (seen : List Sight) → Stands world.now setting seen → ProgressStands self.now seen
+        ensures { (setting : Setting) (seen : List Sight) → Stands world.now setting seen
+            → ProgressStands self.now seen
             → result ≡ has_entered seen d }
     {
         self.entered[d as usize].holds(world.window().is_open(), self.windows)

@@ -3,9 +3,9 @@
 ghost use Rattle.std.specs.Prelude.{◌≡◌, ◌+◌, ◌<◌, ◌≤◌, ◌^◌, ◌∷◌, [], List, length, IsTrue, IfSome, IfOk};
 ghost use Rattle.sd_topo.specs.Topologies.{network};
 ghost use Rattle.sd_sched.specs.Events.{device_of};
-ghost use Rattle.sd_history.specs.World.{Setting, Seen as Sight};
-ghost use Rattle.sd_history.specs.Premises.{renew_holds};
-ghost use Rattle.sd_history.specs.Refusals.{may_be_seen};
+ghost use Rattle.sd_fleet_state.specs.History.World.{Setting, Seen as Sight};
+ghost use Rattle.sd_fleet_state.specs.History.Premises.{renew_holds};
+ghost use Rattle.sd_fleet_state.specs.History.Refusals.{may_be_seen};
 ghost use Rattle.sd_premise_clocks.specs.Sights.{sight_of};
 ghost use Rattle.sd_premise_renewal.specs.Moments.{IsMomentOf};
 ghost use Rattle.sd_premise_renewal.specs.Progressing.{HasDevices};
@@ -41,7 +41,8 @@ impl Model for RenewalMonitor {
 impl RenewalMonitor {
     /// A monitor that has seen nothing of the devices of a topology.
     pub fn new(alloc: Global, topo: &Topology) -> Result<RenewalMonitor, NoMemory>
-        ensures devices { IfOk result (λ monitor. HasDevices (length (network topo.now).devices) monitor.progress) }
+        ensures devices { IfOk result
+            (λ monitor. HasDevices (length (network topo.now).devices) monitor.progress) }
         ensures few { IfOk result (λ monitor. monitor.progress.windows ≡ 0) }
         ensures stands { IfOk result (λ monitor. (setting : Setting) → setting.net ≡ network topo.now
             → RenewalStands setting monitor []) }
@@ -56,15 +57,20 @@ impl RenewalMonitor {
     /// Sees one event more, at the moment before it, and tells whether the premise holds still.
     pub fn observe(&mut self, before: Moment<'_>, seen: &Seen<'_>) -> bool
         requires devices { HasDevices (length (network before.topo.now).devices) self.old.progress }
-        requires device { IfSome (device_of seen.now.event) (λ d. d < length (network before.topo.now).devices) }
+        requires device { IfSome (device_of seen.now.event)
+            (λ d. d < length (network before.topo.now).devices) }
         requires activated { IfSome seen.now.activated (λ d. d < length (network before.topo.now).devices) }
         requires few { self.old.progress.windows < 2 ^ 63 }
-        ensures stands { (setting : Setting) (earlier : List Sight) → IsMomentOf before.entry setting earlier
+        ensures stands { (setting : Setting) (earlier : List Sight)
+            → IsMomentOf before.entry setting earlier
             → IsTrue (may_be_seen setting earlier seen.now.event)
-            → RenewalStands setting self.old earlier → RenewalStands setting self.new (sight_of seen.now ∷ earlier) }
-        ensures holds { (setting : Setting) (earlier : List Sight) → IsMomentOf before.entry setting earlier
+            → RenewalStands setting self.old earlier
+            → RenewalStands setting self.new (sight_of seen.now ∷ earlier) }
+        ensures holds { (setting : Setting) (earlier : List Sight)
+            → IsMomentOf before.entry setting earlier
             → IsTrue (may_be_seen setting earlier seen.now.event)
-            → RenewalStands setting self.old earlier → result ≡ renew_holds setting (sight_of seen.now ∷ earlier) }
+            → RenewalStands setting self.old earlier
+            → result ≡ renew_holds setting (sight_of seen.now ∷ earlier) }
         ensures devices { HasDevices (length (network before.entry.topo.now).devices) self.new.progress }
         ensures few { self.new.progress.windows ≤ self.old.progress.windows + 1 }
     {

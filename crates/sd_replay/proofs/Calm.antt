@@ -1,4 +1,4 @@
--- While no premise is broken there is no alarm, where clean histories are safe: their reports contain their references.
+-- While no premise is broken there is no alarm: clean histories are safe, and their reports contain their references.
 use Rattle.std.specs.Prelude.{◌≡◌, true, count_by, List, [], ◌∷◌, IsTrue, refl}
 use Rattle.std.proofs.Common.{arith, sym, subst}
 use Rattle.sd_msg.specs.declared.observer.Observer as observers
@@ -10,39 +10,49 @@ use Rattle.sd_history.specs.Chronicle.{next_step, chronicle, IsHistory}
 use Rattle.sd_history.specs.Premises.{breaks, all_hold}
 use Rattle.sd_history.specs.Lines.{lines_of}
 use Rattle.sd_history.proofs.Devices.{devices_run, devices_have_history}
-use Rattle.sd_replay.specs.Promises.{IsSound, StaysSafe}
+use Rattle.sd_proof_safety.proofs.whole.Safe.{stays_safe}
+use Rattle.sd_proof_safety.specs.invariant.Kept.{IsSafe}
+use Rattle.sd_replay.specs.Promises.{IsSound}
 use Rattle.sd_replay.specs.Tallies.{is_alarm}
 use Rattle.sd_replay.specs.Calm.{IsCalm, StaysCalm}
 use Rattle.sd_replay.specs.Devices.{DevicesStayCalm}
 use Rattle.sd_replay.proofs.Due.{none_broken, four_parts, no_alarm_due, all_honest}
 use Rattle.sd_replay.proofs.Kept.{reports_contain}
 
-module _ (setting : Setting) (safe : StaysSafe setting) (sound : IsSound setting) where
+-- a clean history over plans that are accepted is safe
+pub history_is_safe : (setting : Setting) → IsSound setting → (history : List Event) → IsHistory setting history
+    → IsTrue (all_hold setting (seen_of (chronicle setting history))) → IsSafe setting (chronicle setting history)
+history_is_safe setting sound history is holds =
+    stays_safe setting history (record { network = sound.network; some_plan = sound.some_plan; fit = sound.fit; accepted = sound.accepted })
+    (record { is = is; premises = holds })
+
+module _ (setting : Setting) (sound : IsSound setting) where
   no_alarm : (history : List Event) → IsHistory setting history → all_hold setting (seen_of (chronicle setting history)) ≡ true
       → count_by is_alarm (lines_of setting (chronicle setting history)) ≡ 0
   no_alarm [] is holds = refl
   no_alarm (e ∷ earlier) is holds =
       let before : List Step = chronicle setting earlier in
       let here : Step = next_step setting before e in
-      let kept = safe (e ∷ earlier) sound is holds in
-      let others = no_alarm_due setting here before kept.0 kept.1 (reports_contain setting (e ∷ earlier) is (all_honest setting here before holds)) in
+      let kept = history_is_safe setting sound (e ∷ earlier) is holds in
+      let others = no_alarm_due setting here before kept.loop kept.root (reports_contain setting (e ∷ earlier) is (all_honest setting here before holds)) in
       let premises = none_broken is_alarm (λ p. refl) (breaks setting (seen_of (here ∷ before))) in
       let parts = four_parts setting here before is_alarm in
       omega (arith, parts, premises, others)
 
   -- a history in which no premise is broken is calm
-  pub history_is_calm : (history : List Event) → IsHistory setting history → IsTrue (all_hold setting (seen_of (chronicle setting history))) → IsCalm setting (chronicle setting history)
+  pub history_is_calm : (history : List Event) → IsHistory setting history → IsTrue (all_hold setting (seen_of (chronicle setting history)))
+      → IsCalm setting (chronicle setting history)
   history_is_calm history is holds =
-      let kept = safe history sound is holds in
-      record { no_loop = kept.0; one_root = kept.1; no_alarm = no_alarm history is holds }
+      let kept = history_is_safe setting sound history is holds in
+      record { no_loop = kept.loop; one_root = kept.root; no_alarm = no_alarm history is holds }
 
 -- and so are steps that are one
 pub stays_calm : (setting : Setting) → IsSound setting → (steps : List Step) → StaysCalm setting steps
-stays_calm setting sound steps safe is holds =
+stays_calm setting sound steps is holds =
     subst (IsCalm setting) (sym is.chronicle)
-    (history_is_calm setting safe sound (events_of steps) is.history (subst (λ (s : List Step). IsTrue (all_hold setting (seen_of s))) is.chronicle holds))
+    (history_is_calm setting sound (events_of steps) is.history (subst (λ (s : List Step). IsTrue (all_hold setting (seen_of s))) is.chronicle holds))
 
 pub devices_stay_calm : {V : Type 0} (o : observers.Ghosts V) → DevicesStayCalm o
-devices_stay_calm o replay setting run safe stands holds =
-    stays_calm setting stands.sound (steps_of run) safe
+devices_stay_calm o replay setting run stands holds =
+    stays_calm setting stands.sound (steps_of run)
     (record { history = devices_have_history setting run stands.made.is_run; chronicle = devices_run setting run stands.made.is_run }) holds

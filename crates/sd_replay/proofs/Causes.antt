@@ -15,12 +15,13 @@ use Rattle.sd_replay.specs.declared.faults.ReplayFault.TheVariants.{Apply}
 use Rattle.sd_replay.specs.FleetFaults.{of_fleet}
 use Rattle.sd_replay.specs.Replaying.{IsFault}
 
--- want of memory is no cause
+-- out of memory is no cause
 abbrev is_memory : ApplyFault → Bool
 is_memory fleet.Memory = true
 is_memory fault = false
 
-among_others : (all : List (ApplyFault × Bool)) → list_all (λ cause. not (is_memory cause.0)) all ≡ true → option_map (λ cause. cause.0) (find (λ cause. cause.1) all) ≢ Some fleet.Memory
+among_others : (all : List (ApplyFault × Bool)) → list_all (λ cause. not (is_memory cause.0)) all ≡ true
+    → option_map (λ cause. cause.0) (find (λ cause. cause.1) all) ≢ Some fleet.Memory
 among_others [] others is = cc is
 among_others ((fleet.Memory, b) ∷ rest) others is = cc others
 among_others ((fault, true) ∷ rest) others is = cc is
@@ -46,12 +47,14 @@ told_as (Ok a) x is = absurd is
 told_as (Err e) x is = ap Err is
 
 -- the fault of the fleet, told by the replay, is that of the history
-pub told_of_fleet : (setting : Setting) (steps : List Step) (e : Event) (fault : ApplyFault) → fleets.IsFault fault setting steps e → IsFault (of_fleet fault) setting steps e
+pub told_of_fleet : (setting : Setting) (steps : List Step) (e : Event) (fault : ApplyFault) → fleets.IsFault fault setting steps e
+    → IsFault (of_fleet fault) setting steps e
 told_of_fleet setting steps e fault (inl is) = subst (λ f. IsFault f setting steps e) (sym (of_cause setting steps e fault is)) is
 told_of_fleet setting steps e fault (inr short) = subst (λ f. IsFault (of_fleet f) setting steps e) (sym short.0) (short.1, search)
 
 -- where the history refuses the event, it is refused for that cause
-pub told_cause : {A : Type 0} (setting : Setting) (steps : List Step) (e : Event) (fault : ApplyFault) (r : Result A ReplayFault) → r ≡ Err (of_fleet fault) → fleets.IsFault fault setting steps e
+pub told_cause : {A : Type 0} (setting : Setting) (steps : List Step) (e : Event) (fault : ApplyFault) (r : Result A ReplayFault) → r ≡ Err (of_fleet fault)
+    → fleets.IsFault fault setting steps e
     → IfSome (refusal setting steps e) (λ cause. r ≡ Err (Apply cause))
 told_cause setting steps e fault r told is = by (refusal setting steps e) refl is
   where
@@ -61,5 +64,6 @@ told_cause setting steps e fault r told is = by (refusal setting steps e) refl i
     by (Some cause) same (inr short) = cc (same, short.1)
 
 -- an event that the history does not refuse is not refused for a cause
-pub unrefused : {A : Type 0} (r : Result A ReplayFault) (setting : Setting) (steps : List Step) (e : Event) → refusal setting steps e ≡ None → IfSome (refusal setting steps e) (λ cause. r ≡ Err (Apply cause))
+pub unrefused : {A : Type 0} (r : Result A ReplayFault) (setting : Setting) (steps : List Step) (e : Event) → refusal setting steps e ≡ None
+    → IfSome (refusal setting steps e) (λ cause. r ≡ Err (Apply cause))
 unrefused r setting steps e none = subst (λ (o : Option ApplyFault). IfSome o (λ cause. r ≡ Err (Apply cause))) (sym none) tt

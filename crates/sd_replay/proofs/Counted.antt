@@ -7,8 +7,8 @@ use Rattle.sd_clock.specs.declared.Report.{Report}
 use Rattle.sd_clock.specs.Estimates.{contains}
 use Rattle.sd_history.specs.declared.BrokenSet.{BrokenSet}
 use Rattle.sd_history.specs.Lines.{Line, Premise, Start, Drift, Delay, Tick, Loss, Domain, Renew, Broken, Reported, IntervalAlarm, broken_lines, report_lines}
-use Rattle.sd_lines.specs.declared.findings.Findings.{Findings}
-use Rattle.sd_lines.specs.Findings.{found_lines, loop_found, roots_found, misses_in}
+use Rattle.sd_replay.specs.declared.lines.findings.Findings.{Findings}
+use Rattle.sd_replay.specs.lines.Findings.{found_lines, loop_found, roots_found, misses_in}
 use Rattle.sd_replay.specs.Tallies.{is_broken, is_alarm}
 use Rattle.sd_replay.specs.Counting.{one}
 
@@ -45,7 +45,8 @@ module _ (b : BrokenSet) where
   six = five ++ line_if b.domain Domain
 
   pub split : (test : Line → Bool) → count_by test (broken_lines b)
-      ≡ count_by test (line_if b.start Start) + count_by test (line_if b.drift Drift) + count_by test (line_if b.delay Delay) + count_by test (line_if b.tick Tick) + count_by test (line_if b.loss Loss) + count_by test (line_if b.domain Domain) + count_by test (line_if b.renew Renew)
+      ≡ count_by test (line_if b.start Start) + count_by test (line_if b.drift Drift) + count_by test (line_if b.delay Delay) + count_by test
+      (line_if b.tick Tick) + count_by test (line_if b.loss Loss) + count_by test (line_if b.domain Domain) + count_by test (line_if b.renew Renew)
   split test =
       let d = more test (line_if b.start Start) (line_if b.drift Drift) in
       let l = more test two (line_if b.delay Delay) in
@@ -89,11 +90,14 @@ roots_counted : (o : Option (ℕ × ℕ)) → (count_by is_alarm (roots_found o)
 roots_counted None = (refl, refl)
 roots_counted (Some two) = (refl, refl)
 
-report_counted : (reference : ℕ) (o : Option (ℕ × Report)) → (count_by is_alarm (of_some o [] (report_lines reference)) ≡ one (of_some o false (λ told. not (contains told.1 reference)))) × (count_by is_broken (of_some o [] (report_lines reference)) ≡ 0)
+report_counted : (reference : ℕ) (o : Option (ℕ × Report))
+    → (count_by is_alarm (of_some o [] (report_lines reference)) ≡ one (of_some o false (λ told. not (contains told.1 reference))))
+    × (count_by is_broken (of_some o [] (report_lines reference)) ≡ 0)
 report_counted reference None = (refl, refl)
 report_counted reference (Some told) = by (contains told.1 reference)
   where
-    by : (b : Bool) → (count_by is_alarm (Reported told.0 told.1 ∷ (if b then [] else IntervalAlarm told.0 reference ∷ [])) ≡ one (not b)) × (count_by is_broken (Reported told.0 told.1 ∷ (if b then [] else IntervalAlarm told.0 reference ∷ [])) ≡ 0)
+    by : (b : Bool) → (count_by is_alarm (Reported told.0 told.1 ∷ (if b then [] else IntervalAlarm told.0 reference ∷ [])) ≡ one (not b))
+        × (count_by is_broken (Reported told.0 told.1 ∷ (if b then [] else IntervalAlarm told.0 reference ∷ [])) ≡ 0)
     by true = (refl, refl)
     by false = (refl, refl)
 
@@ -101,7 +105,9 @@ module _ (found : Findings) where
   abbrev asked : List Line
   asked = of_some found.report [] (report_lines found.reference)
 
-  parts : (test : Line → Bool) → count_by test (found_lines found) ≡ count_by test (broken_lines found.broken) + count_by test (loop_found found.looped) + count_by test (roots_found found.roots) + count_by test asked
+  parts : (test : Line → Bool)
+      → count_by test (found_lines found) ≡ count_by test (broken_lines found.broken) + count_by test (loop_found found.looped) + count_by test
+      (roots_found found.roots) + count_by test asked
   parts test =
       let l = more test (broken_lines found.broken) (loop_found found.looped) in
       let r = more test (broken_lines found.broken ++ loop_found found.looped) (roots_found found.roots) in

@@ -62,7 +62,8 @@ no_roots test before (d ∷ e ∷ others) never = by (nat_le 2 (length before))
     by false = ap (λ t. 0 + cond {A = ℕ} t 1 0) (never (omega arith) d e)
 
 -- nor but where a report misses its reference
-no_miss : (test : Line → Bool) (reference : ℕ) (o : Option (ℕ × Report)) → ((d : ℕ) (report : Report) → test (Reported d report) ≡ false) → ((told : ℕ × Report) → o ≡ Some told → contains told.1 reference ≡ true)
+no_miss : (test : Line → Bool) (reference : ℕ) (o : Option (ℕ × Report)) → ((d : ℕ) (report : Report) → test (Reported d report) ≡ false)
+    → ((told : ℕ × Report) → o ≡ Some told → contains told.1 reference ≡ true)
     → count_by test (of_some o [] (report_lines reference)) ≡ 0
 no_miss test reference None never holds = refl
 no_miss test reference (Some told) never holds = by (contains told.1 reference) (holds told refl)
@@ -74,10 +75,12 @@ no_miss test reference (Some told) never holds = by (contains told.1 reference) 
 abbrev pub all_contain : List ReportAt → Bool
 all_contain xs = list_all (λ r. contains r.report r.reference) xs
 
-latest_contains : (n reference : ℕ) (o : Option (ℕ × Report)) → all_contain (option_to_list (option_map (λ x. record { line = n; device = x.0; reference = reference; report = x.1 }) o)) ≡ true
+latest_contains : (n reference : ℕ) (o : Option (ℕ × Report))
+    → all_contain (option_to_list (option_map (λ x. record { line = n; device = x.0; reference = reference; report = x.1 }) o)) ≡ true
     → (x : ℕ × Report) → o ≡ Some x → contains x.1 reference ≡ true
 latest_contains n reference None all x same = cc
-latest_contains n reference (Some y) all x same = subst (λ (z : ℕ × Report). contains z.1 reference ≡ true) (same_some same) (and_parts (contains y.1 reference) true all).0
+latest_contains n reference (Some y) all x same =
+    subst (λ (z : ℕ × Report). contains z.1 reference ≡ true) (same_some same) (and_parts (contains y.1 reference) true all).0
 
 module _ (setting : Setting) (s : Step) (earlier : List Step) where
   abbrev pub broken : List Line
@@ -93,7 +96,8 @@ module _ (setting : Setting) (s : Step) (earlier : List Step) where
   told = of_some (report_of s) [] (report_lines (reference_of s.seen.event))
 
   -- the lines of an event by their parts
-  pub four_parts : (test : Line → Bool) → count_by test (lines_of setting (s ∷ earlier)) ≡ count_by test broken + (count_by test loop + count_by test acting + count_by test told)
+  pub four_parts : (test : Line → Bool)
+      → count_by test (lines_of setting (s ∷ earlier)) ≡ count_by test broken + (count_by test loop + count_by test acting + count_by test told)
   four_parts test =
       let l = more test broken loop in
       let r = more test (broken ++ loop) acting in
@@ -101,10 +105,13 @@ module _ (setting : Setting) (s : Step) (earlier : List Step) where
       omega (arith, l, r, t)
 
   abbrev here : List ReportAt
-  here = option_to_list (option_map (λ x. record { line = length earlier + 1; device = x.0; reference = reference_of s.seen.event; report = x.1 }) (report_of s))
+  here = option_to_list
+      (option_map (λ x. record { line = length earlier + 1; device = x.0; reference = reference_of s.seen.event; report = x.1 }) (report_of s))
 
   both_contain : all_contain (reports (s ∷ earlier)) ≡ true → (all_contain (reports earlier) ≡ true) × (all_contain here ≡ true)
-  both_contain all = and_parts (all_contain (reports earlier)) (all_contain here) (sym (list_all-append (λ (r : ReportAt). contains r.report r.reference) (reports earlier) here) ∙ all)
+  both_contain all =
+      and_parts (all_contain (reports earlier)) (all_contain here)
+      (sym (list_all-append (λ (r : ReportAt). contains r.report r.reference) (reports earlier) here) ∙ all)
 
   -- the earlier reports have their references where all reports do
   pub reports_before : all_contain (reports (s ∷ earlier)) ≡ true → all_contain (reports earlier) ≡ true

@@ -19,14 +19,14 @@ use Rattle.sd_history.specs.World.{Setting}
 use Rattle.sd_history.specs.Steps.{Step, flight_count}
 use Rattle.sd_history.specs.Refusals.{unspent}
 use Rattle.sd_history.specs.Accepted.{AreSteps}
-use Rattle.sd_history_flights.specs.Flights.{without_taken, without_swept, left_by, look_in, AreNumberedOn}
-use Rattle.sd_history_flights.proofs.Finds.{past_all, find_passing}
-use Rattle.sd_history_flights.proofs.Sending.{step_numbered, sent_is, counted}
-use Rattle.sd_fabric.specs.declared.Outcome.{Outcome}
-use Rattle.sd_fabric.specs.Outcomes.{first_number, outcome_of}
-use Rattle.sd_history_flights.proofs.Numbers.{step_given, unspent_given}
-use Rattle.sd_history_flights.proofs.Looks.{look_is}
-use Rattle.sd_history_flights.proofs.Leaving.{unspent_after}
+use Rattle.sd_history.specs.flights.Flights.{without_taken, without_swept, left_by, look_in, AreNumberedOn}
+use Rattle.sd_history.proofs.flights.Finds.{past_all, find_passing}
+use Rattle.sd_history.proofs.flights.Sending.{step_numbered, sent_is, counted}
+use Rattle.sd_fleet.specs.FleetFabric.declared.Outcome.{Outcome}
+use Rattle.sd_fleet.specs.FleetFabric.Outcomes.{first_number, outcome_of}
+use Rattle.sd_history.proofs.flights.Numbers.{step_given, unspent_given}
+use Rattle.sd_history.proofs.flights.Looks.{look_is}
+use Rattle.sd_history.proofs.flights.Leaving.{unspent_after}
 
 -- what an event leaves of numbered flights is numbered
 taken_numbered : (top : ℕ) (o : Option ℕ) (fs : List Flight) → AreNumbered 0 top fs → AreNumbered 0 top (without_taken o fs)
@@ -64,7 +64,8 @@ pub seen_sent : (setting : Setting) (s : Step) (earlier : List Step) → AreStep
 seen_sent setting s earlier is = ap (λ (x : Step). x.seen.sent) is.2 ∙ ap (filter (λ f. f.reaches)) (sym (sent_is setting s earlier is))
 
 -- the number of the first of them
-pub first_is : (setting : Setting) (s : Step) (earlier : List Step) → AreSteps setting (s ∷ earlier) → 0 < length s.sent → first_number s.sent ≡ flight_count earlier + 1
+pub first_is : (setting : Setting) (s : Step) (earlier : List Step) → AreSteps setting (s ∷ earlier) → 0 < length s.sent
+    → first_number s.sent ≡ flight_count earlier + 1
 first_is setting s earlier is some = by s.sent (step_numbered setting s earlier is) some
   where
     by : (fs : List Flight) → AreNumberedOn (flight_count earlier + 1) fs → 0 < length fs → first_number fs ≡ flight_count earlier + 1
@@ -89,9 +90,11 @@ module _ (setting : Setting) (s : Step) (earlier : List Step) (is : AreSteps set
       (ap (find (has_number number)) (unspent_after setting s earlier is)
       ∙ find-append (has_number number) (left_by s.seen.event (unspent earlier 0)) (filter (λ f. f.reaches) s.sent)
       ∙ ap (λ o. option_or o (find (has_number number) (filter (λ f. f.reaches) s.sent)))
-      (past_all 0 (flight_count earlier) number (left_by s.seen.event (unspent earlier 0)) (left_numbered (flight_count earlier) s.seen.event (unspent earlier 0) (unspent_given setting earlier 0 is.0)) (omega arith)).0
+      (past_all 0 (flight_count earlier) number (left_by s.seen.event (unspent earlier 0))
+      (left_numbered (flight_count earlier) s.seen.event (unspent earlier 0) (unspent_given setting earlier 0 is.0)) (omega arith)).0
       ∙ find_passing (flight_count earlier) (flight_count (s ∷ earlier)) number (λ f. f.reaches) s.sent (step_given setting s earlier is)
-      ∙ ap (option_and_then (λ f. if f.reaches then Some f else None)) (find_at (flight_count earlier + 1) s.sent i d (step_numbered setting s earlier is) within))
+      ∙ ap (option_and_then (λ f. if f.reaches then Some f else None))
+      (find_at (flight_count earlier + 1) s.sent i d (step_numbered setting s earlier is) within))
       ∙ by flight.reaches
     where
       by : (b : Bool) → ok_or (if b then Some flight else None) fault.Spent ≡ (if b then Ok flight else Err fault.Spent)
@@ -114,15 +117,19 @@ no_flight =
     }
 
 -- one flight more is collected
-pub one_collected : (setting : Setting) (s : Step) (earlier : List Step) (outcome : Outcome) (i : ℕ) (found : Result Flight TakeFault) (before after : List Flight) → AreSteps setting (s ∷ earlier) → outcome ≡ outcome_of s → i < outcome.sent
-    → found ≡ look_in (s ∷ earlier) (outcome.first_sent + i) → before ≡ filter (λ f. f.reaches) (take i s.sent) → after ≡ before ++ option_to_list (result_ok found) → after ≡ filter (λ f. f.reaches) (take (i + 1) s.sent)
+pub one_collected : (setting : Setting) (s : Step) (earlier : List Step) (outcome : Outcome) (i : ℕ) (found : Result Flight TakeFault)
+    (before after : List Flight) → AreSteps setting (s ∷ earlier) → outcome ≡ outcome_of s → i < outcome.sent
+    → found ≡ look_in (s ∷ earlier) (outcome.first_sent + i) → before ≡ filter (λ f. f.reaches) (take i s.sent)
+    → after ≡ before ++ option_to_list (result_ok found) → after ≡ filter (λ f. f.reaches) (take (i + 1) s.sent)
 one_collected setting s earlier outcome i found before after is comes less looks first_ones more =
     let count : outcome.sent ≡ length s.sent = ap (λ (o : Outcome). o.sent) comes in
     let within : i < length s.sent = omega (arith, less, count) in
-    let number : outcome.first_sent + i ≡ flight_count earlier + 1 + i = ap (λ n. n + i) (ap (λ (o : Outcome). o.first_sent) comes ∙ first_is setting s earlier is (omega (arith, within))) in
+    let number : outcome.first_sent + i ≡ flight_count earlier + 1 + i =
+    ap (λ n. n + i) (ap (λ (o : Outcome). o.first_sent) comes ∙ first_is setting s earlier is (omega (arith, within))) in
     more
     ∙ ap (λ xs. xs ++ option_to_list (result_ok found)) first_ones
-    ∙ ap (λ (r : Result Flight TakeFault). filter (λ f. f.reaches) (take i s.sent) ++ option_to_list (result_ok r)) (looks ∙ ap (look_in (s ∷ earlier)) number ∙ sent_looked setting s earlier is i no_flight within)
+    ∙ ap (λ (r : Result Flight TakeFault). filter (λ f. f.reaches) (take i s.sent) ++ option_to_list (result_ok r))
+    (looks ∙ ap (look_in (s ∷ earlier)) number ∙ sent_looked setting s earlier is i no_flight within)
     ∙ ap (λ xs. filter (λ f. f.reaches) (take i s.sent) ++ xs) (by (get_or s.sent i no_flight).reaches (get_or s.sent i no_flight))
     ∙ sym (filter_more (λ f. f.reaches) s.sent i no_flight within)
   where

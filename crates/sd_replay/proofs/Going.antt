@@ -6,7 +6,7 @@ use Rattle.sd_topo.specs.Topologies.{network}
 use Rattle.sd_topo.specs.declared.topology.Topology.{Topology}
 use Rattle.sd_plan.specs.declared.Plan.{Plan}
 use Rattle.sd_plan.specs.Plans.{Fits}
-use Rattle.sd_checker.specs.Verdicts.{IsAccepted}
+use Rattle.sd_proof_safety.specs.Checker.Verdicts.{IsAccepted}
 use Rattle.sd_core.specs.declared.node.Node.{Ghosts}
 use Rattle.sd_msg.specs.Observed.{ReportAt}
 use Rattle.sd_msg.specs.declared.observer.Observer as observers
@@ -14,27 +14,30 @@ use Rattle.sd_history.specs.World.{Setting}
 use Rattle.sd_history.specs.Steps.{Step}
 use Rattle.sd_history.specs.Nodes.{NodeStep, steps_of}
 use Rattle.sd_history.specs.Lines.{reports}
-use Rattle.sd_roster.specs.Plans.{AreSound}
+use Rattle.sd_premise.specs.FleetState.membership.Plans.{AreSound}
 use Rattle.sd_fleet.specs.declared.fleet.Fleet.{Fleet}
 use Rattle.sd_fleet.specs.Standing as fleets
-use Rattle.sd_lines.specs.Printed.{printed}
-use Rattle.sd_replay.specs.declared.onlooker.Onlooker.{Onlooker}
-use Rattle.sd_replay.specs.declared.journal.Journal.{Journal}
+use Rattle.sd_replay.specs.lines.Printed.{printed}
+use Rattle.sd_replay.specs.declared.monitors.Monitors.{Monitors}
+use Rattle.sd_replay.specs.declared.event_output.EventOutput.{EventOutput}
 use Rattle.sd_replay.specs.Counting.{no_tally}
 use Rattle.sd_replay.specs.Standing.{Onlooks, Tells, Stands, HasRun}
 
 -- plans that are accepted can be followed
 pub are_sound : (net : Network) (plans given : List Plan) → given ≡ plans → Each (Fits net) plans → Each (IsAccepted net) plans → AreSound net given
 are_sound net plans given same fit accepted =
-    λ i plan at. let there = subst (λ ps. slice_get ps i ≡ Some plan) same at in record { fits = fit i plan there; structured = (accepted i plan there).structure }
+    λ i plan at. let there = subst (λ ps. slice_get ps i ≡ Some plan) same at in
+    record { fits = fit i plan there; structured = (accepted i plan there).structure }
 
 -- Before any event
 
-pub first_stands : {N V : Type 0} (g : Ghosts N) (o : observers.Ghosts V) (topo : Topology) (plans : List Plan) (fleet : Fleet N g) (onlooker : Onlooker) (journal : Journal) (observer : V) (setting : Setting)
+pub first_stands : {N V : Type 0} (g : Ghosts N) (o : observers.Ghosts V) (topo : Topology) (plans : List Plan) (fleet : Fleet N g) (monitors : Monitors)
+    (event_output : EventOutput) (observer : V) (setting : Setting)
     → setting.net ≡ network topo → setting.plans ≡ plans → 1 ≤ length plans → Each (Fits (network topo)) plans → Each (IsAccepted (network topo)) plans
-    → fleets.StandsFor g fleet setting [] → Onlooks onlooker setting [] → network journal.topology ≡ network topo → printed journal.lines ≡ [] → journal.tally ≡ no_tally → journal.ended ≡ false
-    → o.stands observer [] → Stands g o fleet onlooker journal observer setting []
-first_stands g o topo plans fleet onlooker journal observer setting net same some fit accepted made onlooks topology lines tally ended told =
+    → fleets.StandsFor g fleet setting [] → Onlooks monitors setting [] → network event_output.topology ≡ network topo → printed event_output.lines ≡ []
+    → event_output.tally ≡ no_tally → event_output.ended ≡ false
+    → o.stands observer [] → Stands g o fleet monitors event_output observer setting []
+first_stands g o topo plans fleet monitors event_output observer setting net same some fit accepted made onlooks topology lines tally ended told =
     record {
       sound =
           record {
@@ -51,10 +54,10 @@ first_stands g o topo plans fleet onlooker journal observer setting net same som
 
 -- Room
 
-module _ {N V : Type 0} (g : Ghosts N) (o : observers.Ghosts V) (fleet : Fleet N g) (journal : Journal) where
-  pub with_onlooker : (observer : V) (old new : Onlooker) → ((setting : Setting) (steps : List Step) → Onlooks old setting steps → Onlooks new setting steps)
-      → HasRun g o fleet old journal observer → HasRun g o fleet new journal observer
-  with_onlooker observer old new keeps has =
+module _ {N V : Type 0} (g : Ghosts N) (o : observers.Ghosts V) (fleet : Fleet N g) (event_output : EventOutput) where
+  pub with_monitors : (observer : V) (old new : Monitors) → ((setting : Setting) (steps : List Step) → Onlooks old setting steps → Onlooks new setting steps)
+      → HasRun g o fleet old event_output observer → HasRun g o fleet new event_output observer
+  with_monitors observer old new keeps has =
       record {
         setting = has.setting;
         steps = has.steps;
@@ -68,8 +71,9 @@ module _ {N V : Type 0} (g : Ghosts N) (o : observers.Ghosts V) (fleet : Fleet N
             };
       }
 
-  pub with_observer : (onlooker : Onlooker) (old new : V) → ((told : List ReportAt) → o.stands old told → o.stands new told) → HasRun g o fleet onlooker journal old → HasRun g o fleet onlooker journal new
-  with_observer onlooker old new keeps has =
+  pub with_observer : (monitors : Monitors) (old new : V) → ((told : List ReportAt) → o.stands old told → o.stands new told)
+      → HasRun g o fleet monitors event_output old → HasRun g o fleet monitors event_output new
+  with_observer monitors old new keeps has =
       record {
         setting = has.setting;
         steps = has.steps;
@@ -84,15 +88,19 @@ module _ {N V : Type 0} (g : Ghosts N) (o : observers.Ghosts V) (fleet : Fleet N
       }
 
 -- the fleet is another that stands for the same runs
-pub stands_prepared : {N V : Type 0} (g : Ghosts N) (o : observers.Ghosts V) (before after : Fleet N g) (onlooker : Onlooker) (journal : Journal) (observer : V) (setting : Setting) (run : List (NodeStep N))
-    → ((setting : Setting) (run : List (NodeStep N)) → fleets.StandsFor g before setting run → fleets.StandsFor g after setting run) → Stands g o before onlooker journal observer setting run → Stands g o after onlooker journal observer setting run
-stands_prepared g o before after onlooker journal observer setting run keeps stands =
+pub stands_prepared : {N V : Type 0} (g : Ghosts N) (o : observers.Ghosts V) (before after : Fleet N g) (monitors : Monitors) (event_output : EventOutput)
+    (observer : V) (setting : Setting) (run : List (NodeStep N))
+    → ((setting : Setting) (run : List (NodeStep N)) → fleets.StandsFor g before setting run → fleets.StandsFor g after setting run)
+    → Stands g o before monitors event_output observer setting run → Stands g o after monitors event_output observer setting run
+stands_prepared g o before after monitors event_output observer setting run keeps stands =
     record { sound = stands.sound; made = keeps setting run stands.made; onlooks = stands.onlooks; tells = stands.tells; told = stands.told }
 
 -- another fleet that stands for the same runs
-pub with_fleet : {N V : Type 0} (g : Ghosts N) (o : observers.Ghosts V) (before after : Fleet N g) (onlooker : Onlooker) (journal : Journal) (observer : V)
-    → ((setting : Setting) (run : List (NodeStep N)) → fleets.StandsFor g before setting run → fleets.StandsFor g after setting run) → HasRun g o before onlooker journal observer → HasRun g o after onlooker journal observer
-with_fleet g o before after onlooker journal observer keeps has =
+pub with_fleet : {N V : Type 0} (g : Ghosts N) (o : observers.Ghosts V) (before after : Fleet N g) (monitors : Monitors) (event_output : EventOutput)
+    (observer : V)
+    → ((setting : Setting) (run : List (NodeStep N)) → fleets.StandsFor g before setting run → fleets.StandsFor g after setting run)
+    → HasRun g o before monitors event_output observer → HasRun g o after monitors event_output observer
+with_fleet g o before after monitors event_output observer keeps has =
     record {
       setting = has.setting;
       steps = has.steps;
@@ -107,20 +115,26 @@ with_fleet g o before after onlooker journal observer keeps has =
     }
 
 -- the parts once there is room
-pub stands_ready : {N V : Type 0} (g : Ghosts N) (o : observers.Ghosts V) (fleet same : Fleet N g) (old new : Onlooker) (journal noted : Journal) (observer told : V) (setting : Setting) (run : List (NodeStep N)) → same ≡ fleet → noted ≡ journal
-    → ((s : Setting) (steps : List Step) → Onlooks old s steps → Onlooks new s steps) → ((xs : List ReportAt) → o.stands observer xs → o.stands told xs) → Stands g o fleet old journal observer setting run → Stands g o same new noted told setting run
-stands_ready g o fleet same old new journal noted observer told setting run fleets_same journals_same keeps tells stands =
+pub stands_ready : {N V : Type 0} (g : Ghosts N) (o : observers.Ghosts V) (fleet same : Fleet N g) (old new : Monitors) (event_output noted : EventOutput)
+    (observer told : V) (setting : Setting) (run : List (NodeStep N)) → same ≡ fleet → noted ≡ event_output
+    → ((s : Setting) (steps : List Step) → Onlooks old s steps → Onlooks new s steps) → ((xs : List ReportAt) → o.stands observer xs → o.stands told xs)
+    → Stands g o fleet old event_output observer setting run → Stands g o same new noted told setting run
+stands_ready g o fleet same old new event_output noted observer told setting run fleets_same event_outputs_same keeps tells stands =
     record {
       sound = stands.sound;
       made = subst (λ f. fleets.StandsFor g f setting run) (sym fleets_same) stands.made;
       onlooks = keeps setting (steps_of run) stands.onlooks;
-      tells = subst (λ (j : Journal). Tells j setting (steps_of run)) (sym journals_same) stands.tells;
+      tells = subst (λ (j : EventOutput). Tells j setting (steps_of run)) (sym event_outputs_same) stands.tells;
       told = tells (reports (steps_of run)) stands.told;
     }
 
 -- the fleet is prepared, and then there is room
-pub stands_with_room : {N V : Type 0} (g : Ghosts N) (o : observers.Ghosts V) {fleet prepared same : Fleet N g} {old new : Onlooker} {journal noted : Journal} {observer told : V} (setting : Setting) (run : List (NodeStep N))
-    → ((s : Setting) (r : List (NodeStep N)) → fleets.StandsFor g fleet s r → fleets.StandsFor g prepared s r) → same ≡ prepared → noted ≡ journal
-    → ((s : Setting) (steps : List Step) → Onlooks old s steps → Onlooks new s steps) → ((xs : List ReportAt) → o.stands observer xs → o.stands told xs) → Stands g o fleet old journal observer setting run → Stands g o same new noted told setting run
-stands_with_room g o {fleet} {prepared} {same} {old} {new} {journal} {noted} {observer} {told} setting run prepares fleets_same journals_same keeps tells stands =
-    stands_ready g o prepared same old new journal noted observer told setting run fleets_same journals_same keeps tells (stands_prepared g o fleet prepared old journal observer setting run prepares stands)
+pub stands_with_room : {N V : Type 0} (g : Ghosts N) (o : observers.Ghosts V) {fleet prepared same : Fleet N g} {old new : Monitors}
+    {event_output noted : EventOutput} {observer told : V} (setting : Setting) (run : List (NodeStep N))
+    → ((s : Setting) (r : List (NodeStep N)) → fleets.StandsFor g fleet s r → fleets.StandsFor g prepared s r) → same ≡ prepared → noted ≡ event_output
+    → ((s : Setting) (steps : List Step) → Onlooks old s steps → Onlooks new s steps) → ((xs : List ReportAt) → o.stands observer xs → o.stands told xs)
+    → Stands g o fleet old event_output observer setting run → Stands g o same new noted told setting run
+stands_with_room g o {fleet} {prepared} {same} {old} {new} {event_output} {noted} {observer}
+    {told} setting run prepares fleets_same event_outputs_same keeps tells stands =
+    stands_ready g o prepared same old new event_output noted observer told setting run fleets_same event_outputs_same keeps tells
+    (stands_prepared g o fleet prepared old event_output observer setting run prepares stands)

@@ -16,16 +16,16 @@ use Rattle.sd_history.specs.World.{Setting}
 use Rattle.sd_history.specs.Steps.{Step}
 use Rattle.sd_history.specs.Nodes.{NodeStep, steps_of}
 use Rattle.sd_history.specs.Lines.{lines_of, report_of, reports}
-use Rattle.sd_fabric.specs.declared.Outcome.{Outcome}
-use Rattle.sd_fabric.specs.Doing.{asks}
+use Rattle.sd_fleet.specs.FleetFabric.declared.Outcome.{Outcome}
+use Rattle.sd_fleet.specs.FleetFabric.Doing.{asks}
 use Rattle.sd_fleet.specs.declared.fleet.Fleet.{Fleet}
 use Rattle.sd_fleet.specs.Standing as fleets
-use Rattle.sd_lines.specs.Printed.{printed}
-use Rattle.sd_lines.specs.declared.findings.Findings.{Findings}
-use Rattle.sd_lines.specs.Findings.{IsOf, found_lines, found_bytes}
+use Rattle.sd_replay.specs.lines.Printed.{printed}
+use Rattle.sd_replay.specs.declared.lines.findings.Findings.{Findings}
+use Rattle.sd_replay.specs.lines.Findings.{IsOf, found_lines, found_bytes}
 use Rattle.sd_replay.specs.declared.Tally.{Tally}
-use Rattle.sd_replay.specs.declared.onlooker.Onlooker.{Onlooker}
-use Rattle.sd_replay.specs.declared.journal.Journal.{Journal}
+use Rattle.sd_replay.specs.declared.monitors.Monitors.{Monitors}
+use Rattle.sd_replay.specs.declared.event_output.EventOutput.{EventOutput}
 use Rattle.sd_replay.specs.Counting.{HasRoom, tally_with}
 use Rattle.sd_replay.specs.Standing.{Onlooks, HasStep, Stands, HasRun}
 use Rattle.sd_replay.proofs.Telling.{tally_room, tells_next, reports_same, reports_more}
@@ -54,40 +54,44 @@ room_merely tally there =
       alarms = ∥∥₁_elim there (search props) (λ has. has.alarms);
     }
 
-module _ {N V : Type 0} (g : Ghosts N) (o : observers.Ghosts V) (before : Fleet N g) (onlooker : Onlooker) (journal : Journal) (observer : V) (after : Fleet N g) (e : Event) (outcome : Outcome)
+module _ {N V : Type 0} (g : Ghosts N) (o : observers.Ghosts V) (before : Fleet N g) (monitors : Monitors) (event_output : EventOutput) (observer : V)
+    (after : Fleet N g) (e : Event) (outcome : Outcome)
     (accepts : (setting : Setting) (run : List (NodeStep N)) → fleets.StandsFor g before setting run → fleets.IsAccepted g after setting run e outcome) where
   -- the fleet has made a step
-  pub has_step : HasRun g o before onlooker journal observer → HasStep g onlooker after e outcome
+  pub has_step : HasRun g o before monitors event_output observer → HasStep g monitors after e outcome
   has_step has = record { setting = has.setting; run = has.steps; accepted = accepts has.setting has.steps has.stands.made; onlooks = has.stands.onlooks }
 
-  pub numbers_merely : ∥ HasRun g o before onlooker journal observer ∥₁ → outcome.first_sent + outcome.sent < 2 ^ 64
+  pub numbers_merely : ∥ HasRun g o before monitors event_output observer ∥₁ → outcome.first_sent + outcome.sent < 2 ^ 64
   numbers_merely there = ∥∥₁_elim there (search props) (λ has. fit has)
     where
-      fit : HasRun g o before onlooker journal observer → outcome.first_sent + outcome.sent < 2 ^ 64
+      fit : HasRun g o before monitors event_output observer → outcome.first_sent + outcome.sent < 2 ^ 64
       fit has =
           let accepted : fleets.IsAccepted g after has.setting has.steps e outcome = accepts has.setting has.steps has.stands.made in
           subst (λ (out : Outcome). out.first_sent + out.sent < 2 ^ 64) (sym accepted.comes)
           (numbers_fit has.setting accepted.next.step (steps_of has.steps) has.stands.sound.network accepted.stands.fabric.accepted)
 
   -- the tally has room for it
-  pub tally_merely : ∥ HasRun g o before onlooker journal observer ∥₁ → HasRoom journal.tally
+  pub tally_merely : ∥ HasRun g o before monitors event_output observer ∥₁ → HasRoom event_output.tally
   tally_merely there =
-      room_merely journal.tally
+      room_merely event_output.tally
       (∥∥₁_map there (λ has. subst HasRoom (sym has.stands.tells.tally) (tally_room has.setting (steps_of has.steps) has.stands.made.fabric.accepted)))
 
   -- what was found of it is of the topology
-  pub devices_merely : (found : Findings) → ((setting : Setting) (run : List (NodeStep N)) → fleets.IsAccepted g after setting run e outcome → Onlooks onlooker setting (steps_of run) → IsOf setting.net found)
-      → ∥ HasRun g o before onlooker journal observer ∥₁ → IsOf (network journal.topology) found
+  pub devices_merely : (found : Findings)
+      → ((setting : Setting) (run : List (NodeStep N)) → fleets.IsAccepted g after setting run e outcome → Onlooks monitors setting (steps_of run)
+      → IsOf setting.net found)
+      → ∥ HasRun g o before monitors event_output observer ∥₁ → IsOf (network event_output.topology) found
   devices_merely found of there =
-      of_merely (network journal.topology) found
+      of_merely (network event_output.topology) found
       (∥∥₁_map there (λ has.
       subst (λ net. IsOf net found) (sym has.stands.tells.net) (of has.setting has.steps (accepts has.setting has.steps has.stands.made) has.stands.onlooks)))
 
   -- where there is a report, the observer has room for it
-  pub ready_merely : (told : ℕ × Report) → outcome.report ≡ Some told → (IsTrue (asks e) → 1 ≤ o.room observer) → ∥ HasRun g o before onlooker journal observer ∥₁ → 1 ≤ o.room observer
+  pub ready_merely : (told : ℕ × Report) → outcome.report ≡ Some told → (IsTrue (asks e) → 1 ≤ o.room observer)
+      → ∥ HasRun g o before monitors event_output observer ∥₁ → 1 ≤ o.room observer
   ready_merely told is ready there = ∥∥₁_elim there (search props) (λ has. made has)
     where
-      made : HasRun g o before onlooker journal observer → 1 ≤ o.room observer
+      made : HasRun g o before monitors event_output observer → 1 ≤ o.room observer
       made has =
           let accepted : fleets.IsAccepted g after has.setting has.steps e outcome = accepts has.setting has.steps has.stands.made in
           ready (ap asks (sym accepted.happens) ∙ asks_by_report accepted.next.step told (ap (λ (out : Outcome). out.report) (sym accepted.comes) ∙ is))
@@ -95,19 +99,25 @@ module _ {N V : Type 0} (g : Ghosts N) (o : observers.Ghosts V) (before : Fleet 
 -- Standing on
 
 -- what was done with an accepted event
-pub record IsDone {N V : Type 0} (g : Ghosts N) (o : observers.Ghosts V) (before after : Fleet N g) (onlooker onlooked : Onlooker) (journal noted : Journal) (observer told : V) (e : Event) (outcome : Outcome) (found : Findings) : Type 0 where
+pub record IsDone {N V : Type 0} (g : Ghosts N) (o : observers.Ghosts V) (before after : Fleet N g) (monitors onlooked : Monitors)
+    (event_output noted : EventOutput) (observer told : V) (e : Event) (outcome : Outcome) (found : Findings) : Type 0 where
   pub accepts : (setting : Setting) (run : List (NodeStep N)) → fleets.StandsFor g before setting run → fleets.IsAccepted g after setting run e outcome
-  pub onlooks : (setting : Setting) (run : List (NodeStep N)) (accepted : fleets.IsAccepted g after setting run e outcome) → Onlooks onlooker setting (steps_of run) → Onlooks onlooked setting (accepted.next.step ∷ steps_of run)
-  pub finds : (setting : Setting) (run : List (NodeStep N)) (accepted : fleets.IsAccepted g after setting run e outcome) → Onlooks onlooker setting (steps_of run) → found_lines found ≡ lines_of setting (accepted.next.step ∷ steps_of run)
+  pub onlooks : (setting : Setting) (run : List (NodeStep N)) (accepted : fleets.IsAccepted g after setting run e outcome)
+      → Onlooks monitors setting (steps_of run) → Onlooks onlooked setting (accepted.next.step ∷ steps_of run)
+  pub finds : (setting : Setting) (run : List (NodeStep N)) (accepted : fleets.IsAccepted g after setting run e outcome)
+      → Onlooks monitors setting (steps_of run) → found_lines found ≡ lines_of setting (accepted.next.step ∷ steps_of run)
   pub report : found.report ≡ outcome.report
-  pub topology : noted.topology ≡ journal.topology
-  pub tally : noted.tally ≡ tally_with journal.tally found
-  pub lines : printed noted.lines ≡ found_bytes (network journal.topology) (journal.tally.events + 1) found
+  pub topology : noted.topology ≡ event_output.topology
+  pub tally : noted.tally ≡ tally_with event_output.tally found
+  pub lines : printed noted.lines ≡ found_bytes (network event_output.topology) (event_output.tally.events + 1) found
   pub ended : noted.ended ≡ outcome.ended
-  pub tells : MatchOption outcome.report (told ≡ observer) (λ report. (reports_ : List ReportAt) → o.stands observer reports_ → o.stands told (reports_ ++ report_at noted.tally.events report.0 (reference_of e) report.1 ∷ []))
+  pub tells : MatchOption outcome.report (told ≡ observer) (λ report. (reports_ : List ReportAt) → o.stands observer reports_
+      → o.stands told (reports_ ++ report_at noted.tally.events report.0 (reference_of e) report.1 ∷ []))
 
-module _ {N V : Type 0} (g : Ghosts N) (o : observers.Ghosts V) (before after : Fleet N g) (onlooker onlooked : Onlooker) (journal noted : Journal) (observer told : V) (e : Event) (outcome : Outcome) (found : Findings)
-    (done : IsDone g o before after onlooker onlooked journal noted observer told e outcome found) (setting : Setting) (run : List (NodeStep N)) (stands : Stands g o before onlooker journal observer setting run) where
+module _ {N V : Type 0} (g : Ghosts N) (o : observers.Ghosts V) (before after : Fleet N g) (monitors onlooked : Monitors) (event_output noted : EventOutput)
+    (observer told : V) (e : Event) (outcome : Outcome) (found : Findings)
+    (done : IsDone g o before after monitors onlooked event_output noted observer told e outcome found) (setting : Setting) (run : List (NodeStep N))
+    (stands : Stands g o before monitors event_output observer setting run) where
   abbrev accepted : fleets.IsAccepted g after setting run e outcome
   accepted = done.accepts setting run stands.made
 
@@ -118,7 +128,9 @@ module _ {N V : Type 0} (g : Ghosts N) (o : observers.Ghosts V) (before after : 
   line_is : noted.tally.events ≡ length (steps_of run) + 1
   line_is = ap (λ (t : Tally). t.events) done.tally ∙ ap (λ (t : Tally). t.events + 1) stands.tells.tally
 
-  told_on : (report : Option (ℕ × Report)) → outcome.report ≡ report → MatchOption report (told ≡ observer) (λ one. (reports_ : List ReportAt) → o.stands observer reports_ → o.stands told (reports_ ++ report_at noted.tally.events one.0 (reference_of e) one.1 ∷ []))
+  told_on : (report : Option (ℕ × Report)) → outcome.report ≡ report
+      → MatchOption report (told ≡ observer) (λ one. (reports_ : List ReportAt) → o.stands observer reports_
+      → o.stands told (reports_ ++ report_at noted.tally.events one.0 (reference_of e) one.1 ∷ []))
       → o.stands told (reports (step ∷ steps_of run))
   told_on None is same =
       let none : report_of step ≡ None = ap (λ (out : Outcome). out.report) (sym accepted.comes) ∙ is in
@@ -139,16 +151,19 @@ module _ {N V : Type 0} (g : Ghosts N) (o : observers.Ghosts V) (before after : 
         onlooks = done.onlooks setting run accepted stands.onlooks;
         tells =
             tells_next setting step (steps_of run) accepted.stands.fabric.accepted found (done.finds setting run accepted stands.onlooks)
-            (done.report ∙ ap (λ (out : Outcome). out.report) accepted.comes) journal noted stands.tells done.topology done.tally done.lines (done.ended ∙ ap (λ (out : Outcome). out.ended) accepted.comes);
+            (done.report ∙ ap (λ (out : Outcome). out.report) accepted.comes) event_output noted stands.tells done.topology done.tally done.lines
+            (done.ended ∙ ap (λ (out : Outcome). out.ended) accepted.comes);
         told = told_on outcome.report refl done.tells;
       }
 
 -- and so there is a run for which they stand
-pub run_on : {N V : Type 0} (g : Ghosts N) (o : observers.Ghosts V) (before after : Fleet N g) (onlooker onlooked : Onlooker) (journal noted : Journal) (observer told : V) (e : Event) (outcome : Outcome) (found : Findings)
-    → IsDone g o before after onlooker onlooked journal noted observer told e outcome found → HasRun g o before onlooker journal observer → HasRun g o after onlooked noted told
-run_on g o before after onlooker onlooked journal noted observer told e outcome found done has =
+pub run_on : {N V : Type 0} (g : Ghosts N) (o : observers.Ghosts V) (before after : Fleet N g) (monitors onlooked : Monitors) (event_output noted : EventOutput)
+    (observer told : V) (e : Event) (outcome : Outcome) (found : Findings)
+    → IsDone g o before after monitors onlooked event_output noted observer told e outcome found → HasRun g o before monitors event_output observer
+    → HasRun g o after onlooked noted told
+run_on g o before after monitors onlooked event_output noted observer told e outcome found done has =
     record {
       setting = has.setting;
       steps = (done.accepts has.setting has.steps has.stands.made).next ∷ has.steps;
-      stands = stands_on g o before after onlooker onlooked journal noted observer told e outcome found done has.setting has.steps has.stands;
+      stands = stands_on g o before after monitors onlooked event_output noted observer told e outcome found done has.setting has.steps has.stands;
     }

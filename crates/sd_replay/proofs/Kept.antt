@@ -50,7 +50,8 @@ devices_keep_chronicle o replay setting events replayed =
     }
 
 -- an event that was accepted goes on with the events
-pub replayed_next : {V : Type 0} (o : observers.Ghosts V) (old new : Replay Registers V ghosts o) (setting : Setting) (events : List Event) (e : Event) (replayed : HasReplayed o old setting events)
+pub replayed_next : {V : Type 0} (o : observers.Ghosts V) (old new : Replay Registers V ghosts o) (setting : Setting) (events : List Event) (e : Event)
+    (replayed : HasReplayed o old setting events)
     → IsStepped ghosts o new setting replayed.run e → HasReplayed o new setting (e ∷ events)
 replayed_next o old new setting events e replayed stepped =
     record {

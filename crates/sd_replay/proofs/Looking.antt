@@ -1,4 +1,4 @@
--- What an onlooker sees of an accepted step, and what it finds, is what the history says.
+-- What the monitors see of an accepted step, and what they find, is what the history says.
 use Rattle.std.specs.Prelude.{◌≡◌, ℕ, zero, suc, ◌+◌, ◌^◌, ◌<◌, ◌≤◌, Bool, true, List, [], ◌∷◌, ◌++◌, length, filter, All, Option, Some, None, is_some, IfSome, refl, option_map, if◌then◌else◌}
 use Rattle.std.proofs.Common.{sym, ap, ◌∙◌, subst, arith}
 use Rattle.std.proofs.lemmas.Option.{same_Some}
@@ -19,15 +19,15 @@ use Rattle.sd_history.specs.Accepted.{AreSteps}
 use Rattle.sd_history.specs.Premises.{breaks}
 use Rattle.sd_history.specs.Lines.{Line, broken_lines, loop_lines, root_lines, report_lines, report_of, is_on_loop, first_on_loop, roots, lines_of}
 use Rattle.sd_history.proofs.Known.{named_is_known}
-use Rattle.sd_history_flights.proofs.Counts.{numbers_few}
-use Rattle.sd_history_flights.proofs.Sending.{counted}
-use Rattle.sd_fabric.specs.declared.Outcome.{Outcome}
-use Rattle.sd_fabric.specs.Outcomes.{first_number, outcome_of}
-use Rattle.sd_fabric.specs.Doing.{asks}
-use Rattle.sd_lines.specs.declared.findings.Findings.{Findings}
-use Rattle.sd_lines.specs.Findings.{IsOf, found_lines, loop_found, roots_found}
+use Rattle.sd_history.proofs.flights.Counts.{numbers_few}
+use Rattle.sd_history.proofs.flights.Sending.{counted}
+use Rattle.sd_fleet.specs.FleetFabric.declared.Outcome.{Outcome}
+use Rattle.sd_fleet.specs.FleetFabric.Outcomes.{first_number, outcome_of}
+use Rattle.sd_fleet.specs.FleetFabric.Doing.{asks}
+use Rattle.sd_replay.specs.declared.lines.findings.Findings.{Findings}
+use Rattle.sd_replay.specs.lines.Findings.{IsOf, found_lines, loop_found, roots_found}
 use Rattle.sd_replay.specs.Standing.{counted_acts}
-use Rattle.sd_replay.proofs.Stances.{loop_lines_are, root_lines_are}
+use Rattle.sd_replay.proofs.ParentTable.{loop_lines_are, root_lines_are}
 use Rattle.sd_replay.proofs.Flights.{seen_sent, first_is}
 
 -- What is seen
@@ -36,7 +36,8 @@ abbrev pub seen_by : Event → Option Flight → List Flight → Option ℕ → 
 seen_by e taken sent activated acted closed = record { event = e; taken = taken; sent = sent; activated = activated; acted = acted; closed = closed }
 
 -- it is told of the event, its outcome and its flights that reach
-pub sight_is : (setting : Setting) (s : Step) (earlier : List Step) (e : Event) (outcome : Outcome) (sent : List Flight) → AreSteps setting (s ∷ earlier) → s.seen.event ≡ e → outcome ≡ outcome_of s → sent ≡ filter (λ f. f.reaches) s.sent
+pub sight_is : (setting : Setting) (s : Step) (earlier : List Step) (e : Event) (outcome : Outcome) (sent : List Flight) → AreSteps setting (s ∷ earlier)
+    → s.seen.event ≡ e → outcome ≡ outcome_of s → sent ≡ filter (λ f. f.reaches) s.sent
     → seen_by e outcome.taken sent outcome.activated outcome.acted outcome.closed ≡ s.seen
 sight_is setting s earlier e outcome sent is happens comes reach =
     ap (λ (o : Outcome). seen_by e o.taken sent o.activated o.acted o.closed) comes
@@ -49,7 +50,8 @@ abbrev lines_with : BrokenSet → List Line → List Line → Option (ℕ × Rep
 lines_with broken loop acting report reference = broken_lines broken ++ loop ++ acting ++ of_some report [] (report_lines reference)
 
 -- the parts of what was found are those of the step
-pub record AreFound (setting : Setting) (s : Step) (earlier : List Step) (found : Findings) (loop_before loop_now : Option ℕ) (roots_before roots_now : Option (ℕ × ℕ)) : Type 0 where
+pub record AreFound (setting : Setting) (s : Step) (earlier : List Step) (found : Findings) (loop_before loop_now : Option ℕ)
+    (roots_before roots_now : Option (ℕ × ℕ)) : Type 0 where
   pub broken : found.broken ≡ breaks setting (seen_of (s ∷ earlier))
   pub looped : found.looped ≡ (if is_some loop_before then None else loop_now)
   pub before_loop : first_on_loop setting earlier ≡ loop_before
@@ -60,15 +62,18 @@ pub record AreFound (setting : Setting) (s : Step) (earlier : List Step) (found 
   pub report : found.report ≡ report_of s
   pub reference : found.reference ≡ reference_of s.seen.event
 
-module _ (setting : Setting) (s : Step) (earlier : List Step) (found : Findings) (loop_before loop_now : Option ℕ) (roots_before roots_now : Option (ℕ × ℕ)) (are : AreFound setting s earlier found loop_before loop_now roots_before roots_now) where
+module _ (setting : Setting) (s : Step) (earlier : List Step) (found : Findings) (loop_before loop_now : Option ℕ) (roots_before roots_now : Option (ℕ × ℕ))
+    (are : AreFound setting s earlier found loop_before loop_now roots_before roots_now) where
   loop_is : loop_found found.looped ≡ loop_lines (first_on_loop setting earlier) (first_on_loop setting (s ∷ earlier))
   loop_is =
-      ap loop_found (are.looped ∙ ap (λ o. if is_some o then None else loop_now) (sym are.before_loop) ∙ ap (λ o. if is_some (first_on_loop setting earlier) then None else o) (sym are.now_loop))
+      ap loop_found (are.looped ∙ ap (λ o. if is_some o then None else loop_now) (sym are.before_loop)
+      ∙ ap (λ o. if is_some (first_on_loop setting earlier) then None else o) (sym are.now_loop))
       ∙ loop_lines_are (first_on_loop setting earlier) (first_on_loop setting (s ∷ earlier))
 
   roots_is : roots_found found.roots ≡ root_lines (roots setting earlier) (roots setting (s ∷ earlier))
   roots_is =
-      ap roots_found (are.acting ∙ ap (λ o. if is_some o then None else roots_now) are.before_roots ∙ ap (λ o. if is_some (two_least (roots setting earlier)) then None else o) are.now_roots)
+      ap roots_found (are.acting ∙ ap (λ o. if is_some o then None else roots_now) are.before_roots
+      ∙ ap (λ o. if is_some (two_least (roots setting earlier)) then None else o) are.now_roots)
       ∙ root_lines_are (roots setting earlier) (roots setting (s ∷ earlier))
 
   -- so its lines are
@@ -76,9 +81,12 @@ module _ (setting : Setting) (s : Step) (earlier : List Step) (found : Findings)
   lines_are =
       ap (λ b. lines_with b (loop_found found.looped) (roots_found found.roots) found.report found.reference) are.broken
       ∙ ap (λ xs. lines_with (breaks setting (seen_of (s ∷ earlier))) xs (roots_found found.roots) found.report found.reference) loop_is
-      ∙ ap (λ xs. lines_with (breaks setting (seen_of (s ∷ earlier))) (loop_lines (first_on_loop setting earlier) (first_on_loop setting (s ∷ earlier))) xs found.report found.reference) roots_is
-      ∙ ap (λ o. lines_with (breaks setting (seen_of (s ∷ earlier))) (loop_lines (first_on_loop setting earlier) (first_on_loop setting (s ∷ earlier))) (root_lines (roots setting earlier) (roots setting (s ∷ earlier))) o found.reference) are.report
-      ∙ ap (λ n. lines_with (breaks setting (seen_of (s ∷ earlier))) (loop_lines (first_on_loop setting earlier) (first_on_loop setting (s ∷ earlier))) (root_lines (roots setting earlier) (roots setting (s ∷ earlier))) (report_of s) n) are.reference
+      ∙ ap (λ xs. lines_with (breaks setting (seen_of (s ∷ earlier)))
+      (loop_lines (first_on_loop setting earlier) (first_on_loop setting (s ∷ earlier))) xs found.report found.reference) roots_is
+      ∙ ap (λ o. lines_with (breaks setting (seen_of (s ∷ earlier))) (loop_lines (first_on_loop setting earlier) (first_on_loop setting (s ∷ earlier)))
+      (root_lines (roots setting earlier) (roots setting (s ∷ earlier))) o found.reference) are.report
+      ∙ ap (λ n. lines_with (breaks setting (seen_of (s ∷ earlier))) (loop_lines (first_on_loop setting earlier) (first_on_loop setting (s ∷ earlier)))
+      (root_lines (roots setting earlier) (roots setting (s ∷ earlier))) (report_of s) n) are.reference
 
   -- Its devices
 
@@ -91,10 +99,15 @@ module _ (setting : Setting) (s : Step) (earlier : List Step) (found : Findings)
   two_bound m (d ∷ []) all two is = cc
   two_bound m (d ∷ e ∷ xs) all two is =
       let same = same_Some (d, e) two is in
-      subst (λ (t : ℕ × ℕ). (t.0 < m) × (t.1 < m)) same (All-head (λ x. x < m) d (e ∷ xs) all, All-head (λ x. x < m) e xs (All-tail (λ x. x < m) d (e ∷ xs) all))
+      subst (λ (t : ℕ × ℕ). (t.0 < m) × (t.1 < m)) same
+      (All-head (λ x. x < m) d (e ∷ xs) all, All-head (λ x. x < m) e xs (All-tail (λ x. x < m) d (e ∷ xs) all))
 
-  two_acting_bound : (two : ℕ × ℕ) → two_least (roots setting (s ∷ earlier)) ≡ Some two → (two.0 < length setting.net.devices) × (two.1 < length setting.net.devices)
-  two_acting_bound = two_bound (length setting.net.devices) (roots setting (s ∷ earlier)) (All-filter (counted_acts setting (s ∷ earlier)) (λ x. x < length setting.net.devices) (below (length setting.net.devices)) (below_bound (length setting.net.devices) (length setting.net.devices) (omega arith)))
+  two_acting_bound : (two : ℕ × ℕ) → two_least (roots setting (s ∷ earlier)) ≡ Some two
+      → (two.0 < length setting.net.devices) × (two.1 < length setting.net.devices)
+  two_acting_bound =
+      two_bound (length setting.net.devices) (roots setting (s ∷ earlier))
+      (All-filter (counted_acts setting (s ∷ earlier)) (λ x. x < length setting.net.devices) (below (length setting.net.devices))
+      (below_bound (length setting.net.devices) (length setting.net.devices) (omega arith)))
 
   report_named : (told : ℕ × Report) → report_of s ≡ Some told → device_of s.seen.event ≡ Some told.0
   report_named told is = by s.seen.event is
@@ -103,7 +116,8 @@ module _ (setting : Setting) (s : Step) (earlier : List Step) (found : Findings)
       on d None same = cc
       on d (Some report) same = ap (λ (t : ℕ × Report). Some t.0) (same_Some (d, report) told same)
 
-      by : (e : Event) → elim e [ event.Ask reference device counter ↦ option_map (λ report. (device, report)) s.told.report | _ ↦ None ] ≡ Some told → device_of e ≡ Some told.0
+      by : (e : Event) → elim e [ event.Ask reference device counter ↦ option_map (λ report. (device, report)) s.told.report | _ ↦ None ] ≡ Some told
+          → device_of e ≡ Some told.0
       by (event.Ask reference device counter) same = on device s.told.report same
       by _ same = cc
 
@@ -111,28 +125,38 @@ module _ (setting : Setting) (s : Step) (earlier : List Step) (found : Findings)
   pub found_of : AreSteps setting (s ∷ earlier) → IsOf setting.net found
   found_of is =
       record {
-        looped = subst (λ o. IfSome o (λ d. d < length setting.net.devices)) (sym are.looped) (loop_within loop_before loop_now (λ d at. (found_passes (is_on_loop setting (s ∷ earlier)) (length setting.net.devices) d (are.now_loop ∙ at)).0));
-        first = subst (λ o. IfSome o (λ two. two.0 < length setting.net.devices)) (sym are.acting) (first_within roots_before roots_now (λ two at. two_acting_bound two (sym are.now_roots ∙ at)));
-        second = subst (λ o. IfSome o (λ two. two.1 < length setting.net.devices)) (sym are.acting) (second_within roots_before roots_now (λ two at. two_acting_bound two (sym are.now_roots ∙ at)));
-        asked = subst (λ o. IfSome o (λ told. told.0 < length setting.net.devices)) (sym are.report) (asked_within (report_of s) (λ told at. named_is_known setting earlier s.seen.event told.0 is.1 (report_named told at)));
+        looped = subst (λ o. IfSome o (λ d. d < length setting.net.devices)) (sym are.looped)
+            (loop_within loop_before loop_now (λ d at. (found_passes (is_on_loop setting (s ∷ earlier)) (length setting.net.devices) d (are.now_loop ∙ at)).0));
+        first = subst (λ o. IfSome o (λ two. two.0 < length setting.net.devices)) (sym are.acting)
+            (first_within roots_before roots_now (λ two at. two_acting_bound two (sym are.now_roots ∙ at)));
+        second = subst (λ o. IfSome o (λ two. two.1 < length setting.net.devices)) (sym are.acting)
+            (second_within roots_before roots_now (λ two at. two_acting_bound two (sym are.now_roots ∙ at)));
+        asked = subst (λ o. IfSome o (λ told. told.0 < length setting.net.devices)) (sym are.report)
+            (asked_within (report_of s) (λ told at. named_is_known setting earlier s.seen.event told.0 is.1 (report_named told at)));
       }
     where
-      loop_within : (before now : Option ℕ) → ((d : ℕ) → now ≡ Some d → d < length setting.net.devices) → IfSome (if is_some before then None else now) (λ d. d < length setting.net.devices)
+      loop_within : (before now : Option ℕ) → ((d : ℕ) → now ≡ Some d → d < length setting.net.devices)
+          → IfSome (if is_some before then None else now) (λ d. d < length setting.net.devices)
       loop_within None None within = tt
       loop_within None (Some d) within = within d refl
       loop_within (Some e) now within = tt
 
-      first_within : (before now : Option (ℕ × ℕ)) → ((two : ℕ × ℕ) → now ≡ Some two → (two.0 < length setting.net.devices) × (two.1 < length setting.net.devices)) → IfSome (if is_some before then None else now) (λ two. two.0 < length setting.net.devices)
+      first_within : (before now : Option (ℕ × ℕ))
+          → ((two : ℕ × ℕ) → now ≡ Some two → (two.0 < length setting.net.devices) × (two.1 < length setting.net.devices))
+          → IfSome (if is_some before then None else now) (λ two. two.0 < length setting.net.devices)
       first_within None None within = tt
       first_within None (Some two) within = (within two refl).0
       first_within (Some e) now within = tt
 
-      second_within : (before now : Option (ℕ × ℕ)) → ((two : ℕ × ℕ) → now ≡ Some two → (two.0 < length setting.net.devices) × (two.1 < length setting.net.devices)) → IfSome (if is_some before then None else now) (λ two. two.1 < length setting.net.devices)
+      second_within : (before now : Option (ℕ × ℕ))
+          → ((two : ℕ × ℕ) → now ≡ Some two → (two.0 < length setting.net.devices) × (two.1 < length setting.net.devices))
+          → IfSome (if is_some before then None else now) (λ two. two.1 < length setting.net.devices)
       second_within None None within = tt
       second_within None (Some two) within = (within two refl).1
       second_within (Some e) now within = tt
 
-      asked_within : (o : Option (ℕ × Report)) → ((told : ℕ × Report) → o ≡ Some told → told.0 < length setting.net.devices) → IfSome o (λ told. told.0 < length setting.net.devices)
+      asked_within : (o : Option (ℕ × Report)) → ((told : ℕ × Report) → o ≡ Some told → told.0 < length setting.net.devices)
+          → IfSome o (λ told. told.0 < length setting.net.devices)
       asked_within None within = tt
       asked_within (Some told) within = within told refl
 
@@ -140,12 +164,14 @@ module _ (setting : Setting) (s : Step) (earlier : List Step) (found : Findings)
 pub asks_by_report : (s : Step) (told : ℕ × Report) → report_of s ≡ Some told → asks s.seen.event ≡ true
 asks_by_report s told is = by s.seen.event is
   where
-    by : (e : Event) → elim e [ event.Ask reference device counter ↦ option_map (λ report. (device, report)) s.told.report | _ ↦ None ] ≡ Some told → asks e ≡ true
+    by : (e : Event) → elim e [ event.Ask reference device counter ↦ option_map (λ report. (device, report)) s.told.report | _ ↦ None ] ≡ Some told
+        → asks e ≡ true
     by (event.Ask reference device counter) same = refl
     by _ same = cc
 
 -- the numbers of the flights that a step sent are far below their end
-pub numbers_fit : (setting : Setting) (s : Step) (earlier : List Step) → IsNetwork setting.net → AreSteps setting (s ∷ earlier) → first_number s.sent + length s.sent < 2 ^ 64
+pub numbers_fit : (setting : Setting) (s : Step) (earlier : List Step) → IsNetwork setting.net → AreSteps setting (s ∷ earlier)
+    → first_number s.sent + length s.sent < 2 ^ 64
 numbers_fit setting s earlier net is = by s.sent refl
   where
     by : (fs : List Flight) → s.sent ≡ fs → first_number fs + length fs < 2 ^ 64

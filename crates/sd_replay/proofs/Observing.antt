@@ -13,7 +13,7 @@ use Rattle.sd_history.specs.World.{Setting, Seen}
 use Rattle.sd_history.specs.Steps.{seen_of}
 use Rattle.sd_history.specs.Premises.{breaks}
 use Rattle.sd_history.specs.Nodes.{NodeStep, steps_of}
-use Rattle.sd_fabric.specs.declared.Outcome.{Outcome}
+use Rattle.sd_fleet.specs.FleetFabric.declared.Outcome.{Outcome}
 use Rattle.sd_fleet.specs.declared.fleet.Fleet.{Fleet}
 use Rattle.sd_fleet.specs.Standing.{IsAccepted}
 use Rattle.sd_premise.specs.Order.{CanFollow}
@@ -23,7 +23,8 @@ use Rattle.sd_premise.proofs.Stepping.{can_follow}
 use Rattle.sd_premise.proofs.Asking.{can_observe}
 use Rattle.sd_replay.proofs.Looking.{seen_by, sight_is}
 
-module _ {N : Type 0} (g : Ghosts N) (fleet : Fleet N g) (setting : Setting) (run : List (NodeStep N)) (e : Event) (outcome : Outcome) (accepted : IsAccepted g fleet setting run e outcome) (sent : List Flight)
+module _ {N : Type 0} (g : Ghosts N) (fleet : Fleet N g) (setting : Setting) (run : List (NodeStep N)) (e : Event) (outcome : Outcome)
+    (accepted : IsAccepted g fleet setting run e outcome) (sent : List Flight)
     (collected : sent ≡ filter (λ f. f.reaches) accepted.next.step.sent) where
   abbrev sight : Seen
   sight = seen_by e outcome.taken sent outcome.activated outcome.acted outcome.closed
@@ -33,16 +34,20 @@ module _ {N : Type 0} (g : Ghosts N) (fleet : Fleet N g) (setting : Setting) (ru
 
   -- it can follow what was seen before
   pub can_show : CanFollow setting (seen_of (steps_of run)) sight
-  can_show = subst (CanFollow setting (seen_of (steps_of run))) (sym seen_is) (can_follow setting accepted.next.step (steps_of run) accepted.stands.fabric.accepted)
+  can_show = subst (CanFollow setting (seen_of (steps_of run))) (sym seen_is)
+      (can_follow setting accepted.next.step (steps_of run) accepted.stands.fabric.accepted)
 
-  pub can_see : (monitors : Premises) → premises.StandsFor monitors setting (seen_of (steps_of run)) → length sent ≤ premises.room_of monitors → premises.CanObserve monitors sight
+  pub can_see : (monitors : Premises) → premises.StandsFor monitors setting (seen_of (steps_of run)) → length sent ≤ premises.room_of monitors
+      → premises.CanObserve monitors sight
   can_see monitors stands room = can_observe monitors setting (seen_of (steps_of run)) sight stands can_show room
 
   -- the premises stand for what was seen with the step
-  pub seen_on : (monitors : Premises) → premises.StandsFor monitors setting (sight ∷ seen_of (steps_of run)) → premises.StandsFor monitors setting (seen_of (accepted.next.step ∷ steps_of run))
+  pub seen_on : (monitors : Premises) → premises.StandsFor monitors setting (sight ∷ seen_of (steps_of run))
+      → premises.StandsFor monitors setting (seen_of (accepted.next.step ∷ steps_of run))
   seen_on monitors stands = subst (λ (s : Seen). premises.StandsFor monitors setting (s ∷ seen_of (steps_of run))) seen_is stands
 
-  pub broken_on : (broken : BrokenSet) → broken ≡ breaks setting (sight ∷ seen_of (steps_of run)) → broken ≡ breaks setting (seen_of (accepted.next.step ∷ steps_of run))
+  pub broken_on : (broken : BrokenSet) → broken ≡ breaks setting (sight ∷ seen_of (steps_of run))
+      → broken ≡ breaks setting (seen_of (accepted.next.step ∷ steps_of run))
   broken_on broken is = subst (λ (s : Seen). broken ≡ breaks setting (s ∷ seen_of (steps_of run))) seen_is is
 
 -- what the premises ask, where it merely holds

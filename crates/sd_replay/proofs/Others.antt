@@ -14,12 +14,12 @@ use Rattle.sd_history.specs.Accepted.{AreSteps}
 use Rattle.sd_history.proofs.Among.{first, later}
 use Rattle.sd_history.proofs.Contained.{none_holds}
 use Rattle.sd_history.proofs.Known.{named_is_known}
-use Rattle.sd_history_loops.proofs.Loops.{UpIsKnown}
-use Rattle.sd_history_flights.proofs.Places.{changed_named}
-use Rattle.sd_world.specs.Registers.{untouched}
-use Rattle.sd_world.proofs.Changes.{changes_other}
-use Rattle.sd_world.proofs.Shutting.{window_next}
-use Rattle.sd_replay.specs.Standing.{stance_in}
+use Rattle.sd_replay.proofs.Loops.{UpIsKnown}
+use Rattle.sd_history.proofs.flights.Places.{changed_named}
+use Rattle.sd_premise.specs.FleetState.world.Registers.{untouched}
+use Rattle.sd_premise.proofs.FleetState.world.Changes.{changes_other}
+use Rattle.sd_premise.proofs.FleetState.world.Shutting.{window_next}
+use Rattle.sd_replay.specs.Standing.{parent_row_in}
 
 -- the option holds this number
 holds : (o : Option ℕ) (d : ℕ) → same_number o d ≡ true → o ≡ Some d
@@ -38,7 +38,8 @@ steps_know setting (s ∷ earlier) is d up = elim (cases_Bool (same_number (devi
   | inr other ↦ steps_know setting earlier is.0 d (up_as_before s.seen.event d (is_up (seen_of earlier) d) other ∙ up)
 ]
 
-module _ (setting : Setting) (s : Step) (earlier : List Step) (is : AreSteps setting (s ∷ earlier)) (d : ℕ) (open_ : s.seen.closed ≡ false) (other : same_number (device_of s.seen.event) d ≡ false) where
+module _ (setting : Setting) (s : Step) (earlier : List Step) (is : AreSteps setting (s ∷ earlier)) (d : ℕ) (open_ : s.seen.closed ≡ false)
+    (other : same_number (device_of s.seen.event) d ≡ false) where
   up_same : is_up (seen_of (s ∷ earlier)) d ≡ is_up (seen_of earlier) d
   up_same = sym (up_as_before s.seen.event d (is_up (seen_of earlier) d) other)
 
@@ -46,8 +47,10 @@ module _ (setting : Setting) (s : Step) (earlier : List Step) (is : AreSteps set
   stage_first : is_stage s.seen.event ≡ true → window_is_open (seen_of earlier) ≡ false
   stage_first stages =
       let order : window_order setting earlier s.seen.event ≡ false =
-      none_holds (causes setting earlier s.seen.event) _ is.1 (later (later (later (later (later (later (later (later (later (later (later (later first)))))))))))) in
-      by (window_is_open (seen_of earlier)) (ap (λ b. b && window_is_open (seen_of earlier)) (sym stages) ∙ (or_parts _ _ (or_parts _ _ (or_parts _ _ (or_parts _ (window_order_within earlier s.seen.event) order).0).0).0).0)
+      none_holds (causes setting earlier s.seen.event) _ is.1
+      (later (later (later (later (later (later (later (later (later (later (later (later first)))))))))))) in
+      by (window_is_open (seen_of earlier)) (ap (λ b. b && window_is_open (seen_of earlier)) (sym stages)
+      ∙ (or_parts _ _ (or_parts _ _ (or_parts _ _ (or_parts _ (window_order_within earlier s.seen.event) order).0).0).0).0)
     where
       by : (b : Bool) → (true && b) ≡ false → b ≡ false
       by true shut = shut
@@ -66,7 +69,8 @@ module _ (setting : Setting) (s : Step) (earlier : List Step) (is : AreSteps set
       ∙ by (is_stage s.seen.event) (window (seen_of earlier)) (λ stages. stage_first stages) refl
     where
       by : (b : Bool) (o : Option (List Seen)) → (is_stage s.seen.event ≡ true → is_some o ≡ false) → is_stage s.seen.event ≡ b
-          → of_some (if b then Some [] else option_map (λ w. s.seen ∷ w) o) false (list_any (λ x. same_number (joined x.event) d)) ≡ of_some o false (list_any (λ x. same_number (joined x.event) d))
+          → of_some (if b then Some [] else option_map (λ w. s.seen ∷ w) o) false (list_any (λ x. same_number (joined x.event) d))
+          ≡ of_some o false (list_any (λ x. same_number (joined x.event) d))
       by true None first_ stages = refl
       by true (Some w) first_ stages = let clash : true ≡ false = first_ stages in cc
       by false None first_ stages = refl
@@ -86,5 +90,5 @@ module _ (setting : Setting) (s : Step) (earlier : List Step) (is : AreSteps set
   answers_same = rw (up_same, change_other) refl
 
   -- it stands as before
-  pub stance_same : stance_in setting (s ∷ earlier) d ≡ stance_in setting earlier d
-  stance_same = rw (counted_same, answers_same) refl
+  pub parent_row_same : parent_row_in setting (s ∷ earlier) d ≡ parent_row_in setting earlier d
+  parent_row_same = rw (counted_same, answers_same) refl

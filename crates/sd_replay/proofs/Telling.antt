@@ -1,10 +1,10 @@
--- What the journal tells after one event more.
+-- What the event_output tells after one event more.
 use Rattle.std.specs.Prelude.{◌≡◌, ℕ, suc, ◌+◌, ◌*◌, ◌^◌, ◌≤◌, max, Bool, true, false, ◌||◌, List, [], ◌∷◌, ◌++◌, length, map, count_by, flat_map, Option, Some, None, is_some, option_map, option_to_list, refl, if◌then◌else◌}
 use Rattle.std.proofs.Common.{sym, ap, ◌∙◌, arith, add-one}
 use Rattle.std.proofs.lemmas.List.{length-append, append-nil}
 use Rattle.std.proofs.lemmas.List.Sums.{count_by-le-length}
 use Rattle.sd_num.specs.Lists.{of_some, greatest}
-use Rattle.sd_lines.specs.Printed.{printed}
+use Rattle.sd_replay.specs.lines.Printed.{printed}
 use Rattle.sd_topo.specs.Network.{Network}
 use Rattle.sd_topo.specs.Topologies.{network}
 use Rattle.sd_clock.specs.declared.Report.{Report}
@@ -23,11 +23,11 @@ use Rattle.sd_history.specs.Lines as line
 use Rattle.sd_history.specs.Text.{bytes_of}
 use Rattle.sd_history.proofs.Among.{first, later}
 use Rattle.sd_history.proofs.Contained.{none_holds}
-use Rattle.sd_history_flights.proofs.Counts.{steps_few}
-use Rattle.sd_lines.specs.declared.findings.Findings.{Findings}
-use Rattle.sd_lines.specs.Findings.{found_lines, found_bytes, line_bytes}
+use Rattle.sd_history.proofs.flights.Counts.{steps_few}
+use Rattle.sd_replay.specs.declared.lines.findings.Findings.{Findings}
+use Rattle.sd_replay.specs.lines.Findings.{found_lines, found_bytes, line_bytes}
 use Rattle.sd_replay.specs.declared.Tally.{Tally}
-use Rattle.sd_replay.specs.declared.journal.Journal.{Journal}
+use Rattle.sd_replay.specs.declared.event_output.EventOutput.{EventOutput}
 use Rattle.sd_replay.specs.Tallies.{is_broken, is_alarm, lines_that, greatest_eps, tally_of}
 use Rattle.sd_replay.specs.Counting.{HasRoom, tally_with}
 use Rattle.sd_replay.specs.Standing.{Tells}
@@ -94,10 +94,14 @@ reports_few [] = omega arith
 reports_few (s ∷ earlier) = both_next (report_of s) (reports_few earlier)
   where
     both_next : (o : Option (ℕ × Report)) → length (reports earlier) ≤ length earlier
-        → length (reports earlier ++ option_to_list (option_map (λ told. record { line = length earlier + 1; device = told.0; reference = reference_of s.seen.event; report = told.1 }) o)) ≤ suc (length earlier)
+        → length (reports earlier
+        ++ option_to_list
+        (option_map (λ told. record { line = length earlier + 1; device = told.0; reference = reference_of s.seen.event; report = told.1 }) o)) ≤ suc
+        (length earlier)
     both_next None before = let all = length-append (reports earlier) [] in omega (arith, all, before)
     both_next (Some told) before =
-        let all = length-append (reports earlier) (record { line = length earlier + 1; device = told.0; reference = reference_of s.seen.event; report = told.1 } ∷ []) in omega (arith, all, before)
+        let all = length-append (reports earlier)
+        (record { line = length earlier + 1; device = told.0; reference = reference_of s.seen.event; report = told.1 } ∷ []) in omega (arith, all, before)
 
 -- so a tally has room for one event more
 pub tally_room : (setting : Setting) (steps : List Step) → AreSteps setting steps → HasRoom (tally_of setting steps)
@@ -113,7 +117,8 @@ tally_room setting steps is =
 abbrev pub of_counts : ℕ → ℕ → ℕ → ℕ → ℕ → Tally
 of_counts events reports_ broken alarms eps = record { events = events; reports = reports_; broken = broken; alarms = alarms; greatest_eps = eps }
 
-pub same_tally : (a b : Tally) → a.events ≡ b.events → a.reports ≡ b.reports → a.broken ≡ b.broken → a.alarms ≡ b.alarms → a.greatest_eps ≡ b.greatest_eps → a ≡ b
+pub same_tally : (a b : Tally) → a.events ≡ b.events → a.reports ≡ b.reports → a.broken ≡ b.broken → a.alarms ≡ b.alarms → a.greatest_eps ≡ b.greatest_eps
+    → a ≡ b
 same_tally a b events reports_ broken alarms eps =
     ap (λ n. of_counts n a.reports a.broken a.alarms a.greatest_eps) events
     ∙ ap (λ n. of_counts b.events n a.broken a.alarms a.greatest_eps) reports_
@@ -132,7 +137,8 @@ map-push f (x ∷ xs) y = ap (λ ys. f x ∷ ys) (map-push f xs y)
 abbrev told_at : Step → ℕ → ℕ × Report → ReportAt
 told_at s n told = record { line = n; device = told.0; reference = reference_of s.seen.event; report = told.1 }
 
-module _ (setting : Setting) (s : Step) (earlier : List Step) (is : AreSteps setting (s ∷ earlier)) (found : Findings) (lines : found_lines found ≡ lines_of setting (s ∷ earlier)) (report : found.report ≡ report_of s) where
+module _ (setting : Setting) (s : Step) (earlier : List Step) (is : AreSteps setting (s ∷ earlier)) (found : Findings)
+    (lines : found_lines found ≡ lines_of setting (s ∷ earlier)) (report : found.report ≡ report_of s) where
   tally_next : tally_with (tally_of setting earlier) found ≡ tally_of setting (s ∷ earlier)
   tally_next =
       same_tally (tally_with (tally_of setting earlier) found) (tally_of setting (s ∷ earlier)) (add-one (length earlier))
@@ -141,12 +147,16 @@ module _ (setting : Setting) (s : Step) (earlier : List Step) (is : AreSteps set
       (ap (λ xs. lines_that is_alarm setting earlier + count_by is_alarm xs) lines)
       (ap (λ o. max (greatest_eps earlier) (of_some o 0 (λ told. told.1.eps))) report ∙ eps (report_of s))
     where
-      count : (o : Option (ℕ × Report)) → length (reports earlier) + (if is_some o then 1 else 0) ≡ length (reports earlier ++ option_to_list (option_map (told_at s (length earlier + 1)) o))
+      count : (o : Option (ℕ × Report))
+          → length (reports earlier) + (if is_some o then 1 else 0) ≡ length (reports earlier ++ option_to_list (option_map (told_at s (length earlier + 1)) o))
       count None = let all = length-append (reports earlier) [] in omega (arith, all)
       count (Some told) = let all = length-append (reports earlier) (told_at s (length earlier + 1) told ∷ []) in omega (arith, all)
 
-      eps : (o : Option (ℕ × Report)) → max (greatest_eps earlier) (of_some o 0 (λ told. told.1.eps)) ≡ greatest (map (λ x. x.report.eps) (reports earlier ++ option_to_list (option_map (told_at s (length earlier + 1)) o)))
-      eps None = let same : max (greatest_eps earlier) 0 ≡ greatest_eps earlier = omega arith in same ∙ ap (λ xs. greatest (map (λ x. x.report.eps) xs)) (sym (append-nil (reports earlier)))
+      eps : (o : Option (ℕ × Report))
+          → max (greatest_eps earlier) (of_some o 0 (λ told. told.1.eps))
+          ≡ greatest (map (λ x. x.report.eps) (reports earlier ++ option_to_list (option_map (told_at s (length earlier + 1)) o)))
+      eps None = let same : max (greatest_eps earlier) 0 ≡ greatest_eps earlier = omega arith in
+          same ∙ ap (λ xs. greatest (map (λ x. x.report.eps) xs)) (sym (append-nil (reports earlier)))
       eps (Some told) =
           let last = greatest-append (map (λ x. x.report.eps) (reports earlier)) (told.1.eps ∷ []) in
           let same : max (greatest_eps earlier) told.1.eps ≡ greatest (map (λ x. x.report.eps) (reports earlier) ++ told.1.eps ∷ []) = omega (arith, last) in
@@ -160,14 +170,17 @@ module _ (setting : Setting) (s : Step) (earlier : List Step) (is : AreSteps set
 
   ended_next : is_end s.seen.event ≡ after_end (seen_of (s ∷ earlier))
   ended_next =
-      sym (ap (λ b. is_end s.seen.event || b) (none_holds (causes setting earlier s.seen.event) _ is.1 (later (later (later (later (later (later (later (later (later (later (later (later (later first)))))))))))))) ∙ or_nothing (is_end s.seen.event))
+      sym (ap (λ b. is_end s.seen.event || b)
+      (none_holds (causes setting earlier s.seen.event) _ is.1
+      (later (later (later (later (later (later (later (later (later (later (later (later (later first)))))))))))))) ∙ or_nothing (is_end s.seen.event))
     where
       or_nothing : (b : Bool) → (b || false) ≡ b
       or_nothing true = refl
       or_nothing false = refl
 
-  -- the journal that was written tells of the event
-  pub tells_next : (old new : Journal) → Tells old setting earlier → new.topology ≡ old.topology → new.tally ≡ tally_with old.tally found → printed new.lines ≡ found_bytes (network old.topology) (old.tally.events + 1) found
+  -- the event_output that was written tells of the event
+  pub tells_next : (old new : EventOutput) → Tells old setting earlier → new.topology ≡ old.topology → new.tally ≡ tally_with old.tally found
+      → printed new.lines ≡ found_bytes (network old.topology) (old.tally.events + 1) found
       → new.ended ≡ is_end s.seen.event → Tells new setting (s ∷ earlier)
   tells_next old new tells topology tally bytes ended =
       record {
@@ -184,5 +197,6 @@ pub reports_same : (s : Step) (earlier : List Step) → report_of s ≡ None →
 reports_same s earlier none = ap (λ o. reports earlier ++ option_to_list (option_map (told_at s (length earlier + 1)) o)) none ∙ append-nil (reports earlier)
 
 -- and else there is one more
-pub reports_more : (s : Step) (earlier : List Step) (d : ℕ) (report : Report) → report_of s ≡ Some (d, report) → reports (s ∷ earlier) ≡ reports earlier ++ report_at (length earlier + 1) d (reference_of s.seen.event) report ∷ []
+pub reports_more : (s : Step) (earlier : List Step) (d : ℕ) (report : Report) → report_of s ≡ Some (d, report)
+    → reports (s ∷ earlier) ≡ reports earlier ++ report_at (length earlier + 1) d (reference_of s.seen.event) report ∷ []
 reports_more s earlier d report some = ap (λ o. reports earlier ++ option_to_list (option_map (told_at s (length earlier + 1)) o)) some

@@ -6,7 +6,6 @@ use Rattle.sd_history.specs.Steps.{Step, seen_of, events_of}
 use Rattle.sd_history.specs.Chronicle.{chronicle, IsHistory}
 use Rattle.sd_history.specs.Premises.{all_hold}
 use Rattle.sd_history.specs.Lines.{first_on_loop, roots, lines_of}
-use Rattle.sd_replay.specs.Promises.{StaysSafe}
 use Rattle.sd_replay.specs.Tallies.{is_alarm}
 
 -- the events are a history, and the steps are their chronicle: the nodes told what devices tell
@@ -20,6 +19,6 @@ pub record IsCalm (setting : Setting) (steps : List Step) : Type 0 where
   pub one_root : length (roots setting steps) ≤ 1
   pub no_alarm : count_by is_alarm (lines_of setting steps) ≡ 0
 
--- While no premise is broken. That the setting stays safe is proved of every setting, above.
+-- While no premise is broken: of every setting over which a replay was made.
 abbrev pub StaysCalm : Setting → List Step → Type 0
-StaysCalm setting steps = StaysSafe setting → IsChronicle setting steps (events_of steps) → IsTrue (all_hold setting (seen_of steps)) → IsCalm setting steps
+StaysCalm setting steps = IsChronicle setting steps (events_of steps) → IsTrue (all_hold setting (seen_of steps)) → IsCalm setting steps

@@ -1,8 +1,8 @@
 -- How a tally goes on with what is found of an event.
 use Rattle.std.specs.Prelude.{ℕ, ◌+◌, ◌^◌, ◌<◌, Bool, count_by, is_some, max, if◌then◌else◌}
 use Rattle.sd_num.specs.Lists.{of_some}
-use Rattle.sd_lines.specs.declared.findings.Findings.{Findings}
-use Rattle.sd_lines.specs.Findings.{found_lines}
+use Rattle.sd_replay.specs.declared.lines.findings.Findings.{Findings}
+use Rattle.sd_replay.specs.lines.Findings.{found_lines}
 use Rattle.sd_replay.specs.declared.Tally.{Tally}
 use Rattle.sd_replay.specs.Tallies.{is_broken, is_alarm}
 

@@ -15,7 +15,6 @@ use Rattle.sd_history.specs.Lines.{Line, IntervalAlarm, reports}
 use Rattle.sd_replay.specs.declared.replay.Replay.{Replay}
 use Rattle.sd_replay.specs.Tallies.{lines_that}
 use Rattle.sd_replay.specs.Replaying.{StandsFor}
-use Rattle.sd_replay.specs.Promises.{StaysSafe}
 use Rattle.sd_replay.specs.Calm.{IsChronicle, IsCalm}
 
 -- the replay of devices stands for a run of these events, the newest first
@@ -50,5 +49,5 @@ DevicesContain {V} o =
 -- Of each run for which a replay of devices stands: while no premise is broken.
 abbrev pub DevicesStayCalm : {V : Type 0} → observers.Ghosts V → Type 0
 DevicesStayCalm {V} o =
-    (replay : Replay Registers V ghosts o) (setting : Setting) (run : List (NodeStep Registers)) → StaysSafe setting → StandsFor ghosts o replay setting run
+    (replay : Replay Registers V ghosts o) (setting : Setting) (run : List (NodeStep Registers)) → StandsFor ghosts o replay setting run
     → IsTrue (all_hold setting (seen_of (steps_of run))) → IsCalm setting (steps_of run)

@@ -7,3 +7,11 @@ pub mod Replaying
 pub mod FleetFaults
 pub mod Calm
 pub mod Devices
+pub mod lines
+-- Handed on: what crates above name of those below.
+pub use Rattle.sd_topo.specs as Topo
+pub use Rattle.sd_plan.specs.Domain as Domain
+pub use Rattle.sd_plan.specs as Plan
+pub use Rattle.sd_sched.specs as Sched
+pub use Rattle.sd_history.specs as History
+pub use Rattle.sd_fleet.specs.FleetFabric as FleetFabric

@@ -8,32 +8,34 @@ use Rattle.sd_history.specs.World.{Setting}
 use Rattle.sd_history.specs.Steps.{Step}
 use Rattle.sd_history.specs.Nodes.{NodeStep}
 use Rattle.sd_history.specs.Refusals.{refusal}
-use Rattle.sd_fabric.specs.declared.Outcome.{Outcome}
-use Rattle.sd_fabric.specs.Doing.{may_send, asks}
-use Rattle.sd_fabric.specs.Outcomes.{outcome_of}
+use Rattle.sd_fleet.specs.FleetFabric.declared.Outcome.{Outcome}
+use Rattle.sd_fleet.specs.FleetFabric.Doing.{may_send, asks}
+use Rattle.sd_fleet.specs.FleetFabric.Outcomes.{outcome_of}
 use Rattle.sd_replay.specs.declared.replay.Replay.{Replay}
 use Rattle.sd_replay.specs.declared.faults.ReplayFault.{ReplayFault}
 use Rattle.sd_replay.specs.declared.faults.ReplayFault.TheVariants.{Line, Apply, Memory}
-use Rattle.sd_lines.specs.Printed.{printed}
+use Rattle.sd_replay.specs.lines.Printed.{printed}
 use Rattle.sd_replay.specs.Standing.{Stands}
 
 -- The replay keeps what the words on histories say of the run: the fleet, the premises, loops and roots, the lines of its newest event, its
 -- tally and its reports.
 abbrev pub StandsFor : {N V : Type 0} (g : Ghosts N) (o : observers.Ghosts V) → Replay N V g o → Setting → List (NodeStep N) → Type 0
-StandsFor g o replay setting run = Stands g o replay.fleet replay.onlooker replay.journal replay.observer setting run
+StandsFor g o replay setting run = Stands g o replay.fleet replay.monitors replay.event_output replay.observer setting run
 
 -- the lines that it lends
 abbrev pub lines_in : {N V : Type 0} {g : Ghosts N} {o : observers.Ghosts V} → Replay N V g o → List ℕ
-lines_in replay = printed replay.journal.lines
+lines_in replay = printed replay.event_output.lines
 
 -- the event was accepted after the run: the replay stands for the run with one step more, of just this event
-pub record IsStepped {N V : Type 0} (g : Ghosts N) (o : observers.Ghosts V) (replay : Replay N V g o) (setting : Setting) (run : List (NodeStep N)) (e : Event) : Type 0 where
+pub record IsStepped {N V : Type 0} (g : Ghosts N) (o : observers.Ghosts V) (replay : Replay N V g o) (setting : Setting) (run : List (NodeStep N))
+    (e : Event) : Type 0 where
   pub next : NodeStep N
   pub happens : next.step.seen.event ≡ e
   pub stands : StandsFor g o replay setting (next ∷ run)
 
 -- and came to this
-pub record IsSteppedTo {N V : Type 0} (g : Ghosts N) (o : observers.Ghosts V) (replay : Replay N V g o) (setting : Setting) (run : List (NodeStep N)) (e : Event) (outcome : Outcome) : Type 0 where
+pub record IsSteppedTo {N V : Type 0} (g : Ghosts N) (o : observers.Ghosts V) (replay : Replay N V g o) (setting : Setting) (run : List (NodeStep N))
+    (e : Event) (outcome : Outcome) : Type 0 where
   pub stepped : IsStepped g o replay setting run e
   pub comes : outcome ≡ outcome_of stepped.next.step
 

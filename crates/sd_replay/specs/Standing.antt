@@ -2,7 +2,7 @@
 use Rattle.std.specs.Prelude.{◌≡◌, ℕ, ◌<◌, ◌&&◌, List, length, min, slice_set, Bool, false}
 use Rattle.std.specs.Vec.{vec_capacity}
 use Rattle.sd_num.specs.Lists.{at_place}
-use Rattle.sd_lines.specs.Printed.{printed}
+use Rattle.sd_replay.specs.lines.Printed.{printed}
 use Rattle.sd_topo.specs.Topologies.{network}
 use Rattle.sd_watch.specs.Watch.{parent_in}
 use Rattle.sd_core.specs.declared.node.Node.{Ghosts}
@@ -14,14 +14,14 @@ use Rattle.sd_history.specs.Nodes.{NodeStep, steps_of}
 use Rattle.sd_history.specs.Refusals.{after_end}
 use Rattle.sd_history.specs.Lines.{counted_parent, reports}
 use Rattle.sd_history.specs.Text.{bytes_of}
-use Rattle.sd_fabric.specs.declared.Outcome.{Outcome}
+use Rattle.sd_fleet.specs.FleetFabric.declared.Outcome.{Outcome}
 use Rattle.sd_fleet.specs.declared.fleet.Fleet.{Fleet}
 use Rattle.sd_fleet.specs.Standing as fleets
-use Rattle.sd_stances.specs.Stances as stances
-use Rattle.sd_stances.specs.declared.stances.Stance.{Stance}
+use Rattle.sd_watch.specs.parent_table.ParentTable as parent_table
+use Rattle.sd_watch.specs.declared.parent_table.ParentRow.{ParentRow}
 use Rattle.sd_premise.specs.Standing as premises
-use Rattle.sd_replay.specs.declared.onlooker.Onlooker.{Onlooker}
-use Rattle.sd_replay.specs.declared.journal.Journal.{Journal}
+use Rattle.sd_replay.specs.declared.monitors.Monitors.{Monitors}
+use Rattle.sd_replay.specs.declared.event_output.EventOutput.{EventOutput}
 use Rattle.sd_replay.specs.Tallies.{tally_of}
 use Rattle.sd_replay.specs.Promises.{IsSound}
 
@@ -32,60 +32,62 @@ abbrev pub counted_acts : Setting → List Step → ℕ → Bool
 counted_acts setting steps d = is_counted setting (seen_of steps) d && acts_in steps d
 
 -- how a device stands after the steps
-abbrev pub stance_in : Setting → List Step → ℕ → Stance
-stance_in setting steps d = record { parent = counted_parent setting steps d; acts = counted_acts setting steps d }
+abbrev pub parent_row_in : Setting → List Step → ℕ → ParentRow
+parent_row_in setting steps d = record { parent = counted_parent setting steps d; acts = counted_acts setting steps d }
 
 -- what is kept of a device at a place
-abbrev pub stance_at : stances.Kept → ℕ → Stance
-stance_at kept d = record { parent = parent_in kept.parents d; acts = at_place kept.acting d false (λ acts. acts) }
+abbrev pub parent_row_at : parent_table.Kept → ℕ → ParentRow
+parent_row_at kept d = record { parent = parent_in kept.parents d; acts = at_place kept.acting d false (λ acts. acts) }
 
 -- one device was set to stand so
-pub record IsSet (old new : stances.Kept) (d : ℕ) (stance : Stance) : Type 0 where
-  pub parents : new.parents ≡ slice_set old.parents d stance.parent
-  pub acting : new.acting ≡ slice_set old.acting d stance.acts
+pub record IsSet (old new : parent_table.Kept) (d : ℕ) (parent_row : ParentRow) : Type 0 where
+  pub parents : new.parents ≡ slice_set old.parents d parent_row.parent
+  pub acting : new.acting ≡ slice_set old.acting d parent_row.acts
 
 -- each device is kept as it stands after the steps
-pub record AreStances (kept : stances.Kept) (setting : Setting) (steps : List Step) : Type 0 where
+pub record IsParentTable (kept : parent_table.Kept) (setting : Setting) (steps : List Step) : Type 0 where
   pub parents : length kept.parents ≡ length setting.net.devices
   pub acting : length kept.acting ≡ length setting.net.devices
-  pub each : (d : ℕ) → d < length setting.net.devices → stance_at kept d ≡ stance_in setting steps d
+  pub each : (d : ℕ) → d < length setting.net.devices → parent_row_at kept d ≡ parent_row_in setting steps d
 
 -- The parts
 
--- the onlooker has seen these steps
-pub record Onlooks (onlooker : Onlooker) (setting : Setting) (steps : List Step) : Type 0 where
-  pub premises : premises.StandsFor onlooker.premises setting (seen_of steps)
-  pub stances : AreStances onlooker.stances setting steps
+-- the monitors has seen these steps
+pub record Onlooks (monitors : Monitors) (setting : Setting) (steps : List Step) : Type 0 where
+  pub premises : premises.StandsFor monitors.premises setting (seen_of steps)
+  pub parent_table : IsParentTable monitors.parent_table setting steps
 
 -- for how many flights of the next event there is room
-abbrev pub room_of : Onlooker → ℕ
-room_of onlooker = min (premises.room_of onlooker.premises) (vec_capacity onlooker.sent)
+abbrev pub room_of : Monitors → ℕ
+room_of monitors = min (premises.room_of monitors.premises) (vec_capacity monitors.sent)
 
--- the fleet has just made a step after a run that the onlooker has seen
-pub record HasStep {N : Type 0} (g : Ghosts N) (onlooker : Onlooker) (fleet : Fleet N g) (e : Event) (outcome : Outcome) : Type 0 where
+-- the fleet has just made a step after a run that the monitors has seen
+pub record HasStep {N : Type 0} (g : Ghosts N) (monitors : Monitors) (fleet : Fleet N g) (e : Event) (outcome : Outcome) : Type 0 where
   pub setting : Setting
   pub run : List (NodeStep N)
   pub accepted : fleets.IsAccepted g fleet setting run e outcome
-  pub onlooks : Onlooks onlooker setting (steps_of run)
+  pub onlooks : Onlooks monitors setting (steps_of run)
 
--- the journal tells of these steps
-pub record Tells (journal : Journal) (setting : Setting) (steps : List Step) : Type 0 where
-  pub net : network journal.topology ≡ setting.net
-  pub lines : printed journal.lines ≡ bytes_of setting steps
-  pub tally : journal.tally ≡ tally_of setting steps
-  pub ended : journal.ended ≡ after_end (seen_of steps)
+-- the event_output tells of these steps
+pub record Tells (event_output : EventOutput) (setting : Setting) (steps : List Step) : Type 0 where
+  pub net : network event_output.topology ≡ setting.net
+  pub lines : printed event_output.lines ≡ bytes_of setting steps
+  pub tally : event_output.tally ≡ tally_of setting steps
+  pub ended : event_output.ended ≡ after_end (seen_of steps)
 
--- All parts stand for the run: the fleet made it, the onlooker has seen its steps, the journal tells of them, and the observer was told of its
+-- All parts stand for the run: the fleet made it, the monitors has seen its steps, the event_output tells of them, and the observer was told of its
 -- reports. Its plans are accepted.
-pub record Stands {N V : Type 0} (g : Ghosts N) (o : observers.Ghosts V) (fleet : Fleet N g) (onlooker : Onlooker) (journal : Journal) (observer : V) (setting : Setting) (run : List (NodeStep N)) : Type 0 where
+pub record Stands {N V : Type 0} (g : Ghosts N) (o : observers.Ghosts V) (fleet : Fleet N g) (monitors : Monitors) (event_output : EventOutput) (observer : V)
+    (setting : Setting) (run : List (NodeStep N)) : Type 0 where
   pub sound : IsSound setting
   pub made : fleets.StandsFor g fleet setting run
-  pub onlooks : Onlooks onlooker setting (steps_of run)
-  pub tells : Tells journal setting (steps_of run)
+  pub onlooks : Onlooks monitors setting (steps_of run)
+  pub tells : Tells event_output setting (steps_of run)
   pub told : o.stands observer (reports (steps_of run))
 
 -- there is a run for which they stand
-pub record HasRun {N V : Type 0} (g : Ghosts N) (o : observers.Ghosts V) (fleet : Fleet N g) (onlooker : Onlooker) (journal : Journal) (observer : V) : Type 0 where
+pub record HasRun {N V : Type 0} (g : Ghosts N) (o : observers.Ghosts V) (fleet : Fleet N g) (monitors : Monitors) (event_output : EventOutput)
+    (observer : V) : Type 0 where
   pub setting : Setting
   pub steps : List (NodeStep N)
-  pub stands : Stands g o fleet onlooker journal observer setting steps
+  pub stands : Stands g o fleet monitors event_output observer setting steps

@@ -1,14 +1,14 @@
 //! How a tally goes on with an event.
 ghost use Rattle.std.specs.Prelude.{◌≡◌, ◌≤◌, count_by};
 ghost use Rattle.sd_history.specs.Lines.{broken_lines};
-ghost use Rattle.sd_lines.specs.Findings.{found_lines};
+ghost use Rattle.sd_replay.specs.lines.Findings.{found_lines};
 ghost use Rattle.sd_replay.specs.Tallies.{is_broken, is_alarm};
 ghost use Rattle.sd_num.specs.Lists.{of_some};
 ghost use Rattle.sd_replay.specs.Counting.{HasRoom, no_tally, one, tally_with, with_nothing};
 
 use crate::Tally;
+use crate::lines::Findings;
 use sd_history::BrokenSet;
-use sd_lines::Findings;
 
 /// 1 where it is so, else 0.
 fn one(so: bool) -> u64

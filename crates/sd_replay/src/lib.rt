@@ -6,13 +6,13 @@
 #![tactic(auto)]
 
 mod counting;
+mod event_output;
 mod faults;
-mod journal;
-mod onlooker;
+pub mod lines;
+mod monitors;
 mod plans;
 mod replay;
 mod sights;
-mod watched;
 
 pub use faults::ReplayFault;
 pub use plans::PlanList;

@@ -55,11 +55,4 @@ impl PlanList {
     {
         self.items.as_slice()
     }
-
-    /// The plans in their order, without memory.
-    pub fn into_vec(self) -> Vec<Plan>
-        ensures { result.items ≡ self }
-    {
-        self.items
-    }
 }

@@ -3,13 +3,14 @@ ghost use Rattle.std.specs.Prelude.{◌≡◌, ◌≤◌, ◌<◌, ◌^◌, ℕ,
 ghost use Rattle.sd_topo.specs.Topologies.{network};
 ghost use Rattle.sd_topo.specs.Network.{Each as OfEach};
 ghost use Rattle.sd_plan.specs.Plans.{Fits};
-ghost use Rattle.sd_checker.specs.Verdicts.{IsAccepted};
+ghost use Rattle.sd_proof_safety.specs.Checker.Verdicts.{IsAccepted};
 ghost use Rattle.sd_sched.specs.Lines.{event_of_line, is_within};
 ghost use Rattle.sd_history.specs.World.{Setting};
 ghost use Rattle.sd_msg.specs.Observed.{ReportAt};
-ghost use Rattle.sd_fabric.specs.Doing.{asks};
-ghost use Rattle.sd_fabric.specs.Room.{most_sent_in};
+ghost use Rattle.sd_fleet.specs.FleetFabric.Doing.{asks};
+ghost use Rattle.sd_fleet.specs.FleetFabric.Room.{most_sent_in};
 ghost use Rattle.sd_fleet.specs.Standing as fleets;
+ghost use Rattle.sd_premise.specs.FleetState.membership.Plans.{AreSound};
 ghost use Rattle.sd_history.specs.Steps.{Step, seen_of};
 ghost use Rattle.sd_history.specs.Nodes.{NodeStep, steps_of};
 ghost use Rattle.sd_history.specs.Refusals.{refusal, after_end};
@@ -17,17 +18,38 @@ ghost use Rattle.sd_history.specs.Text.{bytes_of};
 ghost use Rattle.sd_replay.specs.Tallies.{tally_of};
 ghost use Rattle.sd_replay.specs.Standing.{HasRun, Onlooks, room_of};
 
-use crate::journal::Journal;
-use crate::onlooker::Onlooker;
-use crate::watched::Watched;
+use crate::event_output::EventOutput;
+use crate::monitors::Monitors;
 use crate::{PlanList, ReplayFault, Tally};
 use sd_core::Node;
 use sd_fleet::{Fleet, Outcome};
 use sd_msg::Observer;
 use sd_num::NoMemory;
+use sd_plan::Plan;
 use sd_sched::{Event, read_line};
 use sd_topo::Topology;
 use std::alloc::Global;
+
+/// A fleet and its monitors before any event. `Replay::new` calls this so that it has few exits at
+/// which it drops what it owns.
+fn fleet_and_monitors<N: Node>(
+    alloc: Global,
+    topo: &Topology,
+    plans: &[Plan],
+) -> Result<(Fleet<N>, Monitors), NoMemory>
+    requires some { 1 ≤ length plans.now }
+    requires count { length plans.now < 2 ^ 32 }
+    requires sound { AreSound (network topo.now) plans.now }
+    ensures fleet { IfOk result (λ made. (setting : Setting)
+        → setting.net ≡ network topo.now → setting.plans ≡ plans.now
+        → fleets.StandsFor N.Node made.0 setting []) }
+    ensures monitors { IfOk result (λ made. (setting : Setting)
+        → setting.net ≡ network topo.now → setting.plans ≡ plans.now → Onlooks made.1 setting []) }
+{
+    let fleet = Fleet::new(alloc, topo, plans)?;
+    let monitors = Monitors::new(alloc, topo, plans)?;
+    Ok((fleet, monitors))
+}
 
 /// The replay of a schedule by a fleet of nodes of one kind.
 ///
@@ -37,10 +59,10 @@ use std::alloc::Global;
 #[derive(Drop)]
 pub struct Replay<N: Node, V: Observer> {
     fleet: Fleet<N>,
-    onlooker: Onlooker,
-    journal: Journal,
+    monitors: Monitors,
+    event_output: EventOutput,
     observer: V,
-    ghost run: { ∥ HasRun N.Node V.Observer fleet onlooker journal observer ∥₁ },
+    ghost run: { ∥ HasRun N.Node V.Observer fleet monitors event_output observer ∥₁ },
 }
 
 impl<N: Node, V: Observer> Replay<N, V> {
@@ -61,14 +83,19 @@ impl<N: Node, V: Observer> Replay<N, V> {
         requires accepted { OfEach (IsAccepted (network topo)) plans }
         requires observer { V.stands observer [] }
         ensures stands { IfOk result (λ replay. (setting : Setting)
-            → setting.net ≡ network topo → setting.plans ≡ plans → StandsFor N.Node V.Observer replay setting []) }
+            → setting.net ≡ network topo → setting.plans ≡ plans
+            → StandsFor N.Node V.Observer replay setting []) }
     {
-        let journal = Journal::new(alloc, topo)?;
-        let watched = Watched::new(alloc, &journal.topology, plans)?;
+        let event_output = EventOutput::new(alloc, topo)?;
+        let (fleet, monitors) = fleet_and_monitors(
+            alloc,
+            &event_output.topology,
+            plans.as_slice(),
+        )?;
         Ok(Replay {
-            fleet: watched.fleet,
-            onlooker: watched.onlooker,
-            journal,
+            fleet,
+            monitors,
+            event_output,
             observer,
         })
     }
@@ -78,13 +105,20 @@ impl<N: Node, V: Observer> Replay<N, V> {
     pub fn step(&mut self, alloc: Global, line: &[u8]) -> Result<(), ReplayFault>
         ensures line { IfErr (event_of_line line.now) (λ fault. result ≡ Err (ReplayFault.Line fault)) }
         ensures refusal { IfOk (event_of_line line.now) (λ e. (setting : Setting) (run : List (NodeStep N))
-            → StandsFor N.Node V.Observer self.old setting run → IfSome (refusal setting (steps_of run) e) (λ fault. result ≡ Err (ReplayFault.Apply fault))) }
-        ensures accepted { OnOk result (IfOk (event_of_line line.now) (λ e. (setting : Setting) (run : List (NodeStep N))
-            → StandsFor N.Node V.Observer self.old setting run → IsStepped N.Node V.Observer self.new setting run e)) }
+            → StandsFor N.Node V.Observer self.old setting run
+            → IfSome (refusal setting (steps_of run) e)
+            (λ fault. result ≡ Err (ReplayFault.Apply fault))) }
+        ensures accepted { OnOk result
+            (IfOk (event_of_line line.now) (λ e. (setting : Setting) (run : List (NodeStep N))
+            → StandsFor N.Node V.Observer self.old setting run
+            → IsStepped N.Node V.Observer self.new setting run e)) }
         // while no premise is broken there is no alarm, where the nodes tell what devices tell
-        ensures calm { OnOk result ((setting : Setting) (run : List (NodeStep N)) → StandsFor N.Node V.Observer self.new setting run → StaysCalm setting (steps_of run)) }
-        ensures refused { IfErr result (λ fault. (setting : Setting) (run : List (NodeStep N)) → StandsFor N.Node V.Observer self.old setting run
-            → StandsFor N.Node V.Observer self.new setting run × IsLineFault fault setting (steps_of run) line.now) }
+        ensures calm { OnOk result ((setting : Setting) (run : List (NodeStep N))
+            → StandsFor N.Node V.Observer self.new setting run → StaysCalm setting (steps_of run)) }
+        ensures refused { IfErr result (λ fault. (setting : Setting) (run : List (NodeStep N))
+            → StandsFor N.Node V.Observer self.old setting run
+            → StandsFor N.Node V.Observer self.new setting run
+            × IsLineFault fault setting (steps_of run) line.now) }
     {
         match read_line(line) {
             Ok(event) => self.step_event(alloc, &event),
@@ -97,14 +131,20 @@ impl<N: Node, V: Observer> Replay<N, V> {
     pub fn step_event(&mut self, alloc: Global, event: &Event) -> Result<(), ReplayFault>
         requires within { IsTrue (is_within event.now) }
         // where the history refuses the event, it is refused for that cause
-        ensures refusal { (setting : Setting) (run : List (NodeStep N)) → StandsFor N.Node V.Observer self.old setting run
-            → IfSome (refusal setting (steps_of run) event.now) (λ fault. result ≡ Err (ReplayFault.Apply fault)) }
+        ensures refusal { (setting : Setting) (run : List (NodeStep N))
+            → StandsFor N.Node V.Observer self.old setting run
+            → IfSome (refusal setting (steps_of run) event.now)
+            (λ fault. result ≡ Err (ReplayFault.Apply fault)) }
         ensures accepted { OnOk result ((setting : Setting) (run : List (NodeStep N))
-            → StandsFor N.Node V.Observer self.old setting run → IsStepped N.Node V.Observer self.new setting run event.now) }
+            → StandsFor N.Node V.Observer self.old setting run
+            → IsStepped N.Node V.Observer self.new setting run event.now) }
         // while no premise is broken there is no alarm, where the nodes tell what devices tell
-        ensures calm { OnOk result ((setting : Setting) (run : List (NodeStep N)) → StandsFor N.Node V.Observer self.new setting run → StaysCalm setting (steps_of run)) }
-        ensures refused { IfErr result (λ fault. (setting : Setting) (run : List (NodeStep N)) → StandsFor N.Node V.Observer self.old setting run
-            → StandsFor N.Node V.Observer self.new setting run × IsFault fault setting (steps_of run) event.now) }
+        ensures calm { OnOk result ((setting : Setting) (run : List (NodeStep N))
+            → StandsFor N.Node V.Observer self.new setting run → StaysCalm setting (steps_of run)) }
+        ensures refused { IfErr result (λ fault. (setting : Setting) (run : List (NodeStep N))
+            → StandsFor N.Node V.Observer self.old setting run
+            → StandsFor N.Node V.Observer self.new setting run
+            × IsFault fault setting (steps_of run) event.now) }
     {
         let mut outcome = Outcome::nothing();
         self.step_outcome(alloc, event, &mut outcome)
@@ -121,14 +161,20 @@ impl<N: Node, V: Observer> Replay<N, V> {
     ) -> Result<(), ReplayFault>
         requires within { IsTrue (is_within event.now) }
         // where the history refuses the event, it is refused for that cause
-        ensures refusal { (setting : Setting) (run : List (NodeStep N)) → StandsFor N.Node V.Observer self.old setting run
-            → IfSome (refusal setting (steps_of run) event.now) (λ fault. result ≡ Err (ReplayFault.Apply fault)) }
+        ensures refusal { (setting : Setting) (run : List (NodeStep N))
+            → StandsFor N.Node V.Observer self.old setting run
+            → IfSome (refusal setting (steps_of run) event.now)
+            (λ fault. result ≡ Err (ReplayFault.Apply fault)) }
         ensures accepted { OnOk result ((setting : Setting) (run : List (NodeStep N))
-            → StandsFor N.Node V.Observer self.old setting run → IsSteppedTo N.Node V.Observer self.new setting run event.now outcome.new) }
+            → StandsFor N.Node V.Observer self.old setting run
+            → IsSteppedTo N.Node V.Observer self.new setting run event.now outcome.new) }
         // while no premise is broken there is no alarm, where the nodes tell what devices tell
-        ensures calm { OnOk result ((setting : Setting) (run : List (NodeStep N)) → StandsFor N.Node V.Observer self.new setting run → StaysCalm setting (steps_of run)) }
-        ensures refused { IfErr result (λ fault. (setting : Setting) (run : List (NodeStep N)) → StandsFor N.Node V.Observer self.old setting run
-            → StandsFor N.Node V.Observer self.new setting run × IsFault fault setting (steps_of run) event.now) }
+        ensures calm { OnOk result ((setting : Setting) (run : List (NodeStep N))
+            → StandsFor N.Node V.Observer self.new setting run → StaysCalm setting (steps_of run)) }
+        ensures refused { IfErr result (λ fault. (setting : Setting) (run : List (NodeStep N))
+            → StandsFor N.Node V.Observer self.old setting run
+            → StandsFor N.Node V.Observer self.new setting run
+            × IsFault fault setting (steps_of run) event.now) }
         ensures same { OnErr result (outcome.new ≡ outcome.old) }
     {
         let most = self.fleet.prepare(alloc, event)?;
@@ -136,10 +182,10 @@ impl<N: Node, V: Observer> Replay<N, V> {
             return Err(ReplayFault::Memory);
         };
         self.fleet.happen(event, outcome);
-        let findings = self.onlooker.look(&self.fleet, event, outcome);
-        self.journal.note(&findings, outcome.ended);
+        let findings = self.monitors.look(&self.fleet, event, outcome);
+        self.event_output.note(&findings, outcome.ended);
         if let Some((d, report)) = outcome.report {
-            let line = self.journal.tally.events;
+            let line = self.event_output.tally.events;
             self.observer.seen(line, d, event.reference(), report);
         }
         Ok(())
@@ -149,16 +195,18 @@ impl<N: Node, V: Observer> Replay<N, V> {
     /// most.
     fn ready(&mut self, alloc: Global, event: &Event, most: usize) -> Result<(), NoMemory>
         requires most { most ≡ most_sent_in self.old.fleet.fabric event.now }
-        ensures room { OnOk result (most ≤ room_of self.new.onlooker) }
+        ensures room { OnOk result (most ≤ room_of self.new.monitors) }
         ensures observer { OnOk result (IsTrue (asks event.now) → 1 ≤ V.room self.new.observer) }
         ensures memory { OnErr result (IsTrue (may_take event.now)) }
         ensures fleet { self.new.fleet ≡ self.old.fleet }
-        ensures journal { self.new.journal ≡ self.old.journal }
-        ensures onlooks { (setting : Setting) (steps : List Step) → Onlooks self.old.onlooker setting steps → Onlooks self.new.onlooker setting steps }
-        ensures told { (reports : List ReportAt) → V.stands self.old.observer reports → V.stands self.new.observer reports }
+        ensures event_output { self.new.event_output ≡ self.old.event_output }
+        ensures onlooks { (setting : Setting) (steps : List Step)
+            → Onlooks self.old.monitors setting steps → Onlooks self.new.monitors setting steps }
+        ensures told { (reports : List ReportAt) → V.stands self.old.observer reports
+            → V.stands self.new.observer reports }
     {
         match *event {
-            Event::Tick { .. } | Event::Recv { .. } => self.onlooker.ready(alloc, most),
+            Event::Tick { .. } | Event::Recv { .. } => self.monitors.ready(alloc, most),
             Event::Ask { .. } => self.observer.ready(alloc),
             _ => Ok(()),
         }
@@ -168,32 +216,36 @@ impl<N: Node, V: Observer> Replay<N, V> {
     pub fn lines(&self) -> &[u8]
         ensures lines { result.now ≡ lines_in self.now }
         ensures exact { (setting : Setting) (run : List (NodeStep N))
-            → StandsFor N.Node V.Observer self.now setting run → result.now ≡ bytes_of setting (steps_of run) }
+            → StandsFor N.Node V.Observer self.now setting run
+            → result.now ≡ bytes_of setting (steps_of run) }
     {
-        self.journal.lines.as_bytes()
+        self.event_output.lines.as_bytes()
     }
 
     /// Whether the schedule has ended.
     pub fn ended(&self) -> bool
         ensures { (setting : Setting) (run : List (NodeStep N))
-            → StandsFor N.Node V.Observer self.now setting run → result ≡ after_end (seen_of (steps_of run)) }
+            → StandsFor N.Node V.Observer self.now setting run
+            → result ≡ after_end (seen_of (steps_of run)) }
     {
-        self.journal.ended
+        self.event_output.ended
     }
 
     /// How much has happened so far.
     pub fn tally(&self) -> Tally
         ensures { (setting : Setting) (run : List (NodeStep N))
-            → StandsFor N.Node V.Observer self.now setting run → result ≡ tally_of setting (steps_of run) }
+            → StandsFor N.Node V.Observer self.now setting run
+            → result ≡ tally_of setting (steps_of run) }
     {
-        self.journal.tally
+        self.event_output.tally
     }
 
     /// The fleet that is driven.
     pub fn fleet(&self) -> &Fleet<N>
         ensures lent { result.now ≡ self.now.fleet }
         ensures stands { (setting : Setting) (run : List (NodeStep N))
-            → StandsFor N.Node V.Observer self.now setting run → fleets.StandsFor N.Node result.now setting run }
+            → StandsFor N.Node V.Observer self.now setting run
+            → fleets.StandsFor N.Node result.now setting run }
     {
         &self.fleet
     }
@@ -210,6 +262,6 @@ impl<N: Node, V: Observer> Replay<N, V> {
         ensures { (setting : Setting) (run : List (NodeStep N))
             → StandsFor N.Node V.Observer self.now setting run → network result.now ≡ setting.net }
     {
-        &self.journal.topology
+        &self.event_output.topology
     }
 }

@@ -1,4 +1,4 @@
-//! What an onlooker sees of an event in the fleet: the flights that it sent and that reach, and how
+//! What the monitors see of an event in the fleet: the flights that it sent and that reach, and how
 //! devices stand after it.
 ghost use Rattle.std.specs.Prelude.{◌≡◌, ◌<◌, ◌≤◌, ◌+◌, ◌^◌, ◌∷◌, ◌++◌, ℕ, List, length, filter, option_to_list, IfSome};
 ghost use Rattle.std.specs.Result.{result_ok};
@@ -8,27 +8,27 @@ ghost use Rattle.sd_sched.specs.Events.{device_of};
 ghost use Rattle.sd_history.specs.World.{Setting};
 ghost use Rattle.sd_history.specs.Nodes.{NodeStep, steps_of};
 ghost use Rattle.sd_fleet.specs.Standing.{StandsFor, IsAccepted};
-ghost use Rattle.sd_replay.specs.Standing.{stance_in, IsSet, AreStances};
+ghost use Rattle.sd_replay.specs.Standing.{parent_row_in, IsSet, IsParentTable};
 
 use sd_core::Node;
 use sd_fleet::{Fleet, Outcome};
 use sd_msg::{Flight, TakeFault};
 use sd_sched::Event;
-use sd_stances::{Stance, Stances};
+use sd_watch::parent_table::{ParentRow, ParentTable};
 
 /// How a device stands: nobody's follower and no root where it does not count as live.
-fn stance_of<N: Node>(fleet: &Fleet<N>, d: u32) -> Stance
+fn parent_row_of<N: Node>(fleet: &Fleet<N>, d: u32) -> ParentRow
     requires { d < length fleet.now.fabric.net.devices }
     ensures { (setting : Setting) (run : List (NodeStep N))
-        → StandsFor N.Node fleet.now setting run → result ≡ stance_in setting (steps_of run) d }
+        → StandsFor N.Node fleet.now setting run → result ≡ parent_row_in setting (steps_of run) d }
 {
     if !fleet.is_counted(d) {
-        return Stance {
+        return ParentRow {
             parent: None,
             acts: false,
         };
     }
-    Stance {
+    ParentRow {
         parent: fleet.parent(d),
         acts: fleet.acts(d),
     }
@@ -36,47 +36,51 @@ fn stance_of<N: Node>(fleet: &Fleet<N>, d: u32) -> Stance
 
 /// Keeps how a device stands after the latest event.
 #[inline(always)]
-fn keep_stance<N: Node>(stances: &mut Stances, fleet: &Fleet<N>, d: u32)
+fn keep_parent_row<N: Node>(parent_table: &mut ParentTable, fleet: &Fleet<N>, d: u32)
     requires device { d < length fleet.now.fabric.net.devices }
-    requires parents { d < length stances.old.parents }
-    requires acting { d < length stances.old.acting }
-    ensures stance { (setting : Setting) (run : List (NodeStep N))
-        → StandsFor N.Node fleet.now setting run → IsSet stances.old stances.new d (stance_in setting (steps_of run) d) }
-    ensures parents { length stances.new.parents ≡ length stances.old.parents }
-    ensures acting { length stances.new.acting ≡ length stances.old.acting }
+    requires parents { d < length parent_table.old.parents }
+    requires acting { d < length parent_table.old.acting }
+    ensures parent_row { (setting : Setting) (run : List (NodeStep N))
+        → StandsFor N.Node fleet.now setting run
+        → IsSet parent_table.old parent_table.new d (parent_row_in setting (steps_of run) d) }
+    ensures parents { length parent_table.new.parents ≡ length parent_table.old.parents }
+    ensures acting { length parent_table.new.acting ≡ length parent_table.old.acting }
 {
-    stances.set(d, stance_of(fleet, d));
+    parent_table.set(d, parent_row_of(fleet, d));
 }
 
 /// Keeps how all devices stand after the latest event.
-fn keep_all<N: Node>(stances: &mut Stances, fleet: &Fleet<N>)
-    requires parents { length stances.old.parents ≡ length fleet.now.fabric.net.devices }
-    requires acting { length stances.old.acting ≡ length fleet.now.fabric.net.devices }
+fn keep_all<N: Node>(parent_table: &mut ParentTable, fleet: &Fleet<N>)
+    requires parents { length parent_table.old.parents ≡ length fleet.now.fabric.net.devices }
+    requires acting { length parent_table.old.acting ≡ length fleet.now.fabric.net.devices }
     ensures { (setting : Setting) (run : List (NodeStep N))
-        → StandsFor N.Node fleet.now setting run → AreStances stances.new setting (steps_of run) }
+        → StandsFor N.Node fleet.now setting run
+        → IsParentTable parent_table.new setting (steps_of run) }
 {
     for d in 0..fleet.devices() {
-        keep_stance(stances, fleet, d);
+        keep_parent_row(parent_table, fleet, d);
     }
 }
 
 /// Keeps how devices stand after an event: the one that it names, and all where a window closed.
 pub(crate) fn restand<N: Node>(
-    stances: &mut Stances,
+    parent_table: &mut ParentTable,
     fleet: &Fleet<N>,
     event: &Event,
     outcome: &Outcome,
 )
     requires device { IfSome (device_of event.now) (λ d. d < length fleet.now.fabric.net.devices) }
-    requires parents { length stances.old.parents ≡ length fleet.now.fabric.net.devices }
-    requires acting { length stances.old.acting ≡ length fleet.now.fabric.net.devices }
-    ensures { (setting : Setting) (run : List (NodeStep N)) (accepted : IsAccepted N.Node fleet.now setting run event.now outcome.now)
-        → AreStances stances.old setting (steps_of run) → AreStances stances.new setting (accepted.next.step ∷ steps_of run) }
+    requires parents { length parent_table.old.parents ≡ length fleet.now.fabric.net.devices }
+    requires acting { length parent_table.old.acting ≡ length fleet.now.fabric.net.devices }
+    ensures { (setting : Setting) (run : List (NodeStep N))
+        (accepted : IsAccepted N.Node fleet.now setting run event.now outcome.now)
+        → IsParentTable parent_table.old setting (steps_of run)
+        → IsParentTable parent_table.new setting (accepted.next.step ∷ steps_of run) }
 {
     if outcome.closed {
-        keep_all(stances, fleet);
+        keep_all(parent_table, fleet);
     } else if let Some(d) = event.device() {
-        keep_stance(stances, fleet, d);
+        keep_parent_row(parent_table, fleet, d);
     }
 }
 
@@ -97,7 +101,8 @@ fn add_found(sent: &mut Vec<Flight>, found: Result<Flight, TakeFault>)
 pub(crate) fn collect<N: Node>(fleet: &Fleet<N>, outcome: &Outcome, sent: &mut Vec<Flight>)
     requires room { outcome.now.sent ≤ vec_capacity sent.old }
     requires numbers { outcome.now.first_sent + outcome.now.sent < 2 ^ 64 }
-    ensures flights { (setting : Setting) (run : List (NodeStep N)) (event : AnyEvent) (accepted : IsAccepted N.Node fleet.now setting run event outcome.now)
+    ensures flights { (setting : Setting) (run : List (NodeStep N)) (event : AnyEvent)
+        (accepted : IsAccepted N.Node fleet.now setting run event outcome.now)
         → sent.new.items ≡ filter (λ f. f.reaches) accepted.next.step.sent }
     ensures few { length sent.new.items ≤ outcome.now.sent }
     ensures capacity { vec_capacity sent.old ≤ vec_capacity sent.new }

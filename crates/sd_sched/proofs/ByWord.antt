@@ -26,7 +26,8 @@ verdict as_many unknown numbers = cond (not as_many) (Err FieldCount) (cond unkn
 
 -- a number before what is judged
 number_first : (place : ℕ) (number : Option ℕ) (as_many unknown : Bool) (numbers : Result (List ℕ) ℕ)
-    → verdict as_many unknown (of_some number (Err place) (λ n. then_numbers n numbers)) ≡ of_some number (Err (Number place)) (λ n. Ok (n ∷ [])) then verdict as_many unknown numbers
+    → verdict as_many unknown (of_some number (Err place) (λ n. then_numbers n numbers))
+    ≡ of_some number (Err (Number place)) (λ n. Ok (n ∷ [])) then verdict as_many unknown numbers
 unfolding verdict numbers_or_place
 number_first place None false unknown numbers = refl
 number_first place None true true numbers = refl
@@ -39,7 +40,8 @@ number_first place (Some n) true false (Err later) = refl
 
 -- a kind before what is judged, by whether it says device and whether it says link
 kind_first : (place : ℕ) (device link as_many unknown : Bool) (numbers : Result (List ℕ) ℕ)
-    → verdict as_many (not (device || link) || unknown) (of_some (cond device (Some 0) (cond link (Some 1) None)) (Err place) (λ n. then_numbers n numbers)) ≡ of_some (cond device (Some 0) (cond link (Some 1) None)) (Err UnknownWord) (λ n. Ok (n ∷ [])) then verdict as_many unknown numbers
+    → verdict as_many (not (device || link) || unknown) (of_some (cond device (Some 0) (cond link (Some 1) None)) (Err place) (λ n. then_numbers n numbers))
+    ≡ of_some (cond device (Some 0) (cond link (Some 1) None)) (Err UnknownWord) (λ n. Ok (n ∷ [])) then verdict as_many unknown numbers
 unfolding verdict numbers_or_place
 kind_first place true link false unknown numbers = refl
 kind_first place true link true true numbers = refl
@@ -56,13 +58,16 @@ kind_first place false false true false (Err later) = refl
 
 -- a field before what is judged
 field_first : (field : Field) (text : List ℕ) (place : ℕ) (as_many : Bool) (shape : List Field) (texts : List (List ℕ)) (numbers : Result (List ℕ) ℕ)
-    → verdict as_many (has_unknown_kind (field ∷ shape) (text ∷ texts)) (of_some (field_number field text) (Err place) (λ n. then_numbers n numbers)) ≡ read_of field place (field_number field text) then verdict as_many (has_unknown_kind shape texts) numbers
+    → verdict as_many (has_unknown_kind (field ∷ shape) (text ∷ texts)) (of_some (field_number field text) (Err place) (λ n. then_numbers n numbers))
+    ≡ read_of field place (field_number field text) then verdict as_many (has_unknown_kind shape texts) numbers
 field_first Amount text place as_many shape texts numbers = number_first place (field_number Amount text) as_many (has_unknown_kind shape texts) numbers
 field_first Which text place as_many shape texts numbers = number_first place (field_number Which text) as_many (has_unknown_kind shape texts) numbers
-field_first Kind text place as_many shape texts numbers = kind_first place (same_bytes (codes "device") text) (same_bytes (codes "link") text) as_many (has_unknown_kind shape texts) numbers
+field_first Kind text place as_many shape texts numbers =
+    kind_first place (same_bytes (codes "device") text) (same_bytes (codes "link") text) as_many (has_unknown_kind shape texts) numbers
 
 -- read one after the other, the fields are judged as they are all together
-judged_together : (place : ℕ) (shape : List Field) (texts : List (List ℕ)) → verdict (nat_eq (length texts) (length shape)) (has_unknown_kind shape texts) (field_numbers place shape texts) ≡ numbers_from place shape texts
+judged_together : (place : ℕ) (shape : List Field) (texts : List (List ℕ))
+    → verdict (nat_eq (length texts) (length shape)) (has_unknown_kind shape texts) (field_numbers place shape texts) ≡ numbers_from place shape texts
 unfolding verdict numbers_or_place
 judged_together place [] [] = refl
 judged_together place [] (text ∷ texts) = rw (eqb-suc-zero (length texts)) refl
@@ -78,7 +83,8 @@ event_of event (Ok ns) = Ok (event ns)
 event_of event (Err fault) = Err fault
 
 -- a word's event is that of its numbers
-word_judged : (row : Row) (as_many unknown : Bool) (numbers : Result (List ℕ) ℕ) → cond (not as_many) (Err FieldCount) (cond unknown (Err UnknownWord) (event_or_number row numbers)) ≡ event_of row.event (verdict as_many unknown numbers)
+word_judged : (row : Row) (as_many unknown : Bool) (numbers : Result (List ℕ) ℕ)
+    → cond (not as_many) (Err FieldCount) (cond unknown (Err UnknownWord) (event_or_number row numbers)) ≡ event_of row.event (verdict as_many unknown numbers)
 unfolding verdict numbers_or_place
 word_judged row false unknown numbers = refl
 word_judged row true true numbers = refl

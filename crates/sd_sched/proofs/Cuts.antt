@@ -15,12 +15,14 @@ fields_step [] = refl
 fields_step (byte ∷ bytes) = go (eqb byte 32) (fields_step bytes)
   where
     go : (space : Bool) → fields bytes ≡ first_field bytes ∷ fields_behind (drop (length (first_field bytes)) bytes)
-        → cond space ([] ∷ fields bytes) (with_front byte (fields bytes)) ≡ cond space [] (byte ∷ first_field bytes) ∷ fields_behind (drop (length (cond space [] (byte ∷ first_field bytes))) (byte ∷ bytes))
+        → cond space ([] ∷ fields bytes) (with_front byte (fields bytes))
+        ≡ cond space [] (byte ∷ first_field bytes) ∷ fields_behind (drop (length (cond space [] (byte ∷ first_field bytes))) (byte ∷ bytes))
     go true later = refl
     go false later = ap (with_front byte) later
 
 -- digits up to a space or the end of the bytes are the first field
-pub first_is_digits : (bytes : List ℕ) (n : ℕ) → list_all is_digit (take n bytes) ≡ true → of_some (slice_get bytes n) true (λ byte. nat_eq byte 32) ≡ true → n ≤ length bytes → first_field bytes ≡ take n bytes
+pub first_is_digits : (bytes : List ℕ) (n : ℕ) → list_all is_digit (take n bytes) ≡ true → of_some (slice_get bytes n) true (λ byte. nat_eq byte 32) ≡ true
+    → n ≤ length bytes → first_field bytes ≡ take n bytes
 first_is_digits [] zero digits ends inside = refl
 first_is_digits [] (suc n) digits ends inside = absurd (omega arith)
 first_is_digits (byte ∷ bytes) zero digits ends inside = rw ends refl

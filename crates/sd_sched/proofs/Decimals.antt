@@ -31,10 +31,17 @@ digits_to_end (byte ∷ bytes) all =
     rw (parts.0, digits_to_end bytes parts.1) (omega arith)
 
 -- digits that begin as a number does are read as what they mean
-pub number_of_all : (bytes : List ℕ) → AllDigits bytes → 0 < length bytes → leads_with_zero bytes ≡ false → value bytes < 2 ^ 64 → number bytes ≡ Ok (value bytes)
+pub number_of_all : (bytes : List ℕ) → AllDigits bytes → 0 < length bytes → leads_with_zero bytes ≡ false → value bytes < 2 ^ 64
+    → number bytes ≡ Ok (value bytes)
 number_of_all [] all some first small = absurd (omega arith)
 number_of_all (byte ∷ bytes) all some first small =
-    rw (digits_to_end (byte ∷ bytes) all, le-ltb (length (byte ∷ bytes)) (length (byte ∷ bytes)) (omega arith), first, lt-ltb (value (byte ∷ bytes)) (2 ^ 64) small) refl
+    rw (
+      digits_to_end (byte ∷ bytes) all,
+      le-ltb (length (byte ∷ bytes)) (length (byte ∷ bytes)) (omega arith),
+      first,
+      lt-ltb (value (byte ∷ bytes))
+          (2 ^ 64) small,
+    ) refl
 
 -- a first byte above '0' is no leading zero
 no_leading_zero : (bytes : List ℕ) → 48 < get_or bytes 0 0 → leads_with_zero bytes ≡ false

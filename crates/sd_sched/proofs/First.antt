@@ -13,7 +13,8 @@ before_space : (bytes : List ℕ) → take (position_or_len (λ byte. eqb byte 3
 before_space [] = refl
 before_space (byte ∷ bytes) = go (eqb byte 32) (before_space bytes)
   where
-    go : (space : Bool) → take (position_or_len (λ b. eqb b 32) bytes) bytes ≡ first_field bytes → take (cond (not space) (1 + position_or_len (λ b. eqb b 32) bytes) 0) (byte ∷ bytes) ≡ cond space [] (byte ∷ first_field bytes)
+    go : (space : Bool) → take (position_or_len (λ b. eqb b 32) bytes) bytes ≡ first_field bytes
+        → take (cond (not space) (1 + position_or_len (λ b. eqb b 32) bytes) 0) (byte ∷ bytes) ≡ cond space [] (byte ∷ first_field bytes)
     go true later = refl
     go false later = rw one-add (ap (λ (bs : List ℕ). byte ∷ bs) later)
 
@@ -27,7 +28,9 @@ first_to_space bytes end found = go (nat_lt (position_or_len (λ byte. eqb byte 
 
 -- where there is none
 pub first_is_all : (bytes : List ℕ) → position (λ byte. eqb byte 32) bytes ≡ None → bytes ≡ first_field bytes
-first_is_all bytes none = sym (take_all (position_or_len (λ byte. eqb byte 32) bytes) bytes (ltb-false _ (length bytes) (go (nat_lt (position_or_len (λ byte. eqb byte 32) bytes) (length bytes)) none))) ∙ before_space bytes
+first_is_all bytes none =
+    sym (take_all (position_or_len (λ byte. eqb byte 32) bytes) bytes
+    (ltb-false _ (length bytes) (go (nat_lt (position_or_len (λ byte. eqb byte 32) bytes) (length bytes)) none))) ∙ before_space bytes
   where
     go : (inside : Bool) → cond inside (Some (position_or_len (λ byte. eqb byte 32) bytes)) None ≡ None → inside ≡ false
     go true none = absurd (cc)

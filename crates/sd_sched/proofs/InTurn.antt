@@ -13,20 +13,24 @@ use Rattle.sd_sched.proofs.ByLine.{word_first}
 use Rattle.sd_sched.proofs.Cuts.{fields_step}
 
 -- a field that has a number is the first
-pub begins_first : (field : Field) (bytes left : List ℕ) (n : ℕ) → field_number field (first_field bytes) ≡ Some n → left ≡ drop (length (first_field bytes)) bytes → Begins field (fields bytes) n (fields_behind left)
+pub begins_first : (field : Field) (bytes left : List ℕ) (n : ℕ) → field_number field (first_field bytes) ≡ Some n
+    → left ≡ drop (length (first_field bytes)) bytes → Begins field (fields bytes) n (fields_behind left)
 begins_first field bytes left n is behind = (first_field bytes, (rw behind (fields_step bytes), is))
 
 -- its number comes first
-pub first_number : (place : ℕ) (field : Field) (shape : List Field) (texts behind : List (List ℕ)) (n : ℕ) → Begins field texts n behind → numbers_from place (field ∷ shape) texts ≡ Ok (n ∷ []) then numbers_from (place + 1) shape behind
+pub first_number : (place : ℕ) (field : Field) (shape : List Field) (texts behind : List (List ℕ)) (n : ℕ) → Begins field texts n behind
+    → numbers_from place (field ∷ shape) texts ≡ Ok (n ∷ []) then numbers_from (place + 1) shape behind
 first_number place field shape texts behind n begins = rw (begins.1.0, begins.1.1) refl
 
 -- three numbers before others
-three_before : (a b c : ℕ) (behind : Result (List ℕ) LineFault) → Ok (a ∷ []) then (Ok (b ∷ []) then (Ok (c ∷ []) then behind)) ≡ Ok (a ∷ b ∷ c ∷ []) then behind
+three_before : (a b c : ℕ) (behind : Result (List ℕ) LineFault)
+    → Ok (a ∷ []) then (Ok (b ∷ []) then (Ok (c ∷ []) then behind)) ≡ Ok (a ∷ b ∷ c ∷ []) then behind
 three_before a b c (Ok ns) = refl
 three_before a b c (Err fault) = refl
 
 -- three fields that have numbers
-pub begins_three : (texts second third behind : List (List ℕ)) (reference device counter : ℕ) → Begins Amount texts reference second → Begins Which second device third → Begins Amount third counter behind → BeginsThree texts reference device counter behind
+pub begins_three : (texts second third behind : List (List ℕ)) (reference device counter : ℕ) → Begins Amount texts reference second
+    → Begins Which second device third → Begins Amount third counter behind → BeginsThree texts reference device counter behind
 begins_three texts second third behind reference device counter first next last = λ shape.
     first_number 1 Amount (Which ∷ Amount ∷ shape) texts second reference first
     ∙ ap (λ (others : Result (List ℕ) LineFault). Ok (reference ∷ []) then others)
@@ -40,12 +44,16 @@ no_bytes [] none = refl
 no_bytes (byte ∷ bytes) none = let apart : true ≡ false = sym none ∙ eqb-suc-zero (length bytes) in absurd (cc)
 
 -- a tick with its three numbers
-pub tick_line : (line bytes left : List ℕ) (reference device counter : ℕ) → line ≡ codes "tick " ++ bytes → BeginsThree (fields bytes) reference device counter (fields_behind left) → nat_eq (length left) 0 ≡ true → event_of_line line ≡ Ok (TickEvent reference device counter)
+pub tick_line : (line bytes left : List ℕ) (reference device counter : ℕ) → line ≡ codes "tick " ++ bytes
+    → BeginsThree (fields bytes) reference device counter (fields_behind left) → nat_eq (length left) 0 ≡ true
+    → event_of_line line ≡ Ok (TickEvent reference device counter)
 tick_line line bytes left reference device counter is read none =
     rw is (word_first (codes "tick " ++ bytes) Tick (Ok (reference ∷ device ∷ counter ∷ [])) refl (read [] ∙ rw (no_bytes left none) refl))
 
 -- a receipt with its four
-pub recv_line : (line bytes left : List ℕ) (reference device counter message : ℕ) → line ≡ codes "recv " ++ bytes → BeginsThree (fields bytes) reference device counter (fields_behind left) → Begins Amount (fields_behind left) message [] → event_of_line line ≡ Ok (RecvEvent reference device counter message)
+pub recv_line : (line bytes left : List ℕ) (reference device counter message : ℕ) → line ≡ codes "recv " ++ bytes
+    → BeginsThree (fields bytes) reference device counter (fields_behind left) → Begins Amount (fields_behind left) message []
+    → event_of_line line ≡ Ok (RecvEvent reference device counter message)
 recv_line line bytes left reference device counter message is read last =
     rw is
     (word_first (codes "recv " ++ bytes) Recv (Ok (reference ∷ device ∷ counter ∷ message ∷ [])) refl

@@ -37,7 +37,8 @@ then_none (Ok xs) = ap Ok (append-nil xs)
 then_none (Err f) = refl
 
 -- with a number read there is one more, unless there was a fault
-number_read : (fault : Option LineFault) (numbers : List ℕ) (place n : ℕ) → place < length numbers → so_far fault (take place numbers) then Ok (n ∷ []) ≡ so_far fault (take (place + 1) (set numbers place n))
+number_read : (fault : Option LineFault) (numbers : List ℕ) (place n : ℕ) → place < length numbers
+    → so_far fault (take place numbers) then Ok (n ∷ []) ≡ so_far fault (take (place + 1) (set numbers place n))
 number_read None numbers place n inside = ap Ok (sym (take_more_set numbers place n inside))
 number_read (Some f) numbers place n inside = refl
 
@@ -48,7 +49,8 @@ none_read (Some f) xs ys g = refl
 
 -- the fields before a place were read, and those from there on are left
 pub record ReadTo (shape : List Field) (behind numbers : List ℕ) (fault : Option LineFault) (left : List ℕ) (place : ℕ) : Type 0 where
-  pub further : numbers_from 1 shape (fields_behind behind) ≡ so_far fault (take place numbers) then numbers_from (place + 1) (drop place shape) (fields_behind left)
+  pub further : numbers_from 1 shape (fields_behind behind)
+      ≡ so_far fault (take place numbers) then numbers_from (place + 1) (drop place shape) (fields_behind left)
   pub within : fault ≡ None → (k : ℕ) → k < place → get_or numbers k 0 ≤ limit (get_or shape k Amount)
   pub five : length numbers ≡ 5
 
@@ -65,14 +67,21 @@ ReadTo-none shape behind = record {
     go (Err f) = refl
 
 -- what is read of the fields that are left: of one, and of those behind it
-one_more : (shape : List Field) (place : ℕ) (bytes : List ℕ) (front : Result (List ℕ) LineFault) (number : Option ℕ) → place < length shape → number ≡ field_number (get_or shape place Amount) (first_field bytes)
-    → front then numbers_from (place + 1) (drop place shape) (fields bytes) ≡ (front then read_of (get_or shape place Amount) (place + 1) number) then numbers_from (place + 1 + 1) (drop (place + 1) shape) (fields_behind (drop (length (first_field bytes)) bytes))
+one_more : (shape : List Field) (place : ℕ) (bytes : List ℕ) (front : Result (List ℕ) LineFault) (number : Option ℕ) → place < length shape
+    → number ≡ field_number (get_or shape place Amount) (first_field bytes)
+    → front then numbers_from (place + 1) (drop place shape) (fields bytes)
+    ≡ (front then read_of (get_or shape place Amount) (place + 1) number) then numbers_from (place + 1 + 1) (drop (place + 1) shape)
+    (fields_behind (drop (length (first_field bytes)) bytes))
 one_more shape place bytes front number inside is =
     rw (drop_more shape place Amount inside, fields_step bytes, is)
-    (sym (then_assoc front (read_of (get_or shape place Amount) (place + 1) (field_number (get_or shape place Amount) (first_field bytes))) (numbers_from (place + 1 + 1) (drop (place + 1) shape) (fields_behind (drop (length (first_field bytes)) bytes)))))
+    (sym (then_assoc front (read_of (get_or shape place Amount) (place + 1) (field_number (get_or shape place Amount) (first_field bytes)))
+    (numbers_from (place + 1 + 1) (drop (place + 1) shape) (fields_behind (drop (length (first_field bytes)) bytes)))))
 
 -- a field with a number is read
-pub ReadTo-number : (shape : List Field) (behind numbers : List ℕ) (fault : Option LineFault) (left : List ℕ) (place : ℕ) (bytes rest : List ℕ) (n : ℕ) → ReadTo shape behind numbers fault left place → length shape ≤ 5 → place < length shape → fields_behind left ≡ fields bytes → Some n ≡ field_number (get_or shape place Amount) (first_field bytes) → n ≤ limit (get_or shape place Amount) → rest ≡ drop (length (first_field bytes)) bytes
+pub ReadTo-number : (shape : List Field) (behind numbers : List ℕ) (fault : Option LineFault) (left : List ℕ) (place : ℕ) (bytes rest : List ℕ) (n : ℕ)
+    → ReadTo shape behind numbers fault left place → length shape ≤ 5 → place < length shape → fields_behind left ≡ fields bytes
+    → Some n ≡ field_number (get_or shape place Amount) (first_field bytes) → n ≤ limit (get_or shape place Amount)
+    → rest ≡ drop (length (first_field bytes)) bytes
     → ReadTo shape behind (set numbers place n) fault rest (place + 1)
 ReadTo-number shape behind numbers fault left place bytes rest n read few inside more is small after =
     let fits : place < length numbers = omega (arith, read.five) in
@@ -89,8 +98,12 @@ ReadTo-number shape behind numbers fault left place bytes rest n read few inside
     }
 
 -- a field without a number is read
-pub ReadTo-fault : (shape : List Field) (behind numbers : List ℕ) (fault : Option LineFault) (left : List ℕ) (place : ℕ) (bytes rest : List ℕ) → ReadTo shape behind numbers fault left place → place < length shape → fields_behind left ≡ fields bytes → None ≡ field_number (get_or shape place Amount) (first_field bytes) → rest ≡ drop (length (first_field bytes)) bytes
-    → ReadTo shape behind numbers (Some (of_some fault (fault_of (get_or shape place Amount) (place + 1)) (λ f. graver f (fault_of (get_or shape place Amount) (place + 1))))) rest (place + 1)
+pub ReadTo-fault : (shape : List Field) (behind numbers : List ℕ) (fault : Option LineFault) (left : List ℕ) (place : ℕ) (bytes rest : List ℕ)
+    → ReadTo shape behind numbers fault left place → place < length shape → fields_behind left ≡ fields bytes
+    → None ≡ field_number (get_or shape place Amount) (first_field bytes) → rest ≡ drop (length (first_field bytes)) bytes
+    → ReadTo shape behind numbers
+    (Some (of_some fault (fault_of (get_or shape place Amount) (place + 1)) (λ f. graver f (fault_of (get_or shape place Amount) (place + 1))))) rest
+    (place + 1)
 ReadTo-fault shape behind numbers fault left place bytes rest read inside more is after =
     let g = fault_of (get_or shape place Amount) (place + 1) in
     record {
@@ -109,22 +122,28 @@ some_field [] more place = absurd (more refl)
 some_field (space ∷ bytes) more place = rw (fields_step bytes) refl
 
 -- a field is missing
-pub ReadTo-short : (shape : List Field) (behind numbers : List ℕ) (fault : Option LineFault) (left : List ℕ) (place : ℕ) → ReadTo shape behind numbers fault left place → place < length shape → fields_behind left ≡ [] → numbers_from 1 shape (fields_behind behind) ≡ Err FieldCount
+pub ReadTo-short : (shape : List Field) (behind numbers : List ℕ) (fault : Option LineFault) (left : List ℕ) (place : ℕ)
+    → ReadTo shape behind numbers fault left place → place < length shape → fields_behind left ≡ []
+    → numbers_from 1 shape (fields_behind behind) ≡ Err FieldCount
 ReadTo-short shape behind numbers fault left place read inside none =
     read.further ∙ rw (drop_more shape place Amount inside, none) (count_wins (so_far fault (take place numbers)))
 
 -- a field is left over
-pub ReadTo-long : (shape : List Field) (behind numbers : List ℕ) (fault : Option LineFault) (left : List ℕ) (place : ℕ) → ReadTo shape behind numbers fault left place → length shape ≤ place → left ≢ [] → numbers_from 1 shape (fields_behind behind) ≡ Err FieldCount
+pub ReadTo-long : (shape : List Field) (behind numbers : List ℕ) (fault : Option LineFault) (left : List ℕ) (place : ℕ)
+    → ReadTo shape behind numbers fault left place → length shape ≤ place → left ≢ [] → numbers_from 1 shape (fields_behind behind) ≡ Err FieldCount
 ReadTo-long shape behind numbers fault left place read all more =
     read.further ∙ rw (drop_all place shape all, some_field left more (place + 1)) (count_wins (so_far fault (take place numbers)))
 
 -- all fields were read
-pub ReadTo-all : (shape : List Field) (behind numbers : List ℕ) (fault : Option LineFault) (left : List ℕ) (place : ℕ) → ReadTo shape behind numbers fault left place → place ≡ length shape → left ≡ [] → numbers_from 1 shape (fields_behind behind) ≡ so_far fault (take (length shape) numbers)
+pub ReadTo-all : (shape : List Field) (behind numbers : List ℕ) (fault : Option LineFault) (left : List ℕ) (place : ℕ)
+    → ReadTo shape behind numbers fault left place → place ≡ length shape → left ≡ []
+    → numbers_from 1 shape (fields_behind behind) ≡ so_far fault (take (length shape) numbers)
 ReadTo-all shape behind numbers fault left place read all none =
     let past : length shape ≤ place = omega arith in
     read.further ∙ rw (drop_all place shape past, none, all) (then_none (so_far fault (take (length shape) numbers)))
 
-within_at : (shape : List Field) (numbers : List ℕ) (place : ℕ) → ((k : ℕ) → k < length shape → get_or numbers (place + k) 0 ≤ limit (get_or shape k Amount)) → WithinFrom place shape numbers
+within_at : (shape : List Field) (numbers : List ℕ) (place : ℕ) → ((k : ℕ) → k < length shape → get_or numbers (place + k) 0 ≤ limit (get_or shape k Amount))
+    → WithinFrom place shape numbers
 within_at [] numbers place each = tt
 within_at (field ∷ shape) numbers place each = (
   (let here : place + 0 ≡ place = omega arith in rw here at (each 0 (omega arith))),
@@ -132,6 +151,7 @@ within_at (field ∷ shape) numbers place each = (
 )
 
 -- each number is within the limit of its field
-pub ReadTo-within : (shape : List Field) (behind numbers : List ℕ) (left : List ℕ) (place : ℕ) → ReadTo shape behind numbers None left place → place ≡ length shape → WithinFrom 0 shape numbers
+pub ReadTo-within : (shape : List Field) (behind numbers : List ℕ) (left : List ℕ) (place : ℕ) → ReadTo shape behind numbers None left place
+    → place ≡ length shape → WithinFrom 0 shape numbers
 ReadTo-within shape behind numbers left place read all =
     within_at shape numbers 0 (λ k inside. let here : 0 + k ≡ k = omega arith in rw here (read.within refl k (omega arith)))

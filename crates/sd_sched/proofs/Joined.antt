@@ -26,7 +26,8 @@ fields_more (byte ∷ field) rest clean =
     rw (not-true (eqb byte 32) parts.0, fields_more field rest parts.1) refl
 
 -- joined fields are cut where they were joined
-pub fields-joined : (first : List ℕ) (others : List (List ℕ)) → list_all has_no_space (first ∷ others) ≡ true → fields (join_with_byte 32 (first ∷ others)) ≡ first ∷ others
+pub fields-joined : (first : List ℕ) (others : List (List ℕ)) → list_all has_no_space (first ∷ others) ≡ true
+    → fields (join_with_byte 32 (first ∷ others)) ≡ first ∷ others
 fields-joined first [] clean = fields_one first (and_parts (has_no_space first) true clean).0
 fields-joined first (second ∷ others) clean =
     let parts = and_parts (has_no_space first) (list_all has_no_space (second ∷ others)) clean in

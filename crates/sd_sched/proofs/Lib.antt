@@ -5,7 +5,7 @@ pub mod Joined
 pub mod Join
 pub mod ByWord
 pub mod First
-pub mod Front
+pub mod Prefix
 pub mod ByLine
 pub mod InTurn
 pub mod ReadBack

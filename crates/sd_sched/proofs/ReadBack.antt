@@ -87,15 +87,22 @@ numbers_no_space (field ∷ shape) (n ∷ ns) within =
     and_from (has_no_space (decimal n)) (list_all has_no_space (map decimal ns)) (number_no_space field n parts.0) (numbers_no_space shape ns parts.1)
 
 -- a word and its numbers, printed and read
-plain_back : (w : Word) (ns : List ℕ) → has_no_space w.spelled ≡ true → ((texts : List (List ℕ)) → event_of_fields (w.spelled ∷ texts) ≡ event_of_word texts w) → are_numbers_of w.shape ns ≡ true → event_of_line (join_with_byte 32 (w.spelled ∷ map decimal ns)) ≡ Ok (w.event ns)
+plain_back : (w : Word) (ns : List ℕ) → has_no_space w.spelled ≡ true → ((texts : List (List ℕ)) → event_of_fields (w.spelled ∷ texts) ≡ event_of_word texts w)
+    → are_numbers_of w.shape ns ≡ true → event_of_line (join_with_byte 32 (w.spelled ∷ map decimal ns)) ≡ Ok (w.event ns)
 unfolding event_of_line
 plain_back w ns clean known within =
-    ap event_of_fields (fields-joined w.spelled (map decimal ns) (and_from (has_no_space w.spelled) (list_all has_no_space (map decimal ns)) clean (numbers_no_space w.shape ns within)))
+    ap event_of_fields
+    (fields-joined w.spelled (map decimal ns)
+    (and_from (has_no_space w.spelled) (list_all has_no_space (map decimal ns)) clean (numbers_no_space w.shape ns within)))
     ∙ known (map decimal ns)
     ∙ rw (same_length w.shape ns within, no_kind w.shape ns within, field_numbers-decimal 1 w.shape ns within) refl
 
 -- a word, a kind and its number, printed and read
-kind_back : (spelled kind : List ℕ) (k : ℕ) (event : List ℕ → Event) (reference number : ℕ) → has_no_space spelled ≡ true → has_no_space kind ≡ true → is_kind kind ≡ true → field_number Kind kind ≡ Some k → ((texts : List (List ℕ)) → event_of_fields (spelled ∷ texts) ≡ event_of_word texts (word spelled (Amount ∷ Kind ∷ Which ∷ []) event)) → (is_number_of Which number && is_number_of Amount reference) ≡ true → event_of_line (join_with_byte 32 (spelled ∷ decimal reference ∷ kind ∷ decimal number ∷ [])) ≡ Ok (event (reference ∷ k ∷ number ∷ []))
+kind_back : (spelled kind : List ℕ) (k : ℕ) (event : List ℕ → Event) (reference number : ℕ) → has_no_space spelled ≡ true → has_no_space kind ≡ true
+    → is_kind kind ≡ true → field_number Kind kind ≡ Some k
+    → ((texts : List (List ℕ)) → event_of_fields (spelled ∷ texts) ≡ event_of_word texts (word spelled (Amount ∷ Kind ∷ Which ∷ []) event))
+    → (is_number_of Which number && is_number_of Amount reference) ≡ true
+    → event_of_line (join_with_byte 32 (spelled ∷ decimal reference ∷ kind ∷ decimal number ∷ [])) ≡ Ok (event (reference ∷ k ∷ number ∷ []))
 unfolding event_of_line
 kind_back spelled kind k event reference number clean kind_clean says is known within =
     let parts = and_parts (is_number_of Which number) (is_number_of Amount reference) within in
@@ -125,19 +132,42 @@ two_swapped false reference within = absurd (cc)
 -- each event within the limits, printed and read
 pub line_back : (e : Event) → is_within e ≡ true → event_of_line (line_of_event e) ≡ Ok e
 unfolding event_of_line line_of_event
-line_back (Start reference device counter clock eps) within = plain_back start_word (reference ∷ device ∷ counter ∷ clock ∷ eps ∷ []) refl (λ texts. refl) (reference_first (nat_le device (limit Which)) (nat_le reference (limit Amount)) (list_all (λ n. nat_le n (limit Amount)) (counter ∷ clock ∷ eps ∷ [])) within)
-line_back (Tick reference device counter) within = plain_back tick_word (reference ∷ device ∷ counter ∷ []) refl (λ texts. refl) (reference_first (nat_le device (limit Which)) (nat_le reference (limit Amount)) (list_all (λ n. nat_le n (limit Amount)) (counter ∷ [])) within)
-line_back (Recv reference device counter message) within = plain_back recv_word (reference ∷ device ∷ counter ∷ message ∷ []) refl (λ texts. refl) (reference_first (nat_le device (limit Which)) (nat_le reference (limit Amount)) (list_all (λ n. nat_le n (limit Amount)) (counter ∷ message ∷ [])) within)
+line_back (Start reference device counter clock eps) within =
+    plain_back start_word (reference ∷ device ∷ counter ∷ clock ∷ eps ∷ []) refl (λ texts. refl)
+    (reference_first (nat_le device (limit Which)) (nat_le reference (limit Amount))
+    (list_all (λ n. nat_le n (limit Amount)) (counter ∷ clock ∷ eps ∷ [])) within)
+line_back (Tick reference device counter) within =
+    plain_back tick_word (reference ∷ device ∷ counter ∷ []) refl (λ texts. refl)
+    (reference_first (nat_le device (limit Which)) (nat_le reference (limit Amount)) (list_all (λ n. nat_le n (limit Amount)) (counter ∷ [])) within)
+line_back (Recv reference device counter message) within =
+    plain_back recv_word (reference ∷ device ∷ counter ∷ message ∷ []) refl (λ texts. refl)
+    (reference_first (nat_le device (limit Which)) (nat_le reference (limit Amount)) (list_all (λ n. nat_le n (limit Amount)) (counter ∷ message ∷ [])) within)
 line_back (Lose reference message) within = plain_back lose_word (reference ∷ message ∷ []) refl (λ texts. refl) within
-line_back (FailDevice reference device) within = kind_back fail_word.spelled (codes "device") 0 fail_word.event reference device refl refl refl refl (λ texts. refl) within
-line_back (FailLink reference link) within = kind_back fail_word.spelled (codes "link") 1 fail_word.event reference link refl refl refl refl (λ texts. refl) within
-line_back (Fix reference device counter clock eps) within = plain_back fix_word (reference ∷ device ∷ counter ∷ clock ∷ eps ∷ []) refl (λ texts. refl) (reference_first (nat_le device (limit Which)) (nat_le reference (limit Amount)) (list_all (λ n. nat_le n (limit Amount)) (counter ∷ clock ∷ eps ∷ [])) within)
-line_back (Ask reference device counter) within = plain_back ask_word (reference ∷ device ∷ counter ∷ []) refl (λ texts. refl) (reference_first (nat_le device (limit Which)) (nat_le reference (limit Amount)) (list_all (λ n. nat_le n (limit Amount)) (counter ∷ [])) within)
+line_back (FailDevice reference device) within =
+    kind_back fail_word.spelled (codes "device") 0 fail_word.event reference device refl refl refl refl (λ texts. refl) within
+line_back (FailLink reference link) within =
+    kind_back fail_word.spelled (codes "link") 1 fail_word.event reference link refl refl refl refl (λ texts. refl) within
+line_back (Fix reference device counter clock eps) within =
+    plain_back fix_word (reference ∷ device ∷ counter ∷ clock ∷ eps ∷ []) refl (λ texts. refl)
+    (reference_first (nat_le device (limit Which)) (nat_le reference (limit Amount))
+    (list_all (λ n. nat_le n (limit Amount)) (counter ∷ clock ∷ eps ∷ [])) within)
+line_back (Ask reference device counter) within =
+    plain_back ask_word (reference ∷ device ∷ counter ∷ []) refl (λ texts. refl)
+    (reference_first (nat_le device (limit Which)) (nat_le reference (limit Amount)) (list_all (λ n. nat_le n (limit Amount)) (counter ∷ [])) within)
 line_back (Stage reference) within = plain_back stage_word (reference ∷ []) refl (λ texts. refl) (with_true (nat_le reference (limit Amount)) within)
-line_back (Give reference device) within = plain_back give_word (reference ∷ device ∷ []) refl (λ texts. refl) (two_swapped (nat_le device (limit Which)) (nat_le reference (limit Amount)) within)
-line_back (Commit reference device counter) within = plain_back commit_word (reference ∷ device ∷ counter ∷ []) refl (λ texts. refl) (reference_first (nat_le device (limit Which)) (nat_le reference (limit Amount)) (list_all (λ n. nat_le n (limit Amount)) (counter ∷ [])) within)
-line_back (Seal reference device) within = plain_back seal_word (reference ∷ device ∷ []) refl (λ texts. refl) (two_swapped (nat_le device (limit Which)) (nat_le reference (limit Amount)) within)
-line_back (Join reference device counter clock eps) within = plain_back join_word (reference ∷ device ∷ counter ∷ clock ∷ eps ∷ []) refl (λ texts. refl) (reference_first (nat_le device (limit Which)) (nat_le reference (limit Amount)) (list_all (λ n. nat_le n (limit Amount)) (counter ∷ clock ∷ eps ∷ [])) within)
-line_back (MendDevice reference device) within = kind_back mend_word.spelled (codes "device") 0 mend_word.event reference device refl refl refl refl (λ texts. refl) within
-line_back (MendLink reference link) within = kind_back mend_word.spelled (codes "link") 1 mend_word.event reference link refl refl refl refl (λ texts. refl) within
+line_back (Give reference device) within =
+    plain_back give_word (reference ∷ device ∷ []) refl (λ texts. refl) (two_swapped (nat_le device (limit Which)) (nat_le reference (limit Amount)) within)
+line_back (Commit reference device counter) within =
+    plain_back commit_word (reference ∷ device ∷ counter ∷ []) refl (λ texts. refl)
+    (reference_first (nat_le device (limit Which)) (nat_le reference (limit Amount)) (list_all (λ n. nat_le n (limit Amount)) (counter ∷ [])) within)
+line_back (Seal reference device) within =
+    plain_back seal_word (reference ∷ device ∷ []) refl (λ texts. refl) (two_swapped (nat_le device (limit Which)) (nat_le reference (limit Amount)) within)
+line_back (Join reference device counter clock eps) within =
+    plain_back join_word (reference ∷ device ∷ counter ∷ clock ∷ eps ∷ []) refl (λ texts. refl)
+    (reference_first (nat_le device (limit Which)) (nat_le reference (limit Amount))
+    (list_all (λ n. nat_le n (limit Amount)) (counter ∷ clock ∷ eps ∷ [])) within)
+line_back (MendDevice reference device) within =
+    kind_back mend_word.spelled (codes "device") 0 mend_word.event reference device refl refl refl refl (λ texts. refl) within
+line_back (MendLink reference link) within =
+    kind_back mend_word.spelled (codes "link") 1 mend_word.event reference link refl refl refl refl (λ texts. refl) within
 line_back (End reference) within = plain_back end_word (reference ∷ []) refl (λ texts. refl) (with_true (nat_le reference (limit Amount)) within)

@@ -2,3 +2,5 @@ pub mod Lines
 pub mod Events
 pub mod Reading
 pub mod Printing
+-- Handed on: what crates above name of those below.
+pub use Rattle.sd_num.specs as Num

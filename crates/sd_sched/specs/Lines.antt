@@ -38,7 +38,9 @@ word spelled shape event = record { spelled = spelled; shape = shape; event = ev
 
 -- the fourteen words
 abbrev pub start_word : Word
-start_word = word (codes "start") (Amount ∷ Which ∷ Amount ∷ Amount ∷ Amount ∷ []) (λ v. Start (slice_index v 0) (slice_index v 1) (slice_index v 2) (slice_index v 3) (slice_index v 4))
+start_word =
+    word (codes "start") (Amount ∷ Which ∷ Amount ∷ Amount ∷ Amount ∷ [])
+    (λ v. Start (slice_index v 0) (slice_index v 1) (slice_index v 2) (slice_index v 3) (slice_index v 4))
 
 abbrev pub tick_word : Word
 tick_word = word (codes "tick") (Amount ∷ Which ∷ Amount ∷ []) (λ v. Tick (slice_index v 0) (slice_index v 1) (slice_index v 2))
@@ -50,10 +52,12 @@ abbrev pub lose_word : Word
 lose_word = word (codes "lose") (Amount ∷ Amount ∷ []) (λ v. Lose (slice_index v 0) (slice_index v 1))
 
 abbrev pub fail_word : Word
-fail_word = word (codes "fail") (Amount ∷ Kind ∷ Which ∷ []) (λ v. if nat_eq (slice_index v 1) 0 then FailDevice (slice_index v 0) (slice_index v 2) else FailLink (slice_index v 0) (slice_index v 2))
+fail_word = word (codes "fail") (Amount ∷ Kind ∷ Which ∷ [])
+    (λ v. if nat_eq (slice_index v 1) 0 then FailDevice (slice_index v 0) (slice_index v 2) else FailLink (slice_index v 0) (slice_index v 2))
 
 abbrev pub fix_word : Word
-fix_word = word (codes "fix") (Amount ∷ Which ∷ Amount ∷ Amount ∷ Amount ∷ []) (λ v. Fix (slice_index v 0) (slice_index v 1) (slice_index v 2) (slice_index v 3) (slice_index v 4))
+fix_word = word (codes "fix") (Amount ∷ Which ∷ Amount ∷ Amount ∷ Amount ∷ [])
+    (λ v. Fix (slice_index v 0) (slice_index v 1) (slice_index v 2) (slice_index v 3) (slice_index v 4))
 
 abbrev pub ask_word : Word
 ask_word = word (codes "ask") (Amount ∷ Which ∷ Amount ∷ []) (λ v. Ask (slice_index v 0) (slice_index v 1) (slice_index v 2))
@@ -71,10 +75,12 @@ abbrev pub seal_word : Word
 seal_word = word (codes "seal") (Amount ∷ Which ∷ []) (λ v. Seal (slice_index v 0) (slice_index v 1))
 
 abbrev pub join_word : Word
-join_word = word (codes "join") (Amount ∷ Which ∷ Amount ∷ Amount ∷ Amount ∷ []) (λ v. Join (slice_index v 0) (slice_index v 1) (slice_index v 2) (slice_index v 3) (slice_index v 4))
+join_word = word (codes "join") (Amount ∷ Which ∷ Amount ∷ Amount ∷ Amount ∷ [])
+    (λ v. Join (slice_index v 0) (slice_index v 1) (slice_index v 2) (slice_index v 3) (slice_index v 4))
 
 abbrev pub mend_word : Word
-mend_word = word (codes "mend") (Amount ∷ Kind ∷ Which ∷ []) (λ v. if nat_eq (slice_index v 1) 0 then MendDevice (slice_index v 0) (slice_index v 2) else MendLink (slice_index v 0) (slice_index v 2))
+mend_word = word (codes "mend") (Amount ∷ Kind ∷ Which ∷ [])
+    (λ v. if nat_eq (slice_index v 1) 0 then MendDevice (slice_index v 0) (slice_index v 2) else MendLink (slice_index v 0) (slice_index v 2))
 
 abbrev pub end_word : Word
 end_word = word (codes "end") (Amount ∷ []) (λ v. End (slice_index v 0))
@@ -196,19 +202,22 @@ line_of_event e = join_with_byte 32 (spelled_fields e)
 
 -- the numbers of an event are within the limits of their fields
 abbrev pub is_within : Event → Bool
-is_within (Start reference device counter clock eps) = nat_le device (limit Which) && list_all (λ n. nat_le n (limit Amount)) (reference ∷ counter ∷ clock ∷ eps ∷ [])
+is_within (Start reference device counter clock eps) = nat_le device (limit Which)
+    && list_all (λ n. nat_le n (limit Amount)) (reference ∷ counter ∷ clock ∷ eps ∷ [])
 is_within (Tick reference device counter) = nat_le device (limit Which) && list_all (λ n. nat_le n (limit Amount)) (reference ∷ counter ∷ [])
 is_within (Recv reference device counter message) = nat_le device (limit Which) && list_all (λ n. nat_le n (limit Amount)) (reference ∷ counter ∷ message ∷ [])
 is_within (Lose reference message) = list_all (λ n. nat_le n (limit Amount)) (reference ∷ message ∷ [])
 is_within (FailDevice reference device) = nat_le device (limit Which) && nat_le reference (limit Amount)
 is_within (FailLink reference link) = nat_le link (limit Which) && nat_le reference (limit Amount)
-is_within (Fix reference device counter clock eps) = nat_le device (limit Which) && list_all (λ n. nat_le n (limit Amount)) (reference ∷ counter ∷ clock ∷ eps ∷ [])
+is_within (Fix reference device counter clock eps) = nat_le device (limit Which)
+    && list_all (λ n. nat_le n (limit Amount)) (reference ∷ counter ∷ clock ∷ eps ∷ [])
 is_within (Ask reference device counter) = nat_le device (limit Which) && list_all (λ n. nat_le n (limit Amount)) (reference ∷ counter ∷ [])
 is_within (Stage reference) = nat_le reference (limit Amount)
 is_within (Give reference device) = nat_le device (limit Which) && nat_le reference (limit Amount)
 is_within (Commit reference device counter) = nat_le device (limit Which) && list_all (λ n. nat_le n (limit Amount)) (reference ∷ counter ∷ [])
 is_within (Seal reference device) = nat_le device (limit Which) && nat_le reference (limit Amount)
-is_within (Join reference device counter clock eps) = nat_le device (limit Which) && list_all (λ n. nat_le n (limit Amount)) (reference ∷ counter ∷ clock ∷ eps ∷ [])
+is_within (Join reference device counter clock eps) = nat_le device (limit Which)
+    && list_all (λ n. nat_le n (limit Amount)) (reference ∷ counter ∷ clock ∷ eps ∷ [])
 is_within (MendDevice reference device) = nat_le device (limit Which) && nat_le reference (limit Amount)
 is_within (MendLink reference link) = nat_le link (limit Which) && nat_le reference (limit Amount)
 is_within (End reference) = nat_le reference (limit Amount)

@@ -93,4 +93,5 @@ Begins field texts n behind = (text : List ℕ) × ((texts ≡ text ∷ behind) 
 
 -- the fields of a line begin with a reference time, a device and a counter, and these are behind them
 abbrev pub BeginsThree : List (List ℕ) → ℕ → ℕ → ℕ → List (List ℕ) → Type 0
-BeginsThree texts reference device counter behind = (shape : List Field) → numbers_from 1 (Amount ∷ Which ∷ Amount ∷ shape) texts ≡ Ok (reference ∷ device ∷ counter ∷ []) then numbers_from 4 shape behind
+BeginsThree texts reference device counter behind = (shape : List Field)
+    → numbers_from 1 (Amount ∷ Which ∷ Amount ∷ shape) texts ≡ Ok (reference ∷ device ∷ counter ∷ []) then numbers_from 4 shape behind

@@ -30,7 +30,8 @@ pub struct Found<'a> {
 /// nothing, or a space and the fields.
 pub fn read_fields(shape: &[Field], behind: &[u8]) -> Result<[u64; MOST_FIELDS], LineFault>
     requires { length shape.now ≤ MOST_FIELDS }
-    ensures numbers { IfOk result (λ ns. numbers_from 1 shape.now (fields_behind behind.now) ≡ Ok (take (length shape.now) ns)) }
+    ensures numbers { IfOk result (λ ns. numbers_from 1 shape.now (fields_behind behind.now)
+        ≡ Ok (take (length shape.now) ns)) }
     ensures fault { IfErr result (λ f. numbers_from 1 shape.now (fields_behind behind.now) ≡ Err f) }
     ensures within { IfOk result (λ ns. WithinFrom 0 shape.now ns) }
 {

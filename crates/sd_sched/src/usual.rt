@@ -63,7 +63,9 @@ fn usual_word(bytes: &[u8]) -> Option<(Word, &[u8])>
 /// Reads the reference time, the device and its counter.
 #[inline(always)]
 fn read_head(fields: &[u8]) -> Option<Head<'_>>
-    ensures read { IfSome result (λ head. BeginsThree (fields_of fields.now) head.reference head.device head.counter (fields_behind head.left.now)) }
+    ensures read { IfSome result
+        (λ head. BeginsThree (fields_of fields.now) head.reference head.device head.counter
+        (fields_behind head.left.now)) }
     ensures reference { IfSome result (λ head. head.reference ≤ limit Amount) }
     ensures device { IfSome result (λ head. head.device ≤ limit Which) }
     ensures counter { IfSome result (λ head. head.counter ≤ limit Amount) }
@@ -96,7 +98,8 @@ fn read_last(left: &[u8]) -> Option<u64>
 /// Reads the field at the front of the bytes, which is to have a number.
 #[inline(always)]
 fn read_one(field: Field, bytes: &[u8]) -> Option<Numbered<'_>>
-    ensures read { IfSome result (λ one. Begins field (fields_of bytes.now) one.number (fields_behind one.left.now)) }
+    ensures read { IfSome result
+        (λ one. Begins field (fields_of bytes.now) one.number (fields_behind one.left.now)) }
     ensures within { IfSome result (λ one. one.number ≤ limit field) }
 {
     let found = read_field(field, bytes);

@@ -20,7 +20,8 @@ record NoneHolds (a b c d e f g : Bool) : Type 0 where
   many : g ≡ false
 
 none_holds : (a b c d e f g : Bool)
-    → first_cause ((fault.UnknownDevice, a) ∷ (fault.TimeFalls, b) ∷ (fault.CounterFalls, c) ∷ (fault.NotStarted, d) ∷ (fault.StartedTwice, e) ∷ (fault.AfterEnd, f) ∷ (fault.TooManyEvents, g) ∷ []) ≡ None
+    → first_cause
+    ((fault.UnknownDevice, a) ∷ (fault.TimeFalls, b) ∷ (fault.CounterFalls, c) ∷ (fault.NotStarted, d) ∷ (fault.StartedTwice, e) ∷ (fault.AfterEnd, f) ∷ (fault.TooManyEvents, g) ∷ []) ≡ None
     → NoneHolds a b c d e f g
 none_holds true b c d e f g same = cc
 none_holds false true c d e f g same = cc
@@ -29,15 +30,18 @@ none_holds false false false true e f g same = cc
 none_holds false false false false true f g same = cc
 none_holds false false false false false true g same = cc
 none_holds false false false false false false true same = cc
-none_holds false false false false false false false same = record { device = refl; time = refl; counter = refl; started = refl; twice = refl; ended = refl; many = refl }
+none_holds false false false false false false false same =
+    record { device = refl; time = refl; counter = refl; started = refl; twice = refl; ended = refl; many = refl }
 
 -- no cause to refuse this event holds
 no_cause : (past : Situation) (e : Event) → refusal_in past e ≡ None
-    → NoneHolds (of_some (device_of e) false (λ d. not (nat_eq d 0))) (nat_lt (reference_of e) past.reference) (not (is_start e) && of_some (counter_of e) false (λ c. nat_lt c past.counter))
+    → NoneHolds (of_some (device_of e) false (λ d. not (nat_eq d 0))) (nat_lt (reference_of e) past.reference)
+    (not (is_start e) && of_some (counter_of e) false (λ c. nat_lt c past.counter))
     (not (is_start e) && is_some (device_of e) && not past.started) (is_start e && past.started) past.ended (nat_le (2 ^ 26) past.count)
 unfolding refusal_in
 no_cause past e accepted =
-    none_holds (of_some (device_of e) false (λ d. not (nat_eq d 0))) (nat_lt (reference_of e) past.reference) (not (is_start e) && of_some (counter_of e) false (λ c. nat_lt c past.counter))
+    none_holds (of_some (device_of e) false (λ d. not (nat_eq d 0))) (nat_lt (reference_of e) past.reference)
+    (not (is_start e) && of_some (counter_of e) false (λ c. nat_lt c past.counter))
     (not (is_start e) && is_some (device_of e) && not past.started) (is_start e && past.started) past.ended (nat_le (2 ^ 26) past.count) accepted
 
 -- so many events were not accepted yet

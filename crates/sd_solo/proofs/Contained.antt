@@ -22,7 +22,8 @@ record Anchor (events : List Event) (counter reference : ℕ) : Type 0 where
   later : origin ≤ reference
   keeps : IsTrue (keeps_rate rates (counter - (estimate_now events).at) (reference - origin))
 
-passed_on : (es : List Event) (e : Event) (counter reference : ℕ) → estimate_now (e ∷ es) ≡ estimate_now es → Anchor es counter reference → Anchor (e ∷ es) counter reference
+passed_on : (es : List Event) (e : Event) (counter reference : ℕ) → estimate_now (e ∷ es) ≡ estimate_now es → Anchor es counter reference
+    → Anchor (e ∷ es) counter reference
 passed_on es e counter reference same a =
     record {
       origin = a.origin;
@@ -31,7 +32,8 @@ passed_on es e counter reference same a =
       keeps = subst (λ x. IsTrue (keeps_rate rates (counter - x.at) (reference - a.origin))) (sym same) a.keeps;
     }
 
-anchored : (events : List Event) (counter reference : ℕ) → IsTrue (was_started events) → IsTrue (start_holds events) → IsTrue (list_all (keeps_with counter reference) events)
+anchored : (events : List Event) (counter reference : ℕ) → IsTrue (was_started events) → IsTrue (start_holds events)
+    → IsTrue (list_all (keeps_with counter reference) events)
     → IsTrue (list_all (λ x. nat_le (reference_of x) reference) events) → Anchor events counter reference
 anchored [] counter reference started truly keeps before = cc
 anchored (event.Start r d at clock eps ∷ es) counter reference started truly keeps before =
@@ -54,20 +56,25 @@ anchored (e ∷ es) counter reference started truly keeps before =
     (and_parts (keeps_with counter reference e) (list_all (keeps_with counter reference) es) keeps).1
     (and_parts (nat_le (reference_of e) reference) (list_all (λ x. nat_le (reference_of x) reference) es) before).1)
 
-before_all : (events : List Event) (reference : ℕ) → IsHistory events → latest (λ x. Some (reference_of x)) events 0 ≤ reference → IsTrue (list_all (λ x. nat_le (reference_of x) reference) events)
+before_all : (events : List Event) (reference : ℕ) → IsHistory events → latest (λ x. Some (reference_of x)) events 0 ≤ reference
+    → IsTrue (list_all (λ x. nat_le (reference_of x) reference) events)
 unfolding IsHistory
 before_all [] reference history late = refl
 before_all (e ∷ earlier) reference history late =
     and_from (nat_le (reference_of e) reference) (list_all (λ x. nat_le (reference_of x) reference) earlier) (le-leb (reference_of e) reference late)
     (before_all earlier reference history.0 (omega (arith, late, reference_goes_on (situation earlier) e history.2)))
 
-asked : (r d counter : ℕ) (earlier : List Event) → IsHistory (event.Ask r d counter ∷ earlier) → IsTrue (start_holds earlier) → IsTrue (list_all (keeps_with counter r) earlier)
+asked : (r d counter : ℕ) (earlier : List Event) → IsHistory (event.Ask r d counter ∷ earlier) → IsTrue (start_holds earlier)
+    → IsTrue (list_all (keeps_with counter r) earlier)
     → IsTrue (contains (report_of rates (estimate_now earlier) counter) r)
 unfolding IsHistory
 asked r d counter earlier history truly keeps =
     let started : was_started earlier ≡ true = not-false (was_started earlier) (started_before (situation earlier) (event.Ask r d counter) history.2) in
-    let anchor : Anchor earlier counter r = anchored earlier counter r started truly keeps (before_all earlier r history.0 (reference_goes_on (situation earlier) (event.Ask r d counter) history.2)) in
-    near_is_contained (report_of rates (estimate_now earlier) counter) r (report_is_near rates (estimate_now earlier) anchor.origin r counter anchor.near anchor.later anchor.keeps)
+    let anchor : Anchor earlier counter r =
+    anchored earlier counter r started truly keeps
+    (before_all earlier r history.0 (reference_goes_on (situation earlier) (event.Ask r d counter) history.2)) in
+    near_is_contained (report_of rates (estimate_now earlier) counter) r
+    (report_is_near rates (estimate_now earlier) anchor.origin r counter anchor.near anchor.later anchor.keeps)
 
 pub reports_contain : ReportsContain
 reports_contain (event.Ask r d counter) earlier history truly drifts =
@@ -75,7 +82,8 @@ reports_contain (event.Ask r d counter) earlier history truly drifts =
 reports_contain e earlier history truly drifts = refl
 
 -- of a report that is known
-pub report_contains : (e : Event) (earlier : List Event) (report : Report) → IsHistory (e ∷ earlier) → report_by earlier e ≡ Some report → IsTrue (start_holds (e ∷ earlier)) → IsTrue (drift_holds (e ∷ earlier))
+pub report_contains : (e : Event) (earlier : List Event) (report : Report) → IsHistory (e ∷ earlier) → report_by earlier e ≡ Some report
+    → IsTrue (start_holds (e ∷ earlier)) → IsTrue (drift_holds (e ∷ earlier))
     → IsTrue (contains report (reference_of e))
 report_contains e earlier report history same truly drifts =
     subst (λ (r : Option Report). IsTrue (of_some r true (λ x. contains x (reference_of e)))) same (reports_contain e earlier history truly drifts)

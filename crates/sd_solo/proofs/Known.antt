@@ -21,14 +21,17 @@ of_numbers : (told : Bool) (w : Word) (ns : Result (List ℕ) ℕ) → ((v : Lis
 of_numbers told w (Ok ns) all = all ns
 of_numbers told w (Err place) all = tt
 
-of_tests : (told few unknown : Bool) (read : Result Event LineFault) → KnownAs told read → (count kind : LineFault) → KnownAs told (cond few (Err count) (cond unknown (Err kind) read))
+of_tests : (told few unknown : Bool) (read : Result Event LineFault) → KnownAs told read → (count kind : LineFault)
+    → KnownAs told (cond few (Err count) (cond unknown (Err kind) read))
 of_tests told true unknown read h count kind = tt
 of_tests told false true read h count kind = tt
 of_tests told false false read h count kind = h
 
 -- a word whose events are all known as told
 of_word : (told : Bool) (w : Word) (texts : List (List ℕ)) → ((v : List ℕ) → is_known (w.event v) ≡ told) → KnownAs told (event_of_word texts w)
-of_word told w texts all = of_tests told (not (nat_eq (length texts) (length w.shape))) (has_unknown_kind w.shape texts) (event_or_number w (field_numbers 1 w.shape texts)) (of_numbers told w (field_numbers 1 w.shape texts) all) _ _
+of_word told w texts all =
+    of_tests told (not (nat_eq (length texts) (length w.shape))) (has_unknown_kind w.shape texts) (event_or_number w (field_numbers 1 w.shape texts))
+    (of_numbers told w (field_numbers 1 w.shape texts) all) _ _
 
 same_from : (a b : List ℕ) → same_bytes a b ≡ true → a ≡ b
 same_from [] [] same = refl
@@ -47,7 +50,8 @@ Each [] = Unit {0}
 Each (w ∷ ws) = Agrees w × Each ws
 
 -- of a word with two events neither is known
-neither : (device : Bool) (a b c d : ℕ) → (is_known (cond device (event.FailDevice a b) (event.FailLink c d)) ≡ false) × (is_known (cond device (event.MendDevice a b) (event.MendLink c d)) ≡ false)
+neither : (device : Bool) (a b c d : ℕ) → (is_known (cond device (event.FailDevice a b) (event.FailLink c d)) ≡ false)
+    × (is_known (cond device (event.MendDevice a b) (event.MendLink c d)) ≡ false)
 neither true a b c d = (refl, refl)
 neither false a b c d = (refl, refl)
 
@@ -55,7 +59,45 @@ all_agree : Each words
 unfolding knows
 all_agree = (
   λ v. refl,
-  (λ v. refl, (λ v. refl, (λ v. refl, (λ v. (neither (nat_eq (slice_index v 1) 0) _ _ _ _).0, (λ v. refl, (λ v. refl, (λ v. refl, (λ v. refl, (λ v. refl, (λ v. refl, (λ v. refl, (λ v. (neither (nat_eq (slice_index v 1) 0) _ _ _ _).1, (λ v. refl, tt))))))))))))),
+  (
+    λ v. refl,
+    (
+      λ v. refl,
+      (
+        λ v. refl,
+        (
+          λ v. (neither (nat_eq (slice_index v 1) 0) _ _ _
+              _).0,
+          (
+            λ v. refl,
+            (
+              λ v. refl,
+              (
+                λ v. refl,
+                (
+                  λ v. refl,
+                  (
+                    λ v. refl,
+                    (
+                      λ v. refl,
+                      (
+                        λ v. refl,
+                        (
+                          λ v. (neither
+                              (nat_eq (slice_index v 1) 0) _ _ _ _).1,
+                          (λ v. refl, tt),
+                        ),
+                      ),
+                    ),
+                  ),
+                ),
+              ),
+            ),
+          ),
+        ),
+      ),
+    ),
+  ),
 )
 
 -- a word that is found is among them, and is spelled so
@@ -63,7 +105,8 @@ found_among : (ws : List Word) (first : List ℕ) (w : Word) → Each ws → fin
 found_among [] first w each found = cc
 found_among (v ∷ ws) first w each found = go (same_bytes v.spelled first) (same_from v.spelled first) (found_among ws first w each.1) found
   where
-    go : (same : Bool) → (same ≡ true → v.spelled ≡ first) → (find (λ u. same_bytes u.spelled first) ws ≡ Some w → Agrees w × (w.spelled ≡ first)) → cond same (Some v) (find (λ u. same_bytes u.spelled first) ws) ≡ Some w → Agrees w × (w.spelled ≡ first)
+    go : (same : Bool) → (same ≡ true → v.spelled ≡ first) → (find (λ u. same_bytes u.spelled first) ws ≡ Some w → Agrees w × (w.spelled ≡ first))
+        → cond same (Some v) (find (λ u. same_bytes u.spelled first) ws) ≡ Some w → Agrees w × (w.spelled ≡ first)
     go true spells later found = let is : v ≡ w = cc in rw (← is) (each.0, spells refl)
     go false spells later found = later found
 
@@ -71,7 +114,8 @@ found_among (v ∷ ws) first w each found = go (same_bytes v.spelled first) (sam
 of_fields : (first : List ℕ) (texts : List (List ℕ)) → KnownAs (knows first) (event_of_fields (first ∷ texts))
 of_fields first texts = go (find (λ w. same_bytes w.spelled first) words) (λ w found. found_among words first w all_agree found)
   where
-    go : (found : Option Word) → ((w : Word) → found ≡ Some w → Agrees w × (w.spelled ≡ first)) → KnownAs (knows first) (of_some found (Err UnknownWord) (event_of_word texts))
+    go : (found : Option Word) → ((w : Word) → found ≡ Some w → Agrees w × (w.spelled ≡ first))
+        → KnownAs (knows first) (of_some found (Err UnknownWord) (event_of_word texts))
     go None is = tt
     go (Some w) is = of_word (knows first) w texts (λ v. (is w refl).0 v ∙ ap knows (is w refl).1)
 

@@ -29,20 +29,23 @@ counted_more true n = omega arith
 counted_more false n = omega arith
 
 -- an accepted event makes a history of one event more
-pub history_after : (old : Solo) (e : Event) (events : List Event) → IsTrue (is_known e) → refusal_in (situation_of old) e ≡ None → StandsFor old events → IsHistory (e ∷ events)
+pub history_after : (old : Solo) (e : Event) (events : List Event) → IsTrue (is_known e) → refusal_in (situation_of old) e ≡ None → StandsFor old events
+    → IsHistory (e ∷ events)
 unfolding IsHistory
 history_after old e events known accepted h = (h.history, known, subst (λ (past : Situation). refusal_in past e ≡ None) h.situation accepted)
 
 -- the registers go on standing for the history, where the event is accepted and they do what it says
 pub stands_after : (old new : Solo) (e : Event) (events : List Event) → IsTrue (is_known e) → refusal_in (situation_of old) e ≡ None
-    → situation_of new ≡ situation_after (situation_of old) e → new.estimate ≡ of_some (estimate_set e) old.estimate (λ x. x) → new.reports ≡ cond (is_ask e) (old.reports + 1) old.reports
+    → situation_of new ≡ situation_after (situation_of old) e → new.estimate ≡ of_some (estimate_set e) old.estimate (λ x. x)
+    → new.reports ≡ cond (is_ask e) (old.reports + 1) old.reports
     → StandsFor old events → StandsFor new (e ∷ events)
 stands_after old new e events known accepted situated estimated counted h =
     record {
       history = history_after old e events known accepted h;
       situation = situated ∙ ap (λ past. situation_after past e) h.situation ∙ sym (situation-cons events e);
       estimate = estimated ∙ ap (λ x. of_some (estimate_set e) x (λ told. told)) h.estimate;
-      reports = counted ∙ ap (λ n. cond (is_ask e) (n + 1) n) h.reports ∙ counted_more (is_ask e) (count_by is_ask events) ∙ sym (sum_by-cons (λ x. cond (is_ask x) 1 0) e events);
+      reports = counted ∙ ap (λ n. cond (is_ask e) (n + 1) n) h.reports ∙ counted_more (is_ask e) (count_by is_ask events)
+          ∙ sym (sum_by-cons (λ x. cond (is_ask x) 1 0) e events);
     }
 
 -- the latest event of a history that a device stands for was accepted

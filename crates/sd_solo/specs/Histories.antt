@@ -35,7 +35,8 @@ abbrev pub is_ask : Event → Bool
 is_ask (event.Ask reference device counter) = true
 is_ask _ = false
 
--- what a refusal turns on of the past: the reference and the counter of the latest event and reading, whether the device was started and the schedule has ended, and the number of events
+-- what a refusal turns on of the past: the reference and the counter of the latest event and reading, whether the device was started and the schedule has
+-- ended, and the number of events
 pub record Situation : Type 0 where
   pub reference : ℕ
   pub counter : ℕ

@@ -49,14 +49,16 @@ impl Solo {
 
     /// How many reports were made.
     pub fn reports(&self) -> u32
-        ensures { (events : List Event) → StandsFor self.now events → result ≡ count_by is_ask events }
+        ensures { (events : List Event) → StandsFor self.now events
+            → result ≡ count_by is_ask events }
     {
         self.reports
     }
 
     /// Whether the schedule has ended.
     pub fn ended(&self) -> bool
-        ensures { (events : List Event) → StandsFor self.now events → result ≡ list_any is_end events }
+        ensures { (events : List Event) → StandsFor self.now events
+            → result ≡ list_any is_end events }
     {
         self.ended
     }
@@ -96,12 +98,16 @@ impl Solo {
     #[tactic(auto, using(crate::proofs::Accepted::not_too_many, crate::proofs::Accepted::counter_goes_on))]
     pub fn apply(&mut self, event: &Event) -> Result<Option<Report>, SoloFault>
         requires known { IsTrue (is_known event.now) }
-        ensures accepted { IfOk result (λ report. (events : List Event) → StandsFor self.old events → report ≡ report_by events event.now) }
+        ensures accepted { IfOk result (λ report. (events : List Event) → StandsFor self.old events
+            → report ≡ report_by events event.now) }
         // While the clock and the oscillator are honest, a report has its reference time inside.
-        ensures contained { IfOk result (λ report. (events : List Event) → StandsFor self.old events → IsTrue (start_holds (event.now ∷ events)) → IsTrue (drift_holds (event.now ∷ events))
+        ensures contained { IfOk result (λ report. (events : List Event) → StandsFor self.old events
+            → IsTrue (start_holds (event.now ∷ events)) → IsTrue (drift_holds (event.now ∷ events))
             → IfSome report (λ r. IsTrue (contains r (reference_of event.now)))) }
-        ensures stands { OnOk result ((events : List Event) → StandsFor self.old events → StandsFor self.new (event.now ∷ events)) }
-        ensures refused { IfErr result (λ fault. (events : List Event) → StandsFor self.old events → refusal events event.now ≡ Some fault) }
+        ensures stands { OnOk result ((events : List Event) → StandsFor self.old events
+            → StandsFor self.new (event.now ∷ events)) }
+        ensures refused { IfErr result (λ fault. (events : List Event) → StandsFor self.old events
+            → refusal events event.now ≡ Some fault) }
         ensures unchanged { OnErr result (self.new ≡ self.old) }
     {
         if let Some(fault) = self.refusal(event) {

@@ -17,7 +17,8 @@ answer_of-long before text h k =
     rw long refl
 
 -- a line that does not end within the limit, in a text that goes on past it
-pub answer_of-past : (before : ℕ) (text : List ℕ) → 2 ^ 32 < before + 4097 → 2 ^ 32 < before + length text → 2 ^ 32 < before + line_len text + 1 → answer_of before text ≡ Err Limit
+pub answer_of-past : (before : ℕ) (text : List ℕ) → 2 ^ 32 < before + 4097 → 2 ^ 32 < before + length text → 2 ^ 32 < before + line_len text + 1
+    → answer_of before text ≡ Err Limit
 unfolding answer_of
 answer_of-past before text n h k =
     let long : is_long before text ≡ false = and_left _ _ (lt-leb (before + 4097) (2 ^ 32) n) in
@@ -48,7 +49,8 @@ refusal_cases false true line f e = inr (refl, refl, cc)
 refusal_cases false false line f e = cc
 
 -- the cases of a line
-line_cases : (long past : Bool) (next line : Option (List ℕ)) → cond long (Err LongLine) (cond past (Err Limit) (Ok next)) ≡ Ok line → (long ≡ false) × (past ≡ false) × (next ≡ line)
+line_cases : (long past : Bool) (next line : Option (List ℕ)) → cond long (Err LongLine) (cond past (Err Limit) (Ok next)) ≡ Ok line
+    → (long ≡ false) × (past ≡ false) × (next ≡ line)
 line_cases true past next line e = cc
 line_cases false true next line e = cc
 line_cases false false next line e = (refl, refl, cc)

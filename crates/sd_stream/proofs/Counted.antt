@@ -13,7 +13,8 @@ Counted (Some text) None n = ⊥
 Counted (Some text) (Some left) n = length (lines text) ≡ n + length (lines left)
 
 -- one line more
-pub counted_more : (a old new : Option (List ℕ)) (n before after : ℕ) (line : List ℕ) → Counted a old n → IfSome old (λ text. answer_of before text ≡ Ok (Some line))
+pub counted_more : (a old new : Option (List ℕ)) (n before after : ℕ) (line : List ℕ) → Counted a old n
+    → IfSome old (λ text. answer_of before text ≡ Ok (Some line))
     → IfSome old (GoesPast before after new) → Counted a new (n + 1)
 counted_more None old new n before after line c h p = tt
 counted_more (Some x) None new n before after line c h p = absurd c
@@ -24,7 +25,8 @@ counted_more (Some x) (Some y) (Some z) n before after line c h p =
     omega (arith, ap length first, ap (λ l. length (lines l)) left)
 
 -- no line more
-pub counted_all : (a old : Option (List ℕ)) (n before : ℕ) → Counted a old n → IfSome old (λ text. answer_of before text ≡ Ok None) → IfSome a (λ text. n ≡ length (lines text))
+pub counted_all : (a old : Option (List ℕ)) (n before : ℕ) → Counted a old n → IfSome old (λ text. answer_of before text ≡ Ok None)
+    → IfSome a (λ text. n ≡ length (lines text))
 counted_all None old n before c h = tt
 counted_all (Some x) None n before c h = absurd c
 counted_all (Some x) (Some y) n before c h =

@@ -22,7 +22,8 @@ line_len_none (x ∷ xs) absent = other_step (x == 10) (line_len xs) (length xs)
 line_len_at : (xs : List ℕ) (k : ℕ) → k < length xs → ((j : ℕ) → j < k → Passes (is_byte 10) xs j → ⊥) → Passes (is_byte 10) xs k → line_len xs ≡ k
 line_len_at [] k h absent is = absurd (omega arith)
 line_len_at (x ∷ xs) zero h absent is = newline_step (x == 10) (line_len xs + 1) is
-line_len_at (x ∷ xs) (suc k) h absent is = other_step (x == 10) (line_len xs) k (absent 0 (omega arith)) (line_len_at xs k (omega arith) (λ j l. absent (suc j) (omega arith)) is)
+line_len_at (x ∷ xs) (suc k) h absent is =
+    other_step (x == 10) (line_len xs) k (absent 0 (omega arith)) (line_len_at xs k (omega arith) (λ j l. absent (suc j) (omega arith)) is)
 
 -- the answer of a search for a newline
 pub line_len_found : (xs : List ℕ) (r : Option ℕ) → IsFirstByte (is_byte 10) xs r → unwrap_or r (length xs) ≡ line_len xs

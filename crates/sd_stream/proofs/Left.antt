@@ -18,7 +18,8 @@ on_err (Ok x) p = tt
 on_err (Err e) p = p
 
 -- bytes that came into the buffer are still left of the text
-pub left_after_read : (a b : Option (List ℕ)) (old more new : List ℕ) → new ≡ old ++ more → Consumes a b more → Keeps (prepend_known old a) (prepend_known new b)
+pub left_after_read : (a b : Option (List ℕ)) (old more new : List ℕ) → new ≡ old ++ more → Consumes a b more
+    → Keeps (prepend_known old a) (prepend_known new b)
 left_after_read None b old more new e c = tt
 left_after_read (Some x) None old more new e c = absurd c
 left_after_read (Some x) (Some y) old more new e c = ap (λ l. l ++ y) e ∙ append_assoc old more y ∙ ap (λ l. old ++ l) (sym c)
@@ -39,13 +40,15 @@ searched_kept old new front is =
 -- ---- what the buffer says is so of the text
 
 -- a refusal by the bytes in the buffer is one by the text
-pub refused_left : (before : ℕ) (a r : Option (List ℕ)) (b : List ℕ) (f : StreamFault) → Keeps a (prepend_known b r) → answer_of before b ≡ Err f → IfSome a (λ text. answer_of before text ≡ Err f)
+pub refused_left : (before : ℕ) (a r : Option (List ℕ)) (b : List ℕ) (f : StreamFault) → Keeps a (prepend_known b r) → answer_of before b ≡ Err f
+    → IfSome a (λ text. answer_of before text ≡ Err f)
 refused_left before None r b f k e = tt
 refused_left before (Some x) None b f k e = absurd k
 refused_left before (Some x) (Some y) b f k e = subst (λ (t : List ℕ). answer_of before t ≡ Err f) k (answer_of-append before b y f e)
 
 -- a line that ends in the buffer is the next line of the text
-pub line_left : (before : ℕ) (a r : Option (List ℕ)) (b : List ℕ) (len : ℕ) → Keeps a (prepend_known b r) → IsLine before b len → IfSome a (λ text. answer_of before text ≡ Ok (Some (take len b)))
+pub line_left : (before : ℕ) (a r : Option (List ℕ)) (b : List ℕ) (len : ℕ) → Keeps a (prepend_known b r) → IsLine before b len
+    → IfSome a (λ text. answer_of before text ≡ Ok (Some (take len b)))
 line_left before None r b len k is = tt
 line_left before (Some x) None b len k is = absurd k
 line_left before (Some x) (Some y) b len k is =
@@ -56,7 +59,8 @@ line_left before (Some x) (Some y) b len k is =
     subst (λ (t : List ℕ). answer_of before t ≡ Ok (Some (take len b))) k (answer ∙ ap Ok line)
 
 -- where the shelf has nothing left, the bytes in the buffer are the text
-pub last_left : (before : ℕ) (a r : Option (List ℕ)) (b : List ℕ) → Keeps a (prepend_known b r) → IsAtEnd r → IsOpen before b → IfSome a (λ text. answer_of before text ≡ Ok (next_of b))
+pub last_left : (before : ℕ) (a r : Option (List ℕ)) (b : List ℕ) → Keeps a (prepend_known b r) → IsAtEnd r → IsOpen before b
+    → IfSome a (λ text. answer_of before text ≡ Ok (next_of b))
 last_left before None r b k end is = tt
 last_left before (Some x) None b k end is = absurd k
 last_left before (Some x) (Some y) b k end is =
@@ -66,7 +70,8 @@ last_left before (Some x) (Some y) b k end is =
 -- ---- what is left of the text
 
 -- what is left behind a newline in the buffer is the text after its next line
-pub past_line : (before new : ℕ) (a r : Option (List ℕ)) (b rest : List ℕ) (len : ℕ) → Keeps a (prepend_known b r) → IsLine before b len → rest ≡ drop (len + 1) b
+pub past_line : (before new : ℕ) (a r : Option (List ℕ)) (b rest : List ℕ) (len : ℕ) → Keeps a (prepend_known b r) → IsLine before b len
+    → rest ≡ drop (len + 1) b
     → new ≡ before + (len + 1) → IfSome a (GoesPast before new (prepend_known rest r))
 past_line before new None r b rest len k is e count = tt
 past_line before new (Some x) None b rest len k is e count = absurd k
@@ -80,14 +85,16 @@ past_line before new (Some x) (Some y) b rest len k is e count =
 -- ---- a refusal is repeated
 
 -- no refusal stood in a buffer that holds no newline and is within every limit
-pub not_refused : (first : Result (Option (List ℕ)) StreamFault) (before : ℕ) (b : List ℕ) (P : StreamFault → Type 0) → IfErr first (λ g. answer_of before b ≡ Err g) → IsOpen before b → IfErr first P
+pub not_refused : (first : Result (Option (List ℕ)) StreamFault) (before : ℕ) (b : List ℕ) (P : StreamFault → Type 0)
+    → IfErr first (λ g. answer_of before b ≡ Err g) → IsOpen before b → IfErr first P
 not_refused (Ok x) before b P h is = tt
 not_refused (Err g) before b P h is = let line = answer_of-last before b (omega arith) (omega arith) in cc
 
 -- ---- what a call answers
 
 -- the expected line stands at a place of the buffer
-pub line_answers : (before : ℕ) (a : Option (List ℕ)) (line bytes : List ℕ) (place : ℕ × ℕ) → IfSome a (λ text. answer_of before text ≡ Ok (Some line)) → slice_range bytes place.0 place.1 ≡ line
+pub line_answers : (before : ℕ) (a : Option (List ℕ)) (line bytes : List ℕ) (place : ℕ × ℕ) → IfSome a (λ text. answer_of before text ≡ Ok (Some line))
+    → slice_range bytes place.0 place.1 ≡ line
     → IfSome a (λ text. AnswersAt (answer_of before text) bytes (Ok (Some place)))
 line_answers before None line bytes place h e = tt
 line_answers before (Some x) line bytes place h e = h ∙ ap (λ (l : List ℕ). Ok (Some l)) (sym e)
@@ -109,7 +116,8 @@ next_of_bytes : (b : List ℕ) → line_len b ≡ length b → 0 < length b → 
 next_of_bytes b all more = next_of-more b more ∙ ap Some (ap (λ n. take n b) all ∙ take_all (length b) b (omega arith))
 
 -- the last bytes are the last line
-pub last_line_left : (before : ℕ) (a r : Option (List ℕ)) (b : List ℕ) → Keeps a (prepend_known b r) → IsAtEnd r → IsOpen before b → 0 < length b → IfSome a (λ text. answer_of before text ≡ Ok (Some b))
+pub last_line_left : (before : ℕ) (a r : Option (List ℕ)) (b : List ℕ) → Keeps a (prepend_known b r) → IsAtEnd r → IsOpen before b → 0 < length b
+    → IfSome a (λ text. answer_of before text ≡ Ok (Some b))
 last_line_left before a r b k end is more = rw (next_of_bytes b is.len_is more) at (last_left before a r b k end is)
 
 -- with no byte left there is no line

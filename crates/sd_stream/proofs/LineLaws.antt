@@ -45,8 +45,10 @@ pub lines-none : (text : List ℕ) → next_of text ≡ None → lines text ≡ 
 lines-none text e = ap lines (next_of-none text e)
 
 -- one line in front, by what its first byte is
-front_step : (t : Bool) (x : ℕ) (xs : List ℕ) (others : List (List ℕ)) → with_front x others ≡ take (line_len xs + 1) (x ∷ xs) ∷ lines (drop (line_len xs + 1 + 1) (x ∷ xs))
-    → others ≡ lines xs → cond t ([] ∷ others) (with_front x others) ≡ take (cond t 0 (line_len xs + 1)) (x ∷ xs) ∷ lines (drop (cond t 0 (line_len xs + 1) + 1) (x ∷ xs))
+front_step : (t : Bool) (x : ℕ) (xs : List ℕ) (others : List (List ℕ))
+    → with_front x others ≡ take (line_len xs + 1) (x ∷ xs) ∷ lines (drop (line_len xs + 1 + 1) (x ∷ xs))
+    → others ≡ lines xs
+    → cond t ([] ∷ others) (with_front x others) ≡ take (cond t 0 (line_len xs + 1)) (x ∷ xs) ∷ lines (drop (cond t 0 (line_len xs + 1) + 1) (x ∷ xs))
 front_step true x xs others h e = ap (λ l. [] ∷ l) e
 front_step false x xs others h e = h
 
@@ -55,7 +57,8 @@ pub lines-more : (text : List ℕ) → 0 < length text → lines text ≡ take (
 lines-more [] h = absurd (omega arith)
 lines-more (x ∷ []) h = front_step (x == 10) x [] [] refl refl
 lines-more (x ∷ y ∷ ys) h =
-    front_step (x == 10) x (y ∷ ys) (lines (y ∷ ys)) (ap (with_front x) (lines-more (y ∷ ys) (omega arith)) ∙ (rw (add-one (line_len (y ∷ ys)), add-one (suc (line_len (y ∷ ys)))) refl)) refl
+    front_step (x == 10) x (y ∷ ys) (lines (y ∷ ys)) (ap (with_front x) (lines-more (y ∷ ys) (omega arith))
+    ∙ (rw (add-one (line_len (y ∷ ys)), add-one (suc (line_len (y ∷ ys)))) refl)) refl
 
 -- the lines of a text are its next line and the lines of what is left after it
 pub lines-some : (text line : List ℕ) → next_of text ≡ Some line → lines text ≡ line ∷ lines (after_line text)

@@ -22,7 +22,8 @@ pub same_range : (old new : List ℕ) (s e : ℕ) → s ≤ e → take e new ≡
 same_range old new s e h same = range_in_front new s e h ∙ ap (drop s) same ∙ sym (range_in_front old s e h)
 
 -- what came stands behind what was there
-pub grown_range : (old new : List ℕ) (s e n : ℕ) → s ≤ e → take e new ≡ take e old → slice_range new s (e + n) ≡ slice_range old s e ++ slice_range new e (e + n)
+pub grown_range : (old new : List ℕ) (s e n : ℕ) → s ≤ e → take e new ≡ take e old
+    → slice_range new s (e + n) ≡ slice_range old s e ++ slice_range new e (e + n)
 grown_range old new s e n h same =
     let le : e ≤ e + n = omega arith in
     range_split new s e (e + n) h le ∙ ap (λ l. l ++ slice_range new e (e + n)) (same_range old new s e h same)

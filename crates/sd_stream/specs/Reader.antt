@@ -57,7 +57,8 @@ pub record GoesPast (old new : ℕ) (left : Option (List ℕ)) (text : List ℕ)
   pub count : new + length (after_line text) ≡ old + length text
 
 -- what a call leaves once its line is no longer borrowed
-pub record HasRead {S : Type 0} (g : Ghosts S) (old : LineReader S Buffer g) (result : Result (Option (Bor (List ℕ))) StreamFault) (new : LineReader S Buffer g) : Type 0 where
+pub record HasRead {S : Type 0} (g : Ghosts S) (old : LineReader S Buffer g) (result : Result (Option (Bor (List ℕ))) StreamFault)
+    (new : LineReader S Buffer g) : Type 0 where
   pub same_shelf : (shelf_of new).ghost_name ≡ (shelf_of old).ghost_name
   -- where a line or the end of the text was answered
   pub past : OnOk result (IfSome (text_left g old) (GoesPast (bytes_before old) (bytes_before new) (text_left g new)))

@@ -80,7 +80,8 @@ impl Buffer {
     pub(crate) fn pass(&mut self, len: usize, past: usize) -> usize
         requires ordered { len ≤ past }
         requires waiting { past ≤ length (buffered self.old) }
-        ensures line { slice_range self.new.bytes.items result (result + len) ≡ take len (buffered self.old) }
+        ensures line { slice_range self.new.bytes.items result (result + len)
+            ≡ take len (buffered self.old) }
         ensures rest { buffered self.new ≡ drop past (buffered self.old) }
         ensures within { result + len ≤ 8192 }
     {

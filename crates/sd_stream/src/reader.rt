@@ -75,7 +75,8 @@ impl<'s, S: Shelf> LineReader<'s, S> {
         requires ordered { len ≤ past }
         requires waiting { past ≤ length (buffered self.old.buffer) }
         requires within { bytes_before self.old + past ≤ 2 ^ 32 }
-        ensures line { slice_range self.new.buffer.bytes.items result.0 result.1 ≡ take len (buffered self.old.buffer) }
+        ensures line { slice_range self.new.buffer.bytes.items result.0 result.1
+            ≡ take len (buffered self.old.buffer) }
         ensures len { result.1 ≡ result.0 + len }
         ensures within { result.1 ≤ 8192 }
         ensures rest { buffered self.new.buffer ≡ drop past (buffered self.old.buffer) }
@@ -92,7 +93,8 @@ impl<'s, S: Shelf> LineReader<'s, S> {
     fn seek_line(&mut self) -> Result<Option<(usize, usize)>, StreamFault>
         ensures answer { IfSome (text_left S.Shelf self.old) (λ text.
             AnswersAt (answer_of (bytes_before self.old) text) self.new.buffer.bytes.items result) }
-        ensures range { IfOk result (λ place. IfSome place (λ p. (p.0 ≤ p.1) × (p.1 ≤ p.0 + 4096) × (p.1 ≤ 8192))) }
+        ensures range { IfOk result
+            (λ place. IfSome place (λ p. (p.0 ≤ p.1) × (p.1 ≤ p.0 + 4096) × (p.1 ≤ 8192))) }
         ensures repeats { IfErr (buffered_answer self.old) (λ f. result ≡ Err f) }
         ensures past { OnOk result (IfSome (text_left S.Shelf self.old)
             (GoesPast (bytes_before self.old) (bytes_before self.new) (text_left S.Shelf self.new))) }

@@ -18,7 +18,8 @@ fn count_lines<S: Shelf>(shelf: &mut S, buffer: Buffer) -> Result<u64, StreamFau
     requires begun { IsTrue (S.begun shelf.old) }
     requires empty { buffered buffer ≡ [] }
     ensures count { IfOk result (λ n. IfSome (S.rest shelf.old) (λ text. n ≡ length (lines text))) }
-    ensures fault { IsErrOf result StreamFault.ReadFault → Rose (S.faults shelf.old) (S.faults shelf.new) }
+    ensures fault { IsErrOf result StreamFault.ReadFault
+        → Rose (S.faults shelf.old) (S.faults shelf.new) }
     ensures later { S.faults shelf.old ≤ S.faults shelf.new }
     ensures begun { IsTrue (S.begun shelf.new) }
     ensures same_held { S.held shelf.new ≡ S.held shelf.old }

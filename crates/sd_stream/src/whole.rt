@@ -21,8 +21,10 @@ pub fn read_whole<S: Shelf>(alloc: Global, shelf: &mut S) -> Result<Vec<u8>, Who
     ensures short { IfOk result (λ v. vec_len v ≤ 2 ^ 26) }
 
     // Each fault. After it the shelf has given a prefix of what was left.
-    ensures too_long { IsErrOf result WholeFault.TooLong → IfSome (S.rest shelf.old) (λ bytes. 2 ^ 26 < length bytes) }
-    ensures read_fault { IsErrOf result WholeFault.ReadFault → Rose (S.faults shelf.old) (S.faults shelf.new) }
+    ensures too_long { IsErrOf result WholeFault.TooLong
+        → IfSome (S.rest shelf.old) (λ bytes. 2 ^ 26 < length bytes) }
+    ensures read_fault { IsErrOf result WholeFault.ReadFault
+        → Rose (S.faults shelf.old) (S.faults shelf.new) }
     ensures given { OnErr result ((front : List ℕ) × Consumes (S.rest shelf.old) (S.rest shelf.new) front) }
 
     ensures later { S.faults shelf.old ≤ S.faults shelf.new }

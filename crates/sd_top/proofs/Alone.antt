@@ -10,29 +10,39 @@ use Rattle.sd_solo.specs.declared.Solo.{Solo}
 use Rattle.sd_solo.specs.declared.SoloFault.{SoloFault}
 use Rattle.sd_solo.proofs.Standing.{latest_accepted}
 use Rattle.std.specs.Prelude.{IsTrue, codes, decimal}
-use Rattle.sd_work.specs.Leaving.{are_lines}
-use Rattle.sd_work.specs.Works.{Work, WritesWhole}
-use Rattle.sd_work.proofs.Whole.{text_whole}
+use Rattle.sd_cmd_files.specs.work.Leaving.{are_lines}
+use Rattle.sd_cmd_files.specs.work.Works.{Work, WritesWhole}
+use Rattle.sd_cmd_files.proofs.work.Whole.{text_whole}
 use Rattle.sd_top.specs.Schedules.{accepted, solo_work, unless_refused}
 
 -- a line was taken that gave an event, which was printed
 abbrev Goes : (xs : List Event) (line printed : List ℕ) (next : Solo) → Work Event → Type 0
 Goes xs line printed next work = (x : Event) × (work.says xs line ≡ Ok x) × (printed ≡ work.bytes xs x) × ((work ≡ solo_work) × StandsFor next (x ∷ xs))
 
-goes : (work : Work Event) (xs : List Event) (e : Event) (line printed : List ℕ) (next : Solo) → work ≡ solo_work → Ok e ≡ solo_event line → StandsFor next (e ∷ xs) → printed ≡ bytes_of xs e → Goes xs line printed next work
+goes : (work : Work Event) (xs : List Event) (e : Event) (line printed : List ℕ) (next : Solo) → work ≡ solo_work → Ok e ≡ solo_event line
+    → StandsFor next (e ∷ xs) → printed ≡ bytes_of xs e → Goes xs line printed next work
 goes work xs e line printed next is event stands prints =
     let taken : refusal xs e ≡ None = latest_accepted next e xs stands in
-    subst (Goes xs line printed next) (sym is) (e, ap (accepted xs) (sym event) ∙ ap (λ (why : Option SoloFault). unless_refused why e) taken, prints, (refl, stands))
+    subst (Goes xs line printed next) (sym is) (
+      e,
+      ap (accepted xs) (sym event)
+          ∙ ap (λ (why : Option SoloFault). unless_refused why e) taken,
+      prints,
+      (refl, stands),
+    )
 
 -- with a report
-pub goes_reporting : (work : Work Event) (xs : List Event) (e : Event) (line printed : List ℕ) (next : Solo) (report : Report) (n : ℕ) → work ≡ solo_work → Ok e ≡ solo_event line → StandsFor next (e ∷ xs) → Some report ≡ report_by xs e
+pub goes_reporting : (work : Work Event) (xs : List Event) (e : Event) (line printed : List ℕ) (next : Solo) (report : Report) (n : ℕ) → work ≡ solo_work
+    → Ok e ≡ solo_event line → StandsFor next (e ∷ xs) → Some report ≡ report_by xs e
     → n ≡ length (e ∷ xs) → printed ≡ report_text n report → Goes xs line printed next work
 goes_reporting work xs e line printed next report n is event stands told count prints =
     goes work xs e line printed next is event stands
-    (prints ∙ ap (λ (k : ℕ). report_text k report) (count ∙ sym (add-one (length xs))) ∙ ap (λ (r : Option Report). of_some r [] (report_text (length xs + 1))) told)
+    (prints ∙ ap (λ (k : ℕ). report_text k report) (count ∙ sym (add-one (length xs)))
+    ∙ ap (λ (r : Option Report). of_some r [] (report_text (length xs + 1))) told)
 
 -- without one
-pub goes_silently : (work : Work Event) (xs : List Event) (e : Event) (line printed : List ℕ) (next : Solo) → work ≡ solo_work → Ok e ≡ solo_event line → StandsFor next (e ∷ xs) → None ≡ report_by xs e → printed ≡ []
+pub goes_silently : (work : Work Event) (xs : List Event) (e : Event) (line printed : List ℕ) (next : Solo) → work ≡ solo_work → Ok e ≡ solo_event line
+    → StandsFor next (e ∷ xs) → None ≡ report_by xs e → printed ≡ []
     → Goes xs line printed next work
 goes_silently work xs e line printed next is event stands told prints =
     goes work xs e line printed next is event stands (prints ∙ ap (λ (r : Option Report). of_some r [] (report_text (length xs + 1))) told)

@@ -1,7 +1,8 @@
--- What is promised besides of the texts: the events of a schedule that is read are a history, so the reports of an honest one have their reference times inside; and the bounds of links hold of the exchanges over them.
+-- What is promised besides of the texts: the events of a schedule that is read are a history, so the reports of an honest one have their reference times
+-- inside; and the bounds of links hold of the exchanges over them.
 use Rattle.std.proofs.Common.{◌≡◌, ℕ, ◌+◌, Bool, true, false, cond, List, [], ◌∷◌, map, Option, Some, None, Result, Ok, Err, IfOk, refl, ◌∙◌, length}
 use Rattle.std.specs.Prelude.{IsTrue}
-use Rattle.sd_stream.specs.Lines.{lines}
+use Rattle.sd_cmd_files.specs.Stream.Lines.{lines}
 use Rattle.sd_sched.specs.Lines.{event_of_line, first_field}
 use Rattle.sd_sched.specs.declared.Event.{Event}
 use Rattle.sd_sched.specs.declared.LineFault.{LineFault}
@@ -11,11 +12,11 @@ use Rattle.sd_solo.specs.Lines.{knows, solo_event}
 use Rattle.sd_solo.specs.declared.SoloFault.{SoloFault}
 use Rattle.sd_solo.proofs.Contained.{reports_contain}
 use Rattle.sd_solo.proofs.Known.{known_as_word}
-use Rattle.sd_exchanges.proofs.Bounding.{bounds_hold}
-use Rattle.sd_schedules.proofs.Lawful.{order_reports_truly, reports_truly as replay_reports_truly}
-use Rattle.sd_files.specs.Texts.{texts_of}
+use Rattle.sd_cmd_twoway.proofs.Bounding.{bounds_hold}
+use Rattle.sd_cmd_replay.proofs.Lawful.{order_reports_truly, reports_truly as replay_reports_truly}
+use Rattle.sd_cmd_files.specs.Texts.{texts_of}
 use Rattle.sd_top.specs.Promise.{KeepsPromise, task_of}
-use Rattle.sd_work.specs.Works.{Reading, judged, length_fault, read_on, reading, reading_from, unless_too_long}
+use Rattle.sd_cmd_files.specs.work.Works.{Reading, judged, length_fault, read_on, reading, reading_from, unless_too_long}
 use Rattle.sd_top.specs.Schedules.{ReportsTruly, accepted, solo_work, unless_refused}
 use Rattle.sd_top.specs.Words.{Command, command_of}
 use Rattle.sd_top.specs.Words.Command.{Solo, Replay, Order, Twoway}
@@ -45,11 +46,13 @@ goes_on events (Ok e) known = by (refusal events e) refl
     by None is = (known, is)
     by (Some why) is = tt
 
-unless_long : (events : List Event) (long : Option (List ℕ)) (event : Result Event (List ℕ)) → IfOk event (GoesOn events) → IfOk (unless_too_long long event) (GoesOn events)
+unless_long : (events : List Event) (long : Option (List ℕ)) (event : Result Event (List ℕ)) → IfOk event (GoesOn events)
+    → IfOk (unless_too_long long event) (GoesOn events)
 unless_long events None event on = on
 unless_long events (Some why) event on = tt
 
-read_history : (judgement : Result Event (List ℕ)) (events : List Event) (next : Event → Reading Event) → IsHistory events → IfOk judgement (GoesOn events) → ((e : Event) → IsHistory (e ∷ events) → IsHistory (next e).taken)
+read_history : (judgement : Result Event (List ℕ)) (events : List Event) (next : Event → Reading Event) → IsHistory events → IfOk judgement (GoesOn events)
+    → ((e : Event) → IsHistory (e ∷ events) → IsHistory (next e).taken)
     → IsHistory (read_on judgement events next).taken
 unfolding IsHistory
 read_history (Err why) events next history on later = history

@@ -1,3 +1,6 @@
+pub mod Kept
+pub mod Cases
+pub mod Bounds
 pub mod Wording
 pub mod Serving
 pub mod Staying

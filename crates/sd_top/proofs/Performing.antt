@@ -1,51 +1,58 @@
 -- What a command leaves at the sink is what its task says, and then what the run answers.
 use Rattle.std.proofs.Common.{◌≡◌, ℕ, Bool, false, List, Option, Some, None, Result, Ok, Err, refl, sym, subst}
 use Rattle.std.specs.Prelude.{IfSome, IsTrue}
-use Rattle.sd_stream.specs.Reader.{IsNear}
-use Rattle.sd_files.specs.Answering.{May}
-use Rattle.sd_files.specs.Statuses.{is_among, stop_of, status_of}
-use Rattle.sd_files.specs.Texts.{Texts, texts_of}
-use Rattle.sd_files.specs.Writes.{Makes, Tells, WritesOnce}
-use Rattle.sd_files.specs.declared.Status.{Status}
-use Rattle.sd_files.specs.declared.Status.TheVariants.{ShelfFault, SinkFault, Memory}
-use Rattle.sd_files.specs.declared.ended.Answer.{Answer}
-use Rattle.sd_files.specs.declared.ended.Ended.{Ended}
-use Rattle.sd_files.specs.declared.ended.Ended.TheVariants as ended
-use Rattle.sd_files.specs.declared.ended.Stop.{Stop}
-use Rattle.sd_files.specs.declared.ended.Stop.TheVariants as stop
-use Rattle.sd_work.specs.Leaving.{Leaves, LeavesAt}
+use Rattle.sd_cmd_files.specs.Stream.Reader.{IsNear}
+use Rattle.sd_cmd_files.specs.Answering.{May}
+use Rattle.sd_cmd_files.specs.Statuses.{is_among, stop_of, status_of}
+use Rattle.sd_cmd_files.specs.Texts.{Texts, texts_of}
+use Rattle.sd_cmd_files.specs.Writes.{Makes, Tells, WritesOnce}
+use Rattle.sd_cmd_files.specs.declared.Status.{Status}
+use Rattle.sd_cmd_files.specs.declared.Status.TheVariants.{ShelfFault, SinkFault, Memory}
+use Rattle.sd_cmd_files.specs.declared.command_error.Answer.{Answer}
+use Rattle.sd_cmd_files.specs.declared.command_error.CommandError.{CommandError}
+use Rattle.sd_cmd_files.specs.declared.command_error.CommandError.TheVariants as ended
+use Rattle.sd_cmd_files.specs.declared.command_error.IoError.{IoError}
+use Rattle.sd_cmd_files.specs.declared.command_error.IoError.TheVariants as stop
+use Rattle.sd_cmd_files.specs.work.Leaving.{Leaves, LeavesAt}
 use Rattle.sd_top.specs.Ends.{MeetsResult}
 use Rattle.sd_top.specs.Promise.{LeavesAfter, IsNearRefusal, MeetsOutcome, task_of}
 use Rattle.sd_top.specs.Words.{Command, command_of}
 use Rattle.sd_top.specs.Words.Command.{Solo, Replay, Order, Twoway, Drill}
 
 -- what was made and told may be written
-told : (Writes : May) (made : Result Answer Ended) (bytes : List ℕ) (status : Status) → Makes Writes made → Tells made bytes status → Writes bytes status
-told Writes (Ok answer) bytes status makes (text, answered) = subst (λ (b : List ℕ). Writes b status) (sym text) (subst (Writes answer.text.items) (sym answered) makes)
+told : (Writes : May) (made : Result Answer CommandError) (bytes : List ℕ) (status : Status) → Makes Writes made → Tells made bytes status → Writes bytes status
+told Writes (Ok answer) bytes status makes (text, answered) =
+    subst (λ (b : List ℕ). Writes b status) (sym text) (subst (Writes answer.text.items) (sym answered) makes)
 told Writes (Err (ended.Refused why)) bytes status makes (text, answered) = rw (text, answered) makes
 told Writes (Err ended.Shelf) bytes status makes tells = absurd tells
 told Writes (Err ended.Memory) bytes status makes tells = absurd tells
 
-written_once : (Writes : May) (made : Result Answer Ended) (old new : Option (List ℕ)) (result : Result Status Stop) → Makes Writes made → WritesOnce (Tells made) old new result → LeavesAt false Writes old new result
+written_once : (Writes : May) (made : Result Answer CommandError) (old new : Option (List ℕ)) (result : Result Status IoError) → Makes Writes made
+    → WritesOnce (Tells made) old new result → LeavesAt false Writes old new result
 written_once Writes made old new (Ok status) makes (bytes, tells, added) = (bytes, told Writes made bytes status makes tells, added)
 written_once Writes made old new (Err stop.Shelf) makes kept = kept
 written_once Writes made old new (Err stop.Sink) makes (bytes, status, tells, front) = (bytes, status, told Writes made bytes status makes tells, front)
 written_once Writes made old new (Err stop.Memory) makes kept = kept
 
 -- the command of the words meets its task
-pub meets_told : (held : Option (List ℕ → Option (List ℕ))) (words : List (List ℕ)) (command : Option Command) (old new : Option (List ℕ)) (result : Result Status Stop) → command ≡ command_of words
+pub meets_told : (held : Option (List ℕ → Option (List ℕ))) (words : List (List ℕ)) (command : Option Command) (old new : Option (List ℕ))
+    (result : Result Status IoError) → command ≡ command_of words
     → IfSome held (λ h. LeavesAt (task_of command).in_steps ((task_of command).Answers (texts_of h)) old new result) → MeetsResult held words old new result
 unfolding MeetsResult
 meets_told None words command old new result is leaves = tt
-meets_told (Some h) words command old new result is leaves = subst (λ (c : Option Command). LeavesAt (task_of c).in_steps ((task_of c).Answers (texts_of h)) old new result) is leaves
+meets_told (Some h) words command old new result is leaves =
+    subst (λ (c : Option Command). LeavesAt (task_of c).in_steps ((task_of c).Answers (texts_of h)) old new result) is leaves
 
 -- and so does one that writes once what it has made
-pub meets_once : (held : Option (List ℕ → Option (List ℕ))) (words : List (List ℕ)) (command : Option Command) (made : Result Answer Ended) (old new : Option (List ℕ)) (result : Result Status Stop) → command ≡ command_of words
-    → (task_of command).in_steps ≡ false → IfSome held (λ h. Makes ((task_of command).Answers (texts_of h)) made) → WritesOnce (Tells made) old new result → MeetsResult held words old new result
+pub meets_once : (held : Option (List ℕ → Option (List ℕ))) (words : List (List ℕ)) (command : Option Command) (made : Result Answer CommandError)
+    (old new : Option (List ℕ)) (result : Result Status IoError) → command ≡ command_of words
+    → (task_of command).in_steps ≡ false → IfSome held (λ h. Makes ((task_of command).Answers (texts_of h)) made) → WritesOnce (Tells made) old new result
+    → MeetsResult held words old new result
 meets_once None words command made old new result is at_once makes writes = meets_told None words command old new result is tt
 meets_once (Some h) words command made old new result is at_once makes writes =
     meets_told (Some h) words command old new result is
-    (subst (λ (steps : Bool). LeavesAt steps ((task_of command).Answers (texts_of h)) old new result) (sym at_once) (written_once ((task_of command).Answers (texts_of h)) made old new result makes writes))
+    (subst (λ (steps : Bool). LeavesAt steps ((task_of command).Answers (texts_of h)) old new result) (sym at_once)
+    (written_once ((task_of command).Answers (texts_of h)) made old new result makes writes))
 
 -- how far a command reads that reads line by line
 near_part : (part : Option (List ℕ)) (rest : Option (List ℕ)) → IfSome part (λ p. IsNear (Some p) rest) → IfSome part (λ p. LeavesAfter p rest)
@@ -53,15 +60,18 @@ near_part None rest near = tt
 near_part (Some p) None near = near
 near_part (Some p) (Some left) near = near
 
-pub near_told : (held : Option (List ℕ → Option (List ℕ))) (words : List (List ℕ)) (command : Option Command) (rest : Option (List ℕ)) → command ≡ command_of words
+pub near_told : (held : Option (List ℕ → Option (List ℕ))) (words : List (List ℕ)) (command : Option Command) (rest : Option (List ℕ))
+    → command ≡ command_of words
     → IfSome held (λ h. IfSome ((task_of command).refused_part (texts_of h)) (λ part. IsNear (Some part) rest)) → IsNearRefusal held words rest
 unfolding IsNearRefusal
 near_told None words command rest is near = tt
 near_told (Some h) words command rest is near =
-    subst (λ (c : Option Command). IfSome ((task_of c).refused_part (texts_of h)) (λ part. LeavesAfter part rest)) is (near_part ((task_of command).refused_part (texts_of h)) rest near)
+    subst (λ (c : Option Command). IfSome ((task_of c).refused_part (texts_of h)) (λ part. LeavesAfter part rest)) is
+    (near_part ((task_of command).refused_part (texts_of h)) rest near)
 
 -- a command that does not read so
-pub near_nothing : (held : Option (List ℕ → Option (List ℕ))) (words : List (List ℕ)) (command : Option Command) (rest : Option (List ℕ)) → command ≡ command_of words
+pub near_nothing : (held : Option (List ℕ → Option (List ℕ))) (words : List (List ℕ)) (command : Option Command) (rest : Option (List ℕ))
+    → command ≡ command_of words
     → ((texts : Texts) → (task_of command).refused_part texts ≡ None) → IsNearRefusal held words rest
 near_nothing held words command rest is none = near_told held words command rest is (reads held)
   where
@@ -101,15 +111,18 @@ not_stopped command Memory among = absurd (no_memory command among)
 not_stopped command _ among = refl
 
 -- a run that ended
-pub ended_meets : (held : Option (List ℕ → Option (List ℕ))) (words : List (List ℕ)) (old new : Option (List ℕ)) (status : Status) → IsTrue (is_among (task_of (command_of words)).gives status)
+pub ended_meets : (held : Option (List ℕ → Option (List ℕ))) (words : List (List ℕ)) (old new : Option (List ℕ)) (status : Status)
+    → IsTrue (is_among (task_of (command_of words)).gives status)
     → MeetsResult held words old new (Ok status) → MeetsOutcome held words old new status
 unfolding MeetsResult MeetsOutcome
 ended_meets None words old new status among meets = tt
 ended_meets (Some h) words old new status among meets =
-    subst (λ (why : Option Stop). Leaves why (task_of (command_of words)).in_steps ((task_of (command_of words)).Answers (texts_of h)) old new status) (sym (not_stopped (command_of words) status among)) meets
+    subst (λ (why : Option IoError). Leaves why (task_of (command_of words)).in_steps ((task_of (command_of words)).Answers (texts_of h)) old new status)
+    (sym (not_stopped (command_of words) status among)) meets
 
 -- a run that was stopped
-pub stopped_meets : (held : Option (List ℕ → Option (List ℕ))) (words : List (List ℕ)) (old new : Option (List ℕ)) (why : Stop) (status : Status) → status ≡ status_of why → MeetsResult held words old new (Err why) → MeetsOutcome held words old new status
+pub stopped_meets : (held : Option (List ℕ → Option (List ℕ))) (words : List (List ℕ)) (old new : Option (List ℕ)) (why : IoError) (status : Status)
+    → status ≡ status_of why → MeetsResult held words old new (Err why) → MeetsOutcome held words old new status
 unfolding MeetsResult MeetsOutcome
 stopped_meets None words old new why status is meets = tt
 stopped_meets (Some h) words old new stop.Shelf status is meets = rw is meets

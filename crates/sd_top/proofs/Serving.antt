@@ -20,20 +20,24 @@ module _ (Serves : List ℕ → Type 0) where
   -- and the third
   module _ (first second third : File) (others files : List File) (are : first ∷ second ∷ third ∷ others ≡ files) (all : All ServesFile files) where
     pub serves_third : Serves (name_of third)
-    serves_third = serves_second second third others (second ∷ third ∷ others) refl (All-tail ServesFile first (second ∷ third ∷ others) (subst (All ServesFile) (sym are) all))
+    serves_third =
+        serves_second second third others (second ∷ third ∷ others) refl
+        (All-tail ServesFile first (second ∷ third ∷ others) (subst (All ServesFile) (sym are) all))
 
   module _ (schedule : List ℕ) where
     plans_served : (plans : List (List ℕ)) → All ServesFile (plans_and_schedule plans schedule) → All Serves plans
     plans_served [] all = All-nil Serves
     plans_served (plan ∷ plans) all =
-        All-cons Serves plan plans (All-head ServesFile (OfPlan plan) (plans_and_schedule plans schedule) all) (plans_served plans (All-tail ServesFile (OfPlan plan) (plans_and_schedule plans schedule) all))
+        All-cons Serves plan plans (All-head ServesFile (OfPlan plan) (plans_and_schedule plans schedule) all)
+        (plans_served plans (All-tail ServesFile (OfPlan plan) (plans_and_schedule plans schedule) all))
 
     schedule_served : (plans : List (List ℕ)) → All ServesFile (plans_and_schedule plans schedule) → Serves schedule
     schedule_served [] all = All-head ServesFile (OfSchedule schedule) [] all
     schedule_served (plan ∷ plans) all = schedule_served plans (All-tail ServesFile (OfPlan plan) (plans_and_schedule plans schedule) all)
 
     -- where the command has a topology, plans and a schedule
-    module _ (topology : List ℕ) (plans : List (List ℕ)) (files : List File) (are : OfTopology topology ∷ plans_and_schedule plans schedule ≡ files) (all : All ServesFile files) where
+    module _ (topology : List ℕ) (plans : List (List ℕ)) (files : List File) (are : OfTopology topology ∷ plans_and_schedule plans schedule ≡ files)
+        (all : All ServesFile files) where
       in_order : All ServesFile (OfTopology topology ∷ plans_and_schedule plans schedule)
       in_order = subst (All ServesFile) (sym are) all
 

@@ -6,8 +6,8 @@ use Rattle.std.proofs.lemmas.Bool.{and_parts, leb-true}
 use Rattle.sd_num.specs.Decimals.{number}
 use Rattle.sd_num.specs.Lists.{of_some}
 use Rattle.sd_num.specs.declared.NumFault.{NumFault}
-use Rattle.sd_case.specs.Sizes as sizes
-use Rattle.sd_case.specs.declared.Fabric.{Fabric}
+use Rattle.sd_cmd_case.specs.Sizes as sizes
+use Rattle.sd_cmd_case.specs.declared.Fabric.{Fabric}
 use Rattle.sd_top.specs.Words.{Command, but_last, budget_of, case_of, command_of, fabric_of, if_within, number_from, of_plans, over_plans, takes_plans, with_fixed, with_plans}
 use Rattle.sd_top.specs.Words.Command.{Solo, Plan as PlanOf, Check, Renew, Replay, Case, Migrate, Order, Twoway, Drill}
 
@@ -31,14 +31,16 @@ where_given (Some a) Then has = has a refl
 
 of_plans_within : (word topology : List ℕ) (plans : List (List ℕ)) (schedule : List ℕ) → 1 ≤ length plans → IsWithin (of_plans word topology plans schedule)
 of_plans_within word topology plans schedule some =
-    either (bytes_eq word (codes "replay")) (Some (Replay topology plans schedule)) (if bytes_eq word (codes "order") then Some (Order topology plans schedule) else None) some
+    either (bytes_eq word (codes "replay")) (Some (Replay topology plans schedule))
+    (if bytes_eq word (codes "order") then Some (Order topology plans schedule) else None) some
     (where_so (bytes_eq word (codes "order")) (Some (Order topology plans schedule)) (λ is. some))
 
 over_plans_within : (word topology : List ℕ) (plans : List (List ℕ)) (schedule : List ℕ) → IsWithin (over_plans word topology plans schedule)
 over_plans_within word topology plans schedule =
     let some : Bool = nat_le 1 (length plans) in
     let few : Bool = nat_le (length plans) 64 in
-    where_so (some && few) (of_plans word topology plans schedule) (λ is. of_plans_within word topology plans schedule (leb-true 1 (length plans) (and_parts some few is).0))
+    where_so (some && few) (of_plans word topology plans schedule)
+    (λ is. of_plans_within word topology plans schedule (leb-true 1 (length plans) (and_parts some few is).0))
 
 with_plans_within : (word : List ℕ) (others : List (List ℕ)) → IsWithin (with_plans word others)
 with_plans_within word [] = tt
@@ -59,7 +61,8 @@ given_within low high (Ok m) n given = by (nat_le low m && nat_le m high) refl g
 
 -- and so are the sizes of a case
 fabric_within : (leaves spines : List ℕ) (fabric : Fabric) → fabric_of leaves spines ≡ Some fabric → sizes.IsWithin fabric
-fabric_within leaves spines fabric given = by (number_from 2 256 leaves) (number_from 3 32 spines) (given_within 2 256 (number leaves)) (given_within 3 32 (number spines)) given
+fabric_within leaves spines fabric given =
+    by (number_from 2 256 leaves) (number_from 3 32 spines) (given_within 2 256 (number leaves)) (given_within 3 32 (number spines)) given
   where
     by : (ls ss : Option ℕ) → ((n : ℕ) → ls ≡ Some n → (2 ≤ n) × (n ≤ 256)) → ((n : ℕ) → ss ≡ Some n → (3 ≤ n) × (n ≤ 32))
         → of_some ls None (λ l. of_some ss None (λ s. Some (record { leaves = l; spines = s }))) ≡ Some fabric → sizes.IsWithin fabric
@@ -79,8 +82,10 @@ case_within any leaves spines =
 with_fixed_within : (word : List ℕ) (others : List (List ℕ)) → IsWithin (with_fixed word others)
 with_fixed_within word [] = tt
 with_fixed_within word (file ∷ []) =
-    either (bytes_eq word (codes "solo")) (Some (Solo file)) (if bytes_eq word (codes "plan") then Some (PlanOf file) else if bytes_eq word (codes "migrate") then Some (Migrate file) else None) tt
-    (either (bytes_eq word (codes "plan")) (Some (PlanOf file)) (if bytes_eq word (codes "migrate") then Some (Migrate file) else None) tt (where_so (bytes_eq word (codes "migrate")) (Some (Migrate file)) (λ is. tt)))
+    either (bytes_eq word (codes "solo")) (Some (Solo file))
+    (if bytes_eq word (codes "plan") then Some (PlanOf file) else if bytes_eq word (codes "migrate") then Some (Migrate file) else None) tt
+    (either (bytes_eq word (codes "plan")) (Some (PlanOf file)) (if bytes_eq word (codes "migrate") then Some (Migrate file) else None) tt
+    (where_so (bytes_eq word (codes "migrate")) (Some (Migrate file)) (λ is. tt)))
 with_fixed_within word (first ∷ second ∷ []) =
     either (bytes_eq word (codes "check")) (Some (Check first second)) (if bytes_eq word (codes "twoway") then Some (Twoway first second) else None) tt
     (where_so (bytes_eq word (codes "twoway")) (Some (Twoway first second)) (λ is. tt))
@@ -94,4 +99,5 @@ with_fixed_within word (first ∷ second ∷ third ∷ fourth ∷ fifth ∷ othe
 
 pub words_are_within : (words : List (List ℕ)) → IsWithin (command_of words)
 words_are_within [] = tt
-words_are_within (word ∷ others) = either (takes_plans word) (with_plans word others) (with_fixed word others) (with_plans_within word others) (with_fixed_within word others)
+words_are_within (word ∷ others) =
+    either (takes_plans word) (with_plans word others) (with_fixed word others) (with_plans_within word others) (with_fixed_within word others)

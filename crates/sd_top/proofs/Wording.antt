@@ -9,7 +9,8 @@ module _ {X : Type 0} (bytes : X → List ℕ) where
   cut x [] d = refl
   cut x (y ∷ ys) d = rw (cut y ys d) refl
 
-  pub files_cut : (word : List ℕ) (files : List X) (topology schedule : X) → 2 ≤ length files → topology ≡ get_or files 0 topology → schedule ≡ get_or files (length files - 1) schedule
+  pub files_cut : (word : List ℕ) (files : List X) (topology schedule : X) → 2 ≤ length files → topology ≡ get_or files 0 topology
+      → schedule ≡ get_or files (length files - 1) schedule
       → over_plans word (bytes topology) (map bytes (take (length files - 1 - 1) (drop 1 files))) (bytes schedule) ≡ with_plans word (map bytes files)
   files_cut word [] topology schedule long first last = absurd (omega arith)
   files_cut word (x ∷ []) topology schedule long first last = absurd (omega arith)

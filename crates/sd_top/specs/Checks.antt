@@ -6,10 +6,10 @@ use Rattle.sd_checker.specs.Text.{accepted_line, refused_line}
 use Rattle.sd_checker.specs.Verdicts.{IsAccepted, IsVerdict}
 use Rattle.sd_checker.specs.declared.Verdict.{Verdict}
 use Rattle.sd_checker.specs.declared.Verdict.TheVariants.{Accepted, Refused}
-use Rattle.sd_files.specs.Answering.{May, After}
-use Rattle.sd_files.specs.Inputs.{topology_of, plan_in_file}
-use Rattle.sd_files.specs.declared.Status.{Status}
-use Rattle.sd_files.specs.declared.Status.TheVariants.{Done, PlanRefused}
+use Rattle.sd_cmd_files.specs.Answering.{May, After}
+use Rattle.sd_cmd_files.specs.Inputs.{topology_of, plan_in_file}
+use Rattle.sd_cmd_files.specs.declared.Status.{Status}
+use Rattle.sd_cmd_files.specs.declared.Status.TheVariants.{Done, PlanRefused}
 
 -- the line of a verdict, and its status
 abbrev pub verdict_text : Network → Verdict → List ℕ

@@ -4,11 +4,11 @@ use Rattle.sd_topo.specs.Network.{Network}
 use Rattle.sd_plan.specs.declared.Plan.{Plan}
 use Rattle.sd_drill.specs.Printed.{IsDrill as IsDrillOf}
 use Rattle.sd_drill.specs.declared.Budget.{Budget}
-use Rattle.sd_files.specs.Answering.{May, After}
-use Rattle.sd_files.specs.Inputs.{topology_of}
-use Rattle.sd_files.specs.declared.Status.{Status}
-use Rattle.sd_files.specs.declared.Status.TheVariants.{Done}
-use Rattle.sd_planfiles.specs.PlanFiles.{AfterPlan}
+use Rattle.sd_cmd_files.specs.Answering.{May, After}
+use Rattle.sd_cmd_files.specs.Inputs.{topology_of}
+use Rattle.sd_cmd_files.specs.declared.Status.{Status}
+use Rattle.sd_cmd_files.specs.declared.Status.TheVariants.{Done}
+use Rattle.sd_cmd_files.specs.planfiles.PlanFiles.{AfterPlan}
 use Rattle.sd_top.specs.Checks.{IsRightPlan}
 
 -- the drill of an accepted plan
@@ -20,4 +20,5 @@ IsDrill topology plan budget bytes status = After (topology_of topology) (λ net
 
 -- an accepted plan is drilled to the end
 abbrev pub DrillCompletes : Type 0
-DrillCompletes = (topology plan : List ℕ) (budget : Budget) → IsRightPlan topology plan → (bytes : List ℕ) (status : Status) → IsDrill topology plan budget bytes status → status ≡ Done
+DrillCompletes = (topology plan : List ℕ) (budget : Budget) → IsRightPlan topology plan → (bytes : List ℕ) (status : Status)
+    → IsDrill topology plan budget bytes status → status ≡ Done

@@ -1,3 +1,5 @@
+pub mod Promised
+pub mod Bounds
 pub mod Words
 pub mod Schedules
 pub mod Migration
@@ -8,7 +10,6 @@ pub mod Twoways
 pub mod Replays
 pub mod Promise
 pub mod Headlines
-pub mod Safe
 pub mod Versions
 pub mod Unique
 pub mod Laws

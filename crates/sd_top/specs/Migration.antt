@@ -4,10 +4,10 @@ use Rattle.sd_topo.specs.Network.{Network}
 use Rattle.sd_topotext.specs.Meaning.{network_of}
 use Rattle.sd_topotext.specs.Printed.{with_version_two}
 use Rattle.sd_topotext.specs.Reading.{tree_of}
-use Rattle.sd_files.specs.Answering.{May, After}
-use Rattle.sd_files.specs.Inputs.{topology_of}
-use Rattle.sd_files.specs.declared.Status.{Status}
-use Rattle.sd_files.specs.declared.Status.TheVariants.{Done}
+use Rattle.sd_cmd_files.specs.Answering.{May, After}
+use Rattle.sd_cmd_files.specs.Inputs.{topology_of}
+use Rattle.sd_cmd_files.specs.declared.Status.{Status}
+use Rattle.sd_cmd_files.specs.declared.Status.TheVariants.{Done}
 
 -- one text that says the same with version 2
 abbrev pub IsMigrated : Network → May
@@ -18,4 +18,5 @@ IsMigration topology bytes status = After (topology_of topology) IsMigrated byte
 
 -- a topology that is not refused is migrated
 abbrev pub MigrationCompletes : Type 0
-MigrationCompletes = (topology : List ℕ) (net : Network) → topology_of topology ≡ Ok net → (bytes : List ℕ) (status : Status) → IsMigration topology bytes status → status ≡ Done
+MigrationCompletes = (topology : List ℕ) (net : Network) → topology_of topology ≡ Ok net → (bytes : List ℕ) (status : Status)
+    → IsMigration topology bytes status → status ≡ Done

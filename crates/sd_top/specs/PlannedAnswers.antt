@@ -5,8 +5,8 @@ use Rattle.sd_plan.specs.declared.Plan.{Plan}
 use Rattle.sd_checker.specs.declared.Verdict.TheVariants.{Accepted, Refused}
 use Rattle.sd_planner.specs.declared.Planned.{Planned}
 use Rattle.sd_planner.specs.declared.Planned.TheVariants as planned
-use Rattle.sd_files.specs.declared.Status.{Status}
-use Rattle.sd_files.specs.declared.Status.TheVariants.{Done, PlanRefused}
+use Rattle.sd_cmd_files.specs.declared.Status.{Status}
+use Rattle.sd_cmd_files.specs.declared.Status.TheVariants.{Done, PlanRefused}
 use Rattle.sd_top.specs.Plannings.{planned_text}
 
 abbrev pub text_of_planned : Network → Planned → List ℕ

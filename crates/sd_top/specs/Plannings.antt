@@ -10,10 +10,10 @@ use Rattle.sd_checker.specs.Verdicts.{IsAccepted, IsVerdict}
 use Rattle.sd_checker.specs.declared.Verdict.{Verdict}
 use Rattle.sd_checker.specs.declared.Verdict.TheVariants.{Accepted, Refused}
 use Rattle.sd_planner.specs.Greedy.{IsGreedy}
-use Rattle.sd_files.specs.Answering.{May, After}
-use Rattle.sd_files.specs.Inputs.{topology_of, plan_in_file, absent_in_file}
-use Rattle.sd_files.specs.declared.Status.{Status}
-use Rattle.sd_files.specs.declared.Status.TheVariants.{Done}
+use Rattle.sd_cmd_files.specs.Answering.{May, After}
+use Rattle.sd_cmd_files.specs.Inputs.{topology_of, plan_in_file, absent_in_file}
+use Rattle.sd_cmd_files.specs.declared.Status.{Status}
+use Rattle.sd_cmd_files.specs.declared.Status.TheVariants.{Done}
 use Rattle.sd_top.specs.Checks.{verdict_status}
 
 -- the text of a plan that is accepted, and the line of its breach where it is refused
@@ -24,7 +24,8 @@ planned_text net plan (Refused breach) = refused_line net 1 breach
 -- the greedy plan from a root without what is absent: its text, or the line of its breach
 abbrev pub IsPlanning : Network → ℕ → Absent → May
 IsPlanning net root absent bytes status =
-    (plan : Plan) × (verdict : Verdict) × IsGreedy net root absent plan × IsVerdict net plan verdict × (bytes ≡ planned_text net plan verdict) × (status ≡ verdict_status verdict)
+    (plan : Plan) × (verdict : Verdict) × IsGreedy net root absent plan × IsVerdict net plan verdict × (bytes ≡ planned_text net plan verdict)
+    × (status ≡ verdict_status verdict)
 
 -- the first candidate for the root
 abbrev pub first_root : Network → ℕ
@@ -44,7 +45,8 @@ renewed_root plan absent = if has absent.devices plan.root then plan.backup_root
 -- `renew`: the greedy plan without what is absent
 abbrev pub IsRenewal : List ℕ → List ℕ → List ℕ → May
 IsRenewal topology plan absent bytes status =
-    After (topology_of topology) (λ net. After (plan_in_file net 1 plan) (λ old. After (absent_in_file net absent) (λ left. IsPlanning net (renewed_root old left) left))) bytes status
+    After (topology_of topology)
+    (λ net. After (plan_in_file net 1 plan) (λ old. After (absent_in_file net absent) (λ left. IsPlanning net (renewed_root old left) left))) bytes status
 
 -- the greedy plan from the root without what is absent is accepted
 pub record IsPlannable (net : Network) (root : ℕ) (absent : Absent) : Type 0 where
@@ -73,4 +75,5 @@ abbrev pub PlanCompletes : Type 0
 PlanCompletes = (topology : List ℕ) → IsRightTopology topology → (bytes : List ℕ) (status : Status) → IsPlanOf topology bytes status → status ≡ Done
 
 abbrev pub RenewalCompletes : Type 0
-RenewalCompletes = (topology plan absent : List ℕ) → IsRightRenewal topology plan absent → (bytes : List ℕ) (status : Status) → IsRenewal topology plan absent bytes status → status ≡ Done
+RenewalCompletes = (topology plan absent : List ℕ) → IsRightRenewal topology plan absent → (bytes : List ℕ) (status : Status)
+    → IsRenewal topology plan absent bytes status → status ≡ Done

@@ -1,21 +1,21 @@
 -- What `run` promises: what each command writes and answers over the texts of its files, and what it leaves where it is stopped.
 use Rattle.std.specs.Prelude.{◌≡◌, ◌+◌, ◌≤◌, ℕ, Bool, true, false, List, [], ◌∷◌, length, map, Option, None, Some, IfSome, codes}
 use Rattle.sd_sched.specs.declared.Event.{Event}
-use Rattle.sd_history.specs.World.{Setting}
-use Rattle.sd_files.specs.Answering.{May}
-use Rattle.sd_files.specs.Inputs.{topology_of}
-use Rattle.sd_files.specs.Statuses.{stop_of}
-use Rattle.sd_files.specs.Texts.{Texts, texts_of}
-use Rattle.sd_files.specs.declared.Status.{Status}
-use Rattle.sd_files.specs.declared.Status.TheVariants.{Done, PlanRefused, Usage, InputRefused, Broken}
-use Rattle.sd_case.specs.Cases.{IsCase}
+use Rattle.sd_proof_bound.specs.History.World.{Setting}
+use Rattle.sd_cmd_files.specs.Answering.{May}
+use Rattle.sd_cmd_files.specs.Inputs.{topology_of}
+use Rattle.sd_cmd_files.specs.Statuses.{stop_of}
+use Rattle.sd_cmd_files.specs.Texts.{Texts, texts_of}
+use Rattle.sd_cmd_files.specs.declared.Status.{Status}
+use Rattle.sd_cmd_files.specs.declared.Status.TheVariants.{Done, PlanRefused, Usage, InputRefused, Broken}
+use Rattle.sd_cmd_case.specs.Cases.{IsCase}
 use Rattle.sd_top.specs.Checks.{IsCheck}
 use Rattle.sd_top.specs.Drills.{IsDrill}
 use Rattle.sd_top.specs.Migration.{IsMigration}
 use Rattle.sd_top.specs.Plannings.{IsPlanOf, IsRenewal}
-use Rattle.sd_schedules.specs.Replays.{IsRun, order_work, replay_work, refused_over as refused_behind}
-use Rattle.sd_work.specs.Leaving.{Leaves}
-use Rattle.sd_work.specs.Works.{Work, reading, refused_part}
+use Rattle.sd_cmd_replay.specs.Replays.{IsRun, order_work, replay_work, refused_over as refused_behind}
+use Rattle.sd_cmd_files.specs.work.Leaving.{Leaves}
+use Rattle.sd_cmd_files.specs.work.Works.{Work, reading, refused_part}
 use Rattle.sd_top.specs.Replays.{RunsTruly}
 use Rattle.sd_top.specs.Schedules.{IsSolo, ReportsTruly, solo_work}
 use Rattle.sd_top.specs.Twoways.{BoundsTruly, IsTwoway, refused_over}
@@ -51,7 +51,8 @@ step_by_step statuses Writes = record { Answers = Writes; gives = statuses; in_s
 abbrev pub over_schedule : (Setting → Work Event) → (topology : List ℕ) (plans : List (List ℕ)) (schedule : List ℕ) → Task
 over_schedule work topology plans schedule =
     line_by_line (Done ∷ PlanRefused ∷ InputRefused ∷ Broken ∷ []) (λ texts. IsRun work (texts topology) (map texts plans) (texts schedule))
-    (λ texts. refused_behind (topology_of (texts topology)) (map texts plans) (texts schedule)) (λ texts. RunsTruly work (texts topology) (map texts plans) (texts schedule))
+    (λ texts. refused_behind (topology_of (texts topology)) (map texts plans) (texts schedule))
+    (λ texts. RunsTruly work (texts topology) (map texts plans) (texts schedule))
 
 abbrev pub IsUsage : May
 IsUsage bytes status =
@@ -60,7 +61,9 @@ IsUsage bytes status =
 -- each command, and words that are none
 abbrev pub task_of : Option Command → Task
 task_of None = once (Usage ∷ []) (λ texts. IsUsage)
-task_of (Some (Solo schedule)) = line_by_line (Done ∷ InputRefused ∷ []) (λ texts. IsSolo (texts schedule)) (λ texts. Some (refused_part solo_work (texts schedule))) (λ texts. ReportsTruly (reading solo_work (texts schedule)).taken)
+task_of (Some (Solo schedule)) =
+    line_by_line (Done ∷ InputRefused ∷ []) (λ texts. IsSolo (texts schedule)) (λ texts. Some (refused_part solo_work (texts schedule)))
+    (λ texts. ReportsTruly (reading solo_work (texts schedule)).taken)
 task_of (Some (PlanOf topology)) = once (Done ∷ PlanRefused ∷ InputRefused ∷ []) (λ texts. IsPlanOf (texts topology))
 task_of (Some (Check topology plan)) = once (Done ∷ PlanRefused ∷ InputRefused ∷ []) (λ texts. IsCheck (texts topology) (texts plan))
 task_of (Some (Renew topology plan absent)) = once (Done ∷ PlanRefused ∷ InputRefused ∷ []) (λ texts. IsRenewal (texts topology) (texts plan) (texts absent))
@@ -69,7 +72,8 @@ task_of (Some (Case number fabric)) = once (Done ∷ PlanRefused ∷ Broken ∷ 
 task_of (Some (Migrate topology)) = once (Done ∷ InputRefused ∷ []) (λ texts. IsMigration (texts topology))
 task_of (Some (Order topology plans schedule)) = over_schedule order_work topology plans schedule
 task_of (Some (Twoway topology exchanges)) =
-    line_by_line (Done ∷ InputRefused ∷ []) (λ texts. IsTwoway (texts topology) (texts exchanges)) (λ texts. refused_over (topology_of (texts topology)) (texts exchanges))
+    line_by_line (Done ∷ InputRefused ∷ []) (λ texts. IsTwoway (texts topology) (texts exchanges))
+    (λ texts. refused_over (topology_of (texts topology)) (texts exchanges))
     (λ texts. BoundsTruly (texts topology) (texts exchanges))
 task_of (Some (Drill topology plan budget)) = step_by_step (Done ∷ PlanRefused ∷ InputRefused ∷ []) (λ texts. IsDrill (texts topology) (texts plan) budget)
 

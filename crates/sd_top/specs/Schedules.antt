@@ -8,11 +8,11 @@ use Rattle.sd_solo.specs.Faults.{fault_name}
 use Rattle.sd_solo.specs.Histories.{refusal, bytes_of, done_text}
 use Rattle.sd_solo.specs.Lines.{solo_event}
 use Rattle.sd_solo.specs.Promises.{start_holds, drift_holds, reports_truly}
-use Rattle.sd_files.specs.Answering.{May}
-use Rattle.sd_files.specs.declared.Status.{Status}
-use Rattle.sd_files.specs.declared.Status.TheVariants.{Done}
-use Rattle.sd_work.specs.Works.{Work, IsOutcome, reading}
-use Rattle.sd_schedules.specs.Reasons.{line_reason}
+use Rattle.sd_cmd_files.specs.Answering.{May}
+use Rattle.sd_cmd_files.specs.declared.Status.{Status}
+use Rattle.sd_cmd_files.specs.declared.Status.TheVariants.{Done}
+use Rattle.sd_cmd_files.specs.work.Works.{Work, IsOutcome, reading}
+use Rattle.sd_cmd_replay.specs.Reasons.{line_reason}
 
 abbrev pub unless_refused : Option SoloFault → Event → Result Event (List ℕ)
 unless_refused None e = Ok e
@@ -39,11 +39,13 @@ solo_work =
 abbrev pub IsSolo : List ℕ → May
 IsSolo = IsOutcome solo_work
 
--- of each of these events, the newest first: where the clock that each start and fix set was right, and the oscillator kept its rates, up to that event, the report that it prints has its reference time inside
+-- of each of these events, the newest first: where the clock that each start and fix set was right, and the oscillator kept its rates, up to that event, the
+-- report that it prints has its reference time inside
 abbrev pub ReportsTruly : List Event → Type 0
 ReportsTruly [] = Unit {0}
 ReportsTruly (e ∷ earlier) = ReportsTruly earlier × (IsTrue (start_holds (e ∷ earlier)) → IsTrue (drift_holds (e ∷ earlier)) → IsTrue (reports_truly earlier e))
 
 -- a schedule that is not refused is done
 abbrev pub SoloCompletes : Type 0
-SoloCompletes = (schedule : List ℕ) → (reading solo_work schedule).refused ≡ None → (bytes : List ℕ) (status : Status) → IsSolo schedule bytes status → status ≡ Done
+SoloCompletes = (schedule : List ℕ) → (reading solo_work schedule).refused ≡ None → (bytes : List ℕ) (status : Status) → IsSolo schedule bytes status
+    → status ≡ Done

@@ -1,14 +1,14 @@
 -- What `twoway` writes and answers for the texts of a topology and of exchanges.
 use Rattle.std.specs.Prelude.{◌≡◌, ℕ, List, Option, None, Some, Result, Ok, Err}
 use Rattle.sd_topo.specs.Network.{Network}
-use Rattle.sd_files.specs.Answering.{May, After}
-use Rattle.sd_files.specs.Inputs.{topology_of}
-use Rattle.sd_files.specs.declared.Status.{Status}
-use Rattle.sd_files.specs.declared.Status.TheVariants.{Done}
-use Rattle.sd_files.specs.declared.ended.Refusal.{Refusal}
-use Rattle.sd_work.specs.Works.{IsOutcome, reading, refused_part}
-use Rattle.sd_exchanges.specs.Promises.{BoundsHold}
-use Rattle.sd_exchanges.specs.Twoways.{twoway_work}
+use Rattle.sd_cmd_files.specs.Answering.{May, After}
+use Rattle.sd_cmd_files.specs.Inputs.{topology_of}
+use Rattle.sd_cmd_files.specs.declared.Status.{Status}
+use Rattle.sd_cmd_files.specs.declared.Status.TheVariants.{Done}
+use Rattle.sd_cmd_files.specs.declared.command_error.Refusal.{Refusal}
+use Rattle.sd_cmd_files.specs.work.Works.{IsOutcome, reading, refused_part}
+use Rattle.sd_cmd_twoway.specs.Promises.{BoundsHold}
+use Rattle.sd_cmd_twoway.specs.Twoways.{twoway_work}
 
 abbrev pub IsTwoway : List ℕ → List ℕ → May
 IsTwoway topology exchanges bytes status = After (topology_of topology) (λ net. IsOutcome (twoway_work net) exchanges) bytes status
@@ -30,4 +30,5 @@ pub record AreRightExchanges (topology exchanges : List ℕ) : Type 0 where
 
 -- they are told so
 abbrev pub TwowayCompletes : Type 0
-TwowayCompletes = (topology exchanges : List ℕ) → AreRightExchanges topology exchanges → (bytes : List ℕ) (status : Status) → IsTwoway topology exchanges bytes status → status ≡ Done
+TwowayCompletes = (topology exchanges : List ℕ) → AreRightExchanges topology exchanges → (bytes : List ℕ) (status : Status)
+    → IsTwoway topology exchanges bytes status → status ≡ Done

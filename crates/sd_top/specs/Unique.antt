@@ -2,8 +2,8 @@
 use Rattle.std.specs.Prelude.{◌≡◌, ℕ, List, Option, Some}
 use Rattle.sd_topotext.specs.Meaning.{network_of}
 use Rattle.sd_topotext.specs.Reading.{tree_of}
-use Rattle.sd_files.specs.Texts.{Texts}
-use Rattle.sd_files.specs.declared.Status.{Status}
+use Rattle.sd_cmd_files.specs.Texts.{Texts}
+use Rattle.sd_cmd_files.specs.declared.Status.{Status}
 use Rattle.sd_top.specs.Promise.{Answers}
 use Rattle.sd_top.specs.Words.{Command}
 use Rattle.sd_top.specs.Words.Command.{Migrate}
@@ -15,4 +15,5 @@ Alike _ bytes other = bytes ≡ other
 
 abbrev pub HasOneAnswer : Type 0
 HasOneAnswer =
-    (command : Option Command) (texts : Texts) (bytes other : List ℕ) (status also : Status) → Answers command texts bytes status → Answers command texts other also → (status ≡ also) × Alike command bytes other
+    (command : Option Command) (texts : Texts) (bytes other : List ℕ) (status also : Status) → Answers command texts bytes status
+    → Answers command texts other also → (status ≡ also) × Alike command bytes other

@@ -2,9 +2,9 @@
 use Rattle.std.specs.Prelude.{◌≡◌, ◌≢◌, ◌↔◌, ℕ, All, List, ◌∷◌, Option, Ok}
 use Rattle.sd_topo.specs.Network.{Network}
 use Rattle.sd_topotext.specs.Printed.{with_version_two}
-use Rattle.sd_files.specs.Inputs.{topology_of}
-use Rattle.sd_files.specs.Texts.{Texts}
-use Rattle.sd_files.specs.declared.Status.{Status}
+use Rattle.sd_cmd_files.specs.Inputs.{topology_of}
+use Rattle.sd_cmd_files.specs.Texts.{Texts}
+use Rattle.sd_cmd_files.specs.declared.Status.{Status}
 use Rattle.sd_top.specs.Promise.{Answers}
 use Rattle.sd_top.specs.Words.{Command, File, OfTopology, files_of, name_of}
 
@@ -18,5 +18,7 @@ pub record IsRewritten (name : List ℕ) (before after : Texts) : Type 0 where
 -- no other file of the command has the topology's name
 abbrev pub MigrationLaw : Type 0
 MigrationLaw =
-    (command : Option Command) (topology : List ℕ) (others : List File) → files_of command ≡ OfTopology topology ∷ others → All (λ file. name_of file ≢ topology) others
-    → (before after : Texts) → IsRewritten topology before after → (bytes : List ℕ) (status : Status) → Answers command before bytes status ↔ Answers command after bytes status
+    (command : Option Command) (topology : List ℕ) (others : List File) → files_of command ≡ OfTopology topology ∷ others
+    → All (λ file. name_of file ≢ topology) others
+    → (before after : Texts) → IsRewritten topology before after → (bytes : List ℕ) (status : Status)
+    → Answers command before bytes status ↔ Answers command after bytes status

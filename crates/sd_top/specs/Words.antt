@@ -5,7 +5,7 @@ use Rattle.sd_num.specs.Decimals.{number}
 use Rattle.sd_num.specs.Lists.{of_some}
 use Rattle.sd_num.specs.declared.NumFault.{NumFault}
 use Rattle.sd_drill.specs.declared.Budget.{Budget}
-use Rattle.sd_case.specs.declared.Fabric.{Fabric}
+use Rattle.sd_cmd_case.specs.declared.Fabric.{Fabric}
 
 -- a command, with the names of its files and its numbers
 pub data Command : Type 0 where

@@ -3,15 +3,15 @@ ghost use Rattle.std.specs.Prelude.{◌≡◌, ◌≤◌, [], ◌∷◌, Err, Is
 ghost use Rattle.sd_outside.specs.Causes.{Rose};
 ghost use Rattle.sd_plan.specs.Plans.{Fits};
 ghost use Rattle.sd_topo.specs.Topologies.{network};
-ghost use Rattle.sd_files.specs.Answering.{After};
-ghost use Rattle.sd_files.specs.Inputs.{plan_in_file};
-ghost use Rattle.sd_files.specs.Texts.{texts_of};
-ghost use Rattle.sd_files.specs.Writes.{Makes};
+ghost use Rattle.sd_cmd_files.specs.Answering.{After};
+ghost use Rattle.sd_cmd_files.specs.Inputs.{plan_in_file};
+ghost use Rattle.sd_cmd_files.specs.Texts.{texts_of};
+ghost use Rattle.sd_cmd_files.specs.Writes.{Makes};
 ghost use Rattle.sd_top.specs.Checks.{IsCheck, IsJudged, verdict_status, verdict_text};
 ghost use Rattle.sd_top.specs.Gives.{GivesAmong};
 
-use sd_checker::{Verdict, accepted_line, check as check_plan, refused_line};
-use sd_files::{Answer, Ended, Status, load_plan, load_topology};
+use sd_checker::{Verdict, accepted_line, check as check_plan};
+use sd_cmd_files::{Answer, CommandError, Status, load_plan, load_topology, refused_plan};
 use sd_outside::Shelf;
 use sd_plan::Plan;
 use sd_topo::Topology;
@@ -23,12 +23,14 @@ pub fn check<S: Shelf>(
     shelf: &mut S,
     topology: &str,
     plan: &str,
-) -> Result<Answer, Ended>
+) -> Result<Answer, CommandError>
     requires topology { IsTrue (S.serves shelf.old topology.now) }
     requires plan { IsTrue (S.serves shelf.old plan.now) }
-    ensures makes { IfSome (S.held shelf.old) (λ held. Makes (IsCheck (texts_of held topology.now) (texts_of held plan.now)) result) }
+    ensures makes { IfSome (S.held shelf.old)
+        (λ held. Makes (IsCheck (texts_of held topology.now) (texts_of held plan.now)) result) }
     ensures gives { GivesAmong (Status.Done ∷ Status.PlanRefused ∷ Status.InputRefused ∷ []) result }
-    ensures shelf { result ≡ Err Ended.Shelf → Rose (S.faults shelf.old) (S.faults shelf.new) }
+    ensures shelf { result ≡ Err CommandError.Shelf
+        → Rose (S.faults shelf.old) (S.faults shelf.new) }
 {
     let topo = load_topology(alloc, shelf, topology)?;
     check_over(alloc, shelf, &topo, plan)
@@ -42,11 +44,15 @@ fn check_over<S: Shelf>(
     shelf: &mut S,
     topo: &Topology,
     plan: &str,
-) -> Result<Answer, Ended>
+) -> Result<Answer, CommandError>
     requires { IsTrue (S.serves shelf.old plan.now) }
-    ensures makes { IfSome (S.held shelf.old) (λ held. Makes (After (plan_in_file (network topo.now) 1 (texts_of held plan.now)) (IsJudged (network topo.now))) result) }
+    ensures makes { IfSome (S.held shelf.old)
+        (λ held. Makes
+        (After (plan_in_file (network topo.now) 1 (texts_of held plan.now))
+        (IsJudged (network topo.now))) result) }
     ensures gives { GivesAmong (Status.Done ∷ Status.PlanRefused ∷ Status.InputRefused ∷ []) result }
-    ensures shelf { result ≡ Err Ended.Shelf → Rose (S.faults shelf.old) (S.faults shelf.new) }
+    ensures shelf { result ≡ Err CommandError.Shelf
+        → Rose (S.faults shelf.old) (S.faults shelf.new) }
     ensures later { S.faults shelf.old ≤ S.faults shelf.new }
 {
     let plan = load_plan(alloc, shelf, plan, topo, 1)?;
@@ -54,30 +60,27 @@ fn check_over<S: Shelf>(
 }
 
 /// Judges a plan.
-fn judge(alloc: Global, topo: &Topology, plan: &Plan) -> Result<Answer, Ended>
+fn judge(alloc: Global, topo: &Topology, plan: &Plan) -> Result<Answer, CommandError>
     requires { Fits (network topo.now) plan.now }
     ensures makes { Makes (IsJudged (network topo.now) plan.now) result }
     ensures gives { GivesAmong (Status.Done ∷ Status.PlanRefused ∷ Status.InputRefused ∷ []) result }
-    ensures only { IfErr result (λ why. why ≡ Ended.Memory) }
+    ensures only { IfErr result (λ why. why ≡ CommandError.Memory) }
 {
     let verdict = check_plan(alloc, topo, plan)?;
     verdict_answer(alloc, topo, &verdict)
 }
 
 /// The line of a verdict, and its status.
-fn verdict_answer(alloc: Global, topo: &Topology, verdict: &Verdict) -> Result<Answer, Ended>
+fn verdict_answer(alloc: Global, topo: &Topology, verdict: &Verdict) -> Result<Answer, CommandError>
     ensures text { IfOk result (λ answer. answer.text.items ≡ verdict_text (network topo.now) verdict.now) }
     ensures status { IfOk result (λ answer. answer.status ≡ verdict_status verdict.now) }
-    ensures only { IfErr result (λ why. why ≡ Ended.Memory) }
+    ensures only { IfErr result (λ why. why ≡ CommandError.Memory) }
 {
     match verdict {
         Verdict::Accepted => Ok(Answer {
             text: accepted_line(alloc, topo)?.into_bytes(),
             status: Status::Done,
         }),
-        Verdict::Refused(breach) => Ok(Answer {
-            text: refused_line(alloc, topo, 1, breach)?.into_bytes(),
-            status: Status::PlanRefused,
-        }),
+        Verdict::Refused(breach) => Ok(refused_plan(alloc, topo, 1, breach)?),
     }
 }

@@ -6,17 +6,17 @@ ghost use Rattle.sd_drill.specs.Bounds.{IsBudget};
 ghost use Rattle.sd_outside.specs.Causes.{Rose};
 ghost use Rattle.sd_plan.specs.Plans.{Fits};
 ghost use Rattle.sd_topo.specs.Topologies.{network};
-ghost use Rattle.sd_planfiles.specs.PlanFiles.{AfterJudged, AfterPlan};
-ghost use Rattle.sd_files.specs.Statuses.{is_among};
-ghost use Rattle.sd_files.specs.Texts.{texts_of};
-ghost use Rattle.sd_files.specs.Writes.{Adds};
+ghost use Rattle.sd_cmd_files.specs.planfiles.PlanFiles.{AfterJudged, AfterPlan};
+ghost use Rattle.sd_cmd_files.specs.Statuses.{is_among};
+ghost use Rattle.sd_cmd_files.specs.Texts.{texts_of};
+ghost use Rattle.sd_cmd_files.specs.Writes.{Adds};
 ghost use Rattle.sd_top.specs.Drills.{IsDrill, IsDrilled};
-ghost use Rattle.sd_work.specs.Leaving.{LeavesAt};
+ghost use Rattle.sd_cmd_files.specs.work.Leaving.{LeavesAt};
 
-use sd_checker::{Breach, Verdict, check, refused_line};
+use sd_checker::{Breach, Verdict, check};
+use sd_cmd_drill::write_drill;
+use sd_cmd_files::{IoError, Status, load_plan, load_topology, refused_plan, send, write_answer};
 use sd_drill::Budget;
-use sd_drilling::write_drill;
-use sd_files::{Status, Stop, load_plan, load_topology, send, write_answer};
 use sd_num::NoMemory;
 use sd_outside::{Shelf, Sink};
 use sd_plan::Plan;
@@ -32,14 +32,19 @@ pub fn drill<S: Shelf, O: Sink>(
     plan: &str,
     budget: Budget,
     out: &mut O,
-) -> Result<Status, Stop>
+) -> Result<Status, IoError>
     requires topology { IsTrue (S.serves shelf.old topology.now) }
     requires plan { IsTrue (S.serves shelf.old plan.now) }
     requires budget { IsBudget budget }
-    ensures outcome { IfSome (S.held shelf.old) (λ held. LeavesAt true (IsDrill (texts_of held topology.now) (texts_of held plan.now) budget) (O.written out.old) (O.written out.new) result) }
-    ensures gives { IfOk result (λ status. IsTrue (is_among (Status.Done ∷ Status.PlanRefused ∷ Status.InputRefused ∷ []) status)) }
-    ensures shelf { result ≡ Err Stop.Shelf → Rose (S.faults shelf.old) (S.faults shelf.new) }
-    ensures sink { result ≡ Err Stop.Sink → Rose (O.faults out.old) (O.faults out.new) }
+    ensures outcome { IfSome (S.held shelf.old)
+        (λ held. LeavesAt true
+        (IsDrill (texts_of held topology.now) (texts_of held plan.now) budget) (O.written out.old)
+        (O.written out.new) result) }
+    ensures gives { IfOk result
+        (λ status. IsTrue
+        (is_among (Status.Done ∷ Status.PlanRefused ∷ Status.InputRefused ∷ []) status)) }
+    ensures shelf { result ≡ Err IoError.Shelf → Rose (S.faults shelf.old) (S.faults shelf.new) }
+    ensures sink { result ≡ Err IoError.Sink → Rose (O.faults out.old) (O.faults out.new) }
 {
     match load_topology(alloc, shelf, topology) {
         Ok(topo) => drill_over(alloc, shelf, &topo, plan, budget, out),
@@ -55,13 +60,18 @@ fn drill_over<S: Shelf, O: Sink>(
     plan: &str,
     budget: Budget,
     out: &mut O,
-) -> Result<Status, Stop>
+) -> Result<Status, IoError>
     requires plan { IsTrue (S.serves shelf.old plan.now) }
     requires budget { IsBudget budget }
-    ensures outcome { IfSome (S.held shelf.old) (λ held. LeavesAt true (AfterPlan (network topo.now) 1 (texts_of held plan.now) (IsDrilled (network topo.now) budget)) (O.written out.old) (O.written out.new) result) }
-    ensures gives { IfOk result (λ status. IsTrue (is_among (Status.Done ∷ Status.PlanRefused ∷ Status.InputRefused ∷ []) status)) }
-    ensures shelf { result ≡ Err Stop.Shelf → Rose (S.faults shelf.old) (S.faults shelf.new) }
-    ensures sink { result ≡ Err Stop.Sink → Rose (O.faults out.old) (O.faults out.new) }
+    ensures outcome { IfSome (S.held shelf.old)
+        (λ held. LeavesAt true
+        (AfterPlan (network topo.now) 1 (texts_of held plan.now)
+        (IsDrilled (network topo.now) budget)) (O.written out.old) (O.written out.new) result) }
+    ensures gives { IfOk result
+        (λ status. IsTrue
+        (is_among (Status.Done ∷ Status.PlanRefused ∷ Status.InputRefused ∷ []) status)) }
+    ensures shelf { result ≡ Err IoError.Shelf → Rose (S.faults shelf.old) (S.faults shelf.new) }
+    ensures sink { result ≡ Err IoError.Sink → Rose (O.faults out.old) (O.faults out.new) }
     ensures later { S.faults shelf.old ≤ S.faults shelf.new }
 {
     match load_plan(alloc, shelf, plan, topo, 1) {
@@ -77,18 +87,22 @@ fn drill_plan<O: Sink>(
     plan: &Plan,
     budget: Budget,
     out: &mut O,
-) -> Result<Status, Stop>
+) -> Result<Status, IoError>
     requires fits { Fits (network topo.now) plan.now }
     requires budget { IsBudget budget }
-    ensures outcome { LeavesAt true (AfterJudged (network topo.now) 1 plan.now (IsDrilled (network topo.now) budget plan.now)) (O.written out.old) (O.written out.new) result }
-    ensures gives { IfOk result (λ status. IsTrue (is_among (Status.Done ∷ Status.PlanRefused ∷ Status.InputRefused ∷ []) status)) }
-    ensures never_shelf { result ≢ Err Stop.Shelf }
-    ensures sink { result ≡ Err Stop.Sink → Rose (O.faults out.old) (O.faults out.new) }
+    ensures outcome { LeavesAt true
+        (AfterJudged (network topo.now) 1 plan.now (IsDrilled (network topo.now) budget plan.now))
+        (O.written out.old) (O.written out.new) result }
+    ensures gives { IfOk result
+        (λ status. IsTrue
+        (is_among (Status.Done ∷ Status.PlanRefused ∷ Status.InputRefused ∷ []) status)) }
+    ensures never_shelf { result ≢ Err IoError.Shelf }
+    ensures sink { result ≡ Err IoError.Sink → Rose (O.faults out.old) (O.faults out.new) }
 {
     match check(alloc, topo, plan) {
         Ok(Verdict::Accepted) => write_drill(alloc, topo, plan, budget, out),
         Ok(Verdict::Refused(breach)) => refuse(alloc, topo, &breach, out),
-        Err(NoMemory) => Err(Stop::Memory),
+        Err(NoMemory) => Err(IoError::Memory),
     }
 }
 
@@ -98,13 +112,14 @@ fn refuse<O: Sink>(
     topo: &Topology,
     breach: &Breach,
     out: &mut O,
-) -> Result<Status, Stop>
-    ensures writes { Adds (text.refused_line (network topo.now) 1 breach.now) (O.written out.old) (O.written out.new) result }
+) -> Result<Status, IoError>
+    ensures writes { Adds (text.refused_line (network topo.now) 1 breach.now) (O.written out.old)
+        (O.written out.new) result }
     ensures status { IfOk result (λ status. status ≡ Status.PlanRefused) }
-    ensures never_shelf { result ≢ Err Stop.Shelf }
-    ensures sink { result ≡ Err Stop.Sink → Rose (O.faults out.old) (O.faults out.new) }
+    ensures never_shelf { result ≢ Err IoError.Shelf }
+    ensures sink { result ≡ Err IoError.Sink → Rose (O.faults out.old) (O.faults out.new) }
 {
-    let line = refused_line(alloc, topo, 1, breach)?;
-    send(out, line.as_bytes())?;
-    Ok(Status::PlanRefused)
+    let answer = refused_plan(alloc, topo, 1, breach)?;
+    send(out, answer.text.as_slice())?;
+    Ok(answer.status)
 }

@@ -1,4 +1,7 @@
-//! The whole work of the program, over any shelf and any sink.
+//! The whole work of the program, over any shelf and any sink: `run`, with all that is promised of it.
+//!
+//! It joins the commands (`sd_cmd_..`) with the proofs that an accepted plan is safe, that no report is
+//! above its number of a drill, and that no alarm is written before the first broken premise.
 #![tactic(auto)]
 
 mod check;
@@ -14,5 +17,5 @@ mod top;
 mod twoway;
 mod words;
 
-pub use sd_files::Status;
+pub use sd_cmd_files::Status;
 pub use top::run;

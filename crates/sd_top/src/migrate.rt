@@ -2,33 +2,39 @@
 ghost use Rattle.std.specs.Prelude.{◌≡◌, [], ◌∷◌, Err, IsTrue, IfErr, IfSome};
 ghost use Rattle.sd_outside.specs.Causes.{Rose};
 ghost use Rattle.sd_topo.specs.Topologies.{network};
-ghost use Rattle.sd_files.specs.Texts.{texts_of};
-ghost use Rattle.sd_files.specs.Writes.{Makes};
+ghost use Rattle.sd_cmd_files.specs.Texts.{texts_of};
+ghost use Rattle.sd_cmd_files.specs.Writes.{Makes};
 ghost use Rattle.sd_top.specs.Gives.{GivesAmong};
 ghost use Rattle.sd_top.specs.Migration.{IsMigrated, IsMigration};
 
-use sd_files::{Answer, Ended, Status, load_topology};
+use sd_cmd_files::{Answer, CommandError, Status, load_topology};
 use sd_outside::Shelf;
 use sd_topo::Topology;
 use sd_topotext::topology_text;
 use std::alloc::Global;
 
 /// Makes the text of the same topology with version 2.
-pub fn migrate<S: Shelf>(alloc: Global, shelf: &mut S, topology: &str) -> Result<Answer, Ended>
+pub fn migrate<S: Shelf>(
+    alloc: Global,
+    shelf: &mut S,
+    topology: &str,
+) -> Result<Answer, CommandError>
     requires { IsTrue (S.serves shelf.old topology.now) }
-    ensures makes { IfSome (S.held shelf.old) (λ held. Makes (IsMigration (texts_of held topology.now)) result) }
+    ensures makes { IfSome (S.held shelf.old)
+        (λ held. Makes (IsMigration (texts_of held topology.now)) result) }
     ensures gives { GivesAmong (Status.Done ∷ Status.InputRefused ∷ []) result }
-    ensures shelf { result ≡ Err Ended.Shelf → Rose (S.faults shelf.old) (S.faults shelf.new) }
+    ensures shelf { result ≡ Err CommandError.Shelf
+        → Rose (S.faults shelf.old) (S.faults shelf.new) }
 {
     let topo = load_topology(alloc, shelf, topology)?;
     migrated(alloc, &topo)
 }
 
 /// The text of a topology with version 2, which is lent and so dropped in one place, as in `check`.
-fn migrated(alloc: Global, topo: &Topology) -> Result<Answer, Ended>
+fn migrated(alloc: Global, topo: &Topology) -> Result<Answer, CommandError>
     ensures makes { Makes (IsMigrated (network topo.now)) result }
     ensures gives { GivesAmong (Status.Done ∷ Status.InputRefused ∷ []) result }
-    ensures only { IfErr result (λ why. why ≡ Ended.Memory) }
+    ensures only { IfErr result (λ why. why ≡ CommandError.Memory) }
 {
     let text = topology_text(alloc, topo)?;
     Ok(Answer {

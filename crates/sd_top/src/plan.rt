@@ -2,34 +2,35 @@
 ghost use Rattle.std.specs.Prelude.{◌≡◌, [], ◌∷◌, Err, IsTrue, IfErr, IfSome};
 ghost use Rattle.sd_outside.specs.Causes.{Rose};
 ghost use Rattle.sd_topo.specs.Topologies.{network};
-ghost use Rattle.sd_files.specs.Texts.{texts_of};
-ghost use Rattle.sd_files.specs.Writes.{Makes};
+ghost use Rattle.sd_cmd_files.specs.Texts.{texts_of};
+ghost use Rattle.sd_cmd_files.specs.Writes.{Makes};
 ghost use Rattle.sd_top.specs.Gives.{GivesAmong};
 ghost use Rattle.sd_top.specs.Plannings.{IsPlanOf, IsPlanning, first_root, nothing};
 
 use crate::planning::planning;
-use sd_files::{Answer, Ended, Status, load_topology};
+use sd_cmd_files::{Answer, CommandError, Status, load_topology};
 use sd_outside::Shelf;
 use sd_plan::{Absent, DeviceList};
 use sd_topo::Topology;
 use std::alloc::Global;
 
 /// Makes the plan of a topology.
-pub fn plan<S: Shelf>(alloc: Global, shelf: &mut S, topology: &str) -> Result<Answer, Ended>
+pub fn plan<S: Shelf>(alloc: Global, shelf: &mut S, topology: &str) -> Result<Answer, CommandError>
     requires { IsTrue (S.serves shelf.old topology.now) }
     ensures makes { IfSome (S.held shelf.old) (λ held. Makes (IsPlanOf (texts_of held topology.now)) result) }
     ensures gives { GivesAmong (Status.Done ∷ Status.PlanRefused ∷ Status.InputRefused ∷ []) result }
-    ensures shelf { result ≡ Err Ended.Shelf → Rose (S.faults shelf.old) (S.faults shelf.new) }
+    ensures shelf { result ≡ Err CommandError.Shelf
+        → Rose (S.faults shelf.old) (S.faults shelf.new) }
 {
     let topo = load_topology(alloc, shelf, topology)?;
     plan_whole(alloc, &topo)
 }
 
 /// The greedy plan from the first candidate, with nothing absent.
-fn plan_whole(alloc: Global, topo: &Topology) -> Result<Answer, Ended>
+fn plan_whole(alloc: Global, topo: &Topology) -> Result<Answer, CommandError>
     ensures makes { Makes (IsPlanning (network topo.now) (first_root (network topo.now)) nothing) result }
     ensures gives { GivesAmong (Status.Done ∷ Status.PlanRefused ∷ Status.InputRefused ∷ []) result }
-    ensures only { IfErr result (λ why. why ≡ Ended.Memory) }
+    ensures only { IfErr result (λ why. why ≡ CommandError.Memory) }
 {
     let absent = Absent {
         devices: DeviceList::new(alloc),

@@ -3,16 +3,16 @@ ghost use Rattle.std.specs.Prelude.{◌≡◌, ◌≤◌, [], ◌∷◌, Err, Is
 ghost use Rattle.sd_num.specs.Lists.{ascends};
 ghost use Rattle.sd_outside.specs.Causes.{Rose};
 ghost use Rattle.sd_topo.specs.Topologies.{network};
-ghost use Rattle.sd_files.specs.Answering.{After};
-ghost use Rattle.sd_files.specs.Inputs.{absent_in_file, plan_in_file};
-ghost use Rattle.sd_files.specs.Texts.{texts_of};
-ghost use Rattle.sd_files.specs.Writes.{Makes};
+ghost use Rattle.sd_cmd_files.specs.Answering.{After};
+ghost use Rattle.sd_cmd_files.specs.Inputs.{absent_in_file, plan_in_file};
+ghost use Rattle.sd_cmd_files.specs.Texts.{texts_of};
+ghost use Rattle.sd_cmd_files.specs.Writes.{Makes};
 ghost use Rattle.sd_top.specs.Gives.{GivesAmong};
 ghost use Rattle.sd_top.specs.Plannings as plannings;
 ghost use Rattle.sd_top.specs.Plannings.{IsPlanning, IsRenewal};
 
 use crate::planning::planning;
-use sd_files::{Answer, Ended, Status, load_absent, load_plan, load_topology};
+use sd_cmd_files::{Answer, CommandError, Status, load_absent, load_plan, load_topology};
 use sd_num::contains;
 use sd_outside::Shelf;
 use sd_plan::{Absent, Plan};
@@ -26,13 +26,17 @@ pub fn renew<S: Shelf>(
     topology: &str,
     plan: &str,
     absent: &str,
-) -> Result<Answer, Ended>
+) -> Result<Answer, CommandError>
     requires topology { IsTrue (S.serves shelf.old topology.now) }
     requires plan { IsTrue (S.serves shelf.old plan.now) }
     requires absent { IsTrue (S.serves shelf.old absent.now) }
-    ensures makes { IfSome (S.held shelf.old) (λ held. Makes (IsRenewal (texts_of held topology.now) (texts_of held plan.now) (texts_of held absent.now)) result) }
+    ensures makes { IfSome (S.held shelf.old)
+        (λ held. Makes
+        (IsRenewal (texts_of held topology.now) (texts_of held plan.now) (texts_of held absent.now))
+        result) }
     ensures gives { GivesAmong (Status.Done ∷ Status.PlanRefused ∷ Status.InputRefused ∷ []) result }
-    ensures shelf { result ≡ Err Ended.Shelf → Rose (S.faults shelf.old) (S.faults shelf.new) }
+    ensures shelf { result ≡ Err CommandError.Shelf
+        → Rose (S.faults shelf.old) (S.faults shelf.new) }
 {
     let topo = load_topology(alloc, shelf, topology)?;
     renew_over(alloc, shelf, &topo, plan, absent)
@@ -46,12 +50,17 @@ fn renew_over<S: Shelf>(
     topo: &Topology,
     plan: &str,
     absent: &str,
-) -> Result<Answer, Ended>
+) -> Result<Answer, CommandError>
     requires plan { IsTrue (S.serves shelf.old plan.now) }
     requires absent { IsTrue (S.serves shelf.old absent.now) }
-    ensures makes { IfSome (S.held shelf.old) (λ held. Makes (After (plan_in_file (network topo.now) 1 (texts_of held plan.now)) (λ old. After (absent_in_file (network topo.now) (texts_of held absent.now)) (λ left. IsPlanning (network topo.now) (plannings.renewed_root old left) left))) result) }
+    ensures makes { IfSome (S.held shelf.old)
+        (λ held. Makes
+        (After (plan_in_file (network topo.now) 1 (texts_of held plan.now))
+        (λ old. After (absent_in_file (network topo.now) (texts_of held absent.now))
+        (λ left. IsPlanning (network topo.now) (plannings.renewed_root old left) left))) result) }
     ensures gives { GivesAmong (Status.Done ∷ Status.PlanRefused ∷ Status.InputRefused ∷ []) result }
-    ensures shelf { result ≡ Err Ended.Shelf → Rose (S.faults shelf.old) (S.faults shelf.new) }
+    ensures shelf { result ≡ Err CommandError.Shelf
+        → Rose (S.faults shelf.old) (S.faults shelf.new) }
     ensures later { S.faults shelf.old ≤ S.faults shelf.new }
 {
     let old = load_plan(alloc, shelf, plan, topo, 1)?;

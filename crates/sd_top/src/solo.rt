@@ -1,21 +1,21 @@
 //! `solo`: the schedule of one device, line by line, and what is written for it.
 ghost use Rattle.std.specs.Prelude.{◌≡◌, ◌≤◌, [], ◌∷◌, true, Ok, Err, Some, IsTrue, IfOk, IfSome};
 ghost use Rattle.sd_outside.specs.Causes.{Rose};
-ghost use Rattle.sd_stream.specs.Reader.{IsNear};
-ghost use Rattle.sd_files.specs.Statuses.{is_among};
-ghost use Rattle.sd_work.specs.Leaving.{LeavesAt};
-ghost use Rattle.sd_work.specs.Works.{refused_part};
+ghost use Rattle.sd_cmd_files.specs.Stream.Reader.{IsNear};
+ghost use Rattle.sd_cmd_files.specs.Statuses.{is_among};
+ghost use Rattle.sd_cmd_files.specs.work.Leaving.{LeavesAt};
+ghost use Rattle.sd_cmd_files.specs.work.Works.{refused_part};
 ghost use Rattle.sd_top.specs.Schedules.{IsSolo, solo_work};
 
 use crate::lines::{print_done, print_report};
 use crate::reasons::print_solo_fault;
-use sd_files::{Status, Stop, send};
+use sd_cmd_files::work::{LineWork, Taken, work_through};
+use sd_cmd_files::{IoError, Status, send};
+use sd_cmd_replay::print_line_fault;
 use sd_num::NoMemory;
 use sd_outside::{LineBuffer, Shelf, Sink};
 use sd_sched::Event;
-use sd_schedules::print_line_fault;
 use sd_solo::{Solo, read_solo_line};
-use sd_work::{LineWork, Taken, work_through};
 use std::alloc::Global;
 
 /// A device alone, and the line that was printed for its latest event. It takes no memory.
@@ -29,7 +29,7 @@ impl LineWork for Alone {
     ghost use Rattle.std.specs.Prelude.{[], ◌∷◌};
     ghost use Rattle.sd_top.specs.Alone.{IsAlone};
     ghost use Rattle.sd_outside.specs.Printed.{printed as bytes_in};
-    ghost use Rattle.sd_files.specs.declared.Status.TheVariants.{Done};
+    ghost use Rattle.sd_cmd_files.specs.declared.Status.TheVariants.{Done};
 
     type Item = Event;
 
@@ -66,7 +66,7 @@ impl LineWork for Alone {
         self.device.ended()
     }
 
-    fn finish<O: Sink>(&mut self, _alloc: Global, out: &mut O) -> Result<Status, Stop> {
+    fn finish<O: Sink>(&mut self, _alloc: Global, out: &mut O) -> Result<Status, IoError> {
         print_done(&mut self.line, self.device.events(), self.device.reports());
         send(out, self.line.printed())?;
         Ok(Status::Done)
@@ -83,20 +83,24 @@ pub fn replay_solo<S: Shelf, O: Sink>(
     alloc: Global,
     shelf: &mut S,
     out: &mut O,
-) -> Result<Status, Stop>
+) -> Result<Status, IoError>
     requires { IsTrue (S.begun shelf.old) }
-    ensures outcome { IfSome (S.rest shelf.old) (λ text. LeavesAt true (IsSolo text) (O.written out.old) (O.written out.new) result) }
-    ensures gives { IfOk result (λ status. IsTrue (is_among (Status.Done ∷ Status.InputRefused ∷ []) status)) }
-    ensures near { result ≡ Ok Status.InputRefused → IfSome (S.rest shelf.old) (λ text. IsNear (Some (refused_part solo_work text)) (S.rest shelf.new)) }
-    ensures shelf { result ≡ Err Stop.Shelf → Rose (S.faults shelf.old) (S.faults shelf.new) }
-    ensures sink { result ≡ Err Stop.Sink → Rose (O.faults out.old) (O.faults out.new) }
+    ensures outcome { IfSome (S.rest shelf.old)
+        (λ text. LeavesAt true (IsSolo text) (O.written out.old) (O.written out.new) result) }
+    ensures gives { IfOk result
+        (λ status. IsTrue (is_among (Status.Done ∷ Status.InputRefused ∷ []) status)) }
+    ensures near { result ≡ Ok Status.InputRefused
+        → IfSome (S.rest shelf.old)
+        (λ text. IsNear (Some (refused_part solo_work text)) (S.rest shelf.new)) }
+    ensures shelf { result ≡ Err IoError.Shelf → Rose (S.faults shelf.old) (S.faults shelf.new) }
+    ensures sink { result ≡ Err IoError.Sink → Rose (O.faults out.old) (O.faults out.new) }
     ensures begun { IsTrue (S.begun shelf.new) }
     ensures later { S.faults shelf.old ≤ S.faults shelf.new }
     ensures same_held { S.held shelf.new ≡ S.held shelf.old }
 {
     let line = match LineBuffer::new(alloc) {
         Ok(line) => line,
-        Err(_) => return Err(Stop::Memory),
+        Err(_) => return Err(IoError::Memory),
     };
     let alone = Alone {
         device: Solo::new(),

@@ -1,16 +1,16 @@
 //! `run`: the command of the words.
 ghost use Rattle.std.specs.Prelude.{◌≡◌, ◌⊎◌, [], ◌∷◌, false, true, All, Err, IfOk, IfSome, IsTrue, None, Ok, Some, map, string_bytes};
 ghost use Rattle.sd_outside.specs.Causes.{Rose};
-ghost use Rattle.sd_stream.specs.Reader.{IsNear};
-ghost use Rattle.sd_files.specs.Statuses.{is_among, stop_of};
-ghost use Rattle.sd_files.specs.Texts.{texts_of};
-ghost use Rattle.sd_work.specs.Leaving.{LeavesAt};
-ghost use Rattle.sd_work.specs.Works.{refused_part};
+ghost use Rattle.sd_cmd_files.specs.Stream.Reader.{IsNear};
+ghost use Rattle.sd_cmd_files.specs.Statuses.{is_among, stop_of};
+ghost use Rattle.sd_cmd_files.specs.Texts.{texts_of};
+ghost use Rattle.sd_cmd_files.specs.work.Leaving.{LeavesAt};
+ghost use Rattle.sd_cmd_files.specs.work.Works.{refused_part};
+ghost use Rattle.sd_top.specs.Bounds.{MeetsBounds};
 ghost use Rattle.sd_top.specs.Ends.{MeetsResult};
 ghost use Rattle.sd_top.specs.Headlines.{MeetsHeadline};
 ghost use Rattle.sd_top.specs.Laws.{Laws};
 ghost use Rattle.sd_top.specs.Promise.{IsNearRefusal, IsUsage, KeepsPromise, MeetsOutcome, task_of};
-ghost use Rattle.sd_top.specs.Safe.{AreSafe};
 ghost use Rattle.sd_top.specs.Schedules.{IsSolo, solo_work};
 ghost use Rattle.sd_top.specs.Words as meaning;
 ghost use Rattle.sd_top.specs.Words.{files_of, name_of};
@@ -23,10 +23,10 @@ use crate::renew::renew;
 use crate::solo::replay_solo;
 use crate::twoway::twoway;
 use crate::words::{Command, command_of};
-use sd_case::case;
-use sd_files::{Status, Stop, write_answer};
+use sd_cmd_case::case;
+use sd_cmd_files::{IoError, Status, write_answer};
+use sd_cmd_replay::{order, replay};
 use sd_outside::{Shelf, Sink};
-use sd_schedules::{order, replay};
 use std::alloc::Global;
 
 /// Does the work of the words that follow the program's name, and answers how it ended.
@@ -43,22 +43,33 @@ use std::alloc::Global;
 /// ```
 pub fn run<S: Shelf, O: Sink>(alloc: Global, words: &[String], shelf: &mut S, out: &mut O) -> Status
     requires fresh { S.begun shelf.old ≡ false }
-    requires serves { All (λ file. IsTrue (S.serves shelf.old (name_of file))) (files_of (meaning.command_of (map string_bytes words.now))) }
+    requires serves { All (λ file. IsTrue (S.serves shelf.old (name_of file)))
+        (files_of (meaning.command_of (map string_bytes words.now))) }
 
     // Over a shelf that tells its texts: what the words write and answer.
-    ensures outcome { MeetsOutcome (S.held shelf.old) (map string_bytes words.now) (O.written out.old) (O.written out.new) result }
-    ensures near { result ≡ Status.InputRefused → IsNearRefusal (S.held shelf.old) (map string_bytes words.now) (S.rest shelf.new) }
+    ensures outcome { MeetsOutcome (S.held shelf.old) (map string_bytes words.now) (O.written out.old)
+        (O.written out.new) result }
+    ensures near { result ≡ Status.InputRefused
+        → IsNearRefusal (S.held shelf.old) (map string_bytes words.now) (S.rest shelf.new) }
     ensures promise { KeepsPromise (S.held shelf.old) (map string_bytes words.now) }
-    // where clean histories are safe, which `sd_run` shows of all
-    ensures headline { AreSafe → MeetsHeadline (S.held shelf.old) (map string_bytes words.now) (O.written out.old) (O.written out.new) }
+    // no alarm before the first broken premise, in all that this run added to what was written
+    ensures headline { MeetsHeadline (S.held shelf.old) (map string_bytes words.now) (O.written out.old)
+        (O.written out.new) }
+    // no report above the number that a drill prints for its device, in any history that meets the premises of the drill
+    ensures bounds { MeetsBounds (S.held shelf.old) (map string_bytes words.now) }
 
     // Over every shelf and sink: a run that is not stopped gives one of the command's statuses, and
     // the outside is blamed only where it failed in this call.
-    ensures gives { stop_of result ≡ None → IsTrue (is_among (task_of (meaning.command_of (map string_bytes words.now))).gives result) }
-    ensures usage { meaning.command_of (map string_bytes words.now) ≡ None → (result ≡ Status.Usage) ⊎ (result ≡ Status.SinkFault) }
+    ensures gives { stop_of result ≡ None
+        → IsTrue (is_among (task_of (meaning.command_of (map string_bytes words.now))).gives
+        result) }
+    ensures usage { meaning.command_of (map string_bytes words.now) ≡ None
+        → (result ≡ Status.Usage) ⊎ (result ≡ Status.SinkFault) }
     ensures shelf { result ≡ Status.ShelfFault → Rose (S.faults shelf.old) (S.faults shelf.new) }
     ensures sink { result ≡ Status.SinkFault → Rose (O.faults out.old) (O.faults out.new) }
-    ensures complete { (Rose (S.faults shelf.old) (S.faults shelf.new) → ⊥) → (Rose (O.faults out.old) (O.faults out.new) → ⊥) → (stop_of result ≡ None) ⊎ (result ≡ Status.Memory) }
+    ensures complete { (Rose (S.faults shelf.old) (S.faults shelf.new) → ⊥)
+        → (Rose (O.faults out.old) (O.faults out.new) → ⊥)
+        → (stop_of result ≡ None) ⊎ (result ≡ Status.Memory) }
 
     // Of the answers themselves.
     ensures laws { Laws }
@@ -75,14 +86,20 @@ fn perform<S: Shelf, O: Sink>(
     words: &[String],
     shelf: &mut S,
     out: &mut O,
-) -> Result<Status, Stop>
-    requires { All (λ file. IsTrue (S.serves shelf.old (name_of file))) (files_of (meaning.command_of (map string_bytes words.now))) }
-    ensures outcome { MeetsResult (S.held shelf.old) (map string_bytes words.now) (O.written out.old) (O.written out.new) result }
-    ensures near { result ≡ Ok Status.InputRefused → IsNearRefusal (S.held shelf.old) (map string_bytes words.now) (S.rest shelf.new) }
-    ensures gives { IfOk result (λ status. IsTrue (is_among (task_of (meaning.command_of (map string_bytes words.now))).gives status)) }
-    ensures usage { meaning.command_of (map string_bytes words.now) ≡ None → (result ≡ Ok Status.Usage) ⊎ (result ≡ Err Stop.Sink) }
-    ensures shelf { result ≡ Err Stop.Shelf → Rose (S.faults shelf.old) (S.faults shelf.new) }
-    ensures sink { result ≡ Err Stop.Sink → Rose (O.faults out.old) (O.faults out.new) }
+) -> Result<Status, IoError>
+    requires { All (λ file. IsTrue (S.serves shelf.old (name_of file)))
+        (files_of (meaning.command_of (map string_bytes words.now))) }
+    ensures outcome { MeetsResult (S.held shelf.old) (map string_bytes words.now) (O.written out.old)
+        (O.written out.new) result }
+    ensures near { result ≡ Ok Status.InputRefused
+        → IsNearRefusal (S.held shelf.old) (map string_bytes words.now) (S.rest shelf.new) }
+    ensures gives { IfOk result
+        (λ status. IsTrue
+        (is_among (task_of (meaning.command_of (map string_bytes words.now))).gives status)) }
+    ensures usage { meaning.command_of (map string_bytes words.now) ≡ None
+        → (result ≡ Ok Status.Usage) ⊎ (result ≡ Err IoError.Sink) }
+    ensures shelf { result ≡ Err IoError.Shelf → Rose (S.faults shelf.old) (S.faults shelf.new) }
+    ensures sink { result ≡ Err IoError.Sink → Rose (O.faults out.old) (O.faults out.new) }
 {
     match command_of(words) {
         Some(Command::Solo { schedule }) => solo(alloc, shelf, schedule, out),
@@ -137,30 +154,36 @@ fn solo<S: Shelf, O: Sink>(
     shelf: &mut S,
     schedule: &str,
     out: &mut O,
-) -> Result<Status, Stop>
+) -> Result<Status, IoError>
     requires { IsTrue (S.serves shelf.old schedule.now) }
-    ensures outcome { IfSome (S.held shelf.old) (λ held. LeavesAt true (IsSolo (texts_of held schedule.now)) (O.written out.old) (O.written out.new) result) }
-    ensures gives { IfOk result (λ status. IsTrue (is_among (Status.Done ∷ Status.InputRefused ∷ []) status)) }
-    ensures near { result ≡ Ok Status.InputRefused → IfSome (S.held shelf.old) (λ held. IsNear (Some (refused_part solo_work (texts_of held schedule.now))) (S.rest shelf.new)) }
-    ensures shelf { result ≡ Err Stop.Shelf → Rose (S.faults shelf.old) (S.faults shelf.new) }
-    ensures sink { result ≡ Err Stop.Sink → Rose (O.faults out.old) (O.faults out.new) }
+    ensures outcome { IfSome (S.held shelf.old)
+        (λ held. LeavesAt true (IsSolo (texts_of held schedule.now)) (O.written out.old)
+        (O.written out.new) result) }
+    ensures gives { IfOk result
+        (λ status. IsTrue (is_among (Status.Done ∷ Status.InputRefused ∷ []) status)) }
+    ensures near { result ≡ Ok Status.InputRefused
+        → IfSome (S.held shelf.old)
+        (λ held. IsNear (Some (refused_part solo_work (texts_of held schedule.now)))
+        (S.rest shelf.new)) }
+    ensures shelf { result ≡ Err IoError.Shelf → Rose (S.faults shelf.old) (S.faults shelf.new) }
+    ensures sink { result ≡ Err IoError.Sink → Rose (O.faults out.old) (O.faults out.new) }
 {
     match shelf.begin(schedule) {
         Ok(()) => replay_solo(alloc, shelf, out),
-        Err(_) => Err(Stop::Shelf),
+        Err(_) => Err(IoError::Shelf),
     }
 }
 
 /// Writes the usage line.
-fn usage<O: Sink>(out: &mut O) -> Result<Status, Stop>
+fn usage<O: Sink>(out: &mut O) -> Result<Status, IoError>
     ensures outcome { LeavesAt false IsUsage (O.written out.old) (O.written out.new) result }
-    ensures usage { (result ≡ Ok Status.Usage) ⊎ (result ≡ Err Stop.Sink) }
-    ensures sink { result ≡ Err Stop.Sink → Rose (O.faults out.old) (O.faults out.new) }
+    ensures usage { (result ≡ Ok Status.Usage) ⊎ (result ≡ Err IoError.Sink) }
+    ensures sink { result ≡ Err IoError.Sink → Rose (O.faults out.old) (O.faults out.new) }
 {
     match out.write(
         b"usage: sundial solo SCHEDULE | plan TOPOLOGY | check TOPOLOGY PLAN | renew TOPOLOGY PLAN ABSENT | replay TOPOLOGY PLAN.. SCHEDULE | case NUMBER LEAVES SPINES | migrate TOPOLOGY | order TOPOLOGY PLAN.. SCHEDULE | twoway TOPOLOGY EXCHANGES | drill TOPOLOGY PLAN BASE HOLD\n",
     ) {
         Ok(()) => Ok(Status::Usage),
-        Err(_) => Err(Stop::Sink),
+        Err(_) => Err(IoError::Sink),
     }
 }

@@ -1,21 +1,21 @@
 //! `twoway`: bounds on the delays of links, from recorded exchanges.
 ghost use Rattle.std.specs.Prelude.{◌≡◌, ◌≤◌, [], ◌∷◌, true, Err, Ok, IsTrue, IfOk, IfSome, Some};
 ghost use Rattle.sd_outside.specs.Causes.{Rose};
-ghost use Rattle.sd_stream.specs.Reader.{IsNear};
+ghost use Rattle.sd_cmd_files.specs.Stream.Reader.{IsNear};
 ghost use Rattle.sd_topo.specs.Topologies.{network};
-ghost use Rattle.sd_files.specs.Inputs.{topology_of};
-ghost use Rattle.sd_files.specs.Statuses.{is_among};
-ghost use Rattle.sd_files.specs.Texts.{texts_of};
-ghost use Rattle.sd_work.specs.Leaving.{LeavesAt};
-ghost use Rattle.sd_work.specs.Works.{IsOutcome, refused_part};
-ghost use Rattle.sd_exchanges.specs.Twoways.{twoway_work};
+ghost use Rattle.sd_cmd_files.specs.Inputs.{topology_of};
+ghost use Rattle.sd_cmd_files.specs.Statuses.{is_among};
+ghost use Rattle.sd_cmd_files.specs.Texts.{texts_of};
+ghost use Rattle.sd_cmd_files.specs.work.Leaving.{LeavesAt};
+ghost use Rattle.sd_cmd_files.specs.work.Works.{IsOutcome, refused_part};
+ghost use Rattle.sd_cmd_twoway.specs.Twoways.{twoway_work};
 ghost use Rattle.sd_top.specs.Twoways.{IsTwoway, refused_over};
 
-use sd_exchanges::Exchanges;
-use sd_files::{Status, Stop, load_topology, write_answer};
+use sd_cmd_files::work::work_through;
+use sd_cmd_files::{IoError, Status, load_topology, write_answer};
+use sd_cmd_twoway::Exchanges;
 use sd_outside::{Shelf, Sink};
 use sd_topo::Topology;
-use sd_work::work_through;
 use std::alloc::Global;
 
 /// Reads a topology and then a text of exchanges line by line, and writes the bounds of the links.
@@ -25,15 +25,18 @@ pub fn twoway<S: Shelf, O: Sink>(
     topology: &str,
     exchanges: &str,
     out: &mut O,
-) -> Result<Status, Stop>
+) -> Result<Status, IoError>
     requires topology { IsTrue (S.serves shelf.old topology.now) }
     requires exchanges { IsTrue (S.serves shelf.old exchanges.now) }
-    ensures outcome { IfSome (S.held shelf.old) (λ held. LeavesAt true (IsTwoway (texts_of held topology.now) (texts_of held exchanges.now)) (O.written out.old) (O.written out.new) result) }
-    ensures gives { IfOk result (λ status. IsTrue (is_among (Status.Done ∷ Status.InputRefused ∷ []) status)) }
+    ensures outcome { IfSome (S.held shelf.old)
+        (λ held. LeavesAt true (IsTwoway (texts_of held topology.now) (texts_of held exchanges.now))
+        (O.written out.old) (O.written out.new) result) }
+    ensures gives { IfOk result
+        (λ status. IsTrue (is_among (Status.Done ∷ Status.InputRefused ∷ []) status)) }
     ensures near { result ≡ Ok Status.InputRefused → IfSome (S.held shelf.old) (λ held.
         IfSome (refused_over (topology_of (texts_of held topology.now)) (texts_of held exchanges.now)) (λ part. IsNear (Some part) (S.rest shelf.new))) }
-    ensures shelf { result ≡ Err Stop.Shelf → Rose (S.faults shelf.old) (S.faults shelf.new) }
-    ensures sink { result ≡ Err Stop.Sink → Rose (O.faults out.old) (O.faults out.new) }
+    ensures shelf { result ≡ Err IoError.Shelf → Rose (S.faults shelf.old) (S.faults shelf.new) }
+    ensures sink { result ≡ Err IoError.Sink → Rose (O.faults out.old) (O.faults out.new) }
 {
     match load_topology(alloc, shelf, topology) {
         Ok(topo) => twoway_over(alloc, shelf, &topo, exchanges, out),
@@ -48,18 +51,26 @@ fn twoway_over<S: Shelf, O: Sink>(
     topo: &Topology,
     exchanges: &str,
     out: &mut O,
-) -> Result<Status, Stop>
+) -> Result<Status, IoError>
     requires { IsTrue (S.serves shelf.old exchanges.now) }
-    ensures outcome { IfSome (S.held shelf.old) (λ held. LeavesAt true (IsOutcome (twoway_work (network topo.now)) (texts_of held exchanges.now)) (O.written out.old) (O.written out.new) result) }
-    ensures gives { IfOk result (λ status. IsTrue (is_among (Status.Done ∷ Status.InputRefused ∷ []) status)) }
-    ensures near { result ≡ Ok Status.InputRefused → IfSome (S.held shelf.old) (λ held. IsNear (Some (refused_part (twoway_work (network topo.now)) (texts_of held exchanges.now))) (S.rest shelf.new)) }
-    ensures shelf { result ≡ Err Stop.Shelf → Rose (S.faults shelf.old) (S.faults shelf.new) }
-    ensures sink { result ≡ Err Stop.Sink → Rose (O.faults out.old) (O.faults out.new) }
+    ensures outcome { IfSome (S.held shelf.old)
+        (λ held. LeavesAt true
+        (IsOutcome (twoway_work (network topo.now)) (texts_of held exchanges.now))
+        (O.written out.old) (O.written out.new) result) }
+    ensures gives { IfOk result
+        (λ status. IsTrue (is_among (Status.Done ∷ Status.InputRefused ∷ []) status)) }
+    ensures near { result ≡ Ok Status.InputRefused
+        → IfSome (S.held shelf.old)
+        (λ held. IsNear
+        (Some (refused_part (twoway_work (network topo.now)) (texts_of held exchanges.now)))
+        (S.rest shelf.new)) }
+    ensures shelf { result ≡ Err IoError.Shelf → Rose (S.faults shelf.old) (S.faults shelf.new) }
+    ensures sink { result ≡ Err IoError.Sink → Rose (O.faults out.old) (O.faults out.new) }
     ensures later { S.faults shelf.old ≤ S.faults shelf.new }
 {
     match shelf.begin(exchanges) {
         Ok(()) => bound_links(alloc, shelf, topo, out),
-        Err(_) => Err(Stop::Shelf),
+        Err(_) => Err(IoError::Shelf),
     }
 }
 
@@ -70,18 +81,24 @@ fn bound_links<S: Shelf, O: Sink>(
     shelf: &mut S,
     topo: &Topology,
     out: &mut O,
-) -> Result<Status, Stop>
+) -> Result<Status, IoError>
     requires { IsTrue (S.begun shelf.old) }
-    ensures outcome { IfSome (S.rest shelf.old) (λ text. LeavesAt true (IsOutcome (twoway_work (network topo.now)) text) (O.written out.old) (O.written out.new) result) }
-    ensures gives { IfOk result (λ status. IsTrue (is_among (Status.Done ∷ Status.InputRefused ∷ []) status)) }
-    ensures near { result ≡ Ok Status.InputRefused → IfSome (S.rest shelf.old) (λ text. IsNear (Some (refused_part (twoway_work (network topo.now)) text)) (S.rest shelf.new)) }
-    ensures shelf { result ≡ Err Stop.Shelf → Rose (S.faults shelf.old) (S.faults shelf.new) }
-    ensures sink { result ≡ Err Stop.Sink → Rose (O.faults out.old) (O.faults out.new) }
+    ensures outcome { IfSome (S.rest shelf.old)
+        (λ text. LeavesAt true (IsOutcome (twoway_work (network topo.now)) text) (O.written out.old)
+        (O.written out.new) result) }
+    ensures gives { IfOk result
+        (λ status. IsTrue (is_among (Status.Done ∷ Status.InputRefused ∷ []) status)) }
+    ensures near { result ≡ Ok Status.InputRefused
+        → IfSome (S.rest shelf.old)
+        (λ text. IsNear (Some (refused_part (twoway_work (network topo.now)) text))
+        (S.rest shelf.new)) }
+    ensures shelf { result ≡ Err IoError.Shelf → Rose (S.faults shelf.old) (S.faults shelf.new) }
+    ensures sink { result ≡ Err IoError.Sink → Rose (O.faults out.old) (O.faults out.new) }
     ensures later { S.faults shelf.old ≤ S.faults shelf.new }
 {
     let work = match Exchanges::new(alloc, topo) {
         Ok(work) => work,
-        Err(_) => return Err(Stop::Memory),
+        Err(_) => return Err(IoError::Memory),
     };
     work_through(alloc, shelf, work, out)
 }

@@ -1,14 +1,14 @@
 //! What the words of the command mean.
 ghost use Rattle.std.specs.Prelude.{◌≡◌, ◌≤◌, ◌&&◌, ◌^◌, map, option_map, string_bytes, IfSome};
-ghost use Rattle.sd_case.specs.Sizes.{IsWithin};
+ghost use Rattle.sd_cmd_case.specs.Sizes.{IsWithin};
 ghost use Rattle.sd_drill.specs.Bounds.{IsBudget};
 ghost use Rattle.sd_top.specs.Parsed.{IsGranted, named};
 ghost use Rattle.sd_top.specs.Words as meaning;
 
-use sd_case::Fabric;
+use sd_cmd_case::Fabric;
+use sd_cmd_replay::Files;
 use sd_drill::Budget;
 use sd_num::read_u64;
-use sd_schedules::Files;
 
 /// A command, with the names of its files and its numbers.
 #[derive(Clone, Copy)]
@@ -134,7 +134,8 @@ fn with_three<'w>(
     second: &'w str,
     third: &'w str,
 ) -> Option<Command<'w>>
-    ensures is { option_map named result ≡ meaning.with_three word.now first.now second.now third.now }
+    ensures is { option_map named result
+        ≡ meaning.with_three word.now first.now second.now third.now }
     ensures granted { IfSome result IsGranted }
 {
     if word == "renew" {
@@ -168,7 +169,8 @@ fn with_budget<'w>(
     base: &str,
     hold: &str,
 ) -> Option<Command<'w>>
-    ensures is { option_map named result ≡ meaning.with_budget word.now first.now second.now base.now hold.now }
+    ensures is { option_map named result
+        ≡ meaning.with_budget word.now first.now second.now base.now hold.now }
     ensures granted { IfSome result IsGranted }
 {
     if word != "drill" {
@@ -184,7 +186,8 @@ fn with_budget<'w>(
 
 /// The command of a word with a fixed count of words behind it.
 fn with_fixed<'w>(word: &str, others: &'w [String]) -> Option<Command<'w>>
-    ensures is { option_map named result ≡ meaning.with_fixed word.now (map string_bytes others.now) }
+    ensures is { option_map named result
+        ≡ meaning.with_fixed word.now (map string_bytes others.now) }
     ensures granted { IfSome result IsGranted }
 {
     match others {
@@ -218,7 +221,8 @@ fn over_plans<'w>(
     plans: &'w [String],
     schedule: &'w str,
 ) -> Option<Command<'w>>
-    ensures is { option_map named result ≡ meaning.over_plans word.now topology.now (map string_bytes plans.now) schedule.now }
+    ensures is { option_map named result
+        ≡ meaning.over_plans word.now topology.now (map string_bytes plans.now) schedule.now }
     ensures granted { IfSome result IsGranted }
 {
     if plans.is_empty() || plans.len() > MOST_PLANS {
@@ -240,7 +244,8 @@ fn over_plans<'w>(
 
 /// The command of a word with the files behind it, whatever the count of its plans.
 fn with_plans<'w>(word: &str, files: &'w [String]) -> Option<Command<'w>>
-    ensures is { option_map named result ≡ meaning.with_plans word.now (map string_bytes files.now) }
+    ensures is { option_map named result
+        ≡ meaning.with_plans word.now (map string_bytes files.now) }
     ensures granted { IfSome result IsGranted }
 {
     match files {

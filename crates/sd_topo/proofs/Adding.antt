@@ -15,7 +15,8 @@ abbrev same_string : String Global → String Global → Bool
 same_string a b = pointwise nat_eq (string_bytes a) (string_bytes b)
 
 -- a key whose bytes are none of the names goes last
-pub inserted : {V : Type 0} (es : List (String Global × V)) (key : String Global) (v : V) → list_any (bytes_eq (string_bytes key)) (map string_bytes (keys_of es)) ≡ false
+pub inserted : {V : Type 0} (es : List (String Global × V)) (key : String Global) (v : V)
+    → list_any (bytes_eq (string_bytes key)) (map string_bytes (keys_of es)) ≡ false
     → insert_entry same_string es key v ≡ es ++ (key, v) ∷ []
 inserted [] key v none = refl
 inserted {V} (e ∷ es) key v none = by (bytes_eq (string_bytes key) (string_bytes e.0)) none (inserted es key v)
@@ -27,7 +28,8 @@ inserted {V} (e ∷ es) key v none = by (bytes_eq (string_bytes key) (string_byt
     by false none rest = ap (λ (l : List (String Global × V)). e ∷ l) (rest none)
 
 -- a key with the bytes of a new name goes last
-pub added : {V S : Type 0} (old new : IndexMap (String Global) V S) (key : String Global) (name : List ℕ) (v : V) → list_any (bytes_eq name) (names_seen old) ≡ false → string_bytes key ≡ name
+pub added : {V S : Type 0} (old new : IndexMap (String Global) V S) (key : String Global) (name : List ℕ) (v : V)
+    → list_any (bytes_eq name) (names_seen old) ≡ false → string_bytes key ≡ name
     → new.entries ≡ insert_entry same_string old.entries key v → Adds old new name v
 added old new key name v none named is = record {
   key = key;
@@ -36,7 +38,8 @@ added old new key name v none named is = record {
 }
 
 -- one more entry makes the table longer by one
-pub added_len : {V S : Type 0} (old new : IndexMap (String Global) V S) (name : List ℕ) (v : V) → Adds old new name v → index_map_len new ≡ index_map_len old + 1
+pub added_len : {V S : Type 0} (old new : IndexMap (String Global) V S) (name : List ℕ) (v : V) → Adds old new name v
+    → index_map_len new ≡ index_map_len old + 1
 added_len old new name v adds = ap length adds.last ∙ length-append old.entries ((adds.key, v) ∷ [])
 
 -- the delays of some links

@@ -40,7 +40,8 @@ below-run (suc n) = ap (λ (l : List ℕ). l ++ n ∷ []) (below-run n) ∙ ap (
 -- what ascends from above x has not x
 has-low : (a x : ℕ) (ys : List ℕ) → Rises a ys → x < a → has ys x ≡ false
 has-low a x [] up low = refl
-has-low a x (y ∷ ys) up low = let other : nat_eq x y ≡ false = ne_eqb x y (λ e. omega arith) in let rest : has ys x ≡ false = has-low (suc y) x ys up.1 (omega arith) in rw (other, rest) refl
+has-low a x (y ∷ ys) up low = let other : nat_eq x y ≡ false = ne_eqb x y (λ e. omega arith) in
+    let rest : has ys x ≡ false = has-low (suc y) x ys up.1 (omega arith) in rw (other, rest) refl
 
 -- a lesser first number changes nothing further up
 filter-skip : (k a y : ℕ) (ys : List ℕ) → y < a → filter (has (y ∷ ys)) (run a k) ≡ filter (has ys) (run a k)
@@ -100,10 +101,13 @@ filter-same p q same [] = refl
 filter-same p q same (x ∷ xs) = rw (same x, filter-same p q same xs) refl
 
 -- sorting distinct numbers below a count makes them ascend
-pub sorted_ascending : (count : ℕ) (xs ys : List ℕ) → IsDistinct nat_eq xs → All (λ n. n < count) xs → IsPermutation xs ys → IsSorted nat_cmp ys → ys ≡ ascending count xs
+pub sorted_ascending : (count : ℕ) (xs ys : List ℕ) → IsDistinct nat_eq xs → All (λ n. n < count) xs → IsPermutation xs ys → IsSorted nat_cmp ys
+    → ys ≡ ascending count xs
 sorted_ascending count xs ys apart bound moved sorted =
     let apart_after = IsDistinct-IsPermutation nat_eq flips xs ys moved apart in
-    let up = rises 0 ys (sorted_from_strictly_increasing ys (IsStrictlyIncreasing-from_distinct ys (IsNonDecreasingBy-from_sort (λ x. x) ys sorted) apart_after)) (from_zero ys) in
+    let up = rises 0 ys
+    (sorted_from_strictly_increasing ys (IsStrictlyIncreasing-from_distinct ys (IsNonDecreasingBy-from_sort (λ x. x) ys sorted) apart_after))
+    (from_zero ys) in
     let within : All (λ n. n < 0 + count) ys = λ i d h. plus _ (All-permutation (λ n. n < count) xs ys moved bound i d h) in
     sym (filter-same (has xs) (has ys) (λ n. list_any-IsPermutation (nat_eq n) xs ys moved) (below count)
     ∙ ap (filter (has ys)) (below-run count) ∙ filter-run count 0 ys up within)
@@ -131,7 +135,8 @@ filter-rises p (suc k) a = by (p a) (filter-rises p k (suc a))
     first = omega arith
 
     by : (b : Bool) → (Rises (suc a) (filter p (run (suc a) k)) × All (λ n. n < suc a + k) (filter p (run (suc a) k)))
-        → Rises a (cond b (a ∷ filter p (run (suc a) k)) (filter p (run (suc a) k))) × All (λ n. n < a + suc k) (cond b (a ∷ filter p (run (suc a) k)) (filter p (run (suc a) k)))
+        → Rises a (cond b (a ∷ filter p (run (suc a) k)) (filter p (run (suc a) k)))
+        × All (λ n. n < a + suc k) (cond b (a ∷ filter p (run (suc a) k)) (filter p (run (suc a) k)))
     by true rest = ((omega arith, rest.0), All-cons (λ n. n < a + suc k) a (filter p (run (suc a) k)) first (wider (filter p (run (suc a) k)) rest.1))
     by false rest = (weaker (filter p (run (suc a) k)) rest.0, wider (filter p (run (suc a) k)) rest.1)
 

@@ -26,13 +26,15 @@ same_string a b = pointwise nat_eq (string_bytes a) (string_bytes b)
 
 module _ {V : Type 0} (same : V → V → Type 0) where
   -- what holds of each key holds of the key at a place
-  key_at : (P : String Global → Type 0) (es : List (String Global × V)) (i : ℕ) (e : String Global × V) → AllByRecursion P (keys_of es) → slice_get es i ≡ Some e → P e.0
+  key_at : (P : String Global → Type 0) (es : List (String Global × V)) (i : ℕ) (e : String Global × V) → AllByRecursion P (keys_of es)
+      → slice_get es i ≡ Some e → P e.0
   key_at P [] i e all at = cc
   key_at P (x ∷ es) zero e all at = let is : x ≡ e = cc in subst (λ (y : String Global × V). P y.0) is all.0
   key_at P (x ∷ es) (suc i) e all at = key_at P es i e all.1 at
 
   -- the name at a place is none of those copied before
-  pub new_name : (es cs : List (String Global × V)) (i : ℕ) (e : String Global × V) → IsDistinct same_string (keys_of es) → slice_get es i ≡ Some e → AllZip (IsCopy same) (take i es) cs
+  pub new_name : (es cs : List (String Global × V)) (i : ℕ) (e : String Global × V) → IsDistinct same_string (keys_of es) → slice_get es i ≡ Some e
+      → AllZip (IsCopy same) (take i es) cs
       → list_any (bytes_eq (string_bytes e.0)) (map string_bytes (keys_of cs)) ≡ false
   unfolding IsDistinct
   new_name [] cs i e apart at copied = cc
@@ -46,7 +48,8 @@ module _ {V : Type 0} (same : V → V → Type 0) where
       rw (first, rest) refl
 
   -- one more entry is copied
-  pub copied_more : (es cs : List (String Global × V)) (i : ℕ) (e c : String Global × V) → slice_get es i ≡ Some e → AllZip (IsCopy same) (take i es) cs → IsCopy same e c
+  pub copied_more : (es cs : List (String Global × V)) (i : ℕ) (e c : String Global × V) → slice_get es i ≡ Some e → AllZip (IsCopy same) (take i es) cs
+      → IsCopy same e c
       → AllZip (IsCopy same) (take (suc i) es) (cs ++ c ∷ [])
   copied_more [] cs i e c at copied one = cc
   copied_more (x ∷ es) [] zero e c at copied one = let is : x ≡ e = cc in (subst (λ (y : String Global × V). IsCopy same y c) (sym is) one, tt)
@@ -73,7 +76,8 @@ same_links (e ∷ es) (c ∷ cs) copied =
     rw (first, same_links es cs copied.1) refl
 
 -- and the same domains
-pub same_domains : (es cs : List (String Global × Group)) → AllZip (IsCopy (λ a b. (b.devices.items ≡ a.devices.items) × (b.links.items ≡ a.links.items))) es cs → map domain_seen cs ≡ map domain_seen es
+pub same_domains : (es cs : List (String Global × Group)) → AllZip (IsCopy (λ a b. (b.devices.items ≡ a.devices.items) × (b.links.items ≡ a.links.items))) es cs
+    → map domain_seen cs ≡ map domain_seen es
 same_domains [] [] copied = refl
 same_domains [] (c ∷ cs) copied = absurd copied
 same_domains (e ∷ es) [] copied = absurd copied
@@ -82,9 +86,17 @@ same_domains (e ∷ es) (c ∷ cs) copied =
     rw (first, same_domains es cs copied.1) refl
 
 -- copied parts stand for the same network
-pub copied_network : (t : Parts) (devices : IndexMap (String Global) Station Hasher) (links : IndexMap (String Global) LinkEntry Hasher) (domains : IndexMap (String Global) Group Hasher) (roots : Vec ℕ Global)
+pub copied_network : (t : Parts) (devices : IndexMap (String Global) Station Hasher) (links : IndexMap (String Global) LinkEntry Hasher)
+    (domains : IndexMap (String Global) Group Hasher) (roots : Vec ℕ Global)
     → AllZip (IsCopy (λ a b. b ≡ a)) t.devices.entries devices.entries → AllZip (IsCopy (λ a b. b ≡ a)) t.links.entries links.entries
-    → AllZip (IsCopy (λ a b. (b.devices.items ≡ a.devices.items) × (b.links.items ≡ a.links.items))) t.domains.entries domains.entries → roots.items ≡ t.roots.items
+    → AllZip (IsCopy (λ a b. (b.devices.items ≡ a.devices.items) × (b.links.items ≡ a.links.items))) t.domains.entries domains.entries
+    → roots.items ≡ t.roots.items
     → network_seen (record t { devices = devices; links = links; domains = domains; roots = roots }) ≡ network_seen t
 copied_network t devices links domains roots on_devices on_links on_domains on_roots =
-    rw (same_devices t.devices.entries devices.entries on_devices, same_links t.links.entries links.entries on_links, same_domains t.domains.entries domains.entries on_domains, on_roots) refl
+    rw (
+      same_devices t.devices.entries devices.entries on_devices,
+      same_links t.links.entries links.entries on_links,
+      same_domains t.domains.entries
+          domains.entries on_domains,
+      on_roots,
+    ) refl

@@ -13,7 +13,8 @@ found_at xs i d e f within = ap (λ o. of_some o e f) (slice_get-get_or xs i d w
 -- a device's rates are in range
 pub rates_law : (net : Network) (d : ℕ) → IsNetwork net → d < length net.devices → IsRates (rates_of net d)
 rates_law net d law within =
-    subst IsRates (sym (found_at net.devices d no_device no_rates (λ device. device.rates) within)) (law.each_device d (get_or net.devices d no_device) (slice_get-get_or net.devices d no_device within))
+    subst IsRates (sym (found_at net.devices d no_device no_rates (λ device. device.rates) within))
+    (law.each_device d (get_or net.devices d no_device) (slice_get-get_or net.devices d no_device within))
 
 -- a link's ends are devices that differ, and its bounds are in order and in range
 pub link_law : (net : Network) (l : ℕ) → IsNetwork net → l < length net.links → IsLink (length net.devices) (link_of net l)
@@ -36,25 +37,34 @@ pub record IsGroup (devices links : ℕ) (domain : Domain) : Type 0 where
   pub links_within : All (λ l. l < links) domain.links
 
 -- from the four tests
-pub group_of : (devices links : ℕ) (domain : Domain) → IsTrue (ascends domain.devices && ascends domain.links && all_below devices domain.devices && all_below links domain.links) → IsGroup devices links domain
+pub group_of : (devices links : ℕ) (domain : Domain)
+    → IsTrue (ascends domain.devices && ascends domain.links && all_below devices domain.devices && all_below links domain.links) → IsGroup devices links domain
 group_of devices links domain tests =
     let (three, fourth) = and_parts (ascends domain.devices && ascends domain.links && all_below devices domain.devices) (all_below links domain.links) tests in
     let (two, third) = and_parts (ascends domain.devices && ascends domain.links) (all_below devices domain.devices) three in
     let (first, second) = and_parts (ascends domain.devices) (ascends domain.links) two in
-    record { devices_ascend = first; links_ascend = second; devices_within = within_all devices domain.devices third; links_within = within_all links domain.links fourth }
+    record {
+      devices_ascend = first;
+      links_ascend = second;
+      devices_within = within_all devices domain.devices third;
+      links_within = within_all links domain.links fourth;
+    }
 
 -- a listed domain
 pub domain_law : (net : Network) (f : ℕ) → IsNetwork net → f < length net.domains → IsGroup (length net.devices) (length net.links) (domain_of net f)
 domain_law net f law within =
     subst (IsGroup (length net.devices) (length net.links)) (sym (found_at net.domains f no_domain no_domain (λ domain. domain) within))
-    (group_of (length net.devices) (length net.links) (get_or net.domains f no_domain) (law.each_domain f (get_or net.domains f no_domain) (slice_get-get_or net.domains f no_domain within)))
+    (group_of (length net.devices) (length net.links) (get_or net.domains f no_domain)
+    (law.each_domain f (get_or net.domains f no_domain) (slice_get-get_or net.domains f no_domain within)))
 
 -- a device that a link joins to another is an end of it
 pub joined_end : (net : Network) (l d e : ℕ) → joins net l d e ≡ true → is_end (link_of net l) d ≡ true
 joined_end net l d e joined =
     elim (or_cases (nat_eq (link_of net l).end_a d && nat_eq (link_of net l).end_b e) (nat_eq (link_of net l).end_a e && nat_eq (link_of net l).end_b d) joined) [
-      | inl forth ↦ or_left (nat_eq d (link_of net l).end_a) (nat_eq d (link_of net l).end_b) (flip (link_of net l).end_a d (and_parts (nat_eq (link_of net l).end_a d) (nat_eq (link_of net l).end_b e) forth).0)
-      | inr back ↦ or_right (nat_eq d (link_of net l).end_a) (nat_eq d (link_of net l).end_b) (flip (link_of net l).end_b d (and_parts (nat_eq (link_of net l).end_a e) (nat_eq (link_of net l).end_b d) back).1)
+      | inl forth ↦ or_left (nat_eq d (link_of net l).end_a) (nat_eq d (link_of net l).end_b)
+          (flip (link_of net l).end_a d (and_parts (nat_eq (link_of net l).end_a d) (nat_eq (link_of net l).end_b e) forth).0)
+      | inr back ↦ or_right (nat_eq d (link_of net l).end_a) (nat_eq d (link_of net l).end_b)
+          (flip (link_of net l).end_b d (and_parts (nat_eq (link_of net l).end_a e) (nat_eq (link_of net l).end_b d) back).1)
     ]
   where
     flip : (a b : ℕ) → nat_eq a b ≡ true → nat_eq b a ≡ true

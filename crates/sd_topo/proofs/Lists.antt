@@ -22,7 +22,8 @@ pub each_of : {A : Type 0} (P : A → Type 0) (xs : List A) → All P xs → Eac
 each_of P xs all i x at = subst P (get_or_from_slice_get xs i x x at) (all i x (slice_get_within xs i x at))
 
 -- elements that no test takes for equal differ
-differ : {A : Type 0} (e : A → A → Bool) (laws : IsEquivalence e) (d : A) (xs : List A) → IsDistinct e xs → (i j : ℕ) → i < j → j < length xs → slice_get xs i ≢ slice_get xs j
+differ : {A : Type 0} (e : A → A → Bool) (laws : IsEquivalence e) (d : A) (xs : List A) → IsDistinct e xs → (i j : ℕ) → i < j → j < length xs
+    → slice_get xs i ≢ slice_get xs j
 differ {A} e laws d xs apart i j before within same =
     let left = slice_get-get_or xs i d (omega arith) in
     let right = slice_get-get_or xs j d within in
@@ -51,7 +52,8 @@ unfolding IsDistinct
 no_names = record { limits = All-nil (λ name. IsTrue (is_name name)); apart = tt }
 
 -- one more name
-pub names_more : {B : Type 0} (name : B → List ℕ) (seen : List B) (x : B) → AreNames (map name seen) → is_name (name x) ≡ true → list_any (bytes_eq (name x)) (map name seen) ≡ false
+pub names_more : {B : Type 0} (name : B → List ℕ) (seen : List B) (x : B) → AreNames (map name seen) → is_name (name x) ≡ true
+    → list_any (bytes_eq (name x)) (map name seen) ≡ false
     → AreNames (map name (seen ++ x ∷ []))
 names_more name seen x known good new =
     subst AreNames (sym (map-append name seen (x ∷ []))) (record {

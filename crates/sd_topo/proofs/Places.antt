@@ -62,7 +62,8 @@ prefix_back (y ∷ ys) zero x apart at =
     rw equal refl
 prefix_back (y ∷ ys) (suc n) x apart at =
     let within = slice_get_within ys n x at in
-    let other : bytes_eq x y ≡ false = false_from_ne_true (bytes_eq x y) (λ h. apart 0 (suc n) (omega arith) (omega arith) (first (same_bytes x y h) ∙ sym at)) in
+    let other : bytes_eq x y ≡ false =
+    false_from_ne_true (bytes_eq x y) (λ h. apart 0 (suc n) (omega arith) (omega arith) (first (same_bytes x y h) ∙ sym at)) in
     let rest : prefix_len (λ z. not (bytes_eq x z)) ys ≡ n = prefix_back ys n x (differ_tail y ys apart) at in
     rw (other, rest) (omega arith)
   where

@@ -10,7 +10,8 @@ use Rattle.sd_topo.specs.Seen.{domain_seen}
 use Rattle.sd_topo.specs.declared.parts.Group.{Group}
 
 -- what is at a place of a list, seen through a function
-pub at_place-map : {A B C : Type 0} (see : A → B) (xs : List A) (i : ℕ) (x : A) (d : C) (f : B → C) → slice_get xs i ≡ Some x → at_place (map see xs) i d f ≡ f (see x)
+pub at_place-map : {A B C : Type 0} (see : A → B) (xs : List A) (i : ℕ) (x : A) (d : C) (f : B → C) → slice_get xs i ≡ Some x
+    → at_place (map see xs) i d f ≡ f (see x)
 at_place-map see xs i x d f at = rw (slice_get-map see xs i, at) refl
 
 -- how far a test fails, seen through a function
@@ -27,7 +28,8 @@ pub position-map : {A B : Type 0} (see : A → B) (test : B → Bool) (xs : List
 position-map see test xs = rw (prefix_len-map see (λ y. not (test y)) xs, length-map see xs) refl
 
 -- the name at a place, from the entry there
-pub at_name : {E B : Type 0} (see : E → B) (name : B → List ℕ) (es : List E) (i : ℕ) (e : E) → slice_get es i ≡ Some e → name_at (map name (map see es)) i ≡ name (see e)
+pub at_name : {E B : Type 0} (see : E → B) (name : B → List ℕ) (es : List E) (i : ℕ) (e : E) → slice_get es i ≡ Some e
+    → name_at (map name (map see es)) i ≡ name (see e)
 at_name see name es i e at = rw (slice_get-map name (map see es) i, slice_get-map see es i, at) refl
 
 -- what a place tells, from the value of the entry there
@@ -42,7 +44,8 @@ at_value see f g same d (e ∷ es) (suc i) v at = at_value see f g same d es i v
 
 -- the lists of a domain, from the entry's value
 pub at_domain : (es : List (String Global × Group)) (i : ℕ) (v : Group) → slice_get (map (λ e. e.1) es) i ≡ Some v
-    → (at_place (map domain_seen es) i no_domain (λ domain. domain)).devices ≡ v.devices.items × (at_place (map domain_seen es) i no_domain (λ domain. domain)).links ≡ v.links.items
+    → (at_place (map domain_seen es) i no_domain (λ domain. domain)).devices ≡ v.devices.items
+    × (at_place (map domain_seen es) i no_domain (λ domain. domain)).links ≡ v.links.items
 at_domain [] i v at = cc
 at_domain (e ∷ es) zero v at = (ap (λ (g : Group). g.devices.items) (inside e.1 v at), ap (λ (g : Group). g.links.items) (inside e.1 v at))
   where
@@ -51,7 +54,8 @@ at_domain (e ∷ es) zero v at = (ap (λ (g : Group). g.devices.items) (inside e
 at_domain (e ∷ es) (suc i) v at = at_domain es i v at
 
 -- the number of a name, from the keys
-pub numbered : {V B : Type 0} (see : String Global × V → B) (name : B → List ℕ) → ((e : String Global × V) → name (see e) ≡ string_bytes e.0) → (word : List ℕ) (es : List (String Global × V))
+pub numbered : {V B : Type 0} (see : String Global × V → B) (name : B → List ℕ) → ((e : String Global × V) → name (see e) ≡ string_bytes e.0)
+    → (word : List ℕ) (es : List (String Global × V))
     → number_in (map name (map see es)) word ≡ position (λ k. bytes_eq word (string_bytes k)) (keys_of es)
 numbered {V} see name same word es =
     ap (position (bytes_eq word)) (all es) ∙ position-map string_bytes (bytes_eq word) (keys_of es)

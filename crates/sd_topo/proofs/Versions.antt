@@ -1,4 +1,5 @@
--- A network with another version. Words that rest on the other fields alone compute to the same; a relation that is declared over its network is carried from one version to any other, and so both ways.
+-- A network with another version. Words that rest on the other fields alone compute to the same; a relation that is declared over its network is carried from
+-- one version to any other, and so both ways.
 use Rattle.std.specs.Prelude.{ℕ, Bool}
 use Rattle.sd_topo.specs.Network.{Network}
 use Rattle.sd_topo.specs.Joined.{Joined, here, over}

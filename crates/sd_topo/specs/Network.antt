@@ -172,8 +172,11 @@ pub record IsNetwork (net : Network) : Type 0 where
   pub distinct_devices : AreDistinct (device_names net)
   pub distinct_links : AreDistinct (link_names net)
   pub distinct_domains : AreDistinct (domain_names net)
-  pub names : Each (λ name. IsTrue (is_name name)) (device_names net) × Each (λ name. IsTrue (is_name name)) (link_names net) × Each (λ name. IsTrue (is_name name)) (domain_names net)
+  pub names : Each (λ name. IsTrue (is_name name)) (device_names net) × Each (λ name. IsTrue (is_name name)) (link_names net)
+      × Each (λ name. IsTrue (is_name name)) (domain_names net)
   pub each_device : Each (λ device. IsRates device.rates) net.devices
   pub each_link : Each (λ link. IsLink (length net.devices) link.entry) net.links
-  pub each_domain : Each (λ domain. IsTrue (ascends domain.devices && ascends domain.links && all_below (length net.devices) domain.devices && all_below (length net.links) domain.links)) net.domains
+  pub each_domain : Each
+      (λ domain. IsTrue (ascends domain.devices && ascends domain.links && all_below (length net.devices) domain.devices
+      && all_below (length net.links) domain.links)) net.domains
   pub each_root : (1 ≤ length net.roots) × AreNumbers (length net.devices) net.roots

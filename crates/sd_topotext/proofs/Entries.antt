@@ -20,7 +20,8 @@ use Rattle.toml.specs.View.{view, items_view}
 use Rattle.toml.specs.declared.value.Value.{Value}
 
 -- the names of the things that entries stand for are the entries' names
-names_of_entries : {V B : Type 0} (see : String Global × V → B) (name : B → List ℕ) → ((e : String Global × V) → name (see e) ≡ string_bytes e.0) → (es : List (String Global × V))
+names_of_entries : {V B : Type 0} (see : String Global × V → B) (name : B → List ℕ) → ((e : String Global × V) → name (see e) ≡ string_bytes e.0)
+    → (es : List (String Global × V))
     → map name (map see es) ≡ map string_bytes (keys_of es)
 names_of_entries see name same [] = refl
 names_of_entries see name same (e ∷ es) = rw (same e, names_of_entries see name same es) refl
@@ -32,7 +33,8 @@ length-map see (x ∷ xs) = rw (length-map see xs) refl
 
 -- the next device, by the table of those before
 pub one_more_device_seen : {S : Type 0} (version : ℕ) (top : Rates) (table : IndexMap (String Global) Station S) (d : Data)
-    → one_more_device version top (devices_seen table) d ≡ (device_in version top (names_seen table) (index_map_len table + 1) d >>= (λ device. Ok (devices_seen table ++ device ∷ [])))
+    → one_more_device version top (devices_seen table) d
+    ≡ (device_in version top (names_seen table) (index_map_len table + 1) d >>= (λ device. Ok (devices_seen table ++ device ∷ [])))
 unfolding one_more_device
 one_more_device_seen version top table d =
     rw (names_of_entries device_seen (λ (device : Device). device.name) (λ e. refl) table.entries, length-map device_seen table.entries) refl
@@ -51,7 +53,8 @@ count_of_items (v ∷ vs) = ap (λ n. n + 1) (count_of_items vs) ∙ add-one _
 
 -- the next link, by the table of those before
 pub one_more_link_seen : {S : Type 0} (version : ℕ) (devices : List (List ℕ)) (table : IndexMap (String Global) LinkEntry S) (d : Data)
-    → one_more_link version devices (links_seen table) d ≡ (link_in version devices (names_seen table) (index_map_len table + 1) d >>= (λ link. Ok (links_seen table ++ link ∷ [])))
+    → one_more_link version devices (links_seen table) d
+    ≡ (link_in version devices (names_seen table) (index_map_len table + 1) d >>= (λ link. Ok (links_seen table ++ link ∷ [])))
 unfolding one_more_link
 one_more_link_seen version devices table d =
     rw (names_of_entries link_seen (λ (link : Link). link.name) (λ e. refl) table.entries, length-map link_seen table.entries) refl
@@ -66,7 +69,8 @@ links_added old new name v adds =
 -- the next domain, by the table of those before
 pub one_more_domain_seen : {S : Type 0} (devices links : List (List ℕ)) (table : IndexMap (String Global) Group S) (d : Data)
     → one_more_domain devices links (domains_seen table) d
-    ≡ (domain_in devices links (names_seen table) (index_map_len table + 1) d >>= (λ domain. allowed (nat_le (things_listed (domains_seen table ++ domain ∷ [])) 262144) (Limit Item) (domains_seen table ++ domain ∷ [])))
+    ≡ (domain_in devices links (names_seen table) (index_map_len table + 1)
+    d >>= (λ domain. allowed (nat_le (things_listed (domains_seen table ++ domain ∷ [])) 262144) (Limit Item) (domains_seen table ++ domain ∷ [])))
 unfolding one_more_domain
 one_more_domain_seen devices links table d =
     rw (names_of_entries domain_seen (λ (domain : Domain). domain.name) (λ e. refl) table.entries, length-map domain_seen table.entries) refl
@@ -82,7 +86,8 @@ domains_added old new name v adds =
 pub things_listed_more : (domains : List Domain) (name devices links : List ℕ)
     → things_listed (domains ++ (record { name = name; devices = devices; links = links }) ∷ []) ≡ things_listed domains + (length devices + length links)
 things_listed_more domains name devices links =
-    let more = sum_by-append (λ (domain : Domain). length domain.devices + length domain.links) domains ((record { name = name; devices = devices; links = links }) ∷ []) in
+    let more = sum_by-append (λ (domain : Domain). length domain.devices + length domain.links) domains
+    ((record { name = name; devices = devices; links = links }) ∷ []) in
     omega (arith, more)
 
 -- the names of the devices and links that tables stand for
@@ -101,7 +106,8 @@ two_wrong p (a ∷ b ∷ []) other = absurd (other refl)
 two_wrong p (a ∷ b ∷ c ∷ vs) other = refl
 
 -- of an array of two the elements are those at 0 and 1
-pub two_right : (p : Place) (vs : List Value) (a b : Value) → length vs ≡ 2 → a ≡ get_or vs 0 a → b ≡ get_or vs 1 b → two p (items_view vs) ≡ Ok (view a, view b)
+pub two_right : (p : Place) (vs : List Value) (a b : Value) → length vs ≡ 2 → a ≡ get_or vs 0 a → b ≡ get_or vs 1 b
+    → two p (items_view vs) ≡ Ok (view a, view b)
 two_right p [] a b long first second = cc
 two_right p (x ∷ []) a b long first second = cc
 two_right p (x ∷ y ∷ []) a b long first second = rw (first, second) refl

@@ -33,7 +33,11 @@ rates_ok version top entry ms rates good h =
       | inr own ↦
           let (ppm, first, more) = bind_ok (number_or keys.DevicePpm entry 100000 top.ppm ms) end rates own in
           let (grain, second, last) = bind_ok (number_or keys.DeviceGrain entry (10 ^ 12) top.grain ms) (λ grain. Ok (made ppm grain)) rates more in
-          subst IsRates (ok_inside (made ppm grain) rates last) (number_or_ok keys.DevicePpm entry 100000 top.ppm ms ppm good.0 first, number_or_ok keys.DeviceGrain entry (10 ^ 12) top.grain ms grain good.1 second)
+          subst IsRates (ok_inside (made ppm grain) rates last) (
+            number_or_ok keys.DevicePpm entry 100000 top.ppm ms ppm good.0 first,
+            number_or_ok keys.DeviceGrain entry
+                (10 ^ 12) top.grain ms grain good.1 second,
+          )
     ]
 
 -- what an entry's device is
@@ -43,7 +47,8 @@ record IsDevice (names : List (List ℕ)) (device : Device) : Type 0 where
   rates : IsRates device.rates
 
 -- an entry's device is in range, its name new
-device_ok : (version : ℕ) (top : Rates) (names : List (List ℕ)) (entry : ℕ) (d : Data) (device : Device) → IsRates top → device_in version top names entry d ≡ Ok device → IsDevice names device
+device_ok : (version : ℕ) (top : Rates) (names : List (List ℕ)) (entry : ℕ) (d : Data) (device : Device) → IsRates top
+    → device_in version top names entry d ≡ Ok device → IsDevice names device
 unfolding device_in
 device_ok version top names entry d device good h =
     let made : List ℕ → Side → Rates → Device = λ name side rates. record { name = name; side = side; rates = rates } in
@@ -55,7 +60,8 @@ device_ok version top names entry d device good h =
     let (side, e, h3) = bind_ok (side_in entry ms) (rated ms name) device h2 in
     let (rates, f, h4) = bind_ok (rates_in version top entry ms) (λ rates. Ok (made name side rates)) device h3 in
     let (limits, new) = own_name_ok keys.DeviceName entry names ms name b in
-    subst (IsDevice names) (ok_inside (made name side rates) device h4) (record { good = limits; new = new; rates = rates_ok version top entry ms rates good f })
+    subst (IsDevice names) (ok_inside (made name side rates) device h4)
+    (record { good = limits; new = new; rates = rates_ok version top entry ms rates good f })
 
 -- devices with distinct names in range
 record AreDevices (devices : List Device) : Type 0 where
@@ -63,10 +69,12 @@ record AreDevices (devices : List Device) : Type 0 where
   rates : All (λ device. IsRates device.rates) devices
 
 -- one more device is in range
-device_step : (version : ℕ) (top : Rates) → IsRates top → (seen : List Device) (d : Data) (more : List Device) → one_more_device version top seen d ≡ Ok more → (device : Device) × IsDevice (map (λ device. device.name) seen) device × (more ≡ seen ++ device ∷ [])
+device_step : (version : ℕ) (top : Rates) → IsRates top → (seen : List Device) (d : Data) (more : List Device) → one_more_device version top seen d ≡ Ok more
+    → (device : Device) × IsDevice (map (λ device. device.name) seen) device × (more ≡ seen ++ device ∷ [])
 unfolding one_more_device
 device_step version top good seen d more h =
-    let (device, a, last) = bind_ok (device_in version top (map (λ device. device.name) seen) (length seen + 1) d) (λ device. Ok (seen ++ device ∷ [])) more h in
+    let (device, a, last) =
+    bind_ok (device_in version top (map (λ device. device.name) seen) (length seen + 1) d) (λ device. Ok (seen ++ device ∷ [])) more h in
     (device, device_ok version top (map (λ device. device.name) seen) (length seen + 1) d device good a, sym (ok_inside (seen ++ device ∷ []) more last))
 
 -- a list with one more element is longer by one
@@ -74,7 +82,8 @@ longer : {B : Type 0} (seen more : List B) (x : B) → more ≡ seen ++ x ∷ []
 longer seen more x is = ap length is ∙ length-append seen (x ∷ [])
 
 -- the devices are in range, at least one and few enough
-devices_ok : (version : ℕ) (top : Rates) (ms : Members) (devices : List Device) → IsRates top → devices_in version top ms ≡ Ok devices → AreDevices devices × (1 ≤ length devices) × (length devices ≤ 4096)
+devices_ok : (version : ℕ) (top : Rates) (ms : Members) (devices : List Device) → IsRates top → devices_in version top ms ≡ Ok devices
+    → AreDevices devices × (1 ≤ length devices) × (length devices ≤ 4096)
 unfolding devices_in
 devices_ok version top ms devices good h =
     let all : Items → Result (List Device) TopoFault = λ ds. each_from (one_more_device version top) [] ds in
@@ -87,8 +96,12 @@ devices_ok version top ms devices good h =
     let (most, same2) = allowed_ok (nat_le (count_of d1) 4096) (Limit kinds.Device) d1 d2 e in
     let low : 1 ≤ count_of d2 = subst (λ ds. 1 ≤ count_of ds) (same1 ∙ same2) (leb-true 1 (count_of d0) least) in
     let high : count_of d2 ≤ 4096 = subst (λ ds. count_of ds ≤ 4096) same2 (leb-true (count_of d1) 4096 most) in
-    let long : length devices ≡ 0 + count_of d2 = each_len (one_more_device version top) grows [] devices d2 h3 in
-    (each_ok (one_more_device version top) AreDevices step [] devices d2 h3 (record { names = no_names; rates = All-nil (λ (device : Device). IsRates device.rates) }), omega arith, omega arith)
+    let long : length devices ≡ 0 + count_of d2 = each_len (one_more_device version top) grows [] devices d2 h3 in (
+      each_ok (one_more_device version top) AreDevices step [] devices d2 h3
+          (record { names = no_names; rates = All-nil (λ (device : Device). IsRates device.rates) }),
+      omega arith,
+      omega arith,
+    )
   where
     step : (seen : List Device) (d : Data) (more : List Device) → one_more_device version top seen d ≡ Ok more → AreDevices seen → AreDevices more
     step seen d more h kept =
@@ -119,7 +132,8 @@ delay_ok least most entry ms delay h =
 back_ok : (version : ℕ) (forth : Delay) (entry : ℕ) (ms : Members) (delay : Delay) → IsDelay forth → back_in version forth entry ms ≡ Ok delay → IsDelay delay
 unfolding back_in
 back_ok version forth entry ms delay good h =
-    elim (one_of (nat_eq version 1 || (is_none (value keys.LinkBackMin ms) && is_none (value keys.LinkBackMax ms))) forth delay (delay_in keys.LinkBackMin keys.LinkBackMax entry ms) h) [
+    elim (one_of (nat_eq version 1 || (is_none (value keys.LinkBackMin ms) && is_none (value keys.LinkBackMax ms))) forth delay
+    (delay_in keys.LinkBackMin keys.LinkBackMax entry ms) h) [
       | inl same ↦ subst IsDelay same good
       | inr own ↦ delay_ok keys.LinkBackMin keys.LinkBackMax entry ms delay own
     ]
@@ -146,7 +160,8 @@ ends_ok devices entry ms ends h =
     let (first, e, h3) = bind_ok (referred p devices pair.0) (after pair) ends h2 in
     let (second, f, h4) = bind_ok (referred p devices pair.1) (apart first) ends h3 in
     let (differ, same) = allowed_ok (not (nat_eq first second)) (SelfLink p) (first, second) ends h4 in
-    subst (AreEnds (length devices)) same (referred_ok p devices pair.0 first e, referred_ok p devices pair.1 second f, eqb-false first second (not_true (nat_eq first second) differ))
+    subst (AreEnds (length devices)) same
+    (referred_ok p devices pair.0 first e, referred_ok p devices pair.1 second f, eqb-false first second (not_true (nat_eq first second) differ))
 
 -- what an entry's link is
 record IsLinkEntry (devices : ℕ) (names : List (List ℕ)) (link : Link) : Type 0 where
@@ -155,11 +170,17 @@ record IsLinkEntry (devices : ℕ) (names : List (List ℕ)) (link : Link) : Typ
   fits : IsLink devices link.entry
 
 -- an entry's link is in range, its name new
-link_ok : (version : ℕ) (devices names : List (List ℕ)) (entry : ℕ) (d : Data) (link : Link) → link_in version devices names entry d ≡ Ok link → IsLinkEntry (length devices) names link
+link_ok : (version : ℕ) (devices names : List (List ℕ)) (entry : ℕ) (d : Data) (link : Link) → link_in version devices names entry d ≡ Ok link
+    → IsLinkEntry (length devices) names link
 unfolding link_in
 link_ok version devices names entry d link h =
-    let made : List ℕ → ℕ × ℕ → Delay → Delay → Link = λ name ends forth back. record { name = name; entry = record { end_a = ends.0; end_b = ends.1; min = forth.min; max = forth.max; back_min = back.min; back_max = back.max } } in
-    let backed : Members → List ℕ → ℕ × ℕ → Delay → Result Link TopoFault = λ ms name ends forth. back_in version forth entry ms >>= (λ back. Ok (made name ends forth back)) in
+    let made : List ℕ → ℕ × ℕ → Delay → Delay
+    → Link = λ name ends forth back. record {
+      name = name;
+      entry = record { end_a = ends.0; end_b = ends.1; min = forth.min; max = forth.max; back_min = back.min; back_max = back.max };
+    } in
+    let backed : Members → List ℕ → ℕ × ℕ → Delay → Result Link TopoFault =
+    λ ms name ends forth. back_in version forth entry ms >>= (λ back. Ok (made name ends forth back)) in
     let delayed : Members → List ℕ → ℕ × ℕ → Result Link TopoFault = λ ms name ends. delay_in keys.LinkMin keys.LinkMax entry ms >>= backed ms name ends in
     let ended : Members → List ℕ → Result Link TopoFault = λ ms name. ends_in devices entry ms >>= delayed ms name in
     let named : Members → Result Link TopoFault = λ ms. own_name keys.LinkName entry names ms >>= ended ms in
@@ -181,14 +202,16 @@ record AreLinks (devices : ℕ) (links : List Link) : Type 0 where
   fit : All (λ link. IsLink devices link.entry) links
 
 -- one more link is in range
-link_step : (version : ℕ) (devices : List (List ℕ)) (seen : List Link) (d : Data) (more : List Link) → one_more_link version devices seen d ≡ Ok more → (link : Link) × IsLinkEntry (length devices) (map (λ link. link.name) seen) link × (more ≡ seen ++ link ∷ [])
+link_step : (version : ℕ) (devices : List (List ℕ)) (seen : List Link) (d : Data) (more : List Link) → one_more_link version devices seen d ≡ Ok more
+    → (link : Link) × IsLinkEntry (length devices) (map (λ link. link.name) seen) link × (more ≡ seen ++ link ∷ [])
 unfolding one_more_link
 link_step version devices seen d more h =
     let (link, a, last) = bind_ok (link_in version devices (map (λ link. link.name) seen) (length seen + 1) d) (λ link. Ok (seen ++ link ∷ [])) more h in
     (link, link_ok version devices (map (λ link. link.name) seen) (length seen + 1) d link a, sym (ok_inside (seen ++ link ∷ []) more last))
 
 -- the links are in range and few enough
-links_ok : (version : ℕ) (devices : List (List ℕ)) (ms : Members) (links : List Link) → links_in version devices ms ≡ Ok links → AreLinks (length devices) links × (length links ≤ 32768)
+links_ok : (version : ℕ) (devices : List (List ℕ)) (ms : Members) (links : List Link) → links_in version devices ms ≡ Ok links
+    → AreLinks (length devices) links × (length links ≤ 32768)
 unfolding links_in
 links_ok version devices ms links h =
     let all : Items → Result (List Link) TopoFault = λ ds. each_from (one_more_link version devices) [] ds in
@@ -197,10 +220,14 @@ links_ok version devices ms links h =
     let (d1, b, h2) = bind_ok (allowed (nat_le (count_of d0) 32768) (Limit kinds.Link) d0) all links h1 in
     let (most, same) = allowed_ok (nat_le (count_of d0) 32768) (Limit kinds.Link) d0 d1 b in
     let high : count_of d1 ≤ 32768 = subst (λ ds. count_of ds ≤ 32768) same (leb-true (count_of d0) 32768 most) in
-    let long : length links ≡ 0 + count_of d1 = each_len (one_more_link version devices) grows [] links d1 h2 in
-    (each_ok (one_more_link version devices) (AreLinks (length devices)) step [] links d1 h2 (record { names = no_names; fit = All-nil (λ (link : Link). IsLink (length devices) link.entry) }), omega arith)
+    let long : length links ≡ 0 + count_of d1 = each_len (one_more_link version devices) grows [] links d1 h2 in (
+      each_ok (one_more_link version devices) (AreLinks (length devices)) step [] links d1 h2
+          (record { names = no_names; fit = All-nil (λ (link : Link). IsLink (length devices) link.entry) }),
+      omega arith,
+    )
   where
-    step : (seen : List Link) (d : Data) (more : List Link) → one_more_link version devices seen d ≡ Ok more → AreLinks (length devices) seen → AreLinks (length devices) more
+    step : (seen : List Link) (d : Data) (more : List Link) → one_more_link version devices seen d ≡ Ok more → AreLinks (length devices) seen
+        → AreLinks (length devices) more
     step seen d more h kept =
         let (link, is, last) = link_step version devices seen d more h in
         subst (AreLinks (length devices)) (sym last) (record {
@@ -216,7 +243,8 @@ abbrev IsListed : ℕ → List ℕ → Type 0
 IsListed count numbers = (ascends numbers ≡ true) × (all_below count numbers ≡ true)
 
 -- a domain's list ascends, in range
-members_ok : (key : Key) (entry : ℕ) (names : List (List ℕ)) (ms : Members) (numbers : List ℕ) → members_in key entry names ms ≡ Ok numbers → IsListed (length names) numbers
+members_ok : (key : Key) (entry : ℕ) (names : List (List ℕ)) (ms : Members) (numbers : List ℕ) → members_in key entry names ms ≡ Ok numbers
+    → IsListed (length names) numbers
 unfolding members_in
 members_ok key entry names ms numbers h =
     let end : List ℕ → Result (List ℕ) TopoFault = λ xs. Ok (ascending (length names) xs) in
@@ -232,11 +260,13 @@ record IsDomain (devices links : ℕ) (names : List (List ℕ)) (domain : Domain
   on_links : IsListed links domain.links
 
 -- an entry's domain is in range, its name new
-domain_ok : (devices links names : List (List ℕ)) (entry : ℕ) (d : Data) (domain : Domain) → domain_in devices links names entry d ≡ Ok domain → IsDomain (length devices) (length links) names domain
+domain_ok : (devices links names : List (List ℕ)) (entry : ℕ) (d : Data) (domain : Domain) → domain_in devices links names entry d ≡ Ok domain
+    → IsDomain (length devices) (length links) names domain
 unfolding domain_in
 domain_ok devices links names entry d domain h =
     let made : List ℕ → List ℕ → List ℕ → Domain = λ name xs ys. record { name = name; devices = xs; links = ys } in
-    let linked : Members → List ℕ → List ℕ → Result Domain TopoFault = λ ms name xs. members_in keys.DomainLinks entry links ms >>= (λ ys. Ok (made name xs ys)) in
+    let linked : Members → List ℕ → List ℕ → Result Domain TopoFault =
+    λ ms name xs. members_in keys.DomainLinks entry links ms >>= (λ ys. Ok (made name xs ys)) in
     let deviced : Members → List ℕ → Result Domain TopoFault = λ ms name. members_in keys.DomainDevices entry devices ms >>= linked ms name in
     let named : Members → Result Domain TopoFault = λ ms. own_name keys.DomainName entry names ms >>= deviced ms in
     let (ms, a, h1) = bind_ok (of_kind (place keys.Domain entry) (as_table d)) named domain h in
@@ -245,7 +275,12 @@ domain_ok devices links names entry d domain h =
     let (ys, f, h4) = bind_ok (members_in keys.DomainLinks entry links ms) (λ ys. Ok (made name xs ys)) domain h3 in
     let (limits, new) = own_name_ok keys.DomainName entry names ms name b in
     subst (IsDomain (length devices) (length links) names) (ok_inside (made name xs ys) domain h4)
-    (record { good = limits; new = new; on_devices = members_ok keys.DomainDevices entry devices ms xs e; on_links = members_ok keys.DomainLinks entry links ms ys f })
+    (record {
+      good = limits;
+      new = new;
+      on_devices = members_ok keys.DomainDevices entry devices ms xs e;
+      on_links = members_ok keys.DomainLinks entry links ms ys f;
+    })
 
 -- domains with distinct names, whose lists ascend and are short enough together
 record AreDomains (devices links : ℕ) (domains : List Domain) : Type 0 where
@@ -255,16 +290,25 @@ record AreDomains (devices links : ℕ) (domains : List Domain) : Type 0 where
 
 -- one more domain is in range, and all list few enough things
 domain_step : (devices links : List (List ℕ)) (seen : List Domain) (d : Data) (more : List Domain) → one_more_domain devices links seen d ≡ Ok more
-    → (domain : Domain) × IsDomain (length devices) (length links) (map (λ domain. domain.name) seen) domain × (more ≡ seen ++ domain ∷ []) × (things_listed more ≤ 262144)
+    → (domain : Domain) × IsDomain (length devices) (length links) (map (λ domain. domain.name) seen) domain × (more ≡ seen ++ domain ∷ [])
+    × (things_listed more ≤ 262144)
 unfolding one_more_domain
 domain_step devices links seen d more h =
-    let end : Domain → Result (List Domain) TopoFault = λ domain. allowed (nat_le (things_listed (seen ++ domain ∷ [])) 262144) (Limit kinds.Item) (seen ++ domain ∷ []) in
+    let end : Domain
+    → Result (List Domain) TopoFault = λ domain. allowed (nat_le (things_listed (seen ++ domain ∷ [])) 262144) (Limit kinds.Item) (seen ++ domain ∷ []) in
     let (domain, a, last) = bind_ok (domain_in devices links (map (λ domain. domain.name) seen) (length seen + 1) d) end more h in
-    let (few, same) = allowed_ok (nat_le (things_listed (seen ++ domain ∷ [])) 262144) (Limit kinds.Item) (seen ++ domain ∷ []) more last in
-    (domain, domain_ok devices links (map (λ domain. domain.name) seen) (length seen + 1) d domain a, sym same, subst (λ (all : List Domain). things_listed all ≤ 262144) same (leb-true (things_listed (seen ++ domain ∷ [])) 262144 few))
+    let (few, same) = allowed_ok (nat_le (things_listed (seen ++ domain ∷ [])) 262144) (Limit kinds.Item) (seen ++ domain ∷ []) more last in (
+      domain,
+      domain_ok devices links (map (λ domain. domain.name) seen)
+          (length seen + 1) d domain a,
+      sym same,
+      subst (λ (all : List Domain). things_listed all ≤ 262144) same
+          (leb-true (things_listed (seen ++ domain ∷ [])) 262144 few),
+    )
 
 -- the domains are in range and few enough
-domains_ok : (devices links : List (List ℕ)) (ms : Members) (domains : List Domain) → domains_in devices links ms ≡ Ok domains → AreDomains (length devices) (length links) domains × (length domains ≤ 4096)
+domains_ok : (devices links : List (List ℕ)) (ms : Members) (domains : List Domain) → domains_in devices links ms ≡ Ok domains
+    → AreDomains (length devices) (length links) domains × (length domains ≤ 4096)
 unfolding domains_in
 domains_ok devices links ms domains h =
     let all : Items → Result (List Domain) TopoFault = λ ds. each_from (one_more_domain devices links) [] ds in
@@ -275,16 +319,22 @@ domains_ok devices links ms domains h =
     let high : count_of d1 ≤ 4096 = subst (λ ds. count_of ds ≤ 4096) same (leb-true (count_of d0) 4096 most) in
     let long : length domains ≡ 0 + count_of d1 = each_len (one_more_domain devices links) grows [] domains d1 h2 in (
       each_ok (one_more_domain devices links) (AreDomains (length devices) (length links)) step [] domains d1 h2
-          (record { names = no_names; lists = All-nil (λ (domain : Domain). IsListed (length devices) domain.devices × IsListed (length links) domain.links); few = omega arith }),
+          (record {
+            names = no_names;
+            lists = All-nil (λ (domain : Domain). IsListed (length devices) domain.devices × IsListed (length links) domain.links);
+            few = omega arith;
+          }),
       omega arith,
     )
   where
-    step : (seen : List Domain) (d : Data) (more : List Domain) → one_more_domain devices links seen d ≡ Ok more → AreDomains (length devices) (length links) seen → AreDomains (length devices) (length links) more
+    step : (seen : List Domain) (d : Data) (more : List Domain) → one_more_domain devices links seen d ≡ Ok more
+        → AreDomains (length devices) (length links) seen → AreDomains (length devices) (length links) more
     step seen d more h kept =
         let (domain, is, last, few) = domain_step devices links seen d more h in
         subst (AreDomains (length devices) (length links)) (sym last) (record {
           names = names_more (λ (domain : Domain). domain.name) seen domain kept.names is.good is.new;
-          lists = All-push (λ (domain : Domain). IsListed (length devices) domain.devices × IsListed (length links) domain.links) seen domain kept.lists (is.on_devices, is.on_links);
+          lists = All-push (λ (domain : Domain). IsListed (length devices) domain.devices × IsListed (length links) domain.links) seen domain kept.lists
+              (is.on_devices, is.on_links);
           few = subst (λ (all : List Domain). things_listed all ≤ 262144) last few;
         })
 
@@ -321,8 +371,10 @@ record AreParams (params : Params) : Type 0 where
 params_ok : (ms : Members) (params : Params) → params_in ms ≡ Ok params → AreParams params
 unfolding params_in
 params_ok ms params h =
-    let made : ℕ → ℕ → ℕ → ℕ → ℕ → ℕ → Params = λ ppm grain period tick loss depth. record { ppm = ppm; grain = grain; period = period; tick = tick; loss = loss; depth = depth } in
-    let t5 : ℕ → ℕ → ℕ → ℕ → ℕ → Result Params TopoFault = λ ppm grain period tick loss. number keys.Depth 0 1 64 ms >>= (λ depth. Ok (made ppm grain period tick loss depth)) in
+    let made : ℕ → ℕ → ℕ → ℕ → ℕ → ℕ
+    → Params = λ ppm grain period tick loss depth. record { ppm = ppm; grain = grain; period = period; tick = tick; loss = loss; depth = depth } in
+    let t5 : ℕ → ℕ → ℕ → ℕ → ℕ
+    → Result Params TopoFault = λ ppm grain period tick loss. number keys.Depth 0 1 64 ms >>= (λ depth. Ok (made ppm grain period tick loss depth)) in
     let t4 : ℕ → ℕ → ℕ → ℕ → Result Params TopoFault = λ ppm grain period tick. number keys.Loss 0 0 100 ms >>= t5 ppm grain period tick in
     let t3 : ℕ → ℕ → ℕ → Result Params TopoFault = λ ppm grain period. number keys.Tick 0 1 (10 ^ 12) ms >>= t4 ppm grain period in
     let t2 : ℕ → ℕ → Result Params TopoFault = λ ppm grain. number keys.Period 0 1 (10 ^ 12) ms >>= t3 ppm grain in
@@ -348,7 +400,8 @@ all_four a b c d ha hb hc hd = rw (ha, hb, hc, hd) refl
 -- devices, links, domains and roots in range are a network
 network_made : (version : ℕ) (params : Params) (devices : List Device) (links : List Link) (domains : List Domain) (roots : List ℕ)
     → (1 ≤ version) × (version ≤ 2) → AreParams params → AreDevices devices × (1 ≤ length devices) × (length devices ≤ 4096)
-    → AreLinks (length devices) links × (length links ≤ 32768) → AreDomains (length devices) (length links) domains × (length domains ≤ 4096) → (1 ≤ length roots) × AreNumbers (length devices) roots
+    → AreLinks (length devices) links × (length links ≤ 32768) → AreDomains (length devices) (length links) domains × (length domains ≤ 4096)
+    → (1 ≤ length roots) × AreNumbers (length devices) roots
     → IsNetwork (record { version = version; params = params; devices = devices; links = links; domains = domains; roots = roots })
 network_made version params devices links domains roots good_version good_params good_devices good_links good_domains good_roots = record {
   version = good_version;
@@ -364,12 +417,19 @@ network_made version params devices links domains roots good_version good_params
   distinct_devices = names_differ _ good_devices.0.names.apart;
   distinct_links = names_differ _ good_links.0.names.apart;
   distinct_domains = names_differ _ good_domains.0.names.apart;
-  names = (each_of (λ name. IsTrue (is_name name)) _ good_devices.0.names.limits, each_of (λ name. IsTrue (is_name name)) _ good_links.0.names.limits, each_of (λ name. IsTrue (is_name name)) _ good_domains.0.names.limits);
+  names = (
+    each_of (λ name. IsTrue (is_name name)) _ good_devices.0.names.limits,
+    each_of (λ name. IsTrue (is_name name)) _ good_links.0.names.limits,
+    each_of
+        (λ name. IsTrue (is_name name)) _ good_domains.0.names.limits,
+  );
   each_device = each_of (λ (device : Device). IsRates device.rates) devices good_devices.0.rates;
   each_link = each_of (λ (link : Link). IsLink (length devices) link.entry) links good_links.0.fit;
   each_domain = λ i domain at.
-      let lists = each_of (λ (domain : Domain). IsListed (length devices) domain.devices × IsListed (length links) domain.links) domains good_domains.0.lists i domain at in
-      all_four (ascends domain.devices) (ascends domain.links) (all_below (length devices) domain.devices) (all_below (length links) domain.links) lists.0.0 lists.1.0 lists.0.1 lists.1.1;
+      let lists = each_of (λ (domain : Domain). IsListed (length devices) domain.devices
+      × IsListed (length links) domain.links) domains good_domains.0.lists i domain at in
+      all_four (ascends domain.devices) (ascends domain.links) (all_below (length devices) domain.devices)
+      (all_below (length links) domain.links) lists.0.0 lists.1.0 lists.0.1 lists.1.1;
   each_root = good_roots;
 }
 
@@ -381,9 +441,13 @@ network_in_ok ms net h =
     record { version = version; params = params; devices = devices; links = links; domains = domains; roots = roots } in
     let names : List Device → List (List ℕ) = λ devices. map (λ device. device.name) devices in
     let link_words : List Link → List (List ℕ) = λ links. map (λ link. link.name) links in
-    let t4 : ℕ → Params → List Device → List Link → List Domain → Result Network TopoFault = λ version params devices links domains. roots_in (names devices) ms >>= (λ roots. Ok (made version params devices links domains roots)) in
-    let t3 : ℕ → Params → List Device → List Link → Result Network TopoFault = λ version params devices links. domains_in (names devices) (link_words links) ms >>= t4 version params devices links in
-    let t2 : ℕ → Params → List Device → Result Network TopoFault = λ version params devices. links_in version (names devices) ms >>= t3 version params devices in
+    let t4 : ℕ → Params → List Device → List Link → List Domain
+    → Result Network TopoFault =
+    λ version params devices links domains. roots_in (names devices) ms >>= (λ roots. Ok (made version params devices links domains roots)) in
+    let t3 : ℕ → Params → List Device → List Link → Result Network TopoFault =
+    λ version params devices links. domains_in (names devices) (link_words links) ms >>= t4 version params devices links in
+    let t2 : ℕ → Params → List Device → Result Network TopoFault =
+    λ version params devices. links_in version (names devices) ms >>= t3 version params devices in
     let t1 : ℕ → Params → Result Network TopoFault = λ version params. devices_in version (top_rates params) ms >>= t2 version params in
     let t0 : ℕ → Result Network TopoFault = λ version. params_in ms >>= t1 version in
     let (version, a0, h0) = bind_ok (number keys.Version 0 1 2 ms) t0 net h in
@@ -397,7 +461,8 @@ network_in_ok ms net h =
     let link_count = names_count (λ (link : Link). link.name) links in
     let good_links = subst (λ n. AreLinks n links × (length links ≤ 32768)) device_count (links_ok version (names devices) ms links a3) in
     let good_domains = subst (λ n. AreDomains (length devices) n domains × (length domains ≤ 4096)) link_count
-    (subst (λ n. AreDomains n (length (link_words links)) domains × (length domains ≤ 4096)) device_count (domains_ok (names devices) (link_words links) ms domains a4)) in
+    (subst (λ n. AreDomains n (length (link_words links)) domains × (length domains ≤ 4096)) device_count
+    (domains_ok (names devices) (link_words links) ms domains a4)) in
     let good_roots = subst (λ n. (1 ≤ length roots) × AreNumbers n roots) device_count (roots_ok (names devices) ms roots a5) in
     subst IsNetwork (ok_inside (made version params devices links domains roots) net h5)
     (network_made version params devices links domains roots (number_ok keys.Version 0 1 2 ms version a0) good_params

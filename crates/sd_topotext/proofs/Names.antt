@@ -10,7 +10,8 @@ use Rattle.sd_topo.specs.Network.{number_in}
 use Rattle.sd_topo.proofs.Tables.{position-map}
 
 -- some key passes where a look-up finds something
-found : {V : Type 0} (test : List ℕ → Bool) (es : List (String Global × V)) → list_any test (map string_bytes (keys_of es)) ≡ is_some (lookup (λ k. test (string_bytes k)) es)
+found : {V : Type 0} (test : List ℕ → Bool) (es : List (String Global × V))
+    → list_any test (map string_bytes (keys_of es)) ≡ is_some (lookup (λ k. test (string_bytes k)) es)
 found test [] = refl
 found test (e ∷ es) = by (test (string_bytes e.0)) (found test es)
   where
@@ -20,9 +21,11 @@ found test (e ∷ es) = by (test (string_bytes e.0)) (found test es)
     by false rest = rest
 
 -- a name is among those of the table where the table has it as a key
-pub taken : {V S : Type 0} (name : List ℕ) (table : IndexMap (String Global) V S) → list_any (bytes_eq name) (names_seen table) ≡ is_some (get_by (λ k. bytes_eq name (string_bytes k)) table)
+pub taken : {V S : Type 0} (name : List ℕ) (table : IndexMap (String Global) V S)
+    → list_any (bytes_eq name) (names_seen table) ≡ is_some (get_by (λ k. bytes_eq name (string_bytes k)) table)
 taken name table = found (bytes_eq name) table.entries
 
 -- the number of a name is the place of its key
-pub named_at : {V S : Type 0} (name : List ℕ) (table : IndexMap (String Global) V S) → number_in (names_seen table) name ≡ index_of_by (λ k. bytes_eq name (string_bytes k)) table
+pub named_at : {V S : Type 0} (name : List ℕ) (table : IndexMap (String Global) V S)
+    → number_in (names_seen table) name ≡ index_of_by (λ k. bytes_eq name (string_bytes k)) table
 named_at name table = position-map string_bytes (bytes_eq name) (keys_of table.entries)

@@ -69,10 +69,12 @@ number_ok key entry least most ms n h =
 pub number_or_ok : (key : Key) (entry most default : ℕ) (ms : Members) (n : ℕ) → default ≤ most → number_or key entry most default ms ≡ Ok n → n ≤ most
 unfolding number_or
 number_or_ok key entry most default ms n inside h =
-    elim (one_of (is_none (value key ms)) default n (number key entry 0 most ms) h) [ inl same ↦ omega arith | inr read ↦ (number_ok key entry 0 most ms n read).1 ]
+    elim (one_of (is_none (value key ms)) default n (number key entry 0 most ms) h)
+    [ inl same ↦ omega arith | inr read ↦ (number_ok key entry 0 most ms n read).1 ]
 
 -- an entry's own name is within the limits and new
-pub own_name_ok : (key : Key) (entry : ℕ) (names : List (List ℕ)) (ms : Members) (name : List ℕ) → own_name key entry names ms ≡ Ok name → (is_name name ≡ true) × (list_any (bytes_eq name) names ≡ false)
+pub own_name_ok : (key : Key) (entry : ℕ) (names : List (List ℕ)) (ms : Members) (name : List ℕ) → own_name key entry names ms ≡ Ok name
+    → (is_name name ≡ true) × (list_any (bytes_eq name) names ≡ false)
 unfolding own_name
 own_name_ok key entry names ms name h =
     let p = place key entry in
@@ -91,7 +93,8 @@ referred_ok p names d n h =
     (position-Some (bytes_eq name) names n [] (known_ok p (number_in names name) n last)).0
 
 -- one more listed thing is there, and new
-pub one_more_ok : (p : Place) (names : List (List ℕ)) (seen : List ℕ) (d : Data) (more : List ℕ) → one_more p names seen d ≡ Ok more → (n : ℕ) × (more ≡ seen ++ n ∷ []) × (n < length names) × (has seen n ≡ false)
+pub one_more_ok : (p : Place) (names : List (List ℕ)) (seen : List ℕ) (d : Data) (more : List ℕ) → one_more p names seen d ≡ Ok more
+    → (n : ℕ) × (more ≡ seen ++ n ∷ []) × (n < length names) × (has seen n ≡ false)
 unfolding one_more
 one_more_ok p names seen d more h =
     let (n, at, last) = bind_ok (referred p names d) (λ n. allowed (not (has seen n)) (TwiceNamed p) (seen ++ n ∷ [])) more h in
@@ -108,7 +111,8 @@ each_ok step Keeps keeps seen out (item d ds) h kept =
     each_ok step Keeps keeps more out ds rest (keeps seen d more first kept)
 
 -- what each step makes longer by one is as long as the items
-pub each_len : {B : Type 0} (step : List B → Data → Result (List B) TopoFault) → ((seen : List B) (d : Data) (more : List B) → step seen d ≡ Ok more → length more ≡ length seen + 1)
+pub each_len : {B : Type 0} (step : List B → Data → Result (List B) TopoFault)
+    → ((seen : List B) (d : Data) (more : List B) → step seen d ≡ Ok more → length more ≡ length seen + 1)
     → (seen out : List B) (ds : Items) → each_from step seen ds ≡ Ok out → length out ≡ length seen + count_of ds
 each_len step grows seen out no_items h = let same : seen ≡ out = cc in rw same (omega arith)
 each_len step grows seen out (item d ds) h =
@@ -125,7 +129,8 @@ pub record AreListed (bound : ℕ) (numbers : List ℕ) : Type 0 where
 -- the numbers that an array lists
 pub listed_ok : (p : Place) (names : List (List ℕ)) (ds : Items) (out : List ℕ) → each_from (one_more p names) [] ds ≡ Ok out → AreListed (length names) out
 unfolding IsDistinct
-listed_ok p names ds out h = each_ok (one_more p names) (AreListed (length names)) step [] out ds h (record { within = All-nil (λ n. n < length names); apart = tt })
+listed_ok p names ds out h =
+    each_ok (one_more p names) (AreListed (length names)) step [] out ds h (record { within = All-nil (λ n. n < length names); apart = tt })
   where
     step : (seen : List ℕ) (d : Data) (more : List ℕ) → one_more p names seen d ≡ Ok more → AreListed (length names) seen → AreListed (length names) more
     step seen d more h kept =
@@ -136,7 +141,8 @@ listed_ok p names ds out h = each_ok (one_more p names) (AreListed (length names
         })
 
 -- a domain's list from its array
-pub members_are : (key : Key) (entry : ℕ) (names : List (List ℕ)) (ms : Members) (ds : Items) (xs v : List ℕ) → array_or_none key entry ms ≡ Ok ds → each_from (one_more (place key entry) names) [] ds ≡ Ok xs
+pub members_are : (key : Key) (entry : ℕ) (names : List (List ℕ)) (ms : Members) (ds : Items) (xs v : List ℕ) → array_or_none key entry ms ≡ Ok ds
+    → each_from (one_more (place key entry) names) [] ds ≡ Ok xs
     → ((count : ℕ) → All (λ n. n < count) xs → v ≡ ascending count xs) → members_in key entry names ms ≡ Ok v
 unfolding members_in
 members_are key entry names ms ds xs v there listed is =

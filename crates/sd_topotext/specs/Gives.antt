@@ -9,7 +9,7 @@ abbrev pub ◌>>=◌ : {A B : Type 0} → Result A TopoFault → (A → Result B
 (Ok x) >>= f = f x
 (Err e) >>= f = Err e
 
--- want of memory is free, and each other fault is the first one
+-- out of memory is free, and each other fault is the first one
 abbrev pub Fails : {Y : Type 0} → TopoFault → Result Y TopoFault → Type 0
 Fails faults.NotToml read = read ≡ Err faults.NotToml
 Fails (faults.Missing p) read = read ≡ Err (faults.Missing p)

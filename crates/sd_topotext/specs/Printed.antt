@@ -39,13 +39,15 @@ device_tree device =
 
 unfoldable pub link_tree : List (List ℕ) → Link → Members
 link_tree names link =
-    put keys.LinkName (string link.name) (put keys.LinkEnds (array (items_of (string (name_at names link.entry.end_a) ∷ string (name_at names link.entry.end_b) ∷ [])))
+    put keys.LinkName (string link.name)
+    (put keys.LinkEnds (array (items_of (string (name_at names link.entry.end_a) ∷ string (name_at names link.entry.end_b) ∷ [])))
     (put keys.LinkMin (whole link.entry.min) (put keys.LinkMax (whole link.entry.max)
     (put keys.LinkBackMin (whole link.entry.back_min) (put keys.LinkBackMax (whole link.entry.back_max) no_members)))))
 
 unfoldable pub domain_tree : List (List ℕ) → List (List ℕ) → Domain → Members
 domain_tree devices links domain =
-    put keys.DomainName (string domain.name) (put keys.DomainDevices (names_data devices domain.devices) (put keys.DomainLinks (names_data links domain.links) no_members))
+    put keys.DomainName (string domain.name)
+    (put keys.DomainDevices (names_data devices domain.devices) (put keys.DomainLinks (names_data links domain.links) no_members))
 
 -- the numbers at the top
 unfoldable pub params_tree : Network → Members

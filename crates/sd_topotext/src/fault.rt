@@ -135,7 +135,7 @@ impl fmt::Display for Kind {
     }
 }
 
-/// Why a topology text is refused: the first fault in the order of its keys. Only want of memory
+/// Why a topology text is refused: the first fault in the order of its keys. Only out of memory
 /// may come in place of another fault, or where there is none.
 #[derive(Debug, Drop, PartialEq, Eq, Error)]
 pub enum TopoFault {

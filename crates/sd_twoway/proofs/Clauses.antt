@@ -9,12 +9,15 @@ use Rattle.sd_twoway.specs.declared.ExchangeFault.TheVariants.{Backwards, Imposs
 use Rattle.sd_twoway.specs.Spans.{span_of, IsHonestRun, Covers}
 use Rattle.sd_twoway.proofs.Covering.{span_covers, none_is_honest}
 
-pub covers_result : (first second : Rates) (x : Exchange) (result : Result Span ExchangeFault) → result ≡ span_of first second x → IfOk result (Covers first second x)
+pub covers_result : (first second : Rates) (x : Exchange) (result : Result Span ExchangeFault) → result ≡ span_of first second x
+    → IfOk result (Covers first second x)
 covers_result first second x (Ok span) same = span_covers first second x span (sym same)
 covers_result first second x (Err why) same = tt
 
-pub none_backwards : (first second : Rates) (x : Exchange) (result : Result Span ExchangeFault) → result ≡ span_of first second x → result ≡ Err Backwards → (r1 r2 r3 r4 : ℕ) → IsHonestRun first second x r1 r2 r3 r4 → ⊥
+pub none_backwards : (first second : Rates) (x : Exchange) (result : Result Span ExchangeFault) → result ≡ span_of first second x → result ≡ Err Backwards
+    → (r1 r2 r3 r4 : ℕ) → IsHonestRun first second x r1 r2 r3 r4 → ⊥
 none_backwards first second x result same is r1 r2 r3 r4 run = none_is_honest first second x r1 r2 r3 r4 (inl (sym same ∙ is)) run
 
-pub none_impossible : (first second : Rates) (x : Exchange) (result : Result Span ExchangeFault) → result ≡ span_of first second x → result ≡ Err Impossible → (r1 r2 r3 r4 : ℕ) → IsHonestRun first second x r1 r2 r3 r4 → ⊥
+pub none_impossible : (first second : Rates) (x : Exchange) (result : Result Span ExchangeFault) → result ≡ span_of first second x → result ≡ Err Impossible
+    → (r1 r2 r3 r4 : ℕ) → IsHonestRun first second x r1 r2 r3 r4 → ⊥
 none_impossible first second x result same is r1 r2 r3 r4 run = none_is_honest first second x r1 r2 r3 r4 (inr (sym same ∙ is)) run

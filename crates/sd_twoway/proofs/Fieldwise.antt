@@ -26,7 +26,8 @@ and_number (Ok ns) place (Some n) = Ok (ns ++ n ∷ [])
 
 -- a field in front of others and of one behind them
 in_front : (front : Option ℕ) (place behind : ℕ) (rest : Result (List ℕ) ℕ) (last : Option ℕ)
-    → of_some front (Err place) (λ n. then_numbers n (and_number rest behind last)) ≡ and_number (of_some front (Err place) (λ n. then_numbers n rest)) behind last
+    → of_some front (Err place) (λ n. then_numbers n (and_number rest behind last))
+    ≡ and_number (of_some front (Err place) (λ n. then_numbers n rest)) behind last
 in_front None place behind rest last = refl
 in_front (Some n) place behind (Err earlier) last = refl
 in_front (Some n) place behind (Ok ns) None = refl
@@ -39,7 +40,8 @@ alone (Some n) place = refl
 
 -- one field more, behind as many as there are limits
 one_more : (place : ℕ) (mosts : List ℕ) (texts : List (List ℕ)) (most : ℕ) (text : List ℕ) → length texts ≡ length mosts
-    → numbers_within place (mosts ++ most ∷ []) (texts ++ text ∷ []) ≡ and_number (numbers_within place mosts texts) (place + length mosts) (number_within most (number text))
+    → numbers_within place (mosts ++ most ∷ []) (texts ++ text ∷ [])
+    ≡ and_number (numbers_within place mosts texts) (place + length mosts) (number_within most (number text))
 one_more place [] [] most text same =
     let here : place + 0 ≡ place = omega arith in rw here (alone (number_within most (number text)) place)
 one_more place [] (t ∷ ts) most text same = absurd (omega (arith, same))
@@ -49,7 +51,8 @@ one_more place (m ∷ ms) (t ∷ ts) most text same =
     let behind : place + 1 + length ms ≡ place + suc (length ms) = omega arith in
     ap (λ (rest : Result (List ℕ) ℕ). of_some (number_within m (number t)) (Err place) (λ n. then_numbers n rest)) later
     ∙ in_front (number_within m (number t)) place (place + 1 + length ms) (numbers_within (place + 1) ms ts) (number_within most (number text))
-    ∙ ap (λ (p : ℕ). and_number (of_some (number_within m (number t)) (Err place) (λ n. then_numbers n (numbers_within (place + 1) ms ts))) p (number_within most (number text))) behind
+    ∙ ap (λ (p : ℕ). and_number (of_some (number_within m (number t)) (Err place) (λ n. then_numbers n (numbers_within (place + 1) ms ts))) p
+    (number_within most (number text))) behind
 
 -- the fields before a place were read, and those from there on are left
 pub record ReadTo (behind numbers : List ℕ) (refused : Option ℕ) (left : List ℕ) (place : ℕ) : Type 0 where
@@ -65,7 +68,8 @@ pub ReadTo-none : (behind : List ℕ) → ReadTo behind (0 ∷ 0 ∷ 0 ∷ 0 ∷
 ReadTo-none behind = record { front = []; split = refl; many = refl; read = refl; within = λ none k below. absurd (omega arith); seven = refl }
 
 -- the fields that are left, where one of them was read
-left_less : (behind left bytes rest : List ℕ) (front : List (List ℕ)) → fields_behind behind ≡ front ++ fields_behind left → fields_behind left ≡ fields bytes → rest ≡ drop (length (first_field bytes)) bytes
+left_less : (behind left bytes rest : List ℕ) (front : List (List ℕ)) → fields_behind behind ≡ front ++ fields_behind left → fields_behind left ≡ fields bytes
+    → rest ≡ drop (length (first_field bytes)) bytes
     → fields_behind behind ≡ (front ++ first_field bytes ∷ []) ++ fields_behind rest
 left_less behind left bytes rest front split more after =
     split
@@ -76,7 +80,8 @@ one_longer : (front : List (List ℕ)) (text : List ℕ) (place : ℕ) → lengt
 one_longer front text place many = length-append front (text ∷ []) ∙ ap (λ (n : ℕ). n + 1) many
 
 -- the numbers of one field more
-read_more : (front : List (List ℕ)) (text : List ℕ) (place : ℕ) (before : Result (List ℕ) ℕ) → length front ≡ place → place < 7 → numbers_within 1 (take place limits) front ≡ before
+read_more : (front : List (List ℕ)) (text : List ℕ) (place : ℕ) (before : Result (List ℕ) ℕ) → length front ≡ place → place < 7
+    → numbers_within 1 (take place limits) front ≡ before
     → numbers_within 1 (take (place + 1) limits) (front ++ text ∷ []) ≡ and_number before (place + 1) (number_within (get_or limits place 0) (number text))
 read_more front text place before many inside read =
     let size : length (take place limits) ≡ place = length-take-le place limits (omega (arith, inside)) in
@@ -87,13 +92,16 @@ read_more front text place before many inside read =
     ∙ ap (λ (p : ℕ). and_number before p (number_within (get_or limits place 0) (number text))) next
 
 -- with its number there is one more, unless a field was refused
-with_number : (refused : Option ℕ) (numbers : List ℕ) (place n : ℕ) → place < length numbers → and_number (so_far refused (take place numbers)) (place + 1) (Some n) ≡ so_far refused (take (place + 1) (set numbers place n))
+with_number : (refused : Option ℕ) (numbers : List ℕ) (place n : ℕ) → place < length numbers
+    → and_number (so_far refused (take place numbers)) (place + 1) (Some n) ≡ so_far refused (take (place + 1) (set numbers place n))
 with_number None numbers place n inside = ap Ok (sym (take_more_set numbers place n inside))
 with_number (Some earlier) numbers place n inside = refl
 
 -- a field with a number is read
-pub ReadTo-number : (behind numbers : List ℕ) (refused : Option ℕ) (left : List ℕ) (place : ℕ) (bytes rest : List ℕ) (n : ℕ) → ReadTo behind numbers refused left place → place < 7 → fields_behind left ≡ fields bytes
-    → Some n ≡ number_within (get_or limits place 0) (number (first_field bytes)) → n ≤ get_or limits place 0 → rest ≡ drop (length (first_field bytes)) bytes → ReadTo behind (set numbers place n) refused rest (place + 1)
+pub ReadTo-number : (behind numbers : List ℕ) (refused : Option ℕ) (left : List ℕ) (place : ℕ) (bytes rest : List ℕ) (n : ℕ)
+    → ReadTo behind numbers refused left place → place < 7 → fields_behind left ≡ fields bytes
+    → Some n ≡ number_within (get_or limits place 0) (number (first_field bytes)) → n ≤ get_or limits place 0 → rest ≡ drop (length (first_field bytes)) bytes
+    → ReadTo behind (set numbers place n) refused rest (place + 1)
 ReadTo-number behind numbers refused left place bytes rest n r inside more is small after =
     let fits : place < length numbers = omega (arith, r.seven) in
     record {
@@ -111,19 +119,23 @@ ReadTo-number behind numbers refused left place bytes rest n r inside more is sm
     }
 
 -- a field without a number is read, the first such or not
-ReadTo-first : (behind numbers left : List ℕ) (place : ℕ) (bytes rest : List ℕ) → ReadTo behind numbers None left place → place < 7 → fields_behind left ≡ fields bytes
-    → None ≡ number_within (get_or limits place 0) (number (first_field bytes)) → rest ≡ drop (length (first_field bytes)) bytes → ReadTo behind numbers (Some (place + 1)) rest (place + 1)
+ReadTo-first : (behind numbers left : List ℕ) (place : ℕ) (bytes rest : List ℕ) → ReadTo behind numbers None left place → place < 7
+    → fields_behind left ≡ fields bytes
+    → None ≡ number_within (get_or limits place 0) (number (first_field bytes)) → rest ≡ drop (length (first_field bytes)) bytes
+    → ReadTo behind numbers (Some (place + 1)) rest (place + 1)
 ReadTo-first behind numbers left place bytes rest r inside more is after =
     record {
       front = r.front ++ first_field bytes ∷ [];
       split = left_less behind left bytes rest r.front r.split more after;
       many = one_longer r.front (first_field bytes) place r.many;
-      read = read_more r.front (first_field bytes) place (Ok (take place numbers)) r.many inside r.read ∙ ap (and_number (Ok (take place numbers)) (place + 1)) (sym is);
+      read = read_more r.front (first_field bytes) place (Ok (take place numbers)) r.many inside r.read
+          ∙ ap (and_number (Ok (take place numbers)) (place + 1)) (sym is);
       within = λ none. cc;
       seven = r.seven;
     }
 
-ReadTo-again : (behind numbers left : List ℕ) (place earlier : ℕ) (bytes rest : List ℕ) → ReadTo behind numbers (Some earlier) left place → place < 7 → fields_behind left ≡ fields bytes → rest ≡ drop (length (first_field bytes)) bytes
+ReadTo-again : (behind numbers left : List ℕ) (place earlier : ℕ) (bytes rest : List ℕ) → ReadTo behind numbers (Some earlier) left place → place < 7
+    → fields_behind left ≡ fields bytes → rest ≡ drop (length (first_field bytes)) bytes
     → ReadTo behind numbers (Some earlier) rest (place + 1)
 ReadTo-again behind numbers left place earlier bytes rest r inside more after =
     record {
@@ -135,17 +147,21 @@ ReadTo-again behind numbers left place earlier bytes rest r inside more after =
       seven = r.seven;
     }
 
-pub ReadTo-refused : (behind numbers : List ℕ) (refused : Option ℕ) (left : List ℕ) (place : ℕ) (bytes rest : List ℕ) → ReadTo behind numbers refused left place → place < 7 → fields_behind left ≡ fields bytes
-    → None ≡ number_within (get_or limits place 0) (number (first_field bytes)) → rest ≡ drop (length (first_field bytes)) bytes → ReadTo behind numbers (Some (unwrap_or refused (place + 1))) rest (place + 1)
+pub ReadTo-refused : (behind numbers : List ℕ) (refused : Option ℕ) (left : List ℕ) (place : ℕ) (bytes rest : List ℕ) → ReadTo behind numbers refused left place
+    → place < 7 → fields_behind left ≡ fields bytes
+    → None ≡ number_within (get_or limits place 0) (number (first_field bytes)) → rest ≡ drop (length (first_field bytes)) bytes
+    → ReadTo behind numbers (Some (unwrap_or refused (place + 1))) rest (place + 1)
 ReadTo-refused behind numbers None left place bytes rest r inside more is after = ReadTo-first behind numbers left place bytes rest r inside more is after
-ReadTo-refused behind numbers (Some earlier) left place bytes rest r inside more is after = ReadTo-again behind numbers left place earlier bytes rest r inside more after
+ReadTo-refused behind numbers (Some earlier) left place bytes rest r inside more is after =
+    ReadTo-again behind numbers left place earlier bytes rest r inside more after
 
 -- where there are fewer or more fields
 miscounted : (texts : List (List ℕ)) → length texts ≢ 7 → seven_numbers texts ≡ Err FieldCount
 miscounted texts other = rw (ne_eqb (length texts) 7 other) refl
 
 -- a field is missing
-pub ReadTo-short : (behind numbers : List ℕ) (refused : Option ℕ) (left : List ℕ) (place : ℕ) → ReadTo behind numbers refused left place → place < 7 → fields_behind left ≡ [] → seven_numbers (fields_behind behind) ≡ Err FieldCount
+pub ReadTo-short : (behind numbers : List ℕ) (refused : Option ℕ) (left : List ℕ) (place : ℕ) → ReadTo behind numbers refused left place → place < 7
+    → fields_behind left ≡ [] → seven_numbers (fields_behind behind) ≡ Err FieldCount
 ReadTo-short behind numbers refused left place r inside none =
     let all : fields_behind behind ≡ r.front = r.split ∙ ap (λ (texts : List (List ℕ)). r.front ++ texts) none ∙ append-nil r.front in
     let few : length (fields_behind behind) ≢ 7 = let size : length (fields_behind behind) ≡ place = ap length all ∙ r.many in omega (arith, size) in
@@ -156,33 +172,38 @@ some_left : (left : List ℕ) → left ≢ [] → 1 ≤ length (fields_behind le
 some_left [] more = absurd (more refl)
 some_left (space ∷ bytes) more = rw (fields_step bytes) (omega arith)
 
-pub ReadTo-long : (behind numbers : List ℕ) (refused : Option ℕ) (left : List ℕ) (place : ℕ) → ReadTo behind numbers refused left place → 7 ≤ place → left ≢ [] → seven_numbers (fields_behind behind) ≡ Err FieldCount
+pub ReadTo-long : (behind numbers : List ℕ) (refused : Option ℕ) (left : List ℕ) (place : ℕ) → ReadTo behind numbers refused left place → 7 ≤ place → left ≢ []
+    → seven_numbers (fields_behind behind) ≡ Err FieldCount
 ReadTo-long behind numbers refused left place r all more =
     let size : length (fields_behind behind) ≡ length r.front + length (fields_behind left) = ap length r.split ∙ length-append r.front (fields_behind left) in
     let many : length (fields_behind behind) ≢ 7 = omega (arith, size, r.many, some_left left more) in
     miscounted (fields_behind behind) many
 
 -- all were read
-pub ReadTo-all : (behind numbers : List ℕ) (refused : Option ℕ) (left : List ℕ) (place : ℕ) → ReadTo behind numbers refused left place → place ≡ 7 → left ≡ [] → seven_numbers (fields_behind behind) ≡ numbers_or_fault (so_far refused numbers)
+pub ReadTo-all : (behind numbers : List ℕ) (refused : Option ℕ) (left : List ℕ) (place : ℕ) → ReadTo behind numbers refused left place → place ≡ 7 → left ≡ []
+    → seven_numbers (fields_behind behind) ≡ numbers_or_fault (so_far refused numbers)
 ReadTo-all behind numbers refused left place r all none =
     let texts : fields_behind behind ≡ r.front = r.split ∙ ap (λ (b : List ℕ). r.front ++ fields_behind b) none ∙ append-nil r.front in
     let seven : length r.front ≡ 7 = r.many ∙ all in
     let read : numbers_within 1 limits r.front ≡ so_far refused numbers =
-    ap (λ (mosts : List ℕ). numbers_within 1 mosts r.front) (sym (take_all place limits (omega (arith, all)))) ∙ r.read ∙ ap (so_far refused) (take_all place numbers (omega (arith, all, r.seven))) in
+    ap (λ (mosts : List ℕ). numbers_within 1 mosts r.front) (sym (take_all place limits (omega (arith, all)))) ∙ r.read
+    ∙ ap (so_far refused) (take_all place numbers (omega (arith, all, r.seven))) in
     rw (texts, eq-eqb (length r.front) 7 seven) (ap numbers_or_fault read)
 
 pub ReadTo-within : (behind numbers left : List ℕ) (place : ℕ) → ReadTo behind numbers None left place → place ≡ 7 → AreWithin numbers
 ReadTo-within behind numbers left place r all = λ k below. r.within refl k (omega (arith, all, below))
 
 -- a line by its first field and what is behind it
-pub line_is : (line first : List ℕ) → first ≡ first_field line → length first ≤ length line → exchange_line line ≡ line_of_word first (fields_behind (take (length line - length first) (drop (length first) line)))
+pub line_is : (line first : List ℕ) → first ≡ first_field line → length first ≤ length line
+    → exchange_line line ≡ line_of_word first (fields_behind (take (length line - length first) (drop (length first) line)))
 unfolding exchange_line
 line_is line first is inside =
     let whole : take (length line - length first) (drop (length first) line) ≡ drop (length first) line = grind (arith, common_steps) in
     ap line_of_fields (fields_step line) ∙ rw (whole, is) refl
 
 -- one with an exchange
-pub line_exchange : (line first : List ℕ) (read : Result (List ℕ) ExchangeLineFault) → first ≡ first_field line → length first ≤ length line → first ≡ codes "exchange"
+pub line_exchange : (line first : List ℕ) (read : Result (List ℕ) ExchangeLineFault) → first ≡ first_field line → length first ≤ length line
+    → first ≡ codes "exchange"
     → seven_numbers (fields_behind (take (length line - length first) (drop (length first) line))) ≡ read → exchange_line line ≡ exchange_or_fault read
 line_exchange line first read is inside spells numbers =
     let texts = fields_behind (take (length line - length first) (drop (length first) line)) in
@@ -192,7 +213,8 @@ line_exchange line first read is inside spells numbers =
 pub line_end : (line first : List ℕ) → first ≡ first_field line → length first ≤ length line → first ≡ codes "end"
     → exchange_line line ≡ line_of_word (codes "end") (fields_behind (take (length line - length first) (drop (length first) line)))
 line_end line first is inside spells =
-    line_is line first is inside ∙ ap (λ (word : List ℕ). line_of_word word (fields_behind (take (length line - length first) (drop (length first) line)))) spells
+    line_is line first is inside
+    ∙ ap (λ (word : List ℕ). line_of_word word (fields_behind (take (length line - length first) (drop (length first) line)))) spells
 
 -- and one with neither
 neither : (word : List ℕ) (texts : List (List ℕ)) → is_word word ≡ false → line_of_word word texts ≡ Err UnknownWord
@@ -202,7 +224,8 @@ neither word texts none =
     rw (parts.0, parts.1) refl
 
 pub line_unknown : (line first : List ℕ) → first ≡ first_field line → length first ≤ length line → is_word first ≡ false → exchange_line line ≡ Err UnknownWord
-line_unknown line first is inside none = line_is line first is inside ∙ neither first (fields_behind (take (length line - length first) (drop (length first) line))) none
+line_unknown line first is inside none = line_is line first is inside
+    ∙ neither first (fields_behind (take (length line - length first) (drop (length first) line))) none
 
 -- what stands behind an end is too much
 pub end_more : (left : List ℕ) → left ≢ [] → line_of_word (codes "end") (fields_behind left) ≡ Err FieldCount

@@ -17,7 +17,8 @@ joint_more s [] = ap (λ (high : ℕ). Some (record { min = s.min; max = high },
     none_above : (n : ℕ) → greatest (n ∷ []) ≡ n
     none_above n = omega arith
 joint_more s (t ∷ spans) =
-    ap (λ (n : ℕ). Some (record { min = least (s.min ∷ t.min ∷ map (λ u. u.min) spans); max = greatest (s.max ∷ t.max ∷ map (λ u. u.max) spans) }, n)) (counted (length spans))
+    ap (λ (n : ℕ). Some (record { min = least (s.min ∷ t.min ∷ map (λ u. u.min) spans); max = greatest (s.max ∷ t.max ∷ map (λ u. u.max) spans) }, n))
+    (counted (length spans))
   where
     counted : (n : ℕ) → suc n + 1 ≡ n + 1 + 1
     counted n = omega arith
@@ -35,9 +36,11 @@ adds_span joints link span added inside stands = λ l within. by l (nat_eq link 
     by l true same within =
         let is : link ≡ l = eqb-true link l same in
         subst (λ (n : ℕ). get_or (set joints link wider) n None ≡ joint_span (span ∷ spans_on n added)) is
-        (get_or-set_same joints link wider None inside ∙ ap (λ joint. Some (joined joint span)) (stands link inside) ∙ sym (joint_more span (spans_on link added)))
+        (get_or-set_same joints link wider None inside ∙ ap (λ joint. Some (joined joint span)) (stands link inside)
+        ∙ sym (joint_more span (spans_on link added)))
     by l false other within =
-        let differ : l ≢ link = λ same. let twice : nat_eq l l ≡ false = subst (λ (n : ℕ). nat_eq n l ≡ false) (sym same) other in let known : nat_eq l l ≡ true = eq-eqb l l refl in cc in
+        let differ : l ≢ link = λ same. let twice : nat_eq l l ≡ false = subst (λ (n : ℕ). nat_eq n l ≡ false) (sym same) other in
+        let known : nat_eq l l ≡ true = eq-eqb l l refl in cc in
         get_or-set_other joints link l wider None differ ∙ stands l within
 
 -- what is answered of some spans covers what each of them covers
@@ -50,7 +53,8 @@ one_counted : (joint : Option (Span × ℕ)) (span : Span) (most : ℕ) → coun
 one_counted None span most few = omega arith
 one_counted (Some (joint, count)) span most few = omega (arith, few)
 
-pub adds_few : (joints : Joints) (link : ℕ) (span : Span) (most : ℕ) → link < length joints → AreFew joints most → AreFew (set joints link (Some (joined (joint_at joints link) span))) (most + 1)
+pub adds_few : (joints : Joints) (link : ℕ) (span : Span) (most : ℕ) → link < length joints → AreFew joints most
+    → AreFew (set joints link (Some (joined (joint_at joints link) span))) (most + 1)
 adds_few joints link span most inside few = λ l. by l (nat_eq link l) refl
   where
     wider : Option (Span × ℕ)
@@ -62,6 +66,7 @@ adds_few joints link span most inside few = λ l. by l (nat_eq link l) refl
         subst (λ (n : ℕ). count_of (get_or (set joints link wider) n None) ≤ most + 1) is
         (rw (get_or-set_same joints link wider None inside) (one_counted (joint_at joints link) span most (few link)))
     by l false other =
-        let differ : l ≢ link = λ same. let twice : nat_eq l l ≡ false = subst (λ (n : ℕ). nat_eq n l ≡ false) (sym same) other in let known : nat_eq l l ≡ true = eq-eqb l l refl in cc in
+        let differ : l ≢ link = λ same. let twice : nat_eq l l ≡ false = subst (λ (n : ℕ). nat_eq n l ≡ false) (sym same) other in
+        let known : nat_eq l l ≡ true = eq-eqb l l refl in cc in
         let before : count_of (joint_at joints l) ≤ most = few l in
         rw (get_or-set_other joints link l wider None differ) (omega (arith, before))

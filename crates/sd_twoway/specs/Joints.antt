@@ -40,4 +40,5 @@ AreFew joints most = (l : ℕ) → count_of (joint_at joints l) ≤ most
 -- in each honest run of an exchange whose span is one of these, both delays lie in the span that is answered for them
 abbrev pub CoversAll : List Span → Option (Span × ℕ) → Type 0
 CoversAll spans answer =
-    IfSome answer (λ joint. (first second : Rates) (x : Exchange) (span : Span) (i : ℕ) → span_of first second x ≡ Ok span → slice_get spans i ≡ Some span → Covers first second x joint.0)
+    IfSome answer (λ joint. (first second : Rates) (x : Exchange) (span : Span) (i : ℕ) → span_of first second x ≡ Ok span → slice_get spans i ≡ Some span
+    → Covers first second x joint.0)

@@ -21,8 +21,10 @@ pub fn span(first: Rates, second: Rates, x: Exchange) -> Result<Span, ExchangeFa
     requires second { second.ppm ≤ 1000000 }
     ensures span { result ≡ span_of first second x }
     ensures covers { IfOk result (Covers first second x) }
-    ensures none_backwards { result ≡ Err ExchangeFault.Backwards → (r1 r2 r3 r4 : ℕ) → IsHonestRun first second x r1 r2 r3 r4 → ⊥ }
-    ensures none_impossible { result ≡ Err ExchangeFault.Impossible → (r1 r2 r3 r4 : ℕ) → IsHonestRun first second x r1 r2 r3 r4 → ⊥ }
+    ensures none_backwards { result ≡ Err ExchangeFault.Backwards → (r1 r2 r3 r4 : ℕ)
+        → IsHonestRun first second x r1 r2 r3 r4 → ⊥ }
+    ensures none_impossible { result ≡ Err ExchangeFault.Impossible → (r1 r2 r3 r4 : ℕ)
+        → IsHonestRun first second x r1 r2 r3 r4 → ⊥ }
 {
     if x.t4 < x.t1 || x.t3 < x.t2 {
         return Err(ExchangeFault::Backwards);

@@ -43,7 +43,8 @@ impl Spans {
         requires link { link < length self.old }
         requires room { count_of (joint_at self.old link) < 2 ^ 64 - 1 }
         ensures links { length self.new ≡ length self.old }
-        ensures stands { (added : List (ℕ × Bounds)) → StandsFor self.old added → StandsFor self.new ((link, span) ∷ added) }
+        ensures stands { (added : List (ℕ × Bounds)) → StandsFor self.old added
+            → StandsFor self.new ((link, span) ∷ added) }
         ensures few { (most : ℕ) → AreFew self.old most → AreFew self.new (most + 1) }
     {
         let place = link as usize;
@@ -56,8 +57,10 @@ impl Spans {
     pub fn get(&self, link: u32) -> Option<(Span, u64)>
         requires { link < length self.now }
         ensures kept { result ≡ joint_at self.now link }
-        ensures joint { (added : List (ℕ × Bounds)) → StandsFor self.now added → result ≡ joint_span (spans_on link added) }
-        ensures covers { (added : List (ℕ × Bounds)) → StandsFor self.now added → CoversAll (spans_on link added) result }
+        ensures joint { (added : List (ℕ × Bounds)) → StandsFor self.now added
+            → result ≡ joint_span (spans_on link added) }
+        ensures covers { (added : List (ℕ × Bounds)) → StandsFor self.now added
+            → CoversAll (spans_on link added) result }
     {
         self.joints[link as usize]
     }

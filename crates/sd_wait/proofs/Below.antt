@@ -48,7 +48,8 @@ count_more p n = sum_by_push (λ x. cond (p x) 1 0) (below n) n
 pub same_count : (p q : ℕ → Bool) (n : ℕ) → Agree p q n → count_by p (below n) ≡ count_by q (below n)
 same_count p q zero agree = refl
 same_count p q (suc n) agree =
-    count_more p n ∙ ap (λ k. k + (if p n then 1 else 0)) (same_count p q n (fewer p q n agree)) ∙ ap (λ b. count_by q (below n) + (if b then 1 else 0)) (agree n (omega arith)) ∙ sym (count_more q n)
+    count_more p n ∙ ap (λ k. k + (if p n then 1 else 0)) (same_count p q n (fewer p q n agree))
+    ∙ ap (λ b. count_by q (below n) + (if b then 1 else 0)) (agree n (omega arith)) ∙ sym (count_more q n)
 
 -- Where none passes, and where one does.
 abbrev pub NonePasses : (ℕ → Bool) → ℕ → Type 0
@@ -57,12 +58,14 @@ NonePasses p n = (i : ℕ) → i < n → p i ≡ false
 pub filter_none : (p : ℕ → Bool) (n : ℕ) → NonePasses p n → filter p (below n) ≡ []
 filter_none p zero none = refl
 filter_none p (suc n) none =
-    filter_more p n ∙ ap (λ b. if b then filter p (below n) ++ n ∷ [] else filter p (below n)) (none n (omega arith)) ∙ filter_none p n (λ i less. none i (omega arith))
+    filter_more p n ∙ ap (λ b. if b then filter p (below n) ++ n ∷ [] else filter p (below n)) (none n (omega arith))
+    ∙ filter_none p n (λ i less. none i (omega arith))
 
 pub any_none : (p : ℕ → Bool) (n : ℕ) → NonePasses p n → list_any p (below n) ≡ false
 any_none p zero none = refl
 any_none p (suc n) none =
-    list_any-append p (below n) (n ∷ []) ∙ or_from (list_any p (below n)) (p n || false) (any_none p n (λ i less. none i (omega arith))) (or_from (p n) false (none n (omega arith)) refl)
+    list_any-append p (below n) (n ∷ [])
+    ∙ or_from (list_any p (below n)) (p n || false) (any_none p n (λ i less. none i (omega arith))) (or_from (p n) false (none n (omega arith)) refl)
 
 pub any_here : (p : ℕ → Bool) (n i : ℕ) → i < n → p i ≡ true → list_any p (below n) ≡ true
 any_here p zero i less passes = absurd (omega arith)
@@ -76,7 +79,8 @@ pub found_below : (p : ℕ → Bool) (n j : ℕ) → find p (below n) ≡ Some j
 found_below p zero j found = cc
 found_below p (suc n) j found = by (find p (below n)) refl (p n) (sym (find-append p (below n) (n ∷ [])) ∙ found) (found_below p n j)
   where
-    by : (o : Option ℕ) → find p (below n) ≡ o → (b : Bool) → option_or (find p (below n)) (cond b (Some n) None) ≡ Some j → (find p (below n) ≡ Some j → j < n) → j < suc n
+    by : (o : Option ℕ) → find p (below n) ≡ o → (b : Bool) → option_or (find p (below n)) (cond b (Some n) None) ≡ Some j → (find p (below n) ≡ Some j → j < n)
+        → j < suc n
     by None none true found rest = let same : Some n ≡ Some j = sym (ap (λ o. option_or o (Some n)) none) ∙ found in let last : n ≡ j = cc in omega arith
     by None none false found rest = let same : None ≡ Some j = sym (ap (λ o. option_or o None) none) ∙ found in cc
     by (Some i) some b found rest =
@@ -88,7 +92,8 @@ pub find_filter : (p q : ℕ → Bool) (xs : List ℕ) → find p (filter q xs) 
 find_filter p q [] = refl
 find_filter p q (x ∷ xs) = by (q x) (find_filter p q xs)
   where
-    by : (b : Bool) → find p (filter q xs) ≡ find (λ i. q i && p i) xs → find p (cond b (x ∷ filter q xs) (filter q xs)) ≡ cond (b && p x) (Some x) (find (λ i. q i && p i) xs)
+    by : (b : Bool) → find p (filter q xs) ≡ find (λ i. q i && p i) xs
+        → find p (cond b (x ∷ filter q xs) (filter q xs)) ≡ cond (b && p x) (Some x) (find (λ i. q i && p i) xs)
     by true rest = ap (λ o. cond (p x) (Some x) o) rest
     by false rest = rest
 

@@ -93,8 +93,10 @@ module _ (told : List ReportAt) (x : ReportAt) where
       ap (λ n. find (λ j. nat_lt i j && ends_by now i j) (below n)) (length_more told x)
       ∙ find-append (λ j. nat_lt i j && ends_by now i j) (below (length told)) (length told ∷ [])
       ∙ ap (λ o. option_or o (find (λ j. nat_lt i j && ends_by now i j) (length told ∷ [])))
-      (same_find (λ j. nat_lt i j && ends_by now i j) (λ j. nat_lt i j && ends_by told i j) (length told) (λ j less. ap (λ b. nat_lt i j && b) (ends_before i j within less)))
-      ∙ ap (λ b. option_or (end_place told i) (if b then Some (length told) else None)) (ap (λ b. b && ends_by now i (length told)) (lt-ltb i (length told) within) ∙ ends_at_new i within)
+      (same_find (λ j. nat_lt i j && ends_by now i j) (λ j. nat_lt i j && ends_by told i j) (length told)
+      (λ j less. ap (λ b. nat_lt i j && b) (ends_before i j within less)))
+      ∙ ap (λ b. option_or (end_place told i) (if b then Some (length told) else None))
+      (ap (λ b. b && ends_by now i (length told)) (lt-ltb i (length told) within) ∙ ends_at_new i within)
 
   -- the new transaction waits
   pub end_new : end_place now (length told) ≡ None
@@ -124,15 +126,20 @@ module _ (told : List ReportAt) (x : ReportAt) where
   unended_before zero within = refl
   unended_before (suc n) within =
       ap (λ o. if is_none o then transaction_at now n ∷ unended now n else unended now n) (end_before n (omega arith))
-      ∙ ap (λ t. if is_none (option_or (end_place told n) (if ends_now n then Some (length told) else None)) then t ∷ unended now n else unended now n) (transaction_before n (omega arith))
+      ∙ ap (λ t. if is_none (option_or (end_place told n) (if ends_now n then Some (length told) else None)) then t ∷ unended now n else unended now n)
+      (transaction_before n (omega arith))
       ∙ by (end_place told n) (ends_now n) (unended_before n (omega arith)) (ends_is n (omega arith))
     where
       by : (o : Option ℕ) (b : Bool) → unended now n ≡ filter (λ t. not (ends_at_x t)) (unended told n) → ends_at_x (transaction_at told n) ≡ b
           → (if is_none (option_or o (if b then Some (length told) else None)) then transaction_at told n ∷ unended now n else unended now n)
           ≡ filter (λ t. not (ends_at_x t)) (if is_none o then transaction_at told n ∷ unended told n else unended told n)
       by (Some j) b rest is = rest
-      by None true rest is = rest ∙ ap (λ b. cond (not b) (transaction_at told n ∷ filter (λ t. not (ends_at_x t)) (unended told n)) (filter (λ t. not (ends_at_x t)) (unended told n))) (sym is)
-      by None false rest is = ap (λ ts. transaction_at told n ∷ ts) rest ∙ ap (λ b. cond (not b) (transaction_at told n ∷ filter (λ t. not (ends_at_x t)) (unended told n)) (filter (λ t. not (ends_at_x t)) (unended told n))) (sym is)
+      by None true rest is =
+          rest ∙ ap (λ b. cond (not b) (transaction_at told n ∷ filter (λ t. not (ends_at_x t)) (unended told n))
+          (filter (λ t. not (ends_at_x t)) (unended told n))) (sym is)
+      by None false rest is = ap (λ ts. transaction_at told n ∷ ts) rest
+          ∙ ap (λ b. cond (not b) (transaction_at told n ∷ filter (λ t. not (ends_at_x t)) (unended told n)) (filter (λ t. not (ends_at_x t)) (unended told n)))
+          (sym is)
 
   pub unended_now : unended now (length now) ≡ transaction (length told) x ∷ filter (λ t. not (ends_at_x t)) (unended told (length told))
   unended_now =
@@ -147,57 +154,80 @@ module _ (told : List ReportAt) (x : ReportAt) where
   pub last_is : (i : ℕ) → i < length told → ends_last i ≡ (is_none (end_place told i) && ends_now i)
   last_is i within = ap (λ o. same_number o (length told)) (end_before i within) ∙ by (end_place told i) refl (ends_now i)
     where
-      by : (o : Option ℕ) → end_place told i ≡ o → (b : Bool) → same_number (option_or o (if b then Some (length told) else None)) (length told) ≡ (is_none o && b)
+      by : (o : Option ℕ) → end_place told i ≡ o → (b : Bool)
+          → same_number (option_or o (if b then Some (length told) else None)) (length told) ≡ (is_none o && b)
       by None none true = eq-eqb (length told) (length told) refl
       by None none false = refl
-      by (Some j) some b = let less : j < length told = found_below (λ q. nat_lt i q && ends_by told i q) (length told) j some in ne_eqb j (length told) (λ same. omega arith)
+      by (Some j) some b = let less : j < length told = found_below (λ q. nat_lt i q && ends_by told i q) (length told) j some in
+          ne_eqb j (length told) (λ same. omega arith)
 
   pub new_not_last : ends_last (length told) ≡ false
   new_not_last = ap (λ o. same_number o (length told)) end_new
 
   pub ended_now : ended_at now (length told) ≡ filter ends_last (below (length told))
-  ended_now = ap (λ n. filter ends_last (below n)) (length_more told x) ∙ filter_more ends_last (length told) ∙ ap (λ b. if b then filter ends_last (below (length told)) ++ length told ∷ [] else filter ends_last (below (length told))) new_not_last
+  ended_now = ap (λ n. filter ends_last (below n)) (length_more told x) ∙ filter_more ends_last (length told)
+      ∙ ap (λ b. if b then filter ends_last (below (length told)) ++ length told ∷ [] else filter ends_last (below (length told))) new_not_last
 
-  sums_before : (f : Transaction → ℕ) (n : ℕ) → n ≤ length told → sum_by f (map (transaction_at now) (filter ends_last (below n))) ≡ sum_by f (filter ends_at_x (unended told n))
+  sums_before : (f : Transaction → ℕ) (n : ℕ) → n ≤ length told
+      → sum_by f (map (transaction_at now) (filter ends_last (below n))) ≡ sum_by f (filter ends_at_x (unended told n))
   sums_before f zero within = refl
   sums_before f (suc n) within =
-      ap (λ xs. sum_by f (map (transaction_at now) xs)) (filter_more ends_last n) ∙ ap (λ b. sum_by f (map (transaction_at now) (if b then filter ends_last (below n) ++ n ∷ [] else filter ends_last (below n)))) (last_is n (omega arith))
+      ap (λ xs. sum_by f (map (transaction_at now) xs)) (filter_more ends_last n)
+      ∙ ap (λ b. sum_by f (map (transaction_at now) (if b then filter ends_last (below n) ++ n ∷ [] else filter ends_last (below n))))
+      (last_is n (omega arith))
       ∙ by (end_place told n) (ends_now n) (sums_before f n (omega arith)) (ends_is n (omega arith)) (transaction_before n (omega arith))
     where
-      with_it : sum_by f (map (transaction_at now) (filter ends_last (below n) ++ n ∷ [])) ≡ sum_by f (map (transaction_at now) (filter ends_last (below n))) + f (transaction_at now n)
-      with_it = ap (sum_by f) (map-append (transaction_at now) (filter ends_last (below n)) (n ∷ [])) ∙ sum_by_push f (map (transaction_at now) (filter ends_last (below n))) (transaction_at now n)
+      with_it : sum_by f (map (transaction_at now) (filter ends_last (below n) ++ n ∷ []))
+          ≡ sum_by f (map (transaction_at now) (filter ends_last (below n))) + f (transaction_at now n)
+      with_it = ap (sum_by f) (map-append (transaction_at now) (filter ends_last (below n)) (n ∷ []))
+          ∙ sum_by_push f (map (transaction_at now) (filter ends_last (below n))) (transaction_at now n)
 
       by : (o : Option ℕ) (b : Bool) → sum_by f (map (transaction_at now) (filter ends_last (below n))) ≡ sum_by f (filter ends_at_x (unended told n))
           → ends_at_x (transaction_at told n) ≡ b → transaction_at now n ≡ transaction_at told n
           → sum_by f (map (transaction_at now) (if is_none o && b then filter ends_last (below n) ++ n ∷ [] else filter ends_last (below n)))
           ≡ sum_by f (filter ends_at_x (if is_none o then transaction_at told n ∷ unended told n else unended told n))
       by (Some j) b rest is same = rest
-      by None false rest is same = rest ∙ ap (λ b. sum_by f (cond b (transaction_at told n ∷ filter ends_at_x (unended told n)) (filter ends_at_x (unended told n)))) (sym is)
+      by None false rest is same =
+          rest ∙ ap (λ b. sum_by f (cond b (transaction_at told n ∷ filter ends_at_x (unended told n)) (filter ends_at_x (unended told n)))) (sym is)
       by None true rest is same =
           let value : f (transaction_at now n) ≡ f (transaction_at told n) = ap f same in
-          let sum : sum_by f (transaction_at told n ∷ filter ends_at_x (unended told n)) ≡ f (transaction_at told n) + sum_by f (filter ends_at_x (unended told n)) = sum_by-cons f (transaction_at told n) (filter ends_at_x (unended told n)) in
-          let whole : sum_by f (map (transaction_at now) (filter ends_last (below n) ++ n ∷ [])) ≡ sum_by f (transaction_at told n ∷ filter ends_at_x (unended told n)) = omega (arith, with_it, rest, value, sum) in
+          let sum : sum_by f (transaction_at told n ∷ filter ends_at_x (unended told n))
+          ≡ f (transaction_at told n) + sum_by f (filter ends_at_x (unended told n)) =
+          sum_by-cons f (transaction_at told n) (filter ends_at_x (unended told n)) in
+          let whole : sum_by f (map (transaction_at now) (filter ends_last (below n) ++ n ∷ []))
+          ≡ sum_by f (transaction_at told n ∷ filter ends_at_x (unended told n)) = omega (arith, with_it, rest, value, sum) in
           whole ∙ ap (λ b. sum_by f (cond b (transaction_at told n ∷ filter ends_at_x (unended told n)) (filter ends_at_x (unended told n)))) (sym is)
 
-  pub ended_sums : (f : Transaction → ℕ) → sum_by f (map (transaction_at now) (ended_at now (length told))) ≡ sum_by f (filter ends_at_x (unended told (length told)))
+  pub ended_sums : (f : Transaction → ℕ)
+      → sum_by f (map (transaction_at now) (ended_at now (length told))) ≡ sum_by f (filter ends_at_x (unended told (length told)))
   ended_sums f = ap (λ xs. sum_by f (map (transaction_at now) xs)) ended_now ∙ sums_before f (length told) (omega arith)
 
   -- and in the order of their places they rise
-  rises_below : (n : ℕ) → Rises (map (transaction_at now) (filter ends_last (below n))) × All (λ (t : Transaction). t.place < n) (map (transaction_at now) (filter ends_last (below n)))
+  rises_below : (n : ℕ) → Rises (map (transaction_at now) (filter ends_last (below n)))
+      × All (λ (t : Transaction). t.place < n) (map (transaction_at now) (filter ends_last (below n)))
   rises_below zero = (tt, λ k d within. absurd (omega arith))
   rises_below (suc n) =
-      subst (λ xs. Rises (map (transaction_at now) xs) × All (λ (t : Transaction). t.place < suc n) (map (transaction_at now) xs)) (sym (filter_more ends_last n)) (by (ends_last n) (rises_below n))
+      subst (λ xs. Rises (map (transaction_at now) xs) × All (λ (t : Transaction). t.place < suc n) (map (transaction_at now) xs))
+      (sym (filter_more ends_last n)) (by (ends_last n) (rises_below n))
     where
-      by : (b : Bool) → Rises (map (transaction_at now) (filter ends_last (below n))) × All (λ (t : Transaction). t.place < n) (map (transaction_at now) (filter ends_last (below n)))
+      by : (b : Bool) → Rises (map (transaction_at now) (filter ends_last (below n)))
+          × All (λ (t : Transaction). t.place < n) (map (transaction_at now) (filter ends_last (below n)))
           → Rises (map (transaction_at now) (if b then filter ends_last (below n) ++ n ∷ [] else filter ends_last (below n)))
-          × All (λ (t : Transaction). t.place < suc n) (map (transaction_at now) (if b then filter ends_last (below n) ++ n ∷ [] else filter ends_last (below n)))
-      by false rest = (rest.0, All-weaker (λ (t : Transaction). t.place < n) (λ (t : Transaction). t.place < suc n) (λ t less. omega arith) (map (transaction_at now) (filter ends_last (below n))) rest.1)
+          × All (λ (t : Transaction). t.place < suc n)
+          (map (transaction_at now) (if b then filter ends_last (below n) ++ n ∷ [] else filter ends_last (below n)))
+      by false rest = (
+        rest.0,
+        All-weaker (λ (t : Transaction). t.place < n) (λ (t : Transaction). t.place < suc n) (λ t less. omega arith)
+            (map (transaction_at now) (filter ends_last (below n))) rest.1,
+      )
       by true rest =
           let ts = map (transaction_at now) (filter ends_last (below n)) in
           let place : (transaction_at now n).place ≡ n = place_is now n in
           subst (λ us. Rises us × All (λ (t : Transaction). t.place < suc n) us) (sym (map-append (transaction_at now) (filter ends_last (below n)) (n ∷ []))) (
-            rises_push ts (transaction_at now n) rest.0 (All-weaker (λ (t : Transaction). t.place < n) (λ (t : Transaction). t.place < (transaction_at now n).place) (λ t less. omega arith) ts rest.1),
-            All-push (λ (t : Transaction). t.place < suc n) ts (transaction_at now n) (All-weaker (λ (t : Transaction). t.place < n) (λ (t : Transaction). t.place < suc n) (λ t less. omega arith) ts rest.1) (omega arith),
+            rises_push ts (transaction_at now n) rest.0
+                (All-weaker (λ (t : Transaction). t.place < n) (λ (t : Transaction). t.place < (transaction_at now n).place) (λ t less. omega arith) ts rest.1),
+            All-push (λ (t : Transaction). t.place < suc n) ts (transaction_at now n)
+                (All-weaker (λ (t : Transaction). t.place < n) (λ (t : Transaction). t.place < suc n) (λ t less. omega arith) ts rest.1) (omega arith),
           )
 
   pub ended_rises : Rises (map (transaction_at now) (ended_at now (length told)))

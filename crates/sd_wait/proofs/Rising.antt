@@ -19,7 +19,11 @@ Rises (t ∷ ts) = AllAbove t.place ts × Rises ts
 -- one more, with a greater place than all
 pub rises_push : (ts : List Transaction) (t : Transaction) → Rises ts → All (λ (u : Transaction). u.place < t.place) ts → Rises (ts ++ t ∷ [])
 rises_push [] t up below = (λ k d within. absurd (omega arith), tt)
-rises_push (u ∷ us) t up below = (All-push (λ (z : Transaction). u.place < z.place) us t up.0 (All-head (λ (z : Transaction). z.place < t.place) u us below), rises_push us t up.1 (All-tail (λ (z : Transaction). z.place < t.place) u us below))
+rises_push (u ∷ us) t up below = (
+  All-push (λ (z : Transaction). u.place < z.place) us t up.0 (All-head (λ (z : Transaction). z.place < t.place) u us below),
+  rises_push us t up.1
+      (All-tail (λ (z : Transaction). z.place < t.place) u us below),
+)
 
 -- the two are the same
 abbrev same : Transaction → Transaction → Bool
@@ -37,13 +41,15 @@ same_is t u is =
     let stamp : t.stamp ≡ u.stamp = eqb-true t.stamp u.stamp parts.1 in
     let place : t.place ≡ u.place = eqb-true t.place u.place third.1 in
     let line : t.line ≡ u.line = eqb-true t.line u.line fourth.1 in
-    ap (λ n. made n t.stamp t.place t.line) device ∙ ap (λ n. made u.device n t.place t.line) stamp ∙ ap (λ n. made u.device u.stamp n t.line) place ∙ ap (λ n. made u.device u.stamp u.place n) line
+    ap (λ n. made n t.stamp t.place t.line) device ∙ ap (λ n. made u.device n t.place t.line) stamp ∙ ap (λ n. made u.device u.stamp n t.line) place
+    ∙ ap (λ n. made u.device u.stamp u.place n) line
 
 is_same : (t : Transaction) → same t t ≡ true
 is_same t =
     and_from (nat_eq t.device t.device && nat_eq t.stamp t.stamp && nat_eq t.place t.place) (nat_eq t.line t.line)
     (and_from (nat_eq t.device t.device && nat_eq t.stamp t.stamp) (nat_eq t.place t.place)
-    (and_from (nat_eq t.device t.device) (nat_eq t.stamp t.stamp) (eq-eqb t.device t.device refl) (eq-eqb t.stamp t.stamp refl)) (eq-eqb t.place t.place refl)) (eq-eqb t.line t.line refl)
+    (and_from (nat_eq t.device t.device) (nat_eq t.stamp t.stamp) (eq-eqb t.device t.device refl) (eq-eqb t.stamp t.stamp refl)) (eq-eqb t.place t.place refl))
+    (eq-eqb t.line t.line refl)
 
 abbrev one : Transaction → Transaction → ℕ
 one t u = if same t u then 1 else 0
@@ -56,7 +62,8 @@ some_there t d (u ∷ us) some = by (same t u) refl (λ more. some_there t d us 
     later : ((k : ℕ) × (k < length us) × (get_or us k d ≡ t)) → (k : ℕ) × (k < length (u ∷ us)) × (get_or (u ∷ us) k d ≡ t)
     later there = (suc there.0, omega (arith, there.1), there.2)
 
-    by : (b : Bool) → same t u ≡ b → (0 < sum_by (one t) us → (k : ℕ) × (k < length us) × (get_or us k d ≡ t)) → (k : ℕ) × (k < length (u ∷ us)) × (get_or (u ∷ us) k d ≡ t)
+    by : (b : Bool) → same t u ≡ b → (0 < sum_by (one t) us → (k : ℕ) × (k < length us) × (get_or us k d ≡ t))
+        → (k : ℕ) × (k < length (u ∷ us)) × (get_or (u ∷ us) k d ≡ t)
     by true is rest = (0, omega arith, sym (same_is t u is))
     by false isnt rest =
         let none : one t u ≡ 0 = ap (λ b. if b then 1 else 0) isnt in
@@ -67,7 +74,8 @@ at_all P [] k d all within = absurd (omega arith)
 at_all P (t ∷ ts) zero d all within = All-head P t ts all
 at_all P (t ∷ ts) (suc k) d all within = at_all P ts k d (All-tail P t ts all) (omega arith)
 
-tail_rises : (t : Transaction) (ts : List Transaction) → IsNonDecreasingBy (λ (u : Transaction). u.place) (t ∷ ts) → IsNonDecreasingBy (λ (u : Transaction). u.place) ts
+tail_rises : (t : Transaction) (ts : List Transaction) → IsNonDecreasingBy (λ (u : Transaction). u.place) (t ∷ ts)
+    → IsNonDecreasingBy (λ (u : Transaction). u.place) ts
 tail_rises t ts up i j d order within = up (suc i) (suc j) d (omega arith) (omega arith)
 
 abbrev pub HaveSameSums : List Transaction → List Transaction → Type 0
@@ -79,7 +87,9 @@ same_rise [] (u ∷ us) up order sums = absurd (omega (arith, sums (λ t. 1), su
 same_rise (t ∷ ts) [] up order sums = absurd (omega (arith, sums (λ t. 1), sum_by-cons (λ (t : Transaction). 1) t ts))
 same_rise (t ∷ ts) (u ∷ us) up order sums =
     let first : t ≡ u = same_first in
-    let rest : ts ≡ us = same_rise ts us up.1 (tail_rises u us order) (λ f. let equal : f t ≡ f u = ap f first in omega (arith, sums f, sum_by-cons f t ts, sum_by-cons f u us)) in
+    let rest : ts ≡ us =
+    same_rise ts us up.1 (tail_rises u us order) (λ f. let equal : f t ≡ f u = ap f first in
+    omega (arith, sums f, sum_by-cons f t ts, sum_by-cons f u us)) in
     cc
   where
     one_is : (z : Transaction) → one z z ≡ 1

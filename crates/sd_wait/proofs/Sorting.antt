@@ -12,7 +12,8 @@ use Rattle.sd_wait.specs.declared.transactions.Transaction.{Transaction}
 pub before_cases : (t : Transaction) (device stamp : ℕ) → is_before t device stamp ≡ true → (t.device < device) ⊎ ((t.device ≡ device) × (t.stamp < stamp))
 before_cases t device stamp before = elim (or_cases (nat_lt t.device device) (nat_eq t.device device && nat_lt t.stamp stamp) before) [
   | inl less ↦ inl (ltb-true t.device device less)
-  | inr equal ↦ (let parts : (nat_eq t.device device ≡ true) × (nat_lt t.stamp stamp ≡ true) = and_parts (nat_eq t.device device) (nat_lt t.stamp stamp) equal in
+  | inr equal ↦ (let parts : (nat_eq t.device device ≡ true) × (nat_lt t.stamp stamp ≡ true) =
+      and_parts (nat_eq t.device device) (nat_lt t.stamp stamp) equal in
       inr (eqb-true t.device device parts.0, ltb-true t.stamp stamp parts.1))
 ]
 
@@ -21,7 +22,8 @@ before_by_device t device stamp less = or_left (nat_lt t.device device) (nat_eq 
 
 pub before_by_stamp : (t : Transaction) (device stamp : ℕ) → t.device ≡ device → t.stamp < stamp → is_before t device stamp ≡ true
 before_by_stamp t device stamp same less =
-    or_right (nat_lt t.device device) (nat_eq t.device device && nat_lt t.stamp stamp) (and_from (nat_eq t.device device) (nat_lt t.stamp stamp) (eq-eqb t.device device same) (lt-ltb t.stamp stamp less))
+    or_right (nat_lt t.device device) (nat_eq t.device device && nat_lt t.stamp stamp)
+    (and_from (nat_eq t.device device) (nat_lt t.stamp stamp) (eq-eqb t.device device same) (lt-ltb t.stamp stamp less))
 
 -- where it does not stand before
 pub behind_parts : (t : Transaction) (device stamp : ℕ) → is_before t device stamp ≡ false → (device ≤ t.device) × (t.device ≡ device → stamp ≤ t.stamp)
@@ -32,12 +34,14 @@ behind_parts t device stamp behind = (
   ],
   λ same. elim (cases_order t.stamp stamp) [
     | inl equal ↦ omega arith
-    | inr apart ↦ elim apart [ inl less ↦ absurd (both_ways (is_before t device stamp) behind (before_by_stamp t device stamp same less)) | inr more ↦ omega arith ]
+    | inr apart ↦ elim apart
+        [ inl less ↦ absurd (both_ways (is_before t device stamp) behind (before_by_stamp t device stamp same less)) | inr more ↦ omega arith ]
   ],
 )
 
 -- what stands behind another stands behind all that the other does not stand before
-pub before_earlier : (t u : Transaction) (device stamp : ℕ) → is_before u t.device t.stamp ≡ false → is_before u device stamp ≡ true → is_before t device stamp ≡ true
+pub before_earlier : (t u : Transaction) (device stamp : ℕ) → is_before u t.device t.stamp ≡ false → is_before u device stamp ≡ true
+    → is_before t device stamp ≡ true
 before_earlier t u device stamp behind before =
     let order = behind_parts u t.device t.stamp behind in
     elim (before_cases u device stamp before) [
@@ -49,7 +53,9 @@ before_earlier t u device stamp behind before =
     ]
 
 pub behind_later : (t u z : Transaction) → is_before u t.device t.stamp ≡ false → is_before z u.device u.stamp ≡ false → is_before z t.device t.stamp ≡ false
-behind_later t u z behind later = false_from_ne_true (is_before z t.device t.stamp) (λ before. both_ways (is_before u t.device t.stamp) behind (before_earlier u z t.device t.stamp later before))
+behind_later t u z behind later =
+    false_from_ne_true (is_before z t.device t.stamp)
+    (λ before. both_ways (is_before u t.device t.stamp) behind (before_earlier u z t.device t.stamp later before))
 
 pub behind_when_before : (t u : Transaction) → is_before u t.device t.stamp ≡ true → is_before t u.device u.stamp ≡ false
 behind_when_before t u before = false_from_ne_true (is_before t u.device u.stamp) (λ other.
@@ -105,7 +111,8 @@ pub parted : (ts : List Transaction) → AreSorted ts → (device stamp : ℕ) �
 parted [] up device stamp i j d order within before = absurd (omega arith)
 parted (t ∷ ts) up device stamp zero zero d order within before = before
 parted (t ∷ ts) up device stamp zero (suc j) d order within before =
-    before_earlier t (get_or ts j d) device stamp (not-true (is_before (get_or ts j d) t.device t.stamp) (all_at (λ u. not (is_before u t.device t.stamp)) ts j d up.0 (omega arith))) before
+    before_earlier t (get_or ts j d) device stamp
+    (not-true (is_before (get_or ts j d) t.device t.stamp) (all_at (λ u. not (is_before u t.device t.stamp)) ts j d up.0 (omega arith))) before
 parted (t ∷ ts) up device stamp (suc i) zero d order within before = absurd (omega arith)
 parted (t ∷ ts) up device stamp (suc i) (suc j) d order within before = parted ts up.1 device stamp i j d (omega arith) (omega arith) before
 
@@ -127,7 +134,8 @@ sorted_placed t [] up = (refl, tt)
 sorted_placed t (u ∷ us) up = by (is_before u t.device t.stamp) refl (sorted_placed t us up.1)
   where
     by : (b : Bool) → is_before u t.device t.stamp ≡ b → AreSorted (placed t us) → AreSorted (if b then u ∷ placed t us else t ∷ u ∷ us)
-    by true before rest = (all_placed (λ z. not (is_before z u.device u.stamp)) t us (not_from_false (is_before t u.device u.stamp) (behind_when_before t u before)) up.0, rest)
+    by true before rest =
+        (all_placed (λ z. not (is_before z u.device u.stamp)) t us (not_from_false (is_before t u.device u.stamp) (behind_when_before t u before)) up.0, rest)
     by false behind rest = (all_behind t u us behind up.0, up)
 
 pub sorted_filter : (q : Transaction → Bool) (ts : List Transaction) → AreSorted ts → AreSorted (filter q ts)
@@ -149,11 +157,13 @@ placed_first t (u ∷ us) all =
     ap (λ b. if b then u ∷ placed t us else t ∷ u ∷ us)
     (not-true (is_before u t.device t.stamp) (and_parts (not (is_before u t.device t.stamp)) (list_all (λ z. not (is_before z t.device t.stamp)) us) all).0)
 
-filter_placed : (q : Transaction → Bool) (t : Transaction) (ts : List Transaction) → AreSorted ts → filter q (placed t ts) ≡ (if q t then placed t (filter q ts) else filter q ts)
+filter_placed : (q : Transaction → Bool) (t : Transaction) (ts : List Transaction) → AreSorted ts
+    → filter q (placed t ts) ≡ (if q t then placed t (filter q ts) else filter q ts)
 filter_placed q t [] up = refl
 filter_placed q t (u ∷ us) up = by (is_before u t.device t.stamp) refl (filter_placed q t us up.1)
   where
-    behind : (b : Bool) → is_before u t.device t.stamp ≡ false → cond b (t ∷ filter q (u ∷ us)) (filter q (u ∷ us)) ≡ (if b then placed t (filter q (u ∷ us)) else filter q (u ∷ us))
+    behind : (b : Bool) → is_before u t.device t.stamp ≡ false
+        → cond b (t ∷ filter q (u ∷ us)) (filter q (u ∷ us)) ≡ (if b then placed t (filter q (u ∷ us)) else filter q (u ∷ us))
     behind true is = sym (placed_first t (filter q (u ∷ us)) (all_filter (λ z. not (is_before z t.device t.stamp)) q (u ∷ us) (all_behind t u us is up.0)))
     behind false is = refl
 
@@ -214,10 +224,13 @@ module _ (q : Transaction → Bool) where
 
   one_more : (t : Transaction) (ts : List Transaction) (b : Bool) → q t ≡ b → (filter q (t ∷ ts) ≡ cond b (t ∷ filter q ts) (filter q ts))
       × (filter (λ u. not (q u)) (t ∷ ts) ≡ cond b (filter (λ u. not (q u)) ts) (t ∷ filter (λ u. not (q u)) ts))
-  one_more t ts true is = (ap (λ b. cond b (t ∷ filter q ts) (filter q ts)) is, ap (λ b. cond (not b) (t ∷ filter (λ u. not (q u)) ts) (filter (λ u. not (q u)) ts)) is)
-  one_more t ts false is = (ap (λ b. cond b (t ∷ filter q ts) (filter q ts)) is, ap (λ b. cond (not b) (t ∷ filter (λ u. not (q u)) ts) (filter (λ u. not (q u)) ts)) is)
+  one_more t ts true is =
+      (ap (λ b. cond b (t ∷ filter q ts) (filter q ts)) is, ap (λ b. cond (not b) (t ∷ filter (λ u. not (q u)) ts) (filter (λ u. not (q u)) ts)) is)
+  one_more t ts false is =
+      (ap (λ b. cond b (t ∷ filter q ts) (filter q ts)) is, ap (λ b. cond (not b) (t ∷ filter (λ u. not (q u)) ts) (filter (λ u. not (q u)) ts)) is)
 
-  pub together : (ts : List Transaction) (from n to : ℕ) → to ≡ from + n → to ≤ length ts → Passes ts 0 from false → Passes ts from to true → Passes ts to (length ts) false
+  pub together : (ts : List Transaction) (from n to : ℕ) → to ≡ from + n → to ≤ length ts → Passes ts 0 from false → Passes ts from to true
+      → Passes ts to (length ts) false
       → StandTogether ts from n to
   together [] zero zero zero sum within before here behind = record { those = refl; others = refl }
   together [] zero zero (suc to) sum within before here behind = absurd (omega arith)
@@ -228,15 +241,18 @@ module _ (q : Transaction → Bool) where
   together (t ∷ ts) (suc from) n zero sum within before here behind = absurd (omega arith)
   together (t ∷ ts) zero zero zero sum within before here behind =
       let step = one_more t ts false (behind 0 t (omega arith) (omega arith)) in
-      let rest = together ts 0 0 0 refl (omega arith) (λ k d low less. absurd (omega arith)) (λ k d low less. absurd (omega arith)) (λ k d low less. behind (suc k) d (omega arith) (omega arith)) in
+      let rest = together ts 0 0 0 refl (omega arith) (λ k d low less. absurd (omega arith)) (λ k d low less. absurd (omega arith))
+      (λ k d low less. behind (suc k) d (omega arith) (omega arith)) in
       record { those = step.0 ∙ rest.those; others = step.1 ∙ ap (λ us. t ∷ us) rest.others }
   together (t ∷ ts) zero (suc n) (suc to) sum within before here behind =
       let step = one_more t ts true (here 0 t (omega arith) (omega arith)) in
-      let rest = together ts 0 n to (omega arith) (omega arith) (λ k d low less. absurd (omega arith)) (λ k d low less. here (suc k) d (omega arith) (omega arith)) (λ k d low less. behind (suc k) d (omega arith) (omega arith)) in
+      let rest = together ts 0 n to (omega arith) (omega arith) (λ k d low less. absurd (omega arith))
+      (λ k d low less. here (suc k) d (omega arith) (omega arith)) (λ k d low less. behind (suc k) d (omega arith) (omega arith)) in
       record { those = step.0 ∙ ap (λ us. t ∷ us) rest.those; others = step.1 ∙ rest.others }
   together (t ∷ ts) (suc from) n (suc to) sum within before here behind =
       let step = one_more t ts false (before 0 t (omega arith) (omega arith)) in
-      let rest = together ts from n to (omega arith) (omega arith) (λ k d low less. before (suc k) d (omega arith) (omega arith)) (λ k d low less. here (suc k) d (omega arith) (omega arith)) (λ k d low less. behind (suc k) d (omega arith) (omega arith)) in
+      let rest = together ts from n to (omega arith) (omega arith) (λ k d low less. before (suc k) d (omega arith) (omega arith))
+      (λ k d low less. here (suc k) d (omega arith) (omega arith)) (λ k d low less. behind (suc k) d (omega arith) (omega arith)) in
       record { those = step.0 ∙ rest.those; others = step.1 ∙ ap (λ us. t ∷ us) rest.others }
 
 -- Those of a device with lesser stamps stand between two places.
@@ -247,13 +263,16 @@ module _ (ts : List Transaction) (device low from to : ℕ) (first : IsPlaceOf t
     | inl less ↦
         let t = get_or ts to d in
         elim (before_cases t device 0 (first.before to d less)) [
-          | inl lower ↦ absurd (both_ways (is_before t device low) (behind.behind to d (omega arith) (omega (arith, first.within))) (before_by_device t device low lower))
+          | inl lower ↦ absurd
+              (both_ways (is_before t device low) (behind.behind to d (omega arith) (omega (arith, first.within))) (before_by_device t device low lower))
           | inr none ↦ absurd (omega (arith, none.1))
         ]
   ]
 
   lesser_device : (t : Transaction) → (t.device < device) ⊎ ((t.device ≡ device) × (t.stamp < 0)) → ends_below device low t ≡ false
-  lesser_device t (inl less) = false_from_ne_true (ends_below device low t) (λ ends. let same : t.device ≡ device = eqb-true t.device device (and_parts (nat_eq t.device device) (nat_lt t.stamp low) ends).0 in omega arith)
+  lesser_device t (inl less) =
+      false_from_ne_true (ends_below device low t) (λ ends. let same : t.device ≡ device =
+      eqb-true t.device device (and_parts (nat_eq t.device device) (nat_lt t.stamp low) ends).0 in omega arith)
   lesser_device t (inr none) = absurd (omega (arith, none.1))
 
   ends_here : (t : Transaction) → device ≤ t.device → (t.device < device) ⊎ ((t.device ≡ device) × (t.stamp < low)) → ends_below device low t ≡ true
@@ -268,5 +287,6 @@ module _ (ts : List Transaction) (device low from to : ℕ) (first : IsPlaceOf t
   pub ending_together : from ≤ to → StandTogether (ends_below device low) ts from (to - from) to
   ending_together order = together (ends_below device low) ts from (to - from) to (omega arith) behind.within
       (λ k d least less. lesser_device (get_or ts k d) (before_cases (get_or ts k d) device 0 (first.before k d less)))
-      (λ k d least less. ends_here (get_or ts k d) (behind_parts (get_or ts k d) device 0 (first.behind k d least (omega (arith, behind.within)))).0 (before_cases (get_or ts k d) device low (behind.before k d less)))
+      (λ k d least less. ends_here (get_or ts k d) (behind_parts (get_or ts k d) device 0 (first.behind k d least (omega (arith, behind.within)))).0
+      (before_cases (get_or ts k d) device low (behind.before k d less)))
       (λ k d least less. no_less (get_or ts k d) (behind.behind k d least less))

@@ -43,11 +43,13 @@ module _ (before after : Held) (x : ReportAt) (told : List ReportAt) (stands : S
   waiting_is =
       let others : filter (λ t. not (ends_at_x told x t)) before.waiting ≡ sorted (filter (λ t. not (ends_at_x told x t)) (unended told (length told))) =
       ap (filter (λ t. not (ends_at_x told x t))) stands.waiting ∙ filter_sorted (λ t. not (ends_at_x told x t)) (unended told (length told)) in
-      next.waiting ∙ ap (λ t. placed t (filter (λ t. not (ends_at_x told x t)) before.waiting)) begin_is ∙ ap (placed begin) others ∙ ap sorted (sym (unended_now told x))
+      next.waiting ∙ ap (λ t. placed t (filter (λ t. not (ends_at_x told x t)) before.waiting)) begin_is ∙ ap (placed begin) others
+      ∙ ap sorted (sym (unended_now told x))
 
   ended_here : after.ended ≡ map (transaction_at longer) (ended_at longer (length told))
   ended_here = sym (same_rise (map (transaction_at longer) (ended_at longer (length told))) after.ended (ended_rises told x) next.rises
-      (λ f. ended_sums told x f ∙ sym (sum_sorted f (filter (ends_at_x told x) (unended told (length told)))) ∙ ap (sum_by f) (sym (filter_sorted (ends_at_x told x) (unended told (length told))))
+      (λ f. ended_sums told x f ∙ sym (sum_sorted f (filter (ends_at_x told x) (unended told (length told))))
+      ∙ ap (sum_by f) (sym (filter_sorted (ends_at_x told x) (unended told (length told))))
       ∙ ap (λ ts. sum_by f (filter (ends_at_x told x) ts)) (sym stands.waiting) ∙ sym (next.sums f)))
 
   worst_is : HasWorst longer after.worst
@@ -67,7 +69,8 @@ module _ (before after : Held) (x : ReportAt) (told : List ReportAt) (stands : S
       shown_is : record { begin = transaction before.begun x; disorder = disordered_by after.worst (stamp_of x) } ≡ shown_at longer (length told)
       shown_is =
           ap (λ t. with_begin t) (begin_is ∙ sym (transaction_new told x))
-          ∙ ap (λ o. with_disorder o) (ap (disordered_by after.worst) (sym stamp_here) ∙ sym (shown_disorder longer (length told) (length_more told x) after.worst worst_is))
+          ∙ ap (λ o. with_disorder o) (ap (disordered_by after.worst) (sym stamp_here)
+          ∙ sym (shown_disorder longer (length told) (length_more told x) after.worst worst_is))
         where
           with_begin : Transaction → Shown
           with_begin t = record { begin = t; disorder = disordered_by after.worst (stamp_of x) }
@@ -79,7 +82,9 @@ module _ (before after : Held) (x : ReportAt) (told : List ReportAt) (stands : S
   disorders_are =
       let here : has_disorder longer (length told) ≡ is_some (disordered_by after.worst (stamp_of x)) =
       (found longer (length told) (length_more told x) after.worst worst_is).1 ∙ ap (λ s. is_some (disordered_by after.worst s)) stamp_here in
-      next.disorders ∙ ap (λ n. n + (if is_some (disordered_by after.worst (stamp_of x)) then 1 else 0)) (stands.disorders ∙ sym (same_count (has_disorder longer) (has_disorder told) (length told) (λ k less. same_disorder told x k less)))
+      next.disorders
+      ∙ ap (λ n. n + (if is_some (disordered_by after.worst (stamp_of x)) then 1 else 0))
+      (stands.disorders ∙ sym (same_count (has_disorder longer) (has_disorder told) (length told) (λ k less. same_disorder told x k less)))
       ∙ ap (λ b. count_by (has_disorder longer) (below (length told)) + (if b then 1 else 0)) (sym here)
       ∙ sym (count_more (has_disorder longer) (length told)) ∙ ap (λ n. count_by (has_disorder longer) (below n)) (sym (length_more told x))
 

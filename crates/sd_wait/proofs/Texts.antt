@@ -27,23 +27,29 @@ module _ (told : List ReportAt) (k : ℕ) (name : List ℕ) where
       by None = refl
       by (Some x) = refl
 
-  ended_lines : (is : List ℕ) → ended_bytes (transaction_at told k).line (map (transaction_at told) is) ≡ flat_map line_bytes (map (λ i. Ended (line_at told k) (line_at told i)) is)
+  ended_lines : (is : List ℕ)
+      → ended_bytes (transaction_at told k).line (map (transaction_at told) is) ≡ flat_map line_bytes (map (λ i. Ended (line_at told k) (line_at told i)) is)
   ended_lines [] = refl
   ended_lines (i ∷ is) =
       ap (λ bytes. text_of (codes "ended" ∷ decimal (transaction_at told k).line ∷ decimal (transaction_at told i).line ∷ []) ++ bytes) (ended_lines is)
-      ∙ ap (λ n. text_of (codes "ended" ∷ decimal n ∷ decimal (transaction_at told i).line ∷ []) ++ flat_map line_bytes (map (λ i. Ended (line_at told k) (line_at told i)) is)) (line_is k)
-      ∙ ap (λ n. text_of (codes "ended" ∷ decimal (line_at told k) ∷ decimal n ∷ []) ++ flat_map line_bytes (map (λ i. Ended (line_at told k) (line_at told i)) is)) (line_is i)
+      ∙ ap (λ n. text_of (codes "ended" ∷ decimal n ∷ decimal (transaction_at told i).line ∷ [])
+      ++ flat_map line_bytes (map (λ i. Ended (line_at told k) (line_at told i)) is)) (line_is k)
+      ∙ ap (λ n. text_of (codes "ended" ∷ decimal (line_at told k) ∷ decimal n ∷ [])
+      ++ flat_map line_bytes (map (λ i. Ended (line_at told k) (line_at told i)) is)) (line_is i)
 
   disorder_lines : (o : Option ℕ)
-      → of_some (option_map (transaction_at told) o) [] (λ (t : Transaction). text_of (codes "disorder" ∷ decimal (transaction_at told k).line ∷ decimal t.line ∷ []))
+      → of_some (option_map (transaction_at told) o) []
+      (λ (t : Transaction). text_of (codes "disorder" ∷ decimal (transaction_at told k).line ∷ decimal t.line ∷ []))
       ≡ flat_map line_bytes (of_some o [] (λ i. Disorder (line_at told k) (line_at told i) ∷ []))
   disorder_lines None = refl
   disorder_lines (Some i) =
       ap (λ n. text_of (codes "disorder" ∷ decimal n ∷ decimal (transaction_at told i).line ∷ [])) (line_is k)
-      ∙ ap (λ n. text_of (codes "disorder" ∷ decimal (line_at told k) ∷ decimal n ∷ [])) (line_is i) ∙ sym (append-nil (line_bytes (Disorder (line_at told k) (line_at told i))))
+      ∙ ap (λ n. text_of (codes "disorder" ∷ decimal (line_at told k) ∷ decimal n ∷ [])) (line_is i)
+      ∙ sym (append-nil (line_bytes (Disorder (line_at told k) (line_at told i))))
 
   begin_line : k < length told
-      → text_of (codes "begin" ∷ decimal (transaction_at told k).line ∷ name ∷ decimal (transaction_at told k).stamp ∷ []) ≡ flat_map line_bytes (at_place told k [] (λ x. Begin x.line x.device (stamp_of x) ∷ []))
+      → text_of (codes "begin" ∷ decimal (transaction_at told k).line ∷ name ∷ decimal (transaction_at told k).stamp ∷ [])
+      ≡ flat_map line_bytes (at_place told k [] (λ x. Begin x.line x.device (stamp_of x) ∷ []))
   begin_line within = by (slice_get told k) (some_there told k within)
     where
       some_there : (xs : List ReportAt) (i : ℕ) → i < length xs → (x : ReportAt) × (slice_get xs i ≡ Some x)
@@ -52,7 +58,8 @@ module _ (told : List ReportAt) (k : ℕ) (name : List ℕ) where
       some_there (x ∷ xs) (suc i) less = some_there xs i (omega arith)
 
       by : (o : Option ReportAt) → (x : ReportAt) × (o ≡ Some x)
-          → text_of (codes "begin" ∷ decimal (of_some o (record { device = 0; stamp = 0; place = k; line = 0 }) (transaction k)).line ∷ name ∷ decimal (of_some o (record { device = 0; stamp = 0; place = k; line = 0 }) (transaction k)).stamp ∷ [])
+          → text_of (codes "begin" ∷ decimal (of_some o (record { device = 0; stamp = 0; place = k; line = 0 }) (transaction k)).line ∷ name ∷ decimal
+          (of_some o (record { device = 0; stamp = 0; place = k; line = 0 }) (transaction k)).stamp ∷ [])
           ≡ flat_map line_bytes (of_some o [] (λ x. Begin x.line x.device (stamp_of x) ∷ []))
       by None there = cc (there.1)
       by (Some x) there = sym (append-nil (line_bytes (Begin x.line x.device (stamp_of x))))
@@ -62,8 +69,11 @@ module _ (told : List ReportAt) (k : ℕ) (name : List ℕ) where
       let ended = map (λ i. Ended (line_at told k) (line_at told i)) (ended_at told k) in
       let disorder = of_some (worst_disorder told k) [] (λ i. Disorder (line_at told k) (line_at told i) ∷ []) in
       let begin = at_place told k [] (λ x. Begin x.line x.device (stamp_of x) ∷ []) in
-      ap (λ bytes. bytes ++ of_some (option_map (transaction_at told) (worst_disorder told k)) [] (λ (t : Transaction). text_of (codes "disorder" ∷ decimal (transaction_at told k).line ∷ decimal t.line ∷ [])) ++ text_of (codes "begin" ∷ decimal (transaction_at told k).line ∷ name ∷ decimal (transaction_at told k).stamp ∷ [])) (ended_lines (ended_at told k))
-      ∙ ap (λ bytes. flat_map line_bytes ended ++ bytes ++ text_of (codes "begin" ∷ decimal (transaction_at told k).line ∷ name ∷ decimal (transaction_at told k).stamp ∷ [])) (disorder_lines (worst_disorder told k))
+      ap (λ bytes. bytes ++ of_some (option_map (transaction_at told) (worst_disorder told k)) []
+      (λ (t : Transaction). text_of (codes "disorder" ∷ decimal (transaction_at told k).line ∷ decimal t.line ∷ []))
+      ++ text_of (codes "begin" ∷ decimal (transaction_at told k).line ∷ name ∷ decimal (transaction_at told k).stamp ∷ [])) (ended_lines (ended_at told k))
+      ∙ ap (λ bytes. flat_map line_bytes ended ++ bytes ++ text_of
+      (codes "begin" ∷ decimal (transaction_at told k).line ∷ name ∷ decimal (transaction_at told k).stamp ∷ [])) (disorder_lines (worst_disorder told k))
       ∙ ap (λ bytes. flat_map line_bytes ended ++ flat_map line_bytes disorder ++ bytes) (begin_line within)
       ∙ ap (λ bytes. bytes ++ flat_map line_bytes begin) (sym (flat_map-append line_bytes ended disorder))
       ∙ sym (flat_map-append line_bytes (ended ++ disorder) begin)
@@ -74,7 +84,8 @@ nothing [] name none = refl
 nothing (x ∷ xs) name none = absurd (omega arith)
 
 -- there is a last report exactly where something is shown
-pub shows_last : (told : List ReportAt) (o : Option Shown) → o ≡ last_shown told → (s : Shown) → o ≡ Some s → (length told - 1 < length told) × (s ≡ shown_at told (length told - 1))
+pub shows_last : (told : List ReportAt) (o : Option Shown) → o ≡ last_shown told → (s : Shown) → o ≡ Some s
+    → (length told - 1 < length told) × (s ≡ shown_at told (length told - 1))
 shows_last [] o is s some = cc
 shows_last (x ∷ xs) o is s some = (
   omega arith,

@@ -28,7 +28,8 @@ bad_itself a = record { stamps = omega arith; places = λ same. omega arith }
 bad_on : (a b c : Transaction) → IsAsBad a b → IsAsBad b c → IsAsBad a c
 bad_on a b c one two = record {
   stamps = omega (arith, one.stamps, two.stamps);
-  places = λ same. let first : b.stamp ≡ a.stamp = omega (arith, one.stamps, two.stamps) in let second : c.stamp ≡ b.stamp = omega (arith, one.stamps, two.stamps) in omega (arith, one.places first, two.places second);
+  places = λ same. let first : b.stamp ≡ a.stamp = omega (arith, one.stamps, two.stamps) in
+      let second : c.stamp ≡ b.stamp = omega (arith, one.stamps, two.stamps) in omega (arith, one.places first, two.places second);
 }
 
 -- the worse of two is one of them, and as bad as both
@@ -55,7 +56,9 @@ worse_parts w t = by (nat_lt t.stamp w.stamp || (nat_eq w.stamp t.stamp && nat_l
             stamps = ltb-false t.stamp w.stamp parts.0;
             places = λ same. elim (cases_lt w.place t.place) [
               | inr later ↦ later
-              | inl before ↦ absurd (both_ways (nat_eq w.stamp t.stamp && nat_lt w.place t.place) parts.1 (and_from (nat_eq w.stamp t.stamp) (nat_lt w.place t.place) (eq-eqb w.stamp t.stamp same) (lt-ltb w.place t.place before)))
+              | inl before ↦ absurd
+                  (both_ways (nat_eq w.stamp t.stamp && nat_lt w.place t.place) parts.1
+                  (and_from (nat_eq w.stamp t.stamp) (nat_lt w.place t.place) (eq-eqb w.stamp t.stamp same) (lt-ltb w.place t.place before)))
             ];
           },
           bad_itself t,
@@ -106,7 +109,8 @@ worse_of : (P : Transaction → Type 0) (o : Option Transaction) (t : Transactio
 worse_of P None t first it = it
 worse_of P (Some w) t first it = elim (worse_parts w t).0 [ inl old ↦ subst P (sym old) first | inr new ↦ subst P (sym new) it ]
 
-worst_from : (P : Transaction → Type 0) (o : Option Transaction) (ts : List Transaction) → IfSome o P → ((t : Transaction) → Among t ts → P t) → IfSome (worst_among o ts) P
+worst_from : (P : Transaction → Type 0) (o : Option Transaction) (ts : List Transaction) → IfSome o P → ((t : Transaction) → Among t ts → P t)
+    → IfSome (worst_among o ts) P
 worst_from P o [] first all = first
 worst_from P o (u ∷ us) first all = worst_from P (Some (worse o u)) us (worse_of P o u first (all u (inl refl))) (λ t later. all t (inr later))
 
@@ -141,7 +145,8 @@ module _ (told : List ReportAt) (x : ReportAt) where
       ap is_some (end_before told x i within) ∙ ap (λ o. is_some (option_or o (if ends_now told x i then Some (length told) else None))) end.1
 
   -- what has ended had ended before, or ends at the new report
-  ended_cases : (i : ℕ) → i < length next → is_some (end_place next i) ≡ true → (i < length told) × ((is_some (end_place told i) ≡ true) ⊎ (ends_last told x i ≡ true))
+  ended_cases : (i : ℕ) → i < length next → is_some (end_place next i) ≡ true
+      → (i < length told) × ((is_some (end_place told i) ≡ true) ⊎ (ends_last told x i ≡ true))
   ended_cases i within ended = elim (cases_lt i (length told)) [
     | inl before ↦ (before, by (end_place told i) (ends_now told x i) (sym (ap is_some (end_before told x i before)) ∙ ended) (last_is told x i before))
     | inr new ↦
@@ -149,7 +154,8 @@ module _ (told : List ReportAt) (x : ReportAt) where
         absurd (both_ways (is_some (end_place next i)) (ap (λ k. is_some (end_place next k)) (sym same) ∙ ap is_some (end_new told x)) ended)
   ]
     where
-      by : (o : Option ℕ) (b : Bool) → is_some (option_or o (if b then Some (length told) else None)) ≡ true → ends_last told x i ≡ (is_none o && b) → (is_some o ≡ true) ⊎ (ends_last told x i ≡ true)
+      by : (o : Option ℕ) (b : Bool) → is_some (option_or o (if b then Some (length told) else None)) ≡ true → ends_last told x i ≡ (is_none o && b)
+          → (is_some o ≡ true) ⊎ (ends_last told x i ≡ true)
       by (Some j) b some last = inl refl
       by None true some last = inr last
       by None false some last = cc
@@ -157,11 +163,13 @@ module _ (told : List ReportAt) (x : ReportAt) where
   last_among : (i : ℕ) → i < length told → ends_last told x i ≡ true → Among (transaction_at next i) ended_ones
   last_among i within last =
       subst (λ xs. Among (transaction_at next i) (map (transaction_at next) xs)) (sym (ended_now told x))
-      (map_among (transaction_at next) (filter (ends_last told x) (below (length told))) i (kept_from (ends_last told x) (below (length told)) i last (has_below (length told) i within)))
+      (map_among (transaction_at next) (filter (ends_last told x) (below (length told))) i
+      (kept_from (ends_last told x) (below (length told)) i last (has_below (length told) i within)))
 
   among_last : (t : Transaction) → Among t ended_ones → HasEnded next t
   among_last t among =
-      let there = among_map (transaction_at next) (filter (ends_last told x) (below (length told))) t (subst (λ xs. Among t (map (transaction_at next) xs)) (ended_now told x) among) in
+      let there = among_map (transaction_at next) (filter (ends_last told x) (below (length told))) t
+      (subst (λ xs. Among t (map (transaction_at next) xs)) (ended_now told x) among) in
       let parts = kept_parts (ends_last told x) (below (length told)) there.0 there.1 in
       let place : t.place ≡ there.0 = ap (λ (u : Transaction). u.place) there.2 ∙ place_is next there.0 in
       let less : there.0 < length told = below_has (length told) there.0 parts.1 in
@@ -190,10 +198,12 @@ module _ (told : List ReportAt) (x : ReportAt) where
         places = λ same. let first : w.place ≤ i = is.first i within ended (sym (stamp_is told i) ∙ same) in omega (arith, place_is told i);
       })
 
-  top_of : (worst : Option Transaction) → HasWorst told worst → (i : ℕ) → i < length next → is_some (end_place next i) ≡ true → IsTop (worst_among worst ended_ones) (transaction_at next i)
+  top_of : (worst : Option Transaction) → HasWorst told worst → (i : ℕ) → i < length next → is_some (end_place next i) ≡ true
+      → IsTop (worst_among worst ended_ones) (transaction_at next i)
   top_of worst has i within ended = let found = ended_cases i within ended in by worst has found.0 found.1
     where
-      by : (o : Option Transaction) → HasWorst told o → i < length told → (is_some (end_place told i) ≡ true) ⊎ (ends_last told x i ≡ true) → IsTop (worst_among o ended_ones) (transaction_at next i)
+      by : (o : Option Transaction) → HasWorst told o → i < length told → (is_some (end_place told i) ≡ true) ⊎ (ends_last told x i ≡ true)
+          → IsTop (worst_among o ended_ones) (transaction_at next i)
       by o has within (inr last) = worst_over o ended_ones (transaction_at next i) (last_among i within last)
       by None has within (inl old) = absurd (both_ways (is_some (end_place told i)) (ap is_some (has i within)) old)
       by (Some w) has within (inl old) =
@@ -223,7 +233,8 @@ module _ (told : List ReportAt) (x : ReportAt) where
               none_top : (t : Transaction) → None ≡ Some t → ⊥
               none_top t same = cc
       by (Some w) is ended =
-          let top : (i : ℕ) → i < length next → is_some (end_place next i) ≡ true → IsAsBad w (transaction_at next i) = λ i within has_ended. as_bad i (top_of worst has i within has_ended) in
+          let top : (i : ℕ) → i < length next → is_some (end_place next i) ≡ true
+          → IsAsBad w (transaction_at next i) = λ i within has_ended. as_bad i (top_of worst has i within has_ended) in
           record {
             within = ended.within;
             ended = ended.ended;
@@ -254,10 +265,12 @@ module _ (told : List ReportAt) (k : ℕ) (last : length told ≡ suc k) where
   shows_from i ended more =
       let end = is_there (end_place told i) ended in
       let within : end.0 < length told = found_below (λ j. nat_lt i j && ends_by told i j) (length told) end.0 end.1 in
-      let behind : nat_lt i end.0 ≡ true = (and_parts (nat_lt i end.0) (ends_by told i end.0) (find_passes (λ j. nat_lt i j && ends_by told i j) (below (length told)) end.0 end.1)).0 in
+      let behind : nat_lt i end.0 ≡ true =
+      (and_parts (nat_lt i end.0) (ends_by told i end.0) (find_passes (λ j. nat_lt i j && ends_by told i j) (below (length told)) end.0 end.1)).0 in
       let order : i < end.0 = ltb-true i end.0 behind in
       and_from (has_ended_by told i k && nat_lt i k) (nat_le (stamp_at told k) (stamp_at told i))
-      (and_from (has_ended_by told i k) (nat_lt i k) (ap (λ o. of_some o false (λ j. nat_le j k)) end.1 ∙ le-leb end.0 k (omega arith)) (lt-ltb i k (omega arith)))
+      (and_from (has_ended_by told i k) (nat_lt i k) (ap (λ o. of_some o false (λ j. nat_le j k)) end.1 ∙ le-leb end.0 k (omega arith))
+      (lt-ltb i k (omega arith)))
       (le-leb (stamp_at told k) (stamp_at told i) more)
 
   -- the disorder that it shows, by its place
@@ -265,8 +278,11 @@ module _ (told : List ReportAt) (k : ℕ) (last : length told ≡ suc k) where
   Found o = (worst_disorder told k ≡ option_map (λ t. t.place) o) × (has_disorder told k ≡ is_some o)
 
   found_none : NonePasses shows (length told) → Found None
-  found_none none =
-      (ap (λ xs. find (λ i. nat_eq (stamp_at told i) (greatest (map (stamp_at told) xs))) xs) (filter_none shows (length told) none), any_none shows (length told) none)
+  found_none none = (
+    ap (λ xs. find (λ i. nat_eq (stamp_at told i) (greatest (map (stamp_at told) xs))) xs) (filter_none shows (length told) none),
+    any_none shows
+        (length told) none,
+  )
 
   found_worst : (w : Transaction) → IsWorst told w → stamp_at told k ≤ w.stamp → Found (Some w)
   found_worst w is more =
@@ -279,7 +295,8 @@ module _ (told : List ReportAt) (k : ℕ) (last : length told ≡ suc k) where
       )
 
   pub found : (worst : Option Transaction) → HasWorst told worst → Found (disordered_by worst (stamp_at told k))
-  found None none = found_none (λ i within. false_from_ne_true (shows i) (λ it. both_ways (is_some (end_place told i)) (ap is_some (none i within)) (shows_parts i it).0))
+  found None none =
+      found_none (λ i within. false_from_ne_true (shows i) (λ it. both_ways (is_some (end_place told i)) (ap is_some (none i within)) (shows_parts i it).0))
   found (Some w) is = by (nat_le (stamp_at told k) w.stamp) refl
     where
       by : (b : Bool) → nat_le (stamp_at told k) w.stamp ≡ b → Found (if b then Some w else None)
@@ -290,10 +307,12 @@ module _ (told : List ReportAt) (k : ℕ) (last : length told ≡ suc k) where
           let above : w.stamp < stamp_at told k = leb-false (stamp_at told k) w.stamp less in omega (arith, parts.1)))
 
   -- and as a transaction
-  pub shown_disorder : (worst : Option Transaction) → HasWorst told worst → option_map (transaction_at told) (worst_disorder told k) ≡ disordered_by worst (stamp_at told k)
+  pub shown_disorder : (worst : Option Transaction) → HasWorst told worst
+      → option_map (transaction_at told) (worst_disorder told k) ≡ disordered_by worst (stamp_at told k)
   shown_disorder worst has = ap (option_map (transaction_at told)) (found worst has).0 ∙ by worst has
     where
-      by : (o : Option Transaction) → HasWorst told o → option_map (transaction_at told) (option_map (λ t. t.place) (disordered_by o (stamp_at told k))) ≡ disordered_by o (stamp_at told k)
+      by : (o : Option Transaction) → HasWorst told o
+          → option_map (transaction_at told) (option_map (λ t. t.place) (disordered_by o (stamp_at told k))) ≡ disordered_by o (stamp_at told k)
       by None has = refl
       by (Some w) has = by_test (nat_le (stamp_at told k) w.stamp)
         where
@@ -312,21 +331,24 @@ module _ (told : List ReportAt) (x : ReportAt) (k : ℕ) (earlier : k < length t
       ended : has_ended_by (now told x) i k ≡ has_ended_by told i k
       ended = ap (λ o. of_some o false (λ j. nat_le j k)) (end_before told x i within) ∙ by (end_place told i) (ends_now told x i)
         where
-          by : (o : Option ℕ) (b : Bool) → of_some (option_or o (if b then Some (length told) else None)) false (λ j. nat_le j k) ≡ of_some o false (λ j. nat_le j k)
+          by : (o : Option ℕ) (b : Bool)
+              → of_some (option_or o (if b then Some (length told) else None)) false (λ j. nat_le j k) ≡ of_some o false (λ j. nat_le j k)
           by (Some j) b = refl
           by None true = lt-leb (length told) k earlier
           by None false = refl
 
   pub same_disorder : has_disorder (now told x) k ≡ has_disorder told k
   same_disorder =
-      ap (λ n. list_any (λ i. is_disorder (now told x) i k) (below n)) (length_more told x) ∙ list_any-append (λ i. is_disorder (now told x) i k) (below (length told)) (length told ∷ [])
+      ap (λ n. list_any (λ i. is_disorder (now told x) i k) (below n)) (length_more told x)
+      ∙ list_any-append (λ i. is_disorder (now told x) i k) (below (length told)) (length told ∷ [])
       ∙ ap (λ b. list_any (λ i. is_disorder (now told x) i k) (below (length told)) || (b || false)) later
       ∙ or_false (list_any (λ i. is_disorder (now told x) i k) (below (length told)))
       ∙ same_any (λ i. is_disorder (now told x) i k) (λ i. is_disorder told i k) (length told) same_shown
     where
       later : is_disorder (now told x) (length told) k ≡ false
       later =
-          and_left (has_ended_by (now told x) (length told) k && nat_lt (length told) k) (nat_le (stamp_at (now told x) k) (stamp_at (now told x) (length told)))
+          and_left (has_ended_by (now told x) (length told) k && nat_lt (length told) k)
+          (nat_le (stamp_at (now told x) k) (stamp_at (now told x) (length told)))
           (and_right (has_ended_by (now told x) (length told) k) (nat_lt (length told) k) (le-ltb (length told) k (omega arith)))
 
       or_false : (b : Bool) → (b || (false || false)) ≡ b

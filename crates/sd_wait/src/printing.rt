@@ -34,7 +34,8 @@ fn add_number(text: &mut Vec<u8>, number: u128) -> Result<(), NoMemory>
 
 /// Adds the line of a word and of two lines of the schedule.
 fn add_pair(text: &mut Vec<u8>, word: &str, line: u64, begin: u64) -> Result<(), NoMemory>
-    ensures { OnOk result (text.new.items ≡ text.old.items ++ text_of (word.now ∷ decimal line ∷ decimal begin ∷ [])) }
+    ensures { OnOk result (text.new.items ≡ text.old.items
+        ++ text_of (word.now ∷ decimal line ∷ decimal begin ∷ [])) }
 {
     add(text, word.as_bytes())?;
     add(text, b" ")?;
@@ -56,7 +57,8 @@ fn add_ended(text: &mut Vec<u8>, line: u64, ended: &[Transaction]) -> Result<(),
 
 /// Adds the line of the transaction that begins.
 fn add_begin(text: &mut Vec<u8>, begin: Transaction, name: &str) -> Result<(), NoMemory>
-    ensures { OnOk result (text.new.items ≡ text.old.items ++ text_of (codes "begin" ∷ decimal begin.line ∷ name.now ∷ decimal begin.stamp ∷ [])) }
+    ensures { OnOk result (text.new.items ≡ text.old.items
+        ++ text_of (codes "begin" ∷ decimal begin.line ∷ name.now ∷ decimal begin.stamp ∷ [])) }
 {
     add(text, b"begin ")?;
     add_number(text, u128::from(begin.line))?;
@@ -74,7 +76,8 @@ pub(crate) fn print(
     shown: Shown,
     name: &str,
 ) -> Result<(), NoMemory>
-    ensures { OnOk result (text.new.items ≡ text.old.items ++ shown_bytes ended.now shown name.now) }
+    ensures { OnOk result (text.new.items ≡ text.old.items
+        ++ shown_bytes ended.now shown name.now) }
 {
     let line = shown.begin.line;
     add_ended(text, line, ended)?;

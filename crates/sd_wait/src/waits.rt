@@ -64,7 +64,8 @@ impl Waits {
     /// The lines of the last report, with the name of its device: what ended, a disorder if there
     /// is one, and what began. Nothing where no report was seen.
     pub fn lines(&self, alloc: Global, name: &str) -> Result<Vec<u8>, NoMemory>
-        ensures { (told : List ReportAt) → StandsFor self.now told → IfOk result (λ text. text.items ≡ bytes_at told (length told - 1) name.now) }
+        ensures { (told : List ReportAt) → StandsFor self.now told
+            → IfOk result (λ text. text.items ≡ bytes_at told (length told - 1) name.now) }
     {
         let mut text = Vec::new(alloc);
         let Some(shown) = self.last else {

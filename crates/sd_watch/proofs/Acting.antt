@@ -14,10 +14,12 @@ acts_at acting d within = ap (λ o. of_some o false (λ acts. acts)) (slice_get-
 module _ (p : ℕ → Bool) where
   -- one number more
   pub one_passes : (k : ℕ) → p k ≡ true → filter p (below (k + 1)) ≡ filter p (below k) ++ k ∷ []
-  one_passes k passes = ap (λ n. filter p (below n)) (add-one k) ∙ filter-append p (below k) (k ∷ []) ∙ ap (λ b. filter p (below k) ++ (if b then k ∷ [] else [])) passes
+  one_passes k passes = ap (λ n. filter p (below n)) (add-one k) ∙ filter-append p (below k) (k ∷ [])
+      ∙ ap (λ b. filter p (below k) ++ (if b then k ∷ [] else [])) passes
 
   pub one_fails : (k : ℕ) → p k ≡ false → filter p (below (k + 1)) ≡ filter p (below k)
-  one_fails k fails = ap (λ n. filter p (below n)) (add-one k) ∙ filter-append p (below k) (k ∷ []) ∙ ap (λ b. filter p (below k) ++ (if b then k ∷ [] else [])) fails ∙ nothing (filter p (below k))
+  one_fails k fails = ap (λ n. filter p (below n)) (add-one k) ∙ filter-append p (below k) (k ∷ [])
+      ∙ ap (λ b. filter p (below k) ++ (if b then k ∷ [] else [])) fails ∙ nothing (filter p (below k))
     where
       nothing : (xs : List ℕ) → xs ++ [] ≡ xs
       nothing [] = refl
@@ -33,7 +35,8 @@ module _ (p : ℕ → Bool) where
   pub second_found : (d e n : ℕ) → e < n → filter p (below e) ≡ d ∷ [] → p e ≡ true → two_least (filter p (below n)) ≡ Some (d, e)
   second_found d e zero within first passes = absurd (omega arith)
   second_found d e (suc n) within first passes = elim (cases_lt e n) [
-    | inl before ↦ ap two_least (filter-append p (below n) (n ∷ [])) ∙ two_stay d e (filter p (below n)) (filter p (n ∷ [])) (second_found d e n before first passes)
+    | inl before ↦ ap two_least (filter-append p (below n) (n ∷ []))
+        ∙ two_stay d e (filter p (below n)) (filter p (n ∷ [])) (second_found d e n before first passes)
     | inr last ↦
         let same : suc n ≡ e + 1 = omega arith in
         ap (λ m. two_least (filter p (below m))) same ∙ ap two_least (one_passes e passes) ∙ ap (λ xs. two_least (xs ++ e ∷ [])) first

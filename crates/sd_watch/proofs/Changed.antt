@@ -54,6 +54,8 @@ none_by_loss before after fewer none e loop =
     let there = through_change before after (λ x. false) (λ x apart. fewer x) none e loop in cc (there.1)
 
 -- one entry of a list that is written
-pub through_written : (parents : List (Option ℕ)) (d : ℕ) (entry : Option ℕ) → HasNoLoop (parent_in parents) → (e : ℕ) → IsOnLoop (parent_in (set parents d entry)) e → IsOnLoop (parent_in (set parents d entry)) d
+pub through_written : (parents : List (Option ℕ)) (d : ℕ) (entry : Option ℕ) → HasNoLoop (parent_in parents) → (e : ℕ)
+    → IsOnLoop (parent_in (set parents d entry)) e → IsOnLoop (parent_in (set parents d entry)) d
 through_written parents d entry =
-    through_one (parent_in parents) (parent_in (set parents d entry)) d (λ e apart x at. sym (ap (λ o. of_some o None (λ parent. parent)) (at_unwritten parents d e entry apart)) ∙ at)
+    through_one (parent_in parents) (parent_in (set parents d entry)) d
+    (λ e apart x at. sym (ap (λ o. of_some o None (λ parent. parent)) (at_unwritten parents d e entry apart)) ∙ at)

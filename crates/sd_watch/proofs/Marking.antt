@@ -31,7 +31,8 @@ has_other_mark marks d mark within hasnt at = both_ways (has_mark marks d mark) 
 pub fewer_new : (marks : List ℕ) (d mark : ℕ) → has_mark marks d 0 ≡ true → 0 < mark → new_count (set marks d mark) < new_count marks
 fewer_new marks d mark new some =
     let parts : (d < length marks) × (mark_at marks d ≡ 0) = marked_parts marks d 0 new in
-    let change : sum_by one_if_new (set marks d mark) + one_if_new (get_or marks d 0) ≡ sum_by one_if_new marks + one_if_new mark = sum_by-set one_if_new marks d mark 0 parts.0 in
+    let change : sum_by one_if_new (set marks d mark) + one_if_new (get_or marks d 0) ≡ sum_by one_if_new marks + one_if_new mark =
+    sum_by-set one_if_new marks d mark 0 parts.0 in
     let was : one_if_new (get_or marks d 0) ≡ 1 = ap one_if_new parts.1 in
     omega (arith, change, was, none mark some)
   where
@@ -53,7 +54,8 @@ module _ (parent : ℕ → Option ℕ) (before : List ℕ) where
         record {
           leads = λ d at. elim (cases_eq d here) [
             | inl same ↦ (0, ap parent same ∙ follows)
-            | inr apart ↦ let led = is.leads d (sym (get_or-set_other now here d walk 0 apart) ∙ at) in (suc led.0, one_more parent (suc led.0) d here led.1 ∙ follows)
+            | inr apart ↦ let led = is.leads d (sym (get_or-set_other now here d walk 0 apart) ∙ at) in
+                (suc led.0, one_more parent (suc led.0) d here led.1 ∙ follows)
           ];
           others = λ d other. elim (cases_eq d here) [
             | inl same ↦ absurd (other (ap (mark_at (set now here walk)) same ∙ get_or-set_same now here walk 0 within))
@@ -108,18 +110,23 @@ module _ (parent : ℕ → Option ℕ) (before : List ℕ) where
     ]
 
 -- The device at which a walk begins has its mark once the walk has gone on.
-pub not_begun : (marks : List ℕ) (start here walk : ℕ) → 0 < walk → has_mark marks here 0 ≡ true → (has_mark marks start 0 ≡ true → here ≡ start) → has_mark (set marks here walk) start 0 ≡ true → ⊥
+pub not_begun : (marks : List ℕ) (start here walk : ℕ) → 0 < walk → has_mark marks here 0 ≡ true → (has_mark marks start 0 ≡ true → here ≡ start)
+    → has_mark (set marks here walk) start 0 ≡ true → ⊥
 not_begun marks start here walk some new begins unmarked =
     let within : here < length marks = (marked_parts marks here 0 new).0 in
     let after : (start < length (set marks here walk)) × (mark_at (set marks here walk) start ≡ 0) = marked_parts (set marks here walk) start 0 unmarked in
     elim (cases_eq start here) [
-      | inl same ↦ (let now : mark_at (set marks here walk) start ≡ walk = ap (mark_at (set marks here walk)) same ∙ get_or-set_same marks here walk 0 within in omega (arith, after.1))
+      | inl same ↦ (let now : mark_at (set marks here walk) start ≡ walk = ap (mark_at (set marks here walk)) same ∙ get_or-set_same marks here walk 0 within in
+          omega (arith, after.1))
       | inr apart ↦
-          let before : has_mark marks start 0 ≡ true = has_this_mark marks start 0 (omega (arith, length-set marks here walk, after.0)) (sym (get_or-set_other marks here start walk 0 apart) ∙ after.1) in
+          let before : has_mark marks start 0 ≡ true =
+          has_this_mark marks start 0 (omega (arith, length-set marks here walk, after.0))
+          (sym (get_or-set_other marks here start walk 0 apart) ∙ after.1) in
           apart (sym (begins before))
     ]
 
-pub begun : (before now : List ℕ) (start here : ℕ) → has_mark before start 0 ≡ true → length now ≡ length before → (has_mark now start 0 ≡ true → here ≡ start) → has_mark now here 0 ≡ false → mark_at now start ≢ 0
+pub begun : (before now : List ℕ) (start here : ℕ) → has_mark before start 0 ≡ true → length now ≡ length before → (has_mark now start 0 ≡ true → here ≡ start)
+    → has_mark now here 0 ≡ false → mark_at now start ≢ 0
 begun before now start here new size begins passed none =
     let within : start < length before = (marked_parts before start 0 new).0 in
     let unmarked : has_mark now start 0 ≡ true = has_this_mark now start 0 (omega arith) none in
@@ -130,10 +137,12 @@ pub lower : (first : Option ℕ) (least d : ℕ) → IfSome first (λ f. least �
 lower None least d less none = absurd none
 lower (Some f) least d less above = omega (arith, less, above)
 
-pub settled_lower : (parent : ℕ → Option ℕ) (first : Option ℕ) (least d : ℕ) → IfSome first (λ f. least ≤ f) → IsSettled parent first d → IsSettled parent (Some least) d
+pub settled_lower : (parent : ℕ → Option ℕ) (first : Option ℕ) (least d : ℕ) → IfSome first (λ f. least ≤ f) → IsSettled parent first d
+    → IsSettled parent (Some least) d
 settled_lower parent first least d less settled e leads loop = lower first least e less (settled e leads loop)
 
-pub all_settled_lower : (parent : ℕ → Option ℕ) (first : Option ℕ) (least : ℕ) (marks : List ℕ) → IfSome first (λ f. least ≤ f) → AreSettled parent first marks → AreSettled parent (Some least) marks
+pub all_settled_lower : (parent : ℕ → Option ℕ) (first : Option ℕ) (least : ℕ) (marks : List ℕ) → IfSome first (λ f. least ≤ f) → AreSettled parent first marks
+    → AreSettled parent (Some least) marks
 all_settled_lower parent first least marks less settled d marked = settled_lower parent first least d less (settled d marked)
 
 -- Once each device that can be on a loop is settled, the first that was found is the first there is.

@@ -58,7 +58,8 @@ module _ (parent : ℕ → Option ℕ) (first : Option ℕ) where
           elim (cases_lt earlier.0 k) [
             | inl more ↦ (suc earlier.0, omega arith, one_more parent earlier.0 d last.0 earlier.2 ∙ last.2)
             | inr all ↦ (let same : k ≡ earlier.0 = omega (arith, earlier.1) in
-                let again : Some x ≡ Some d = sym last.2 ∙ sym (one_more parent earlier.0 d last.0 earlier.2) ∙ ap (λ j. follow parent (suc j) d) (sym same) ∙ back in
+                let again : Some x ≡ Some d = sym last.2 ∙ sym (one_more parent earlier.0 d last.0 earlier.2) ∙ ap (λ j. follow parent (suc j) d) (sym same)
+                ∙ back in
                 (0, omega arith, sym again))
           ]
 

@@ -60,7 +60,8 @@ pub some_least : (test : ℕ → Bool) (n : ℕ) → NonePasses test n ⊎ ((m :
 some_least test zero = inl (λ k less. absurd (omega arith))
 some_least test (suc n) = by (some_least test n) (cases_Bool (test n))
   where
-    by : NonePasses test n ⊎ ((m : ℕ) × (m < n) × IsLeastPassing test m) → (test n ≡ true) ⊎ (test n ≡ false) → NonePasses test (suc n) ⊎ ((m : ℕ) × (m < suc n) × IsLeastPassing test m)
+    by : NonePasses test n ⊎ ((m : ℕ) × (m < n) × IsLeastPassing test m) → (test n ≡ true) ⊎ (test n ≡ false)
+        → NonePasses test (suc n) ⊎ ((m : ℕ) × (m < suc n) × IsLeastPassing test m)
     by (inr found) last = inr (found.0, omega (arith, found.1), found.2)
     by (inl none) (inl passes) = inr (n, omega arith, record { passes = passes; least = none })
     by (inl none) (inr fails) = inl (λ k less. elim (cases_lt k n) [
@@ -128,6 +129,7 @@ module _ (parent : ℕ → Option ℕ) (d : ℕ) where
     pub back_within : IsOnLoop parent d → (n : ℕ) × (n < count) × (follow parent (suc n) d ≡ Some d)
     back_within loop = by (some_least returns_at (suc loop.steps))
       where
-        by : NonePasses returns_at (suc loop.steps) ⊎ ((m : ℕ) × (m < suc loop.steps) × IsLeastPassing returns_at m) → (n : ℕ) × (n < count) × (follow parent (suc n) d ≡ Some d)
+        by : NonePasses returns_at (suc loop.steps) ⊎ ((m : ℕ) × (m < suc loop.steps) × IsLeastPassing returns_at m)
+            → (n : ℕ) × (n < count) × (follow parent (suc n) d ≡ Some d)
         by (inl none) = absurd (both_ways (returns_at loop.steps) (none loop.steps (omega arith)) (returns loop.steps loop.back))
         by (inr found) = (found.0, first_within found.0 found.2, same_number-some (follow parent (suc found.0) d) d found.2.passes)

@@ -1,2 +1,3 @@
 pub mod Watch
 pub mod Settled
+pub mod parent_table

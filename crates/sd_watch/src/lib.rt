@@ -8,6 +8,7 @@
 mod alarms;
 mod loops;
 mod marks;
+pub mod parent_table;
 
 pub use alarms::{outside, two_acting};
 pub use loops::{first_loop, loop_at};

@@ -81,7 +81,8 @@ fn with_device(parents: &[Option<u32>], first: Option<u32>, device: u32) -> Opti
 
 /// The least device on a loop, of lists of any length: each parent is tried.
 fn first_by_trials(parents: &[Option<u32>]) -> Option<u32>
-    ensures { MatchOption result (HasNoLoop (parent_in parents.now)) (λ d. IsFirstOnLoop (parent_in parents.now) d) }
+    ensures { MatchOption result (HasNoLoop (parent_in parents.now))
+        (λ d. IsFirstOnLoop (parent_in parents.now) d) }
 {
     let mut first = None;
     for entry in parents {
@@ -100,7 +101,8 @@ fn first_by_trials(parents: &[Option<u32>]) -> Option<u32>
 // Never a part of its caller, which would make the room for marks at each of its own calls.
 #[inline(never)]
 pub fn first_loop(parents: &[Option<u32>]) -> Option<u32>
-    ensures { MatchOption result (HasNoLoop (parent_in parents.now)) (λ d. IsFirstOnLoop (parent_in parents.now) d) }
+    ensures { MatchOption result (HasNoLoop (parent_in parents.now))
+        (λ d. IsFirstOnLoop (parent_in parents.now) d) }
 {
     if parents.len() > MARKS {
         return first_by_trials(parents);

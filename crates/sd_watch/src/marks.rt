@@ -37,7 +37,8 @@ fn walk_from(parents: &[Option<u32>], marks: &mut [u32], start: u32) -> Option<u
     ensures started { mark_at marks.new start ≢ 0 }
     ensures on_loop { IfSome result (λ d. IsOnLoop (parent_in parents.now) d) }
     ensures settled { (first : Option ℕ) → AreSettled (parent_in parents.now) first marks.old
-        → ForSome result (λ d. IsSettled (parent_in parents.now) first d) → AreSettled (parent_in parents.now) first marks.new }
+        → ForSome result (λ d. IsSettled (parent_in parents.now) first d)
+        → AreSettled (parent_in parents.now) first marks.new }
 {
     let walk = start + 1;
     let mut here = start;
@@ -84,7 +85,8 @@ pub(crate) fn first_by_marks(parents: &[Option<u32>], marks: &mut [u32]) -> Opti
     requires room { length parents.now ≤ length marks.old }
     requires number { length parents.now < 2 ^ 32 }
     requires new { AreAtMost 0 marks.old }
-    ensures { MatchOption result (HasNoLoop (parent_in parents.now)) (λ d. IsFirstOnLoop (parent_in parents.now) d) }
+    ensures { MatchOption result (HasNoLoop (parent_in parents.now))
+        (λ d. IsFirstOnLoop (parent_in parents.now) d) }
 {
     let mut first = None;
     for start in 0..parents.len() {

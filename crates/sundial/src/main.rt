@@ -1,10 +1,13 @@
 //! The program: `run` over the files of the system and standard output. Its status is the
-//! exit code.
+//! exit code, and a run that was stopped from outside says why by one line on standard error.
 #![tactic(auto)]
 
+mod complaint;
+
+use complaint::{Complaint, complaint_of};
 use sd_num::NoMemory;
 use sd_outside::{FileShelf, StdSink};
-use sd_run::{Status, run};
+use sd_top::{Status, run};
 use std::io::ErrorKind;
 use std::process::ExitCode;
 use std::{env, io};
@@ -26,14 +29,31 @@ fn words_of(rt: &HostRuntime) -> Result<Vec<String>, NoMemory> {
     Ok(words)
 }
 
+/// Writes a line to standard error. The run has its status already, so a line that cannot be
+/// written is left out.
+fn tell(rt: &HostRuntime, complaint: Option<Complaint<'_>>) {
+    if let Some(complaint) = complaint {
+        let _ = eprintln!(rt; "{complaint}");
+    }
+}
+
 fn main(rt: HostRuntime) -> ExitCode {
     let status = match words_of(&rt) {
         Ok(words) => {
+            let words = words.as_slice();
             let mut shelf = FileShelf::new(&rt);
             let mut out = StdSink::new(io::writer(&rt));
-            run(rt.alloc(), words.as_slice(), &mut shelf, &mut out)
+            let status = run(rt.alloc(), words, &mut shelf, &mut out);
+            tell(
+                &rt,
+                complaint_of(status, words, shelf.last_fault(), out.last_fault()),
+            );
+            status
         }
-        Err(NoMemory) => Status::Memory,
+        Err(NoMemory) => {
+            tell(&rt, complaint_of(Status::Memory, &[], None, None));
+            Status::Memory
+        }
     };
     ExitCode::from(status.code())
 }

@@ -1,4 +1,4 @@
-use Rattle.sd_hit.specs.Outages.{net_of, plan_of}
+use Rattle.sd_check_hit.specs.Outages.{net_of, plan_of}
 use Rattle.sd_check_reach.proofs.domain_breach_in.Goals as goal
 
 pub domain_breach-requires-clause-search : goal.domain_breach-requires-clause-search

@@ -1,4 +1,4 @@
-use Rattle.sd_hit.specs.Outages.{net_of, plan_of}
+use Rattle.sd_check_hit.specs.Outages.{net_of, plan_of}
 use Rattle.sd_check_reach.proofs.reach_breach_in.Goals as goal
 
 pub reach_breach-requires-clause-search : goal.reach_breach-requires-clause-search

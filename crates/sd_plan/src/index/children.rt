@@ -1,28 +1,15 @@
 //! Who follows each device as its primary parent.
-ghost use Rattle.std.specs.Prelude.{◌≡◌, ◌++◌, ◌<◌, ℕ, length, map, [], replicate, slice_index_or, OnOk, IfOk};
+ghost use Rattle.std.specs.Prelude.{◌≡◌, ◌++◌, ◌<◌, ℕ, length, map, [], slice_index_or, OnOk, IfOk};
 ghost use Rattle.sd_topo.specs.Network.{device_numbers};
 ghost use Rattle.sd_topo.specs.Topologies.{network};
 ghost use Rattle.sd_plan.specs.Plans.{Fits};
 ghost use Rattle.sd_plan.specs.Subtrees as subtrees;
 
 use crate::hops::primary_of;
-use crate::{DeviceList, Plan};
+use crate::{DeviceList, Plan, empty_lists};
 use sd_num::NoMemory;
 use sd_topo::Topology;
 use std::alloc::Global;
-
-/// A list for each device, with nothing in it.
-fn no_children(alloc: Global, count: u32) -> Result<Vec<DeviceList>, NoMemory>
-    ensures { IfOk result (λ lists. lists.items ≡ replicate count []) }
-{
-    let mut lists = Vec::new(alloc);
-    for _ in 0..count {
-        let Ok(()) = lists.push(DeviceList::new(alloc)) else {
-            return Err(NoMemory);
-        };
-    }
-    Ok(lists)
-}
 
 /// Adds a device to the children of its primary parent, if it has one.
 fn add_child(
@@ -52,7 +39,7 @@ pub(super) fn all_children(
     ensures { IfOk result (λ lists. lists.items
         ≡ map (subtrees.children (network topo.now) plan.now) (device_numbers (network topo.now))) }
 {
-    let mut lists = no_children(alloc, topo.devices())?;
+    let mut lists = empty_lists(alloc, topo.devices())?;
     for child in 0..topo.devices() {
         add_child(alloc, &mut lists, plan, child)?;
     }

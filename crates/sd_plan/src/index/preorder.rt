@@ -36,7 +36,8 @@ fn place(
     requires within { IsWithin children.now hops d }
     requires spans { length spans.old ≡ length children.now }
     requires room { length order.old.items + length (subtree children.now hops d) < 2 ^ 32 }
-    ensures { OnOk result (ArePlaced children.now (subtree children.now hops d) order.old.items order.new.items
+    ensures { OnOk result
+        (ArePlaced children.now (subtree children.now hops d) order.old.items order.new.items
         spans.old spans.new) }
 {
     let from = order.len() as u32;
@@ -63,7 +64,8 @@ pub(super) fn preorder(
 ) -> Result<Places, NoMemory>
     requires within { IsWithin children.now hops root }
     requires room { length (subtree children.now hops root) < 2 ^ 32 }
-    ensures { IfOk result (λ places. ArePlaced children.now (subtree children.now hops root) [] places.order.items
+    ensures { IfOk result
+        (λ places. ArePlaced children.now (subtree children.now hops root) [] places.order.items
         (replicate (length children.now) no_span) places.spans.items) }
 {
     let mut order = Vec::new(alloc);

@@ -53,7 +53,8 @@ fn add_link(
     requires structured { structure_breach (network topo.now) plan.now ≡ None }
     requires link { l < length (network topo.now).links }
     requires present { present ≡ is_present plan.now l }
-    requires rows { rows.old ≡ map (usable_before (network topo.now) plan.now l) (device_numbers (network topo.now)) }
+    requires rows { rows.old ≡ map (usable_before (network topo.now) plan.now l)
+        (device_numbers (network topo.now)) }
     ensures { OnOk result (rows.new ≡ map (usable_before (network topo.now) plan.now (l + 1))
         (device_numbers (network topo.now))) }
 {

@@ -28,7 +28,8 @@ pub(crate) fn part_of<'a>(ends: &'a [End], offsets: &[usize], d: usize) -> &'a [
 
 /// The rows in one array.
 pub(crate) fn join_rows(alloc: Global, rows: &[EndList]) -> Result<Joined, NoMemory>
-    ensures { IfOk result (λ all. AreJoined rows.now (length rows.now) all.ends.items all.offsets.items) }
+    ensures { IfOk result
+        (λ all. AreJoined rows.now (length rows.now) all.ends.items all.offsets.items) }
 {
     let mut ends = Vec::new(alloc);
     let mut offsets = Vec::new(alloc);

@@ -2,7 +2,7 @@
 ghost use Rattle.std.specs.Prelude.{◌≡◌, ◌<◌, ℕ, find, length, Some, IfOk};
 ghost use Rattle.sd_num.specs.Lists.{has};
 ghost use Rattle.sd_plan.specs.Walks.{links_of};
-ghost use Rattle.sd_place.specs.Spreading.{placed_at};
+ghost use Rattle.sd_planner_place.specs.Spreading.{placed_at};
 ghost use Rattle.sd_planner.specs.Climbs.{way_up};
 ghost use Rattle.sd_planner.specs.Serving as serving;
 ghost use Rattle.sd_planner.specs.Surveys.{net_in, absent_in, order_of};
@@ -13,8 +13,8 @@ use super::over::led_over;
 use super::survey::Survey;
 use super::things::Things;
 use sd_num::NoMemory;
-use sd_place::Placed;
 use sd_plan::Hop;
+use sd_planner_place::Placed;
 use std::alloc::Global;
 
 impl Survey<'_> {
@@ -53,7 +53,9 @@ impl Survey<'_> {
     /// follow the root over something that does.
     fn unfit(&self, alloc: Global, own: Placed) -> Result<Things, NoMemory>
         requires own { placed_at (order_of self.now) own.device ≡ Some own }
-        ensures { IfOk result (AreUnfit (net_in self.now) self.now.root (order_of self.now) (way_up (order_of self.now) own.device)) }
+        ensures { IfOk result
+            (AreUnfit (net_in self.now) self.now.root (order_of self.now)
+            (way_up (order_of self.now) own.device)) }
     {
         let mut near = self.near_walk(alloc, own)?;
         near.clear_device(self.root);
@@ -70,8 +72,10 @@ impl Survey<'_> {
     /// Whether a hop serves as backup of the backup root, whose primary hop is given.
     fn serves_backup_root(&self, unfit: &Things, own: Placed, primary: Hop, hop: Hop) -> bool
         requires own { own.device ≡ self.now.backup_root }
-        requires unfit { AreUnfit (net_in self.now) self.now.root (order_of self.now) (way_up (order_of self.now) own.device) unfit.now }
-        ensures { result ≡ serving.serves_backup_root (net_in self.now) self.now.root (absent_in self.now) own.device primary hop }
+        requires unfit { AreUnfit (net_in self.now) self.now.root (order_of self.now)
+            (way_up (order_of self.now) own.device) unfit.now }
+        ensures { result ≡ serving.serves_backup_root (net_in self.now) self.now.root
+            (absent_in self.now) own.device primary hop }
     {
         if hop.link == primary.link || is_set(unfit.links.as_slice(), hop.link) {
             return false;
@@ -94,7 +98,9 @@ impl Survey<'_> {
         requires range { own.device < length (net_in self.now).devices }
         requires own { placed_at (order_of self.now) own.device ≡ Some own }
         requires backup_root { own.device ≡ self.now.backup_root }
-        ensures { IfOk result (λ backup. backup ≡ serving.backup_for (net_in self.now) self.now.root (absent_in self.now) own.device primary) }
+        ensures { IfOk result (λ backup. backup
+            ≡ serving.backup_for (net_in self.now) self.now.root
+            (absent_in self.now) own.device primary) }
     {
         let unfit = self.unfit(alloc, own)?;
         for neighbour in self.neighbours_of(own.device) {

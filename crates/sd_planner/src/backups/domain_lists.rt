@@ -1,12 +1,12 @@
 //! The listed domains of each device and of each link.
-ghost use Rattle.std.specs.Prelude.{◌≡◌, ◌<◌, ℕ, ◌&&◌, ◌||◌, true, [], length, replicate, nat_eq, IfOk, OnOk};
+ghost use Rattle.std.specs.Prelude.{◌≡◌, ◌<◌, ℕ, ◌&&◌, ◌||◌, true, length, nat_eq, IfOk, OnOk};
 ghost use Rattle.sd_num.specs.Lists.{has};
 ghost use Rattle.sd_topo.specs.Topologies.{network};
 ghost use Rattle.sd_planner.specs.Listed as words;
 ghost use Rattle.sd_planner.specs.Listed.{AreListed};
 
 use sd_num::NoMemory;
-use sd_plan::DeviceList;
+use sd_plan::{DeviceList, empty_lists};
 use sd_topo::Topology;
 use std::alloc::Global;
 use std::marker::Model;
@@ -24,19 +24,6 @@ impl Model for DomainLists {
     ghost Value = { Lists };
 
     ghost view = { λ l. record { devices = l.devices.items; links = l.links.items } };
-}
-
-/// So many empty lists.
-fn no_lists(alloc: Global, count: u32) -> Result<Vec<DeviceList>, NoMemory>
-    ensures { IfOk result (λ lists. lists.items ≡ replicate count []) }
-{
-    let mut lists = Vec::new(alloc);
-    for _ in 0..count {
-        let Ok(()) = lists.push(DeviceList::new(alloc)) else {
-            return Err(NoMemory);
-        };
-    }
-    Ok(lists)
 }
 
 /// Adds a domain to the lists of its things.
@@ -61,8 +48,8 @@ impl DomainLists {
     pub(crate) fn new(alloc: Global, topo: &Topology) -> Result<DomainLists, NoMemory>
         ensures { IfOk result (AreListed (network topo.now) (length (network topo.now).domains)) }
     {
-        let mut devices = no_lists(alloc, topo.devices())?;
-        let mut links = no_lists(alloc, topo.links())?;
+        let mut devices = empty_lists(alloc, topo.devices())?;
+        let mut links = empty_lists(alloc, topo.links())?;
         for k in 0..topo.domains() {
             add_domain(alloc, &mut devices, topo.domain_devices(k), k)?;
             add_domain(alloc, &mut links, topo.domain_links(k), k)?;

@@ -1,15 +1,15 @@
 //! The backups of the devices other than the backup root.
 ghost use Rattle.std.specs.Prelude.{◌≡◌, ◌<◌, ◌≢◌, ℕ, ◌||◌, find, length, Some};
 ghost use Rattle.sd_plan.specs.declared.Hop.{Hop};
-ghost use Rattle.sd_place.specs.Spreading.{placed_at};
-ghost use Rattle.sd_place.specs.Usable.{hops_from};
+ghost use Rattle.sd_planner_place.specs.Spreading.{placed_at};
+ghost use Rattle.sd_planner_place.specs.Usable.{hops_from};
 ghost use Rattle.sd_planner.specs.Serving as serving;
 ghost use Rattle.sd_planner.specs.Surveys.{net_in, absent_in, order_of, AreClear, AreJoining};
 
 use super::flags::{is_any_set, set_flags};
 use super::survey::Survey;
-use sd_place::Placed;
 use sd_plan::Hop;
+use sd_planner_place::Placed;
 
 impl Survey<'_> {
     /// Flags the listed domains that join a primary hop of a device to others: those that have its
@@ -26,7 +26,8 @@ impl Survey<'_> {
     /// Takes the flags of a primary hop away again.
     fn clear_joining(&self, joining: &mut [bool], primary: Hop)
         requires size { length joining.old ≡ length (net_in self.now).domains }
-        ensures { (d : ℕ) → AreJoining (net_in self.now) d primary joining.old → AreClear (net_in self.now) joining.new }
+        ensures { (d : ℕ) → AreJoining (net_in self.now) d primary joining.old
+            → AreClear (net_in self.now) joining.new }
     {
         set_flags(joining, self.domains.of_link(primary.link), false);
         set_flags(joining, self.domains.of_device(primary.parent), false);
@@ -57,7 +58,8 @@ impl Survey<'_> {
     fn serves(&self, joining: &[bool], own: Placed, primary: Hop, hop: Hop) -> bool
         requires own { placed_at (order_of self.now) own.device ≡ Some own }
         requires joining { AreJoining (net_in self.now) own.device primary joining.now }
-        ensures { result ≡ serving.serves (net_in self.now) self.now.root (absent_in self.now) own.device primary hop }
+        ensures { result ≡ serving.serves (net_in self.now) self.now.root
+            (absent_in self.now) own.device primary hop }
     {
         if hop.link == primary.link || hop.parent == primary.parent {
             return false;
@@ -73,7 +75,9 @@ impl Survey<'_> {
         requires range { own.device < length (net_in self.now).devices }
         requires own { placed_at (order_of self.now) own.device ≡ Some own }
         requires joining { AreJoining (net_in self.now) own.device primary joining.now }
-        ensures { result ≡ find (serving.serves (net_in self.now) self.now.root (absent_in self.now) own.device primary)
+        ensures { result
+            ≡ find (serving.serves (net_in self.now) self.now.root
+            (absent_in self.now) own.device primary)
             (hops_from (net_in self.now) (absent_in self.now) own.device) }
     {
         for neighbour in self.neighbours_of(own.device) {
@@ -97,7 +101,8 @@ impl Survey<'_> {
         requires own { placed_at (order_of self.now) own.device ≡ Some own }
         requires other { own.device ≢ self.now.backup_root }
         requires clear { AreClear (net_in self.now) joining.old }
-        ensures backup { result ≡ serving.backup_for (net_in self.now) self.now.root (absent_in self.now) own.device primary }
+        ensures backup { result ≡ serving.backup_for (net_in self.now) self.now.root
+            (absent_in self.now) own.device primary }
         ensures clear { AreClear (net_in self.now) joining.new }
     {
         self.set_joining(joining, own.device, primary);

@@ -6,7 +6,7 @@ ghost use Rattle.sd_planner.specs.Flags.{AreOver, HaveGrown};
 
 use super::flags::{is_set, no_flags};
 use sd_num::NoMemory;
-use sd_place::{Placed, Placement};
+use sd_planner_place::{Placed, Placement};
 use std::alloc::Global;
 
 /// Whether the device or its hop is flagged, or its parent leads over something that is.
@@ -30,7 +30,9 @@ pub(crate) fn led_over(
     links: &[bool],
 ) -> Result<Vec<bool>, NoMemory>
     requires { HaveGrown (length devices.now) placement.now.order }
-    ensures { IfOk result (λ over. AreOver devices.now links.now placement.now.order (length placement.now.order) over.items) }
+    ensures { IfOk result
+        (λ over. AreOver devices.now links.now placement.now.order
+        (length placement.now.order) over.items) }
 {
     let mut over = no_flags(alloc, devices.len())?;
     for placed in placement.order() {

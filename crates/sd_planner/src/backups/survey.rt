@@ -2,10 +2,10 @@
 ghost use Rattle.std.specs.Prelude.{◌≡◌, ◌<◌, ℕ, length, slice_get, Some, IfOk, IfSome};
 ghost use Rattle.sd_num.specs.Lists.{has};
 ghost use Rattle.sd_plan.specs.Walks.{devices_of};
-ghost use Rattle.sd_place.specs.Views.{net_of, left_out};
-ghost use Rattle.sd_place.specs.declared.placement.Placed.{Placed};
-ghost use Rattle.sd_place.specs.Spreading.{placed_at};
-ghost use Rattle.sd_place.specs.Placing as placing;
+ghost use Rattle.sd_planner_place.specs.Views.{net_of, left_out};
+ghost use Rattle.sd_planner_place.specs.declared.placement.Placed.{Placed};
+ghost use Rattle.sd_planner_place.specs.Spreading.{placed_at};
+ghost use Rattle.sd_planner_place.specs.Placing as placing;
 ghost use Rattle.sd_planner.specs.Climbs.{way_up};
 ghost use Rattle.sd_planner.specs.Flags as words;
 ghost use Rattle.sd_planner.specs.Flags.{HaveGrown};
@@ -16,7 +16,7 @@ use super::domain_lists::DomainLists;
 use super::flags::{is_set, no_flags};
 use super::over::led_over;
 use sd_num::NoMemory;
-use sd_place::{Neighbour, Placed, Placement, Present, backup_root_of};
+use sd_planner_place::{Neighbour, Placed, Placement, Present, backup_root_of};
 use std::alloc::Global;
 
 /// Which placed devices are a given one, or follow the root over it.
@@ -29,7 +29,8 @@ fn behind(
     requires grown { HaveGrown (length (net_of present.now).devices) placement.now.order }
     requires range { device < length (net_of present.now).devices }
     ensures { IfOk result (λ behind. (i : ℕ) (p : Placed) → slice_get placement.now.order i ≡ Some p
-        → words.is_set behind.items p.device ≡ has (devices_of p.device (way_up placement.now.order p.device)) device) }
+        → words.is_set behind.items p.device
+        ≡ has (devices_of p.device (way_up placement.now.order p.device)) device) }
 {
     let mut devices = no_flags(alloc, present.topo.devices() as usize)?;
     devices[device as usize] = true;
@@ -59,7 +60,7 @@ pub(crate) struct Survey<'a> {
 }
 
 impl<'a> Survey<'a> {
-    ghost use Rattle.sd_place.specs.Usable.{neighbours_of};
+    ghost use Rattle.sd_planner_place.specs.Usable.{neighbours_of};
     ghost use Rattle.sd_planner.specs.Surveys.{net_in, absent_in, order_of};
 
     /// The survey of what is present, with its devices placed below a root.
@@ -113,7 +114,8 @@ impl<'a> Survey<'a> {
     /// Whether a placed device is the backup root or follows the root over it.
     pub(crate) fn is_behind(&self, d: Placed) -> bool
         requires { placed_at (order_of self.now) d.device ≡ Some d }
-        ensures { result ≡ serving.is_behind_backup_root (net_in self.now) self.now.root (absent_in self.now) d.device }
+        ensures { result ≡ serving.is_behind_backup_root (net_in self.now) self.now.root
+            (absent_in self.now) d.device }
     {
         is_set(self.behind.as_slice(), d.device)
     }
@@ -122,7 +124,8 @@ impl<'a> Survey<'a> {
     pub(crate) fn comes_before(&self, y: Placed, d: Placed) -> bool
         requires first { placed_at (order_of self.now) y.device ≡ Some y }
         requires second { placed_at (order_of self.now) d.device ≡ Some d }
-        ensures { result ≡ serving.comes_before (net_in self.now) self.now.root (absent_in self.now) y.device d.device }
+        ensures { result ≡ serving.comes_before (net_in self.now) self.now.root
+            (absent_in self.now) y.device d.device }
     {
         y.device == self.root || y.depth < d.depth || (y.depth == d.depth && y.device < d.device)
     }

@@ -62,7 +62,8 @@ impl Things {
     fn add_domain(&mut self, topo: &Topology, domain: u32)
         requires sized { AreSized (network topo.now) self.old }
         requires range { domain < length (network topo.now).domains }
-        ensures { AddsAll (has (domain_of (network topo.now) domain).devices) (has (domain_of (network topo.now) domain).links) self.old self.new }
+        ensures { AddsAll (has (domain_of (network topo.now) domain).devices)
+            (has (domain_of (network topo.now) domain).links) self.old self.new }
     {
         set_flags(
             self.devices.as_mut_slice(),
@@ -75,7 +76,8 @@ impl Things {
     /// Flags all that those listed domains have that have something of other things.
     pub(crate) fn add_met(&mut self, topo: &Topology, others: &Things)
         requires { AreSized (network topo.now) self.old }
-        ensures { AddsAll (words.met_device (network topo.now) others.now (length (network topo.now).domains))
+        ensures { AddsAll
+            (words.met_device (network topo.now) others.now (length (network topo.now).domains))
             (words.met_link (network topo.now) others.now (length (network topo.now).domains)) self.old self.new }
     {
         for domain in 0..topo.domains() {

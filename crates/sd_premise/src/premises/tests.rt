@@ -5,10 +5,10 @@ ghost use Rattle.sd_premise_clocks.specs.Sights.{sight_of};
 ghost use Rattle.sd_premise.specs.Standing.{CanObserve, room_of};
 
 use super::*;
-use sd_examples::{fabric, fabric_plan};
+use sd_fleet_state::world::link_of;
 use sd_msg::{Flight, Message, Stamp};
 use sd_sched::Event;
-use sd_world::link_of;
+use sd_test_examples::{fabric, fabric_plan};
 use std::process::Abort;
 use std::test::Fail;
 
@@ -173,7 +173,8 @@ fn receive(reference: u64, flight: Flight) -> Seen<'static> {
 
 /// Whether the monitors can be shown the event, given room: it names what there is.
 fn is_known(premises: &Premises, seen: &Seen<'_>) -> bool
-    ensures { IsTrue result → length seen.now.sent.now ≤ room_of premises.now → CanObserve premises.now (sight_of seen.now) }
+    ensures { IsTrue result → length seen.now.sent.now ≤ room_of premises.now
+        → CanObserve premises.now (sight_of seen.now) }
 {
     let devices = premises.topology.devices();
     let links = premises.topology.links();

@@ -12,6 +12,9 @@ unreachable-requires c =
 pub returns-clause-trail : goal.returns-clause-trail
 returns-clause-trail c = λ begin trail.
     let size : length c.as_slice.result.now ≡ length c.args.path.now = ap (λ (xs : List ℕ). length xs) c.as_slice.ensures in
-    let more = trail_more c.args.hit.now c.args.graph.now c.args.marks.now c.requires.ascending c.requires.size begin c.args.path.now c.args.passed.now.items c.args.here c.in-Some.next trail c.requires.graph c.requires.new (sym c.next_endless.ensures ∙ c.in-Some.is) in
-    subst (λ (n : ℕ). IsTrail c.args.hit.now c.args.graph.now c.args.marks.now begin c.push.new.self (put c.args.passed.now.items c.args.here (Some n)) c.in-Some.next) (sym size)
-    (subst (λ (path : List ℕ). IsTrail c.args.hit.now c.args.graph.now c.args.marks.now begin path (put c.args.passed.now.items c.args.here (Some (length c.args.path.now))) c.in-Some.next) (sym c.in_ok-push.ensures.added) more)
+    let more = trail_more c.args.hit.now c.args.graph.now c.args.marks.now c.requires.ascending c.requires.size begin c.args.path.now c.args.passed.now.items
+    c.args.here c.in-Some.next trail c.requires.graph c.requires.new (sym c.next_endless.ensures ∙ c.in-Some.is) in
+    subst (λ (n : ℕ). IsTrail c.args.hit.now c.args.graph.now c.args.marks.now begin c.push.new.self
+    (put c.args.passed.now.items c.args.here (Some n)) c.in-Some.next) (sym size)
+    (subst (λ (path : List ℕ). IsTrail c.args.hit.now c.args.graph.now c.args.marks.now begin path
+    (put c.args.passed.now.items c.args.here (Some (length c.args.path.now))) c.in-Some.next) (sym c.in_ok-push.ensures.added) more)

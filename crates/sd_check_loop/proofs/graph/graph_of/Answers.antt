@@ -1,7 +1,7 @@
 use Rattle.std.proofs.Common.{◌<◌, length, get_or, arith}
 use Rattle.std.proofs.lemmas.Option.{slice_get-get_or}
-use Rattle.sd_hit.specs.Outages.{net_of, plan_of}
-use Rattle.sd_hit.proofs.HitList.{hit_at}
+use Rattle.sd_check_hit.specs.Outages.{net_of, plan_of}
+use Rattle.sd_check_hit.proofs.HitList.{hit_at}
 use Rattle.sd_check_loop.proofs.graph.graph_of.Goals as goal
 
 pub successors_of-requires : goal.successors_of-requires

@@ -1,6 +1,6 @@
 use Rattle.std.proofs.Common.{◌≡◌, map, take, length}
 use Rattle.std.specs.Vec.{vec_capacity}
-use Rattle.sd_hit.specs.Outages.{plan_of}
+use Rattle.sd_check_hit.specs.Outages.{plan_of}
 use Rattle.sd_check_loop.specs.Graphs.{successors_of}
 use Rattle.sd_check_loop.proofs.graph.graph_of.Given as goal
 

@@ -1,5 +1,5 @@
 use Rattle.std.proofs.Common.{ap, sym, ◌∙◌}
-use Rattle.sd_hit.specs.Outages.{net_of, plan_of}
+use Rattle.sd_check_hit.specs.Outages.{net_of, plan_of}
 use Rattle.sd_check_loop.specs.Graphs.{parent_place}
 use Rattle.sd_check_loop.proofs.Listed.{hit_place}
 use Rattle.sd_check_loop.proofs.graph.parent_place.Goals as goal

@@ -1,7 +1,7 @@
 use Rattle.std.proofs.Common.{◌<◌, length, Option, sym, subst}
 use Rattle.std.specs.Prelude.{IfSome}
 use Rattle.sd_plan.specs.declared.Hop.{Hop}
-use Rattle.sd_hit.specs.Outages.{net_of, plan_of}
+use Rattle.sd_check_hit.specs.Outages.{net_of, plan_of}
 use Rattle.sd_check_loop.proofs.Listed.{parents_within}
 use Rattle.sd_check_loop.proofs.graph.successors_of.Goals as goal
 

@@ -7,4 +7,5 @@ use Rattle.sd_check_loop.proofs.marking.enter.Goals as goal
 pub returns-clause-searched : goal.returns-clause-searched
 returns-clause-searched c =
     subst (λ (stack : List ℕ). IsSearch c.args.graph.now (put c.args.marks.now.items c.args.next mark.Entered) stack) (sym c.in-Ok.ensures.items)
-    (search_entered c.args.graph.now c.args.marks.now.items c.args.stack.now.items c.requires.searched c.args.next c.requires.place c.requires.new c.requires.led)
+    (search_entered c.args.graph.now c.args.marks.now.items c.args.stack.now.items c.requires.searched c.args.next c.requires.place c.requires.new
+    c.requires.led)

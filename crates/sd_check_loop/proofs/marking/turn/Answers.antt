@@ -8,6 +8,7 @@ use Rattle.sd_check_loop.proofs.marking.turn.Goals as goal
 
 pub condemn-requires-clause-endless : goal.condemn-requires-clause-endless
 condemn-requires-clause-endless c = λ k last.
-    let is : step_at c.args.graph.now c.args.marks.now.items c.args.top ≡ step.Condemn = ap (λ (marks : List Mark). step_at c.args.graph.now marks c.args.top) (sym c.deref.ensures.value) ∙ sym c.in-Condemn.ensures in
+    let is : step_at c.args.graph.now c.args.marks.now.items c.args.top ≡ step.Condemn =
+    ap (λ (marks : List Mark). step_at c.args.graph.now marks c.args.top) (sym c.deref.ensures.value) ∙ sym c.in-Condemn.ensures in
     let next = is_condemned c.args.graph.now c.args.marks.now.items c.args.top is in
     (next.0, subst (λ (x : ℕ). leads c.args.graph.now x next.0 ≡ true) (sym (c.requires.top k last)) next.1, next.2)

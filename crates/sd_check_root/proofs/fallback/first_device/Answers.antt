@@ -8,18 +8,24 @@ use Rattle.sd_check_root.proofs.fallback.first_device.Goals as goal
 
 pub needs_device-requires-clause-device : goal.needs_device-requires-clause-device
 needs_device-requires-clause-device c =
-    omega (arith, device_at (network c.args.planned.topo.now) c.args.domain c.devices_in-d-items.result.now c.loop-d.d-index c.args.planned.topo.now.is_network c.requires.domain c.devices_in-d-items.ensures c.loop-d-test.true)
+    omega (
+      arith,
+      device_at (network c.args.planned.topo.now) c.args.domain c.devices_in-d-items.result.now c.loop-d.d-index c.args.planned.topo.now.is_network
+          c.requires.domain c.devices_in-d-items.ensures c.loop-d-test.true,
+    )
 
 pub returns-then-needs_device : goal.returns-then-needs_device
 returns-then-needs_device c =
     let net = network c.args.planned.topo.now in
     sym
     (ap (find (λ d. not (is_root c.args.planned.plan.now d) && on_walk net c.args.planned.plan.now c.args.from d)) (sym c.devices_in-d-items.ensures)
-    ∙ find_here (λ d. not (is_root c.args.planned.plan.now d) && on_walk net c.args.planned.plan.now c.args.from d) c.devices_in-d-items.result.now c.loop-d.d-index 0 c.loop-d-test.true c.loop-d.invariant
+    ∙ find_here (λ d. not (is_root c.args.planned.plan.now d) && on_walk net c.args.planned.plan.now c.args.from d) c.devices_in-d-items.result.now
+    c.loop-d.d-index 0 c.loop-d-test.true c.loop-d.invariant
     (sym (c.needs_device.ensures) ∙ c.if-needs_device.true))
 
 pub loop-d-preserved : goal.loop-d-preserved
 loop-d-preserved c =
     let net = network c.args.planned.topo.now in
-    find_more (λ d. not (is_root c.args.planned.plan.now d) && on_walk net c.args.planned.plan.now c.args.from d) c.devices_in-d-items.result.now c.loop-d.d-index 0 c.loop-d-test.true c.loop-d.invariant
+    find_more (λ d. not (is_root c.args.planned.plan.now d) && on_walk net c.args.planned.plan.now c.args.from d) c.devices_in-d-items.result.now
+    c.loop-d.d-index 0 c.loop-d-test.true c.loop-d.invariant
     (sym (c.needs_device.ensures) ∙ c.if-needs_device.false)

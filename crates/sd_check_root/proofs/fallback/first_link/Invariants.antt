@@ -5,4 +5,5 @@ use Rattle.sd_topo.specs.Topologies.{network}
 use Rattle.sd_check_root.proofs.fallback.first_link.Given as goal
 
 abbrev pub invariant-loop-l : goal.invariant-loop-l
-invariant-loop-l l = find (λ x. nat_eq x l.hop.link || has_link (path (network l.planned.topo.now) l.planned.plan.now l.hop.parent) x) (take l.l-index l.l-items) ≡ None
+invariant-loop-l l =
+    find (λ x. nat_eq x l.hop.link || has_link (path (network l.planned.topo.now) l.planned.plan.now l.hop.parent) x) (take l.l-index l.l-items) ≡ None

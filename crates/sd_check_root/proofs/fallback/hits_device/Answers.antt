@@ -10,7 +10,11 @@ use Rattle.sd_check_root.proofs.fallback.hits_device.Goals as goal
 
 pub path_has_device-requires : goal.path_has_device-requires
 path_has_device-requires c =
-    omega (arith, device_at (network c.args.planned.topo.now) c.args.domain c.devices_in-d-items.result.now c.loop-d.d-index c.args.planned.topo.now.is_network c.requires c.devices_in-d-items.ensures c.loop-d-test.true)
+    omega (
+      arith,
+      device_at (network c.args.planned.topo.now) c.args.domain c.devices_in-d-items.result.now c.loop-d.d-index c.args.planned.topo.now.is_network
+          c.requires c.devices_in-d-items.ensures c.loop-d-test.true,
+    )
 
 pub returns-then-path_has_device : goal.returns-then-path_has_device
 returns-then-path_has_device c =

@@ -6,4 +6,5 @@ use Rattle.sd_topo.specs.Topologies.{network}
 use Rattle.sd_check_root.proofs.fallback.hits_device.Given as goal
 
 abbrev pub invariant-loop-d : goal.invariant-loop-d
-invariant-loop-d l = list_any (has_device (path (network l.planned.topo.now) l.planned.plan.now l.planned.plan.now.backup_root)) (take l.d-index l.d-items) ≡ false
+invariant-loop-d l = list_any (has_device (path (network l.planned.topo.now) l.planned.plan.now l.planned.plan.now.backup_root)) (take l.d-index l.d-items)
+    ≡ false

@@ -10,7 +10,11 @@ use Rattle.sd_check_root.proofs.fallback.hits_link.Goals as goal
 
 pub path_has_link-requires : goal.path_has_link-requires
 path_has_link-requires c =
-    omega (arith, link_at (network c.args.planned.topo.now) c.args.domain c.links_in-l-items.result.now c.loop-l.l-index c.args.planned.topo.now.is_network c.requires c.links_in-l-items.ensures c.loop-l-test.true)
+    omega (
+      arith,
+      link_at (network c.args.planned.topo.now) c.args.domain c.links_in-l-items.result.now c.loop-l.l-index c.args.planned.topo.now.is_network
+          c.requires c.links_in-l-items.ensures c.loop-l-test.true,
+    )
 
 pub returns-then-path_has_link : goal.returns-then-path_has_link
 returns-then-path_has_link c =

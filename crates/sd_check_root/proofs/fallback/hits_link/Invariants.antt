@@ -6,4 +6,5 @@ use Rattle.sd_topo.specs.Topologies.{network}
 use Rattle.sd_check_root.proofs.fallback.hits_link.Given as goal
 
 abbrev pub invariant-loop-l : goal.invariant-loop-l
-invariant-loop-l l = list_any (has_link (path (network l.planned.topo.now) l.planned.plan.now l.planned.plan.now.backup_root)) (take l.l-index l.l-items) ≡ false
+invariant-loop-l l = list_any (has_link (path (network l.planned.topo.now) l.planned.plan.now l.planned.plan.now.backup_root)) (take l.l-index l.l-items)
+    ≡ false

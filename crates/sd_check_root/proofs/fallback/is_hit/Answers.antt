@@ -15,7 +15,8 @@ returns-then-hits_device c =
     c.if-hits_device.true
     ∙ sym
     (hits_lists net c.args.domain things c.requires
-    ∙ or_left (list_any (has_device things) (devices_in net c.args.domain)) (list_any (has_link things) (links_in net c.args.domain)) (sym c.hits_device.ensures ∙ c.if-hits_device.true))
+    ∙ or_left (list_any (has_device things) (devices_in net c.args.domain)) (list_any (has_link things) (links_in net c.args.domain))
+    (sym c.hits_device.ensures ∙ c.if-hits_device.true))
 
 pub returns-else-hits_device : goal.returns-else-hits_device
 returns-else-hits_device c =

@@ -10,4 +10,5 @@ returns c =
     let net = network c.args.planned.topo.now in
     let plan = c.args.planned.plan.now in
     let no_root : is_root plan c.args.x ≡ false = ne_eqb plan.root c.args.x (λ same. c.if-x-planned.false (sym same)) in
-    c.epath_has_device.ensures net plan c.args.planned.is_index c.requires.member (ap not no_root) ∙ above_by net plan c.args.x c.args.d c.if-d-x.false c.if-x-planned.false c.if-x-planned-2.false
+    c.epath_has_device.ensures net plan c.args.planned.is_index c.requires.member (ap not no_root)
+    ∙ above_by net plan c.args.x c.args.d c.if-d-x.false c.if-x-planned.false c.if-x-planned-2.false

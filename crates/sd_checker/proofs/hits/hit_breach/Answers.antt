@@ -33,7 +33,8 @@ returns-then-is_loop c =
     let before = c.loop-place.found in
     let domain = c.domain_at-domain.result in
     let judged : Judges net plan before domain c.in_ok-breach.field-0 =
-    judged_as c.outage-outage.result c.args.planned domain before c.in_ok-breach.field-0 c.outage-outage.ensures.planned c.outage-outage.ensures.domain c.in_ok-breach.ensures.judged in
+    judged_as c.outage-outage.result c.args.planned domain before c.in_ok-breach.field-0 c.outage-outage.ensures.planned c.outage-outage.ensures.domain
+    c.in_ok-breach.ensures.judged in
     found_loop net plan c.loop-place.place before domain c.in-Some.breach c.requires c.loop-place.invariant.found c.domain_at-domain.ensures.at
     (subst (λ (o : Option Breach). Judges net plan before domain o) c.in-Some.is judged) (sym c.is_loop.ensures ∙ c.if-is_loop.true)
 
@@ -45,7 +46,8 @@ loop-place-preserved c =
     let before = c.loop-place.found in
     let domain = c.domain_at-domain.result in
     let judged : Judges net plan before domain c.in_ok-breach.field-0 =
-    judged_as c.outage-outage.result c.args.planned domain before c.in_ok-breach.field-0 c.outage-outage.ensures.planned c.outage-outage.ensures.domain c.in_ok-breach.ensures.judged in
+    judged_as c.outage-outage.result c.args.planned domain before c.in_ok-breach.field-0 c.outage-outage.ensures.planned c.outage-outage.ensures.domain
+    c.in_ok-breach.ensures.judged in
     record {
       found =
           elim c.match-branch-5.branch as (λ _. IsFoundAmong net plan (k + 1) c.match-branch-5.found) [
@@ -67,5 +69,6 @@ pub returns : goal.returns
 returns c =
     let net = network c.args.planned.topo.now in
     let plan = c.args.planned.plan.now in
-    let count : c.loop-place.place ≡ length (domains net) = omega (arith, c.loop-place-test.false, c.loop-place.auto.place-end, c.domain_count-place-end.ensures) in
+    let count : c.loop-place.place ≡ length (domains net) =
+    omega (arith, c.loop-place-test.false, c.loop-place.auto.place-end, c.domain_count-place-end.ensures) in
     found_of_all net plan c.loop-place.found c.requires (subst (λ (n : ℕ). IsFoundAmong net plan n c.loop-place.found) count c.loop-place.invariant.found)

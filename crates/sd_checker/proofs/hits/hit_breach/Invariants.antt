@@ -1,5 +1,5 @@
 use Rattle.sd_topo.specs.Topologies.{network}
-use Rattle.sd_hit.specs.Outages as outages
+use Rattle.sd_check_hit.specs.Outages as outages
 use Rattle.sd_check_reach.specs.Searches as searches
 use Rattle.sd_checker.specs.Findings.{IsFoundAmong}
 use Rattle.sd_checker.proofs.hits.hit_breach.Given as goal

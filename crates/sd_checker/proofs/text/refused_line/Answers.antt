@@ -7,7 +7,8 @@ use Rattle.sd_checker.proofs.text.refused_line.Goals as goal
 pub returns-in-Structure : goal.returns-in-Structure
 returns-in-Structure c =
     subst (λ b. string_bytes c.in_ok-line-in-Structure.line ≡ refused_line (network c.args.topo.now) c.args.place b) (sym c.in-Structure.is)
-    (c.in_ok-line-in-Structure.ensures.ok ∙ structure_line (network c.args.topo.now) c.args.place c.in-Structure.rule c.in-Structure.device _ c.device_name-name.ensures)
+    (c.in_ok-line-in-Structure.ensures.ok
+    ∙ structure_line (network c.args.topo.now) c.args.place c.in-Structure.rule c.in-Structure.device _ c.device_name-name.ensures)
 
 pub returns-in-Ancestor : goal.returns-in-Ancestor
 returns-in-Ancestor c =

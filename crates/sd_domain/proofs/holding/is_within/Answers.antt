@@ -17,4 +17,5 @@ returns-then-lists_all c =
 pub returns-else-lists_all : goal.returns-else-lists_all
 returns-else-lists_all c =
     c.if-lists_all.false
-    ∙ sym (list_all-missed (network c.args.topo.now) c.args.k c.args.failed.now _ c.requires c.devices.ensures.all (rw (← c.domain_devices.ensures) (sym c.if-lists_all.ensures)))
+    ∙ sym (list_all-missed (network c.args.topo.now) c.args.k c.args.failed.now _ c.requires c.devices.ensures.all
+    (rw (← c.domain_devices.ensures) (sym c.if-lists_all.ensures)))

@@ -8,4 +8,5 @@ pub returns-in-Some-clause-first : goal.returns-in-Some-clause-first
 returns-in-Some-clause-first c = rw (within_one-parts (network c.args.topo.now) (things_of c.args.failed.now), ← c.in-Some.ensures.first) refl
 
 pub returns-in-None-clause-first : goal.returns-in-None-clause-first
-returns-in-None-clause-first c = rw (within_one-parts (network c.args.topo.now) (things_of c.args.failed.now), ← c.in-None.ensures.first) c.first_alone.ensures.first
+returns-in-None-clause-first c =
+    rw (within_one-parts (network c.args.topo.now) (things_of c.args.failed.now), ← c.in-None.ensures.first) c.first_alone.ensures.first

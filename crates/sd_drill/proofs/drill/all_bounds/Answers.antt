@@ -1,6 +1,6 @@
 use Rattle.std.proofs.Common.{◌∙◌, ◌+◌, ◌<◌, ℕ, List, Option, sym, subst, ap, arith, length}
 use Rattle.std.proofs.lemmas.List.{length_push}
-use Rattle.sd_hit.specs.Outages.{net_of, plan_of}
+use Rattle.sd_checker.specs.CheckHit.Outages.{net_of, plan_of}
 use Rattle.sd_drill.specs.Bounds.{bound_at}
 use Rattle.sd_drill.specs.Drill.{IsListed}
 use Rattle.sd_drill.proofs.Listing.{listed_more}
@@ -12,8 +12,10 @@ loop-d-preserved c =
     let old = c.loop-d.bounds.items in
     let items = c.push_reserved.ensures.items in
     record {
-      listed = subst (λ (xs : List (Option ℕ)). (k : ℕ) → k < c.loop-d.d + 1 → IsListed (net_of o) (plan_of o) c.args.times.budget o.domain k (bound_at xs k)) (sym items)
-          (listed_more (IsListed (net_of o) (plan_of o) c.args.times.budget o.domain) old c.bound_of.result c.loop-d.d c.loop-d.invariant.size c.loop-d.invariant.listed c.bound_of.ensures.bound);
+      listed = subst (λ (xs : List (Option ℕ)). (k : ℕ) → k < c.loop-d.d + 1
+          → IsListed (net_of o) (plan_of o) c.args.times.budget o.domain k (bound_at xs k)) (sym items)
+          (listed_more (IsListed (net_of o) (plan_of o) c.args.times.budget o.domain) old c.bound_of.result c.loop-d.d c.loop-d.invariant.size
+          c.loop-d.invariant.listed c.bound_of.ensures.bound);
       size = ap (λ (xs : List (Option ℕ)). length xs) items ∙ length_push old c.bound_of.result ∙ omega (arith, c.loop-d.invariant.size);
       growths = c.bound_of.ensures.growths;
       room = c.push_reserved.ensures.capacity ∙ c.loop-d.invariant.room;

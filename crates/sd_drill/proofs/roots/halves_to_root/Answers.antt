@@ -11,7 +11,12 @@ use Rattle.sd_drill.proofs.roots.halves_to_root.Goals as goal
 pub returns-in_default-clause-is : goal.returns-in_default-clause-is
 returns-in_default-clause-is c =
     let net = network c.args.planned.topo.now in
-    omega (arith, c.loop-left.invariant.same, none_without_row net c.args.planned.plan.now c.loop-left.left c.loop-left.here (sym c.primary_of.ensures ∙ c.in_default.is))
+    omega (
+      arith,
+      c.loop-left.invariant.same,
+      none_without_row net c.args.planned.plan.now c.loop-left.left c.loop-left.here
+          (sym c.primary_of.ensures ∙ c.in_default.is),
+    )
 
 pub half_of-sum-requires : goal.half_of-sum-requires
 half_of-sum-requires c =
@@ -29,7 +34,13 @@ loop-left-preserved c =
     let other : is_root plan c.loop-left.here ≡ false = ne_eqb plan.root c.loop-left.here (λ same. c.if-here-planned.true (sym same)) in
     let some : 1 ≤ c.loop-left.left = omega (arith, c.loop-left-test.true) in
     record {
-      same = omega (arith, c.loop-left.invariant.same, c.half_of-sum.ensures.is, halves_on net plan c.loop-left.left c.loop-left.here c.in-Some.hop some other found);
+      same = omega (
+        arith,
+        c.loop-left.invariant.same,
+        c.half_of-sum.ensures.is,
+        halves_on net plan c.loop-left.left c.loop-left.here c.in-Some.hop some other
+            found,
+      );
       range = (subst (λ (hop : Option Hop). IfSome hop (IsHop net)) found (hops_within net plan c.loop-left.here c.args.planned.is_index.fits).0).0;
       most = omega (arith, c.loop-left.invariant.most, c.half_of-sum.ensures.bound, some);
     }

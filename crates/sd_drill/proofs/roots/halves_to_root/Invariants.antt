@@ -2,7 +2,7 @@ use Rattle.std.proofs.Common.{◌≡◌, ◌<◌, ◌≤◌, ◌+◌, ◌*◌, �
 use Rattle.sd_topo.specs.Topologies.{network}
 use Rattle.sd_plan.specs.Walks.{walk}
 use Rattle.sd_plan.proofs.Walking.{hops_left}
-use Rattle.sd_recovery.specs.Walks.{halves}
+use Rattle.sd_drill.specs.recovery.Walks.{halves}
 use Rattle.sd_drill.proofs.roots.halves_to_root.Given as goal
 
 -- what is summed and what is left of the walk are the whole

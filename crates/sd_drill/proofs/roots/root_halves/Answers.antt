@@ -18,4 +18,5 @@ pub halves_to_root-requires : goal.halves_to_root-requires
 halves_to_root-requires c =
     let net = network c.args.planned.topo.now in
     let plan = c.args.planned.plan.now in
-    (subst (λ (hop : Option Hop). IfSome hop (IsHop net)) (sym c.backup_of.ensures ∙ c.in-Some.is) (hops_within net plan plan.backup_root c.args.planned.is_index.fits).1).0
+    (subst (λ (hop : Option Hop). IfSome hop (IsHop net)) (sym c.backup_of.ensures ∙ c.in-Some.is)
+    (hops_within net plan plan.backup_root c.args.planned.is_index.fits).1).0

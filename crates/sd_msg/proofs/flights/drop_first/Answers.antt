@@ -9,7 +9,8 @@ loop-first-preserved c =
     let before = c.loop-first.flights.items in
     let rest = c.pop_front-spent.ensures.rest in
     record {
-      left = ap (filter (is_left spent)) rest ∙ seen_rest spent before c.in-Some.first.now c.in-Some.ensures.lookup (sym c.leaves.ensures ∙ c.if-leaves.false) ∙ c.loop-first.invariant.left;
+      left = ap (filter (is_left spent)) rest ∙ seen_rest spent before c.in-Some.first.now c.in-Some.ensures.lookup (sym c.leaves.ensures ∙ c.if-leaves.false)
+          ∙ c.loop-first.invariant.left;
       kept = λ last h. subst (AreKept last spent) (sym rest) (kept_rest last spent before (c.loop-first.invariant.kept last h));
       bound = omega (arith, c.pop_front-spent.ensures.len, c.loop-first.invariant.bound);
       capacity = c.pop_front-spent.ensures.capacity ∙ c.loop-first.invariant.capacity;

@@ -7,7 +7,9 @@ use Rattle.sd_msg.proofs.Numbered.{number_at, rises}
 use Rattle.sd_msg.proofs.flights.place_from.Goals as goal
 
 -- the smaller numbers stand before the place, and the others from it on
-parted : (c : goal.After-partition_point) → IsPartitionPoint (λ (f : Flight). ltb f.number c.args.number ≡ true) (λ (f : Flight). ltb f.number c.args.number ≡ false) c.args.flights.now.items c.partition_point.result
+parted : (c : goal.After-partition_point)
+    → IsPartitionPoint (λ (f : Flight). ltb f.number c.args.number ≡ true)
+    (λ (f : Flight). ltb f.number c.args.number ≡ false) c.args.flights.now.items c.partition_point.result
 parted c =
     let flights = c.args.flights.now.items in
     IsPartitionPoint-from_clause (λ (f : Flight). ltb f.number c.args.number) flights c.partition_point.result c.partition_point.ensures.partitioned

@@ -17,4 +17,5 @@ returns-clause-left c d =
     ∙ ap (λ (f : Flight). without f.number (filter (is_left c.args.spent.now) c.args.flights.now.items)) (at c d)
 
 pub returns-clause-kept : goal.returns-clause-kept
-returns-clause-kept c = kept_spent c.args.last c.args.spent.now c.args.flights.now.items c.args.place c.index_mut.result.now c.requires.kept c.requires.place (at c)
+returns-clause-kept c =
+    kept_spent c.args.last c.args.spent.now c.args.flights.now.items c.args.place c.index_mut.result.now c.requires.kept c.requires.place (at c)

@@ -9,7 +9,12 @@ overflow_mul-value c = omega (arith, digits_fit c.loop-place.value c.loop-place.
 pub overflow_add-value : goal.overflow_add-value
 overflow_add-value c =
     let digit : is_digit (get_or c.args.bytes.now c.loop-place.place 0) ≡ true = sym c.is_ascii_digit.ensures.value ∙ c.if-not-is_ascii_digit.false in
-    omega (arith, digits_fit c.loop-place.value c.loop-place.place (omega arith) c.loop-place.invariant.small, digit_small (get_or c.args.bytes.now c.loop-place.place 0) digit)
+    omega (
+      arith,
+      digits_fit c.loop-place.value c.loop-place.place (omega arith) c.loop-place.invariant.small,
+      digit_small
+          (get_or c.args.bytes.now c.loop-place.place 0) digit,
+    )
 
 pub loop-place-preserved : goal.loop-place-preserved
 loop-place-preserved c =

@@ -7,17 +7,21 @@ pub returns-in_err-checked_mul : goal.returns-in_err-checked_mul
 returns-in_err-checked_mul c =
     let past : 2 ^ 64 ≤ c.loop-byte.value * 10 = omega (arith, c.in_err-checked_mul.ensures) in
     c.from_residual.ensures
-    ∙ sym (past_with_digit c.args.bytes.now c.loop-byte.byte-index c.loop-byte.value (value c.args.bytes.now) c.loop-byte-test.true c.loop-byte.invariant.meaning (omega (arith, past)))
+    ∙ sym (past_with_digit c.args.bytes.now c.loop-byte.byte-index c.loop-byte.value
+    (value c.args.bytes.now) c.loop-byte-test.true c.loop-byte.invariant.meaning (omega (arith, past)))
 
 pub returns-in_err-value : goal.returns-in_err-value
 returns-in_err-value c =
-    let past : 2 ^ 64 ≤ c.loop-byte.value * 10 + (get_or c.args.bytes.now c.loop-byte.byte-index 0 - 48) = omega (arith, c.in_err-value.ensures, c.in_ok-checked_mul.ensures, c.from.ensures) in
+    let past : 2 ^ 64 ≤ c.loop-byte.value * 10 + (get_or c.args.bytes.now c.loop-byte.byte-index 0 - 48) =
+    omega (arith, c.in_err-value.ensures, c.in_ok-checked_mul.ensures, c.from.ensures) in
     c.from_residual-in_err-value.ensures
-    ∙ sym (past_with_digit c.args.bytes.now c.loop-byte.byte-index c.loop-byte.value (value c.args.bytes.now) c.loop-byte-test.true c.loop-byte.invariant.meaning past)
+    ∙ sym (past_with_digit c.args.bytes.now c.loop-byte.byte-index c.loop-byte.value
+    (value c.args.bytes.now) c.loop-byte-test.true c.loop-byte.invariant.meaning past)
 
 pub loop-byte-preserved : goal.loop-byte-preserved
 loop-byte-preserved c =
-    let next : c.in_ok-value.value ≡ c.loop-byte.value * 10 + (get_or c.args.bytes.now c.loop-byte.byte-index 0 - 48) = omega (arith, c.in_ok-value.ensures, c.in_ok-checked_mul.ensures, c.from.ensures) in
+    let next : c.in_ok-value.value ≡ c.loop-byte.value * 10 + (get_or c.args.bytes.now c.loop-byte.byte-index 0 - 48) =
+    omega (arith, c.in_ok-value.ensures, c.in_ok-checked_mul.ensures, c.from.ensures) in
     record {
       meaning = rw next (c.loop-byte.invariant.meaning ∙ value-drop c.args.bytes.now c.loop-byte.byte-index c.loop-byte.value c.loop-byte-test.true);
       small = omega (arith, next, c.in_ok-value.ensures, c.in_ok-checked_mul.ensures, c.from.ensures);
@@ -26,5 +30,7 @@ loop-byte-preserved c =
 
 pub returns : goal.returns
 returns c =
-    let same : value c.args.bytes.now ≡ c.loop-byte.value = value-drop_all c.args.bytes.now c.loop-byte.byte-index c.loop-byte.value (value c.args.bytes.now) c.loop-byte-test.false c.loop-byte.invariant.meaning in
+    let same : value c.args.bytes.now ≡ c.loop-byte.value =
+    value-drop_all c.args.bytes.now c.loop-byte.byte-index c.loop-byte.value
+    (value c.args.bytes.now) c.loop-byte-test.false c.loop-byte.invariant.meaning in
     rw same (sym (number_within c.loop-byte.value (omega arith)))

@@ -8,7 +8,8 @@ use Rattle.sd_plan.proofs.paths.cut_path.Given as goal
 abbrev pub invariant-loop-left : goal.invariant-loop-left
 invariant-loop-left l =
     record {
-      whole : things_of (hops (ends_at l.cut l.plan) l.plan (network l.topo).params.depth l.d) ≡ l.things ++ things_of (hops (ends_at l.cut l.plan) l.plan l.left l.here);
+      whole : things_of (hops (ends_at l.cut l.plan) l.plan (network l.topo).params.depth l.d) ≡ l.things
+          ++ things_of (hops (ends_at l.cut l.plan) l.plan l.left l.here);
       range : l.here < length (network l.topo).devices;
     }
 

@@ -12,6 +12,7 @@ loop-left-preserved c =
     let other = ne_eqb c.args.plan.now.root c.loop-left.here (λ same. c.if-here-plan.true (sym same)) in
     let found = sym c.primary_of.ensures ∙ c.in-Some.is in
     record {
-      same = c.loop-left.invariant.same ∙ walks_on c.args.plan.now c.loop-left.left c.loop-left.here c.in-Some.hop (omega (arith, c.loop-left-test.true)) other found;
+      same = c.loop-left.invariant.same
+          ∙ walks_on c.args.plan.now c.loop-left.left c.loop-left.here c.in-Some.hop (omega (arith, c.loop-left-test.true)) other found;
       range = (subst (λ hop. IfSome hop (IsHop net)) found (hops_within net c.args.plan.now c.loop-left.here c.requires.fits).0).0;
     }

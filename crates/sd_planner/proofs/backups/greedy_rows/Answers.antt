@@ -1,8 +1,8 @@
 use Rattle.std.proofs.Common.{◌≡◌, ℕ, length, map, sym, ap, ◌∙◌, arith, rules}
 use Rattle.sd_num.specs.Lists.{below}
-use Rattle.sd_place.specs.declared.present.Present.{Present}
-use Rattle.sd_place.specs.Views.{net_of, left_out}
-use Rattle.sd_place.proofs.Growing.{placed_grows}
+use Rattle.sd_planner_place.specs.declared.present.Present.{Present}
+use Rattle.sd_planner_place.specs.Views.{net_of, left_out}
+use Rattle.sd_planner_place.proofs.Growing.{placed_grows}
 use Rattle.sd_planner.specs.Serving.{greedy_row, greedy_rows}
 use Rattle.sd_planner.specs.Surveys.{net_in}
 use Rattle.sd_planner.proofs.Rowing.{clear_first}
@@ -34,4 +34,5 @@ pub returns-clause-fit : goal.returns-clause-fit
 returns-clause-fit c =
     let net = net_of c.args.present.now in
     let absent = left_out c.args.present.now in
-    rows_fit net c.args.root absent (placed_grows net c.args.root absent c.args.present.now.topo.now.is_network c.requires.root) c.loop-d.rows (returns-clause-rows c)
+    rows_fit net c.args.root absent (placed_grows net c.args.root absent c.args.present.now.topo.now.is_network c.requires.root) c.loop-d.rows
+    (returns-clause-rows c)

@@ -2,9 +2,9 @@ use Rattle.std.proofs.Common.{◌≡◌, ◌<◌, length, refl, ap, ◌∙◌, s
 use Rattle.sd_topo.specs.Network.{Network}
 use Rattle.sd_topo.specs.Topologies.{network}
 use Rattle.sd_plan.specs.declared.Absent.{Absent}
-use Rattle.sd_place.specs.Usable.{IsAbsentOf}
-use Rattle.sd_place.specs.Views.{net_of, left_out}
-use Rattle.sd_place.specs.Placing.{backup_root_of}
+use Rattle.sd_planner_place.specs.Usable.{IsAbsentOf}
+use Rattle.sd_planner_place.specs.Views.{net_of, left_out}
+use Rattle.sd_planner_place.specs.Placing.{backup_root_of}
 use Rattle.sd_plan.specs.Plans.{IsRow}
 use Rattle.sd_topo.specs.Network.{Each}
 use Rattle.sd_planner.specs.Serving.{greedy_rows}
@@ -24,9 +24,12 @@ returns-clause-greedy c =
     let absent = c.args.absent.now in
     record {
       from_root = refl;
-      to_backup_root = c.backup_root_of.ensures ∙ ap (λ (n : Network). backup_root_of n c.args.root (left_out c.in_ok-present.present)) c.in_ok-present.ensures.network ∙ ap (backup_root_of net c.args.root) c.in_ok-present.ensures.absent;
+      to_backup_root =
+          c.backup_root_of.ensures ∙ ap (λ (n : Network). backup_root_of n c.args.root (left_out c.in_ok-present.present)) c.in_ok-present.ensures.network
+          ∙ ap (backup_root_of net c.args.root) c.in_ok-present.ensures.absent;
       leaves_out = c.in_ok-copy_absent.ensures;
-      rows = c.in_ok-rows.ensures.rows ∙ ap (λ (n : Network). greedy_rows n c.args.root (left_out c.in_ok-present.present)) c.in_ok-present.ensures.network ∙ ap (greedy_rows net c.args.root) c.in_ok-present.ensures.absent;
+      rows = c.in_ok-rows.ensures.rows ∙ ap (λ (n : Network). greedy_rows n c.args.root (left_out c.in_ok-present.present)) c.in_ok-present.ensures.network
+          ∙ ap (greedy_rows net c.args.root) c.in_ok-present.ensures.absent;
       first = c.least_waits-waits.ensures.first;
       second = c.least_waits-waits.ensures.second;
       ordinary = c.least_waits-waits.ensures.ordinary;
@@ -41,7 +44,9 @@ returns-clause-fits c =
     let rows = c.in_ok-rows.ensures.rows ∙ ap (λ (n : Network). greedy_rows n c.args.root out) same in
     record {
       root = c.requires.root;
-      backup_root = subst (λ d. d < length net.devices) (sym (c.backup_root_of.ensures ∙ ap (λ (n : Network). backup_root_of n c.args.root out) same)) (backup_root_within net c.args.root out c.args.topo.now.is_network c.requires.root);
+      backup_root =
+          subst (λ d. d < length net.devices) (sym (c.backup_root_of.ensures ∙ ap (λ (n : Network). backup_root_of n c.args.root out) same))
+          (backup_root_within net c.args.root out c.args.topo.now.is_network c.requires.root);
       entries = one_each net c.args.root out c.in_ok-rows.rows rows;
       rows = subst (λ (n : Network). Each (IsRow n) c.in_ok-rows.rows) same c.in_ok-rows.ensures.fit;
       waits = c.least_waits-waits.ensures.bounds;

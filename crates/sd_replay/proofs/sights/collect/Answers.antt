@@ -1,8 +1,8 @@
 -- One flight more is looked up.
 use Rattle.std.proofs.Common.{ℕ, ◌≡◌, ◌+◌, ◌∷◌, length, filter, ap, ◌∙◌, arith}
 use Rattle.std.proofs.lemmas.List.{take_all}
-use Rattle.sd_fabric.specs.declared.Outcome.{Outcome}
-use Rattle.sd_history_flights.specs.Flights.{look_in}
+use Rattle.sd_fleet.specs.FleetFabric.declared.Outcome.{Outcome}
+use Rattle.sd_history.specs.flights.Flights.{look_in}
 use Rattle.sd_history.specs.Nodes.{steps_of}
 use Rattle.sd_replay.proofs.Flights.{one_collected}
 use Rattle.sd_replay.proofs.sights.collect.Goals as goal
@@ -11,8 +11,12 @@ pub loop-i-preserved : goal.loop-i-preserved
 loop-i-preserved g c =
     record {
       flights = λ setting run event accepted.
-          one_collected setting accepted.next.step (steps_of run) c.args.outcome.now c.loop-i.i c.flight.result c.loop-i.sent.items c.add_found.new.sent.items accepted.stands.fabric.accepted accepted.comes
-          (omega (arith, c.loop-i-test.true, c.loop-i.auto.i-end)) (c.flight.ensures setting (accepted.next ∷ run) accepted.stands ∙ ap (λ (n : ℕ). look_in (accepted.next.step ∷ steps_of run) (c.args.outcome.now.first_sent + n)) c.from.ensures) (c.loop-i.invariant.flights setting run event accepted) c.add_found.ensures.items;
+          one_collected setting accepted.next.step (steps_of run) c.args.outcome.now c.loop-i.i c.flight.result c.loop-i.sent.items c.add_found.new.sent.items
+          accepted.stands.fabric.accepted accepted.comes
+          (omega (arith, c.loop-i-test.true, c.loop-i.auto.i-end))
+          (c.flight.ensures setting (accepted.next ∷ run) accepted.stands
+          ∙ ap (λ (n : ℕ). look_in (accepted.next.step ∷ steps_of run) (c.args.outcome.now.first_sent + n)) c.from.ensures)
+          (c.loop-i.invariant.flights setting run event accepted) c.add_found.ensures.items;
       few = omega (arith, c.add_found.ensures.few, c.loop-i.invariant.few);
       capacity = omega (arith, c.add_found.ensures.capacity, c.loop-i.invariant.capacity);
     }
@@ -20,4 +24,5 @@ loop-i-preserved g c =
 pub returns-clause-flights : goal.returns-clause-flights
 returns-clause-flights g c = λ setting run event accepted.
     let count : c.args.outcome.now.sent ≡ length accepted.next.step.sent = ap (λ (o : Outcome). o.sent) accepted.comes in
-    c.loop-i.invariant.flights setting run event accepted ∙ ap (filter (λ f. f.reaches)) (take_all c.loop-i.i accepted.next.step.sent (omega (arith, c.loop-i-test.false, c.loop-i.auto.i-end, count)))
+    c.loop-i.invariant.flights setting run event accepted
+    ∙ ap (filter (λ f. f.reaches)) (take_all c.loop-i.i accepted.next.step.sent (omega (arith, c.loop-i-test.false, c.loop-i.auto.i-end, count)))

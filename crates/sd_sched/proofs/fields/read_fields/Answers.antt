@@ -21,19 +21,23 @@ loop-place-preserved c =
     elim c.match-found.branch [
       | in-Some-number w ↦
           rw (w.numbers-is, w.fault-is)
-          (ReadTo-number _ _ _ _ _ _ c.in-Some.bytes.now _ _ read c.requires c.loop-place-test.true c.in-Some.ensures.more (sym w.in-Some-number.is ∙ found.ensures.number) (rw w.in-Some-number.is at found.ensures.within) found.ensures.left)
+          (ReadTo-number _ _ _ _ _ _ c.in-Some.bytes.now _ _ read c.requires c.loop-place-test.true c.in-Some.ensures.more
+          (sym w.in-Some-number.is ∙ found.ensures.number) (rw w.in-Some-number.is at found.ensures.within) found.ensures.left)
       | in-None w ↦
           let field = get_or c.args.shape.now c.loop-place.place Amount in
-          let fault : w.graver.result ≡ of_some c.loop-place.fault (fault_of field (c.loop-place.place + 1)) (λ f. graver f (fault_of field (c.loop-place.place + 1))) =
+          let fault : w.graver.result ≡ of_some c.loop-place.fault (fault_of field (c.loop-place.place + 1))
+          (λ f. graver f (fault_of field (c.loop-place.place + 1))) =
           w.graver.ensures ∙ ap (λ (g : LineFault). of_some c.loop-place.fault g (λ f. graver f g)) w.fault_of.ensures in
           rw (w.numbers-is, w.fault-is, fault)
-          (ReadTo-fault _ _ _ _ _ _ c.in-Some.bytes.now _ read c.loop-place-test.true c.in-Some.ensures.more (sym w.in-None.is ∙ found.ensures.number) found.ensures.left)
+          (ReadTo-fault _ _ _ _ _ _ c.in-Some.bytes.now _ read c.loop-place-test.true c.in-Some.ensures.more
+          (sym w.in-None.is ∙ found.ensures.number) found.ensures.left)
     ]
 
 pub returns-then-not-is_empty-clause-fault : goal.returns-then-not-is_empty-clause-fault
 returns-then-not-is_empty-clause-fault c =
     let more : c.loop-place.left.now ≢ [] =
-    λ none. let empty : length c.loop-place.left.now ≡ 0 = ap length none in let told : true ≡ false = sym (rw empty at c.is_empty.ensures) ∙ c.if-not-is_empty.true in cc in
+    λ none. let empty : length c.loop-place.left.now ≡ 0 = ap length none in
+    let told : true ≡ false = sym (rw empty at c.is_empty.ensures) ∙ c.if-not-is_empty.true in cc in
     ReadTo-long _ _ _ _ _ _ c.loop-place.invariant c.loop-place-test.false more
 
 pub returns-in-None-fault-clause-within : goal.returns-in-None-fault-clause-within

@@ -12,11 +12,13 @@ use Rattle.sd_solo.proofs.Solo.apply.Goals as goal
 
 pub returns-in-Ask-clause-stands : goal.returns-in-Ask-clause-stands
 returns-in-Ask-clause-stands c =
-    λ events h. stands_after c.args.self.now _ c.args.event.now events c.requires.known (sym c.refusal.ensures ∙ c.in_default.is) (rw (c.reference-self.ensures, c.in-Ask.is) refl) (rw c.in-Ask.is refl) (rw c.in-Ask.is refl) h
+    λ events h. stands_after c.args.self.now _ c.args.event.now events c.requires.known (sym c.refusal.ensures ∙ c.in_default.is)
+    (rw (c.reference-self.ensures, c.in-Ask.is) refl) (rw c.in-Ask.is refl) (rw c.in-Ask.is refl) h
 
 pub returns-in-End-clause-stands : goal.returns-in-End-clause-stands
 returns-in-End-clause-stands c =
-    λ events h. stands_after c.args.self.now _ c.args.event.now events c.requires.known (sym c.refusal.ensures ∙ c.in_default.is) (rw (c.reference-self.ensures, c.in-End.is) refl) (rw c.in-End.is refl) (rw c.in-End.is refl) h
+    λ events h. stands_after c.args.self.now _ c.args.event.now events c.requires.known (sym c.refusal.ensures ∙ c.in_default.is)
+    (rw (c.reference-self.ensures, c.in-End.is) refl) (rw c.in-End.is refl) (rw c.in-End.is refl) h
 
 pub returns-in-Start-clause-stands : goal.returns-in-Start-clause-stands
 returns-in-Start-clause-stands c =
@@ -24,7 +26,8 @@ returns-in-Start-clause-stands c =
     (elim c.in-Start.is [
       | inl start ↦ rw (c.reference-self.ensures, start.2) refl
       | inr fix ↦ (
-          let accepted : refusal_in (situation_of c.args.self.now) (event.Fix fix.0 fix.1 c.in-Start.counter c.in-Start.clock c.in-Start.eps) ≡ None = rw (← fix.2) (sym c.refusal.ensures ∙ c.in_default.is) in
+          let accepted : refusal_in (situation_of c.args.self.now) (event.Fix fix.0 fix.1 c.in-Start.counter c.in-Start.clock c.in-Start.eps) ≡ None =
+          rw (← fix.2) (sym c.refusal.ensures ∙ c.in_default.is) in
           let started : c.args.self.now.started ≡ true = not-false c.args.self.now.started (started_before _ _ accepted) in
           rw (c.reference-self.ensures, fix.2, started) refl
           )
@@ -35,5 +38,6 @@ returns-in-Start-clause-stands c =
 
 pub returns-in-Ask-clause-contained : goal.returns-in-Ask-clause-contained
 returns-in-Ask-clause-contained c =
-    λ events h truly drifts. report_contains c.args.event.now events c.report.result (history_after c.args.self.now c.args.event.now events c.requires.known (sym c.refusal.ensures ∙ c.in_default.is) h)
+    λ events h truly drifts. report_contains c.args.event.now events c.report.result
+    (history_after c.args.self.now c.args.event.now events c.requires.known (sym c.refusal.ensures ∙ c.in_default.is) h)
     (rw c.in-Ask.is (ap Some (sym (c.report.ensures ∙ ap (λ (x : Estimate). report_of rates x c.in-Ask.counter) h.estimate)))) truly drifts

@@ -1,9 +1,10 @@
 use Rattle.sd_topo.specs.Topologies.{network}
-use Rattle.sd_files.specs.Inputs.{topology_of}
-use Rattle.sd_files.proofs.Loading.{told_goes_on, told_always}
+use Rattle.sd_cmd_files.specs.Inputs.{topology_of}
+use Rattle.sd_cmd_files.proofs.Loading.{told_goes_on, told_always}
 use Rattle.sd_top.specs.Migration.{IsMigrated}
 use Rattle.sd_top.proofs.migrate.migrate.Goals as goal
 
 pub returns-clause-makes : goal.returns-clause-makes
 returns-clause-makes g c =
-    told_goes_on network (λ texts. topology_of (texts c.args.topology.now)) (λ texts. IsMigrated) _ c.in_ok-topo.topo c.migrated.result c.in_ok-topo.ensures.says (told_always _ c.migrated.ensures.makes)
+    told_goes_on network (λ texts. topology_of (texts c.args.topology.now))
+    (λ texts. IsMigrated) _ c.in_ok-topo.topo c.migrated.result c.in_ok-topo.ensures.says (told_always _ c.migrated.ensures.makes)

@@ -1,3 +1,4 @@
+use Rattle.sd_top.proofs.Bounds.{meets_bounds}
 use Rattle.sd_top.proofs.Headlines.{meets_headline}
 use Rattle.sd_top.proofs.Holding.{keeps_promise}
 use Rattle.sd_top.proofs.Lawful as lawful
@@ -11,7 +12,10 @@ pub returns-in-Ok-clause-promise : goal.returns-in-Ok-clause-promise
 returns-in-Ok-clause-promise g c = keeps_promise _ _
 
 pub returns-in-Ok-clause-headline : goal.returns-in-Ok-clause-headline
-returns-in-Ok-clause-headline g c = λ safe. meets_headline safe _ _ _ _ c.in-Ok.status (ended_meets _ _ _ _ c.in-Ok.status c.in-Ok.ensures.gives c.in-Ok.ensures.outcome)
+returns-in-Ok-clause-headline g c = meets_headline _ _ _ _ c.in-Ok.status (ended_meets _ _ _ _ c.in-Ok.status c.in-Ok.ensures.gives c.in-Ok.ensures.outcome)
+
+pub returns-in-Ok-clause-bounds : goal.returns-in-Ok-clause-bounds
+returns-in-Ok-clause-bounds g c = meets_bounds _ _
 
 pub returns-in-Ok-clause-laws : goal.returns-in-Ok-clause-laws
 returns-in-Ok-clause-laws g c = lawful.laws
@@ -23,7 +27,11 @@ pub returns-in-Err-clause-promise : goal.returns-in-Err-clause-promise
 returns-in-Err-clause-promise g c = keeps_promise _ _
 
 pub returns-in-Err-clause-headline : goal.returns-in-Err-clause-headline
-returns-in-Err-clause-headline g c = λ safe. meets_headline safe _ _ _ _ c.status.result (stopped_meets _ _ _ _ c.in-Err.stop c.status.result c.status.ensures c.in-Err.ensures.outcome)
+returns-in-Err-clause-headline g c =
+    meets_headline _ _ _ _ c.status.result (stopped_meets _ _ _ _ c.in-Err.stop c.status.result c.status.ensures c.in-Err.ensures.outcome)
+
+pub returns-in-Err-clause-bounds : goal.returns-in-Err-clause-bounds
+returns-in-Err-clause-bounds g c = meets_bounds _ _
 
 pub returns-in-Err-clause-laws : goal.returns-in-Err-clause-laws
 returns-in-Err-clause-laws g c = lawful.laws

@@ -19,4 +19,5 @@ loop-number-preserved g c =
     let more = copied_more same c.args.table.now.entries c.loop-number.copies.entries c.loop-number.number (c.in-Some.name.now, c.in-Some.value.now) adds.entry
     (sym c.in-Some.ensures.entry) c.loop-number.invariant (adds.named ∙ c.as_str.ensures.value, adds.copied) in
     subst (λ n. AllZip (IsCopy same) (take n c.args.table.now.entries) c.copy_entry.new.copies.entries) (sym (add-one c.loop-number.number))
-    (subst (λ (l : List (String Global × g.row.V.Denot)). AllZip (IsCopy same) (take (suc c.loop-number.number) c.args.table.now.entries) l) (sym adds.last) more)
+    (subst (λ (l : List (String Global × g.row.V.Denot)). AllZip (IsCopy same) (take (suc c.loop-number.number) c.args.table.now.entries) l)
+    (sym adds.last) more)

@@ -7,4 +7,6 @@ use Rattle.sd_topotext.specs.Printed.{domain_tree}
 use Rattle.sd_topotext.proofs.print.domains_value.Given as goal
 
 abbrev pub invariant-loop-f : goal.invariant-loop-f
-invariant-loop-f l = items_view l.items.items ≡ items_of (map (λ domain. table (domain_tree (device_names (network l.topo)) (link_names (network l.topo)) domain)) (take l.f (network l.topo).domains))
+invariant-loop-f l =
+    items_view l.items.items
+    ≡ items_of (map (λ domain. table (domain_tree (device_names (network l.topo)) (link_names (network l.topo)) domain)) (take l.f (network l.topo).domains))

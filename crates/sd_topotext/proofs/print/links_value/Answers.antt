@@ -8,5 +8,6 @@ use Rattle.sd_topotext.proofs.print.links_value.Goals as goal
 
 pub loop-l-preserved : goal.loop-l-preserved
 loop-l-preserved c =
-    items_more (λ link. table (link_tree (device_names (network c.args.topo.now)) link)) (network c.args.topo.now).links c.loop-l.l no_named_link c.loop-l.items.items c.push.new.items.items c.in_ok-link.link
+    items_more (λ link. table (link_tree (device_names (network c.args.topo.now)) link))
+    (network c.args.topo.now).links c.loop-l.l no_named_link c.loop-l.items.items c.push.new.items.items c.in_ok-link.link
     (subst (λ n. c.loop-l.l < n) c.links-l-end.ensures c.loop-l-test.true) c.loop-l.invariant c.in_ok-link.ensures c.in_ok-push.ensures

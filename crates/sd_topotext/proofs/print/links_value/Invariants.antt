@@ -7,4 +7,5 @@ use Rattle.sd_topotext.specs.Printed.{link_tree}
 use Rattle.sd_topotext.proofs.print.links_value.Given as goal
 
 abbrev pub invariant-loop-l : goal.invariant-loop-l
-invariant-loop-l l = items_view l.items.items ≡ items_of (map (λ link. table (link_tree (device_names (network l.topo)) link)) (take l.l (network l.topo).links))
+invariant-loop-l l =
+    items_view l.items.items ≡ items_of (map (λ link. table (link_tree (device_names (network l.topo)) link)) (take l.l (network l.topo).links))

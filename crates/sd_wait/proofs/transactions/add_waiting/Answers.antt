@@ -9,4 +9,5 @@ pub returns-clause-added : goal.returns-clause-added
 returns-clause-added c =
     c.in-Ok.ensures.items
     ∙ placed_here c.args.waiting.now.items c.args.begun c.place_of-place.result
-    (subst (λ (ts : List Transaction). IsPlaceOf ts c.args.begun.device c.args.begun.stamp c.place_of-place.result) c.deref.ensures.value c.place_of-place.ensures)
+    (subst (λ (ts : List Transaction). IsPlaceOf ts c.args.begun.device c.args.begun.stamp c.place_of-place.result) c.deref.ensures.value
+    c.place_of-place.ensures)

@@ -8,9 +8,11 @@ use Rattle.sd_wait.proofs.Sorting.{parted}
 use Rattle.sd_wait.proofs.transactions.place_of.Goals as goal
 
 point : (c : goal.After-partition_point)
-    → IsPartitionPoint (λ (t : Transaction). is_before t c.args.device c.args.stamp ≡ true) (λ (t : Transaction). is_before t c.args.device c.args.stamp ≡ false) c.args.waiting.now c.partition_point.result
+    → IsPartitionPoint (λ (t : Transaction). is_before t c.args.device c.args.stamp ≡ true)
+    (λ (t : Transaction). is_before t c.args.device c.args.stamp ≡ false) c.args.waiting.now c.partition_point.result
 point c =
-    IsPartitionPoint-from_clause (λ (t : Transaction). is_before t c.args.device c.args.stamp) c.args.waiting.now c.partition_point.result c.partition_point.ensures.partitioned
+    IsPartitionPoint-from_clause (λ (t : Transaction). is_before t c.args.device c.args.stamp) c.args.waiting.now c.partition_point.result
+    c.partition_point.ensures.partitioned
     (parted c.args.waiting.now c.requires c.args.device c.args.stamp) (λ a r f' k. search rules)
 
 pub returns : goal.returns

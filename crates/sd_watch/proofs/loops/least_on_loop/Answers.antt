@@ -17,17 +17,20 @@ returns-in_default-clause-least c =
 
 pub returns-in_default-2-clause-least : goal.returns-in_default-2-clause-least
 returns-in_default-2-clause-least c =
-    let next = has_parent (parent_in c.args.parents.now) c.round.here (led_on_loop (parent_in c.args.parents.now) c.round.counter c.args.d c.round.here c.round.invariant.here c.requires) in
+    let next = has_parent (parent_in c.args.parents.now) c.round.here
+    (led_on_loop (parent_in c.args.parents.now) c.round.counter c.args.d c.round.here c.round.invariant.here c.requires) in
     absurd (none-some next.0 (c.in_default.ensures ∙ next.1))
 
 pub round-preserved : goal.round-preserved
 round-preserved c =
     let parent = parent_in c.args.parents.now in
     let here : follow parent (c.round.counter + 1) c.args.d ≡ Some c.in-Some.parent =
-    ap (λ n. follow parent n c.args.d) (add-one c.round.counter) ∙ one_more parent c.round.counter c.args.d c.round.here c.round.invariant.here ∙ sym c.in-Some.ensures in
+    ap (λ n. follow parent n c.args.d) (add-one c.round.counter) ∙ one_more parent c.round.counter c.args.d c.round.here c.round.invariant.here
+    ∙ sym c.in-Some.ensures in
     record {
       here = here;
-      on_loop = either (IsOnLoop parent) c.round.least c.in-Some.parent c.min-least.result c.min-least.ensures c.round.invariant.on_loop (led_on_loop parent (c.round.counter + 1) c.args.d c.in-Some.parent here c.requires);
+      on_loop = either (IsOnLoop parent) c.round.least c.in-Some.parent c.min-least.result c.min-least.ensures c.round.invariant.on_loop
+          (led_on_loop parent (c.round.counter + 1) c.args.d c.in-Some.parent here c.requires);
       least = λ k e within at. elim (cases_lt c.round.counter k) [
         | inl last ↦
             let same : c.round.counter + 1 ≡ k = omega arith in

@@ -13,5 +13,6 @@ returns-then-holds_device-clause-reaches c = λ trusted.
     elim c.then-holds_device.branch [
       | then-holds_device-via-then-holds_device w ↦ held_backup net (plan_of o) (domain_of o) (sym c.holds_device.ensures ∙ w.if-holds_device.true)
       | then-holds_device-via-else-holds_device+then-not-hits w ↦
-          unhit_backup net (plan_of o) (domain_of o) index.fits index.structured (keeps_rules net (plan_of o) index.structured) (sym w.hits.ensures ∙ w.if-not-hits.true)
+          unhit_backup net (plan_of o) (domain_of o) index.fits index.structured (keeps_rules net (plan_of o) index.structured)
+          (sym w.hits.ensures ∙ w.if-not-hits.true)
     ]

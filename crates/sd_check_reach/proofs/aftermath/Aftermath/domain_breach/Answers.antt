@@ -22,6 +22,7 @@ pub returns-clause-shown : goal.returns-clause-shown
 returns-clause-shown c =
     let o = c.args.self.now in
     let net = net_of o in
-    let left : holds_device net (domain_of o) (acting_end net (plan_of o) (domain_of o)) ≡ false = ap (holds_device net (domain_of o)) (sym c.args.self.now.acts) ∙ c.args.self.now.left in
+    let left : holds_device net (domain_of o) (acting_end net (plan_of o) (domain_of o)) ≡ false =
+    ap (holds_device net (domain_of o)) (sym c.args.self.now.acts) ∙ c.args.self.now.left in
     domain_shown net (plan_of o) (domain_of o) c.as_slice.result.now c.first_uncut.result left
     (subst (λ (xs : List ℕ). AreAll (IsLosing net (plan_of o) (domain_of o)) xs) (sym c.as_slice.ensures) c.in_ok-losing.ensures) c.first_uncut.ensures.first

@@ -19,10 +19,13 @@ loop-at-init c =
     let o = c.args.self.now in
     let net = net_of o in
     let old = c.args.visited.now.numbers in
-    let begun = search_begins net (plan_of o) (domain_of o) c.args.from old c.requires.dry c.requires.device (λ same. c.if-from-self.false (same ∙ sym c.args.self.now.acts)) in
+    let begun = search_begins net (plan_of o) (domain_of o) c.args.from old c.requires.dry c.requires.device
+    (λ same. c.if-from-self.false (same ∙ sym c.args.self.now.acts)) in
     record {
-      known = subst (λ (xs : List ℕ). IsSearching net (plan_of o) (domain_of o) c.args.from (length c.as_slice-at.result.now) old xs) (sym (ap (λ s. s.numbers) c.insert.ensures.added))
-          (subst (λ (n : ℕ). IsSearching net (plan_of o) (domain_of o) c.args.from n old (with_number old c.args.from)) (sym (ap length c.as_slice-at.ensures.all)) begun);
+      known = subst (λ (xs : List ℕ). IsSearching net (plan_of o) (domain_of o) c.args.from (length c.as_slice-at.result.now) old xs)
+          (sym (ap (λ s. s.numbers) c.insert.ensures.added))
+          (subst (λ (n : ℕ). IsSearching net (plan_of o) (domain_of o) c.args.from n old (with_number old c.args.from))
+          (sym (ap length c.as_slice-at.ensures.all)) begun);
       room = ap (λ s. s.bound) c.insert.ensures.added;
     }
 
@@ -32,7 +35,8 @@ look_around-requires-clause-device c =
     let at = c.loop-at.at in
     let read = c.as_slice-in-loop-at.result.now in
     let inside : at < length keys = omega (arith, ap length c.as_slice.ensures.all, c.loop-at-test.true) in
-    let there : slice_get keys at ≡ Some (get_or read at 0) = subst (λ (xs : List ℕ). slice_get keys at ≡ Some (get_or xs at 0)) (sym c.as_slice-in-loop-at.ensures.all) (slice_get-get_or keys at 0 inside) in
+    let there : slice_get keys at ≡ Some (get_or read at 0) =
+    subst (λ (xs : List ℕ). slice_get keys at ≡ Some (get_or xs at 0)) (sym c.as_slice-in-loop-at.ensures.all) (slice_get-get_or keys at 0 inside) in
     c.loop-at.invariant.known.within (get_or read at 0) (has_at keys at (get_or read at 0) there)
 
 pub returns-then-look_around-clause-met : goal.returns-then-look_around-clause-met
@@ -41,7 +45,8 @@ returns-then-look_around-clause-met c = λ met.
     let at = c.loop-at.at in
     let read = c.as_slice-in-loop-at.result.now in
     let inside : at < length keys = omega (arith, ap length c.as_slice.ensures.all, c.loop-at-test.true) in
-    let there : slice_get keys at ≡ Some (get_or read at 0) = subst (λ (xs : List ℕ). slice_get keys at ≡ Some (get_or xs at 0)) (sym c.as_slice-in-loop-at.ensures.all) (slice_get-get_or keys at 0 inside) in
+    let there : slice_get keys at ≡ Some (get_or read at 0) =
+    subst (λ (xs : List ℕ). slice_get keys at ≡ Some (get_or xs at 0)) (sym c.as_slice-in-loop-at.ensures.all) (slice_get-get_or keys at 0 inside) in
     c.loop-at.invariant.known.back (get_or read at 0) (has_at keys at (get_or read at 0) there) (c.look_around.ensures.met c.if-look_around.true)
 
 pub loop-at-smaller : goal.loop-at-smaller
@@ -52,7 +57,8 @@ loop-at-smaller c =
     let at = c.loop-at.at in
     let inside : at < length keys = omega (arith, ap length c.as_slice.ensures.all, c.loop-at-test.true) in
     let few : length keys ≤ length net.devices =
-    length-le_from_distinct_below keys (length net.devices) (subst (λ (xs : List ℕ). IsDistinct nat_eq xs) c.as_slice.ensures.all c.as_slice.ensures.distinct) c.loop-at.invariant.known.within
+    length-le_from_distinct_below keys (length net.devices)
+    (subst (λ (xs : List ℕ). IsDistinct nat_eq xs) c.as_slice.ensures.all c.as_slice.ensures.distinct) c.loop-at.invariant.known.within
     in
     omega arith
 
@@ -64,9 +70,11 @@ loop-at-preserved c =
     let at = c.loop-at.at in
     let d = get_or c.as_slice-in-loop-at.result.now at 0 in
     let inside : at < length keys = omega (arith, ap length c.as_slice.ensures.all, c.loop-at-test.true) in
-    let there : slice_get keys at ≡ Some d = subst (λ (xs : List ℕ). slice_get keys at ≡ Some (get_or xs at 0)) (sym c.as_slice-in-loop-at.ensures.all) (slice_get-get_or keys at 0 inside) in
+    let there : slice_get keys at ≡ Some d =
+    subst (λ (xs : List ℕ). slice_get keys at ≡ Some (get_or xs at 0)) (sym c.as_slice-in-loop-at.ensures.all) (slice_get-get_or keys at 0 inside) in
     record {
-      known = search_more net (plan_of o) (domain_of o) c.args.from c.args.visited.now.numbers at d keys c.look_around.new.visited.numbers c.loop-at.invariant.known inside there c.look_around.ensures.grown (c.look_around.ensures.around c.if-look_around.false);
+      known = search_more net (plan_of o) (domain_of o) c.args.from c.args.visited.now.numbers at d keys c.look_around.new.visited.numbers
+          c.loop-at.invariant.known inside there c.look_around.ensures.grown (c.look_around.ensures.around c.if-look_around.false);
       room = c.look_around.ensures.room ∙ c.loop-at.invariant.room;
     }
 

@@ -15,7 +15,8 @@ returns-then-finds-clause-first c =
       k,
       slice_get-get_or xs k 0 inside,
       c.finds.ensures.met c.if-finds.true,
-      λ j e less at. dry_cut (net_of o) (plan_of o) (domain_of o) c.loop-d.search.visited.numbers e c.loop-d.invariant.search.dry (c.loop-d.invariant.passed j e less at),
+      λ j e less at. dry_cut (net_of o) (plan_of o) (domain_of o) c.loop-d.search.visited.numbers e c.loop-d.invariant.search.dry
+          (c.loop-d.invariant.passed j e less at),
     )
 
 passed_on : (xs : List ℕ) (k d : ℕ) (old new : List ℕ) → slice_get xs k ≡ Some d → ((x : ℕ) → has old x ≡ true → has new x ≡ true) → has new d ≡ true
@@ -36,7 +37,8 @@ loop-d-preserved c =
     record {
       search = record { dry = c.finds.ensures.dry c.if-finds.false; trusted = c.loop-d.invariant.search.trusted };
       room = record { devices = c.finds.ensures.room ∙ c.loop-d.invariant.room.devices };
-      passed = passed_on xs k (get_or xs k 0) c.loop-d.search.visited.numbers c.finds.new.visited.numbers (slice_get-get_or xs k 0 inside) c.finds.ensures.had (c.finds.ensures.among c.if-finds.false) c.loop-d.invariant.passed;
+      passed = passed_on xs k (get_or xs k 0) c.loop-d.search.visited.numbers c.finds.new.visited.numbers (slice_get-get_or xs k 0 inside) c.finds.ensures.had
+          (c.finds.ensures.among c.if-finds.false) c.loop-d.invariant.passed;
     }
 
 pub returns-clause-first : goal.returns-clause-first
@@ -44,7 +46,8 @@ returns-clause-first c =
     let o = c.args.self.now in
     λ i d at.
     let within : i < length c.args.candidates.now = slice_get_within c.args.candidates.now i d at in
-    dry_cut (net_of o) (plan_of o) (domain_of o) c.loop-d.search.visited.numbers d c.loop-d.invariant.search.dry (c.loop-d.invariant.passed i d (omega arith) at)
+    dry_cut (net_of o) (plan_of o) (domain_of o) c.loop-d.search.visited.numbers d c.loop-d.invariant.search.dry
+    (c.loop-d.invariant.passed i d (omega arith) at)
 
 pub finds-requires-clause-device : goal.finds-requires-clause-device
 finds-requires-clause-device c =

@@ -11,7 +11,7 @@ use Rattle.sd_check_reach.specs.Reach.{Fed}
 use Rattle.sd_check_reach.specs.Turns.{AreMarks, IsTrail, IsFollowed, IsHeld, is_unfed}
 use Rattle.sd_check_reach.specs.declared.marks.Mark.{Mark}
 use Rattle.sd_check_reach.specs.declared.marks.Mark.TheVariants as mark
-use Rattle.sd_hit.proofs.HitList.{hit_at}
+use Rattle.sd_check_hit.proofs.HitList.{hit_at}
 use Rattle.sd_check_reach.proofs.Following.{marks_more, looked_at, trail_more, start_more, leads_more, ends_unfed, two_marks, held_more}
 use Rattle.sd_check_reach.proofs.aftermath.Aftermath.follow.Goals as goal
 
@@ -30,7 +30,8 @@ loop-marks-init c =
     record {
       range = c.requires.place;
       size = refl;
-      right = marks_more (net_of o) (plan_of o) (domain_of o) hit (λ e. ⊥) (λ e. slice_get hit c.args.start ≡ Some e) c.args.marks.now (λ e wrong. absurd wrong) c.requires.marks;
+      right = marks_more (net_of o) (plan_of o) (domain_of o) hit (λ e. ⊥) (λ e. slice_get hit c.args.start ≡ Some e) c.args.marks.now
+          (λ e wrong. absurd wrong) c.requires.marks;
       trail = no_trail hit c.args.marks.now c.args.trail.now.items none;
       leads = λ i x there is e at fed. absurd (not_in c.args.trail.now.items i none there);
       start = inl refl;
@@ -40,7 +41,8 @@ pub turn-requires : goal.turn-requires
 turn-requires c =
     let o = c.args.self.now in
     let place = c.loop-marks.place in
-    (hit_at (net_of o) (plan_of o) (domain_of o) (hit_of o) place (get_or (hit_of o) place 0) c.args.self.now.outage.hits (slice_get-get_or (hit_of o) place 0 c.loop-marks.invariant.range)).0
+    (hit_at (net_of o) (plan_of o) (domain_of o) (hit_of o) place (get_or (hit_of o) place 0) c.args.self.now.outage.hits
+    (slice_get-get_or (hit_of o) place 0 c.loop-marks.invariant.range)).0
 
 pub returns-in-Fed : goal.returns-in-Fed
 returns-in-Fed c =
@@ -56,12 +58,15 @@ returns-in-Fed c =
     let inside : place < length marks = omega (arith, known.right.size, known.range) in
     let unseen : slice_get marks place ≡ Some mark.Unseen = slice_get-get_or marks place mark.Unseen inside ∙ ap Some c.in-Unseen.is in
     let fed : Fed net (plan_of o) (domain_of o) d = c.in-Fed.ensures in
-    subst (λ (xs : List ℕ). IsFollowed net (plan_of o) (domain_of o) hit c.args.start c.args.marks.now (set marks place mark.Unfed) xs true) (sym c.in-Ok.ensures.items) (record {
+    subst (λ (xs : List ℕ). IsFollowed net (plan_of o) (domain_of o) hit c.args.start c.args.marks.now (set marks place mark.Unfed) xs true)
+    (sym c.in-Ok.ensures.items) (record {
       size = length-set marks place mark.Unfed ∙ known.size;
       followed = trail_more net (plan_of o) (domain_of o) hit place d marks at unseen c.args.marks.now trail known.trail;
-      all_fed = λ is i x there here. leads_more net (plan_of o) (domain_of o) hit place d marks at unseen trail (Fed net (plan_of o) (domain_of o) d) (λ x. x) known.leads i x there here fed;
+      all_fed = λ is i x there here. leads_more net (plan_of o) (domain_of o) hit place d marks at unseen trail (Fed net (plan_of o) (domain_of o) d)
+          (λ x. x) known.leads i x there here fed;
       right = λ is. cc;
-      marked = λ lost. two_marks (slice_get (set marks place mark.Unfed) c.args.start) lost (start_more net (plan_of o) (domain_of o) hit place d marks at unseen c.args.start known.start) (λ same. cc);
+      marked = λ lost. two_marks (slice_get (set marks place mark.Unfed) c.args.start) lost
+          (start_more net (plan_of o) (domain_of o) hit place d marks at unseen c.args.start known.start) (λ same. cc);
     })
 
 pub returns-in-Lost : goal.returns-in-Lost
@@ -77,12 +82,14 @@ returns-in-Lost c =
     let at : slice_get hit place ≡ Some d = slice_get-get_or hit place 0 known.range in
     let inside : place < length marks = omega (arith, known.right.size, known.range) in
     let unseen : slice_get marks place ≡ Some mark.Unseen = slice_get-get_or marks place mark.Unseen inside ∙ ap Some c.in-Unseen.is in
-    subst (λ (xs : List ℕ). IsFollowed net (plan_of o) (domain_of o) hit c.args.start c.args.marks.now (set marks place mark.Unfed) xs false) (sym c.in-Ok.ensures.items) (record {
+    subst (λ (xs : List ℕ). IsFollowed net (plan_of o) (domain_of o) hit c.args.start c.args.marks.now (set marks place mark.Unfed) xs false)
+    (sym c.in-Ok.ensures.items) (record {
       size = length-set marks place mark.Unfed ∙ known.size;
       followed = trail_more net (plan_of o) (domain_of o) hit place d marks at unseen c.args.marks.now trail known.trail;
       all_fed = λ is i x there here. cc;
       right = λ is. looked_at net (plan_of o) (domain_of o) hit place d marks at unseen (λ e. ⊥) known.right c.in-Lost.ensures;
-      marked = λ lost. two_marks (slice_get (set marks place mark.Unfed) c.args.start) lost (start_more net (plan_of o) (domain_of o) hit place d marks at unseen c.args.start known.start) (λ same. cc);
+      marked = λ lost. two_marks (slice_get (set marks place mark.Unfed) c.args.start) lost
+          (start_more net (plan_of o) (domain_of o) hit place d marks at unseen c.args.start known.start) (λ same. cc);
     })
 
 pub loop-marks-preserved : goal.loop-marks-preserved
@@ -99,13 +106,16 @@ loop-marks-preserved c =
     let at : slice_get hit place ≡ Some d = slice_get-get_or hit place 0 known.range in
     let inside : place < length marks = omega (arith, known.right.size, known.range) in
     let unseen : slice_get marks place ≡ Some mark.Unseen = slice_get-get_or marks place mark.Unseen inside ∙ ap Some c.in-Unseen.is in
-    let turn : (e : ℕ) × (slice_get hit next ≡ Some e) × (Fed net (plan_of o) (domain_of o) e → Fed net (plan_of o) (domain_of o) d) × IsHeld net (plan_of o) (domain_of o) (λ x. x ≡ e) d = c.in-To.ensures in
+    let turn : (e : ℕ) × (slice_get hit next ≡ Some e) × (Fed net (plan_of o) (domain_of o) e → Fed net (plan_of o) (domain_of o) d)
+    × IsHeld net (plan_of o) (domain_of o) (λ x. x ≡ e) d = c.in-To.ensures in
     record {
       range = slice_get_within hit next turn.0 turn.1;
       size = length-set marks place mark.Unfed ∙ known.size;
       right = looked_at net (plan_of o) (domain_of o) hit place d marks at unseen (λ e. slice_get hit next ≡ Some e) known.right
-          (held_more net (plan_of o) (domain_of o) hit (λ x. x ≡ turn.0) (λ e. slice_get hit next ≡ Some e) d (λ x same. subst (λ y. slice_get hit next ≡ Some y) (sym same) turn.1) turn.3);
-      trail = subst (λ (xs : List ℕ). IsTrail hit c.args.marks.now (set marks place mark.Unfed) xs) (sym c.in-Ok.ensures.items) (trail_more net (plan_of o) (domain_of o) hit place d marks at unseen c.args.marks.now trail known.trail);
+          (held_more net (plan_of o) (domain_of o) hit (λ x. x ≡ turn.0) (λ e. slice_get hit next ≡ Some e) d
+          (λ x same. subst (λ y. slice_get hit next ≡ Some y) (sym same) turn.1) turn.3);
+      trail = subst (λ (xs : List ℕ). IsTrail hit c.args.marks.now (set marks place mark.Unfed) xs) (sym c.in-Ok.ensures.items)
+          (trail_more net (plan_of o) (domain_of o) hit place d marks at unseen c.args.marks.now trail known.trail);
       leads = λ i x there here e later fed.
           leads_more net (plan_of o) (domain_of o) hit place d marks at unseen trail (Fed net (plan_of o) (domain_of o) turn.0) turn.2 known.leads i x
           (subst (λ (xs : List ℕ). has xs i ≡ true) c.in-Ok.ensures.items there) here
@@ -114,7 +124,8 @@ loop-marks-preserved c =
     }
 
 -- what the mark tells at which the trail ends
-ended : (net : Network) (plan : Plan) (domain : DomainId) (hit : List ℕ) (start place d : ℕ) (old marks : List Mark) (trail : List ℕ) (m : Mark) → (m ≡ mark.Unseen → ⊥)
+ended : (net : Network) (plan : Plan) (domain : DomainId) (hit : List ℕ) (start place d : ℕ) (old marks : List Mark) (trail : List ℕ) (m : Mark)
+    → (m ≡ mark.Unseen → ⊥)
     → slice_get hit place ≡ Some d → slice_get marks place ≡ Some m
     → length marks ≡ length old → AreMarks net plan domain hit (λ e. slice_get hit place ≡ Some e) marks → IsTrail hit old marks trail
     → ((i x : ℕ) → has trail i ≡ true → slice_get hit i ≡ Some x → (e : ℕ) → slice_get hit place ≡ Some e → Fed net plan domain e → Fed net plan domain x)
@@ -132,7 +143,8 @@ ended net plan domain hit start place d old marks trail m seen at is size right 
       ];
     }
   where
-    by_fed : (m : Mark) → slice_get marks place ≡ Some m → (m ≡ mark.Unseen → ⊥) → not (is_unfed m) ≡ true → (i x : ℕ) → has trail i ≡ true → slice_get hit i ≡ Some x → Fed net plan domain x
+    by_fed : (m : Mark) → slice_get marks place ≡ Some m → (m ≡ mark.Unseen → ⊥) → not (is_unfed m) ≡ true → (i x : ℕ) → has trail i ≡ true
+        → slice_get hit i ≡ Some x → Fed net plan domain x
     by_fed mark.Unseen is seen fed i x there here = absurd (seen refl)
     by_fed mark.Fed is seen fed i x there here = leads i x there here d at (right.fed place d at is)
     by_fed mark.Unfed is seen fed i x there here = cc
@@ -152,6 +164,7 @@ returns c =
     let known = c.loop-marks.invariant in
     let m = get_or marks place mark.Unseen in
     let inside : place < length marks = omega (arith, known.right.size, known.range) in
-    subst (λ (b : Bool). IsFollowed net (plan_of o) (domain_of o) hit c.args.start c.args.marks.now marks c.loop-marks.trail.items (not b)) (sym c.is_unfed.ensures)
+    subst (λ (b : Bool). IsFollowed net (plan_of o) (domain_of o) hit c.args.start c.args.marks.now marks c.loop-marks.trail.items (not b))
+    (sym c.is_unfed.ensures)
     (ended net (plan_of o) (domain_of o) hit c.args.start place (get_or hit place 0) c.args.marks.now marks c.loop-marks.trail.items m c.in_default.not-Unseen
     (slice_get-get_or hit place 0 known.range) (slice_get-get_or marks place mark.Unseen inside) known.size known.right known.trail known.leads known.start)

@@ -14,7 +14,8 @@ invariant-loop-marks l =
       right : AreMarks (net_of l.self) (plan_of l.self) (domain_of l.self) (hit_of l.self) (λ e. slice_get (hit_of l.self) l.place ≡ Some e) l.marks;
       trail : IsTrail (hit_of l.self) l.fn.marks l.marks l.trail.items;
       leads : (i x : ℕ) → has l.trail.items i ≡ true → slice_get (hit_of l.self) i ≡ Some x
-          → (e : ℕ) → slice_get (hit_of l.self) l.place ≡ Some e → Fed (net_of l.self) (plan_of l.self) (domain_of l.self) e → Fed (net_of l.self) (plan_of l.self) (domain_of l.self) x;
+          → (e : ℕ) → slice_get (hit_of l.self) l.place ≡ Some e → Fed (net_of l.self) (plan_of l.self) (domain_of l.self) e
+          → Fed (net_of l.self) (plan_of l.self) (domain_of l.self) x;
       start : (l.place ≡ l.start) ⊎ (slice_get l.marks l.start ≡ Some mark.Unfed);
     }
 

@@ -15,5 +15,6 @@ returns-then-trusted-clause-sure c = λ unhit.
     let o = c.args.self.now in
     let net = net_of o in
     let index = c.args.self.now.outage.planned.is_index in
-    sure_reaches net (plan_of o) (domain_of o) c.args.d index.fits index.structured (keeps_rules net (plan_of o) index.structured) c.requires.device c.requires.sound
+    sure_reaches net (plan_of o) (domain_of o) c.args.d index.fits index.structured
+    (keeps_rules net (plan_of o) index.structured) c.requires.device c.requires.sound
     (sym c.hits.ensures ∙ not-true c.hits.result unhit) (c.requires.trust c.if-trusted.true)

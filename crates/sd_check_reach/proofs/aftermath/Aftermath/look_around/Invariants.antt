@@ -9,6 +9,7 @@ abbrev pub invariant-loop-end : goal.invariant-loop-end
 invariant-loop-end l =
     record {
       grown : Grows l.fn.visited.numbers l.visited.numbers (IsStep (net_of l.self) (plan_of l.self) (domain_of l.self) l.d);
-      passed : (j : ℕ) (e : End) → j < l.end-index → slice_get l.end-items j ≡ Some e → is_left (net_of l.self) (domain_of l.self) e.link e.device ≡ true → has l.visited.numbers e.device ≡ true;
+      passed : (j : ℕ) (e : End) → j < l.end-index → slice_get l.end-items j ≡ Some e → is_left (net_of l.self) (domain_of l.self) e.link e.device ≡ true
+          → has l.visited.numbers e.device ≡ true;
       room : l.visited.bound ≡ l.fn.visited.bound;
     }

@@ -1,7 +1,7 @@
 use Rattle.std.proofs.Common.{◌≡◌, ◌<◌, ◌+◌, ℕ, Bool, List, length, Some, get_or, slice_get, sym, ◌∙◌, subst, arith}
 use Rattle.std.proofs.lemmas.Option.{slice_get-get_or}
 use Rattle.sd_check_reach.specs.Aftermaths.{net_of, plan_of, domain_of, hit_of}
-use Rattle.sd_hit.proofs.HitList.{hit_at, hit_rises}
+use Rattle.sd_check_hit.proofs.HitList.{hit_at, hit_rises}
 use Rattle.sd_plan.proofs.Rules.{keeps_rules}
 use Rattle.sd_check_reach.specs.Candidates.{Chooses, loses}
 use Rattle.sd_check_reach.proofs.Chosen.{chooses_more, chooses_not, losing_all}
@@ -29,7 +29,8 @@ loop-d-preserved c =
     elim c.if-loses.branch [
       | then-loses+in_ok-push w ↦
           subst (λ (xs : List ℕ). Chooses hit P (k + 1) xs) (sym (w.losing-is ∙ w.in_ok-push.ensures.added))
-          (chooses_more hit P k d c.loop-d.losing at (sym c.loses.ensures ∙ w.if-loses.true) (λ i j x y less here later. hit_rises net (plan_of o) (domain_of o) hit i j x y c.args.self.now.outage.hits less here later) c.loop-d.invariant)
+          (chooses_more hit P k d c.loop-d.losing at (sym c.loses.ensures ∙ w.if-loses.true)
+          (λ i j x y less here later. hit_rises net (plan_of o) (domain_of o) hit i j x y c.args.self.now.outage.hits less here later) c.loop-d.invariant)
       | else-loses w ↦
           subst (λ (xs : List ℕ). Chooses hit P (k + 1) xs) (sym w.losing-is)
           (chooses_not hit P k d c.loop-d.losing at (sym c.loses.ensures ∙ w.if-loses.false) c.loop-d.invariant)

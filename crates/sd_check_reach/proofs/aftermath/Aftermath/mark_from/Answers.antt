@@ -11,5 +11,6 @@ returns-then-branch-clause-marks c =
     let hit = hit_of o in
     let trail = c.follow.new.trail.items in
     fed_right net (plan_of o) (domain_of o) hit c.args.start c.args.marks.now c.follow.new.marks c.mark_fed.new.marks trail c.requires.marks
-    (subst (λ (b : Bool). IsFollowed net (plan_of o) (domain_of o) hit c.args.start c.args.marks.now c.follow.new.marks trail b) c.if-branch.true c.in_ok-follow.ensures)
+    (subst (λ (b : Bool). IsFollowed net (plan_of o) (domain_of o) hit c.args.start c.args.marks.now c.follow.new.marks trail b) c.if-branch.true
+    c.in_ok-follow.ensures)
     (subst (λ (xs : List ℕ). IsMarkedFed xs c.follow.new.marks c.mark_fed.new.marks) c.as_slice.ensures.value c.mark_fed.ensures)

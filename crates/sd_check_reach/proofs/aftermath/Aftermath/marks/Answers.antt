@@ -10,7 +10,8 @@ use Rattle.sd_check_reach.specs.declared.marks.Mark.TheVariants as mark
 use Rattle.sd_check_reach.proofs.Following.{seen_more, written_back}
 use Rattle.sd_check_reach.proofs.aftermath.Aftermath.marks.Goals as goal
 
-all_unseen : (net : Network) (plan : Plan) (domain : DomainId) (hit : List ℕ) (marks : List Mark) → length marks ≡ length hit → ((i : ℕ) → i < length hit → slice_get marks i ≡ Some mark.Unseen)
+all_unseen : (net : Network) (plan : Plan) (domain : DomainId) (hit : List ℕ) (marks : List Mark) → length marks ≡ length hit
+    → ((i : ℕ) → i < length hit → slice_get marks i ≡ Some mark.Unseen)
     → AreMarks net plan domain hit (λ e. ⊥) marks
 all_unseen net plan domain hit marks size each = record {
   size = size;
@@ -37,7 +38,8 @@ loop-place-preserved c =
     let right = c.in_ok-mark_from.ensures.marks in
     let size : length new ≡ c.loop-place.marks.len = omega (arith, right.size, c.loop-place.invariant.right.size, c.loop-place.marks.ok.0) in
     let back : take c.loop-place.marks.len (new ++ drop (length new) old) ≡ new = written_back c.loop-place.marks.len new (drop (length new) old) size in
-    let settled : AreSettled c.loop-place.place old new = subst (λ (ms : List Mark). AreSettled c.loop-place.place ms new) c.deref_mut.ensures.value c.in_ok-mark_from.ensures.settled in
+    let settled : AreSettled c.loop-place.place old new =
+    subst (λ (ms : List Mark). AreSettled c.loop-place.place ms new) c.deref_mut.ensures.value c.in_ok-mark_from.ensures.settled in
     let within : c.loop-place.place < length old = omega (arith, c.loop-place.invariant.right.size, c.loop-place-test.true) in
     record {
       right = subst (λ (ms : List Mark). AreMarks net (plan_of o) (domain_of o) hit (λ e. ⊥) ms) (sym back) right;

@@ -22,8 +22,10 @@ returns-in_default-clause-shown c =
     let o = c.args.self.now in
     let net = net_of o in
     let candidates = c.as_slice.result.now in
-    let none : FirstReached net (plan_of o) (domain_of o) candidates None = subst (λ (x : Option ℕ). FirstReached net (plan_of o) (domain_of o) candidates x) c.in_default.is c.first_uncut.ensures.first in
-    reach_holds net (plan_of o) (domain_of o) candidates (subst (λ (xs : List ℕ). AreDecided net (plan_of o) (domain_of o) xs) (sym c.as_slice.ensures) c.in_ok-unheard.ensures.decided) none
+    let none : FirstReached net (plan_of o) (domain_of o) candidates None =
+    subst (λ (x : Option ℕ). FirstReached net (plan_of o) (domain_of o) candidates x) c.in_default.is c.first_uncut.ensures.first in
+    reach_holds net (plan_of o) (domain_of o) candidates
+    (subst (λ (xs : List ℕ). AreDecided net (plan_of o) (domain_of o) xs) (sym c.as_slice.ensures) c.in_ok-unheard.ensures.decided) none
 
 pub chain-requires : goal.chain-requires
 chain-requires c =
@@ -32,8 +34,10 @@ chain-requires c =
     let index = c.args.self.now.outage.planned.is_index in
     let candidates = c.as_slice.result.now in
     let first = c.in-Some.first in
-    let found : FirstReached net (plan_of o) (domain_of o) candidates (Some first) = subst (λ (x : Option ℕ). FirstReached net (plan_of o) (domain_of o) candidates x) c.in-Some.is c.first_uncut.ensures.first in
-    let all : AreAll (IsUnheard net (plan_of o) (domain_of o)) candidates = subst (λ (xs : List ℕ). AreAll (IsUnheard net (plan_of o) (domain_of o)) xs) (sym c.as_slice.ensures) c.in_ok-unheard.ensures.all in
+    let found : FirstReached net (plan_of o) (domain_of o) candidates (Some first) =
+    subst (λ (x : Option ℕ). FirstReached net (plan_of o) (domain_of o) candidates x) c.in-Some.is c.first_uncut.ensures.first in
+    let all : AreAll (IsUnheard net (plan_of o) (domain_of o)) candidates =
+    subst (λ (xs : List ℕ). AreAll (IsUnheard net (plan_of o) (domain_of o)) xs) (sym c.as_slice.ensures) c.in_ok-unheard.ensures.all in
     unheard_within net (plan_of o) (domain_of o) first index.fits (keeps_rules net (plan_of o) index.structured) (all.each found.0 first found.1)
 
 pub returns-clause-shown : goal.returns-clause-shown
@@ -42,7 +46,10 @@ returns-clause-shown c =
     let net = net_of o in
     let candidates = c.as_slice.result.now in
     let first = c.in-Some.first in
-    let left : holds_device net (domain_of o) (acting_end net (plan_of o) (domain_of o)) ≡ false = ap (holds_device net (domain_of o)) (sym c.args.self.now.acts) ∙ c.args.self.now.left in
-    let found : FirstReached net (plan_of o) (domain_of o) candidates (Some first) = subst (λ (x : Option ℕ). FirstReached net (plan_of o) (domain_of o) candidates x) c.in-Some.is c.first_uncut.ensures.first in
-    let all : AreAll (IsUnheard net (plan_of o) (domain_of o)) candidates = subst (λ (xs : List ℕ). AreAll (IsUnheard net (plan_of o) (domain_of o)) xs) (sym c.as_slice.ensures) c.in_ok-unheard.ensures.all in
+    let left : holds_device net (domain_of o) (acting_end net (plan_of o) (domain_of o)) ≡ false =
+    ap (holds_device net (domain_of o)) (sym c.args.self.now.acts) ∙ c.args.self.now.left in
+    let found : FirstReached net (plan_of o) (domain_of o) candidates (Some first) =
+    subst (λ (x : Option ℕ). FirstReached net (plan_of o) (domain_of o) candidates x) c.in-Some.is c.first_uncut.ensures.first in
+    let all : AreAll (IsUnheard net (plan_of o) (domain_of o)) candidates =
+    subst (λ (xs : List ℕ). AreAll (IsUnheard net (plan_of o) (domain_of o)) xs) (sym c.as_slice.ensures) c.in_ok-unheard.ensures.all in
     chain_shown net (plan_of o) (domain_of o) candidates first c.in_ok-chain.chain left all found c.in_ok-chain.ensures

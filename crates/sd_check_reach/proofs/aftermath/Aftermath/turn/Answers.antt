@@ -12,7 +12,8 @@ returns-then-d-self c =
     let o = c.args.self.now in
     let net = net_of o in
     let index = c.args.self.now.outage.planned.is_index in
-    stands_by (hit_sound net (plan_of o) (domain_of o) index.fits (keeps_rules net (plan_of o) index.structured) c.args.d c.requires (sym c.holds_device.ensures ∙ c.if-holds_device.false)) c.if-d-self.true
+    stands_by (hit_sound net (plan_of o) (domain_of o) index.fits
+    (keeps_rules net (plan_of o) index.structured) c.args.d c.requires (sym c.holds_device.ensures ∙ c.if-holds_device.false)) c.if-d-self.true
 
 pub next_hop-requires : goal.next_hop-requires
 next_hop-requires c =

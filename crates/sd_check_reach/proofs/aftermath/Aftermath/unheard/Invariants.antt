@@ -7,4 +7,5 @@ use Rattle.sd_check_reach.specs.declared.marks.Mark.TheVariants as mark
 use Rattle.sd_check_reach.proofs.aftermath.Aftermath.unheard.Given as goal
 
 abbrev pub invariant-loop-place : goal.invariant-loop-place
-invariant-loop-place l = Chooses (hit_of l.self) (λ j d. is_unfed (get_or l.marks.items j mark.Unseen) && not (holds_device (net_of l.self) (domain_of l.self) d)) l.place l.unheard
+invariant-loop-place l =
+    Chooses (hit_of l.self) (λ j d. is_unfed (get_or l.marks.items j mark.Unseen) && not (holds_device (net_of l.self) (domain_of l.self) d)) l.place l.unheard

@@ -7,7 +7,8 @@ use Rattle.sd_check_reach.proofs.aftermath.Aftermath.visit.Goals as goal
 
 pub returns-clause-passed : goal.returns-clause-passed
 returns-clause-passed c = λ passed left.
-    subst (λ (xs : List ℕ). has xs c.args.end.device ≡ true) (sym (ap (λ s. s.numbers) c.insert.ensures.added)) (has_insert c.args.visited.now.numbers c.args.end.device)
+    subst (λ (xs : List ℕ). has xs c.args.end.device ≡ true) (sym (ap (λ s. s.numbers) c.insert.ensures.added))
+    (has_insert c.args.visited.now.numbers c.args.end.device)
 
 pub returns-clause-grown : goal.returns-clause-grown
 returns-clause-grown c =
@@ -15,4 +16,5 @@ returns-clause-grown c =
     let e = c.args.end.device in
     let P : ℕ → Type 0 = IsPassed (net_of o) (plan_of o) (domain_of o) c.args.end.link e in
     subst (λ (xs : List ℕ). Grows c.args.visited.now.numbers xs P) (sym (ap (λ s. s.numbers) c.insert.ensures.added))
-    (grows_insert c.args.visited.now.numbers e P (record { same = refl; left = sym c.leaves.ensures ∙ c.if-not-leaves.false; other = c.if-is_sure.ensures.other refl }))
+    (grows_insert c.args.visited.now.numbers e P
+    (record { same = refl; left = sym c.leaves.ensures ∙ c.if-not-leaves.false; other = c.if-is_sure.ensures.other refl }))

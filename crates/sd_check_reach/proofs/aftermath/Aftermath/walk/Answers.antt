@@ -17,7 +17,8 @@ use Rattle.sd_check_reach.proofs.Joining.{insert_old, insert_new}
 use Rattle.sd_check_reach.proofs.Chained.{onward_hop, stops, comes_round, chain_more, chain_stopped}
 use Rattle.sd_check_reach.proofs.aftermath.Aftermath.walk.Goals as goal
 
-next_within : (net : Network) (plan : Plan) (domain : DomainId) (d next : ℕ) → Fits net plan → KeepsRules net plan → d < length net.devices → onward net plan domain d ≡ Some next → next < length net.devices
+next_within : (net : Network) (plan : Plan) (domain : DomainId) (d next : ℕ) → Fits net plan → KeepsRules net plan → d < length net.devices
+    → onward net plan domain d ≡ Some next → next < length net.devices
 next_within net plan domain d next fits rules within is =
     let found = onward_hop net plan domain (next_hop plan d) next is in
     subst (λ x. x < length net.devices) found.3 (next_right net plan d found.0 fits rules within found.1).parent
@@ -34,8 +35,10 @@ returns-then-not-insert c =
     let next = c.in-Some.next in
     let is : onward net (plan_of o) (domain_of o) here ≡ Some next = sym c.onward.ensures ∙ c.in-Some.is in
     let there : has keys next ≡ true = not-false (has keys next) (sym c.insert-in-Some.ensures.new ∙ c.if-not-insert.true) in
-    subst (λ (xs : List ℕ). IsChainOf net (plan_of o) (domain_of o) c.args.first xs) (sym (ap (λ s. s.numbers) c.insert-in-Some.ensures.added ∙ insert_old keys next there))
-    (chain_stopped net (plan_of o) (domain_of o) c.args.first here keys c.loop-next.invariant.known (comes_round net (plan_of o) (domain_of o) (next_hop (plan_of o) here) keys next is there))
+    subst (λ (xs : List ℕ). IsChainOf net (plan_of o) (domain_of o) c.args.first xs)
+    (sym (ap (λ s. s.numbers) c.insert-in-Some.ensures.added ∙ insert_old keys next there))
+    (chain_stopped net (plan_of o) (domain_of o) c.args.first here keys c.loop-next.invariant.known
+    (comes_round net (plan_of o) (domain_of o) (next_hop (plan_of o) here) keys next is there))
 
 pub insert-requires-in-Some : goal.insert-requires-in-Some
 insert-requires-in-Some c =
@@ -43,7 +46,8 @@ insert-requires-in-Some c =
     let net = net_of o in
     let index = c.args.self.now.outage.planned.is_index in
     let inside : c.in-Some.next < length net.devices =
-    next_within net (plan_of o) (domain_of o) c.loop-next.here c.in-Some.next index.fits (keeps_rules net (plan_of o) index.structured) c.loop-next.invariant.device (sym c.onward.ensures ∙ c.in-Some.is)
+    next_within net (plan_of o) (domain_of o) c.loop-next.here c.in-Some.next index.fits
+    (keeps_rules net (plan_of o) index.structured) c.loop-next.invariant.device (sym c.onward.ensures ∙ c.in-Some.is)
     in
     omega (arith, c.loop-next.invariant.room)
 
@@ -61,7 +65,8 @@ loop-next-smaller c =
     let out : has keys next ≡ false = not-true (has keys next) (sym c.insert-in-Some.ensures.new ∙ c.if-not-insert.false) in
     let longer : new ≡ keys ++ next ∷ [] = ap (λ s. s.numbers) c.insert-in-Some.ensures.added ∙ insert_new keys next out in
     let inside : next < length net.devices = next_within net (plan_of o) (domain_of o) here next index.fits rules c.loop-next.invariant.device is in
-    let each : (x : ℕ) → has new x ≡ true → x < length net.devices = λ x there. all_within (length net.devices) keys next inside c.loop-next.invariant.within x (subst (λ (xs : List ℕ). has xs x ≡ true) longer there) in
+    let each : (x : ℕ) → has new x ≡ true → x < length net.devices =
+    λ x there. all_within (length net.devices) keys next inside c.loop-next.invariant.within x (subst (λ (xs : List ℕ). has xs x ≡ true) longer there) in
     let size : length new ≡ length keys + 1 = ap length longer ∙ length_push keys next in
     let few : length new ≤ length net.devices = length-le_from_distinct_below new (length net.devices) c.insert-in-Some.ensures.distinct each in
     omega arith
@@ -81,9 +86,11 @@ loop-next-preserved c =
     let longer : new ≡ keys ++ next ∷ [] = ap (λ s. s.numbers) c.insert-in-Some.ensures.added ∙ insert_new keys next out in
     let inside : next < length net.devices = next_within net (plan_of o) (domain_of o) here next index.fits rules c.loop-next.invariant.device is in
     record {
-      known = subst (λ (xs : List ℕ). IsChainTo net (plan_of o) (domain_of o) c.args.first next xs) (sym longer) (chain_more net (plan_of o) (domain_of o) c.args.first here next keys c.loop-next.invariant.known is out);
+      known = subst (λ (xs : List ℕ). IsChainTo net (plan_of o) (domain_of o) c.args.first next xs) (sym longer)
+          (chain_more net (plan_of o) (domain_of o) c.args.first here next keys c.loop-next.invariant.known is out);
       device = inside;
-      within = λ x there. all_within (length net.devices) keys next inside c.loop-next.invariant.within x (subst (λ (xs : List ℕ). has xs x ≡ true) longer there);
+      within = λ x there. all_within (length net.devices) keys next inside c.loop-next.invariant.within x
+          (subst (λ (xs : List ℕ). has xs x ≡ true) longer there);
       distinct = c.insert-in-Some.ensures.distinct;
       room = ap (λ s. s.bound) c.insert-in-Some.ensures.added ∙ c.loop-next.invariant.room;
     }

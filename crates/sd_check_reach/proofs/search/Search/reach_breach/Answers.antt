@@ -1,6 +1,6 @@
 use Rattle.std.proofs.Common.{IfOk, sym, subst}
-use Rattle.sd_hit.specs.Outages.{net_of, plan_of}
-use Rattle.sd_hit.specs.declared.outage.Outage.{Outage}
+use Rattle.sd_check_hit.specs.Outages.{net_of, plan_of}
+use Rattle.sd_check_hit.specs.declared.outage.Outage.{Outage}
 use Rattle.sd_plan.proofs.Rules.{keeps_rules}
 use Rattle.sd_check_reach.specs.Reach.{ReachShown}
 use Rattle.sd_check_reach.specs.Searches.{HasRoom, IsSearchOf}
@@ -8,7 +8,8 @@ use Rattle.sd_check_reach.proofs.Chosen.{harmless_reach}
 use Rattle.sd_check_reach.proofs.search.Search.reach_breach.Goals as goal
 
 pub reach_breach-requires-clause-search : goal.reach_breach-requires-clause-search
-reach_breach-requires-clause-search c = subst (λ (o : Outage). IsSearchOf (net_of o) (plan_of o) o.domain c.args.self.now) (sym c.in-Some.ensures) c.requires.search
+reach_breach-requires-clause-search c =
+    subst (λ (o : Outage). IsSearchOf (net_of o) (plan_of o) o.domain c.args.self.now) (sym c.in-Some.ensures) c.requires.search
 
 pub reach_breach-requires-clause-room : goal.reach_breach-requires-clause-room
 reach_breach-requires-clause-room c = subst (λ (o : Outage). HasRoom (net_of o) c.args.self.now) (sym c.in-Some.ensures) c.requires.room

@@ -10,5 +10,6 @@ use Rattle.sd_core.proofs.device.DeviceNode.on_commit.Goals as goal
 pub returns-in-Some-clause-told : goal.returns-in-Some-clause-told
 returns-in-Some-clause-told c = λ tells life h.
     (stood c.args.self.now c.self.inside.registers c.commit.new.self Quiet life (Commit c.args.counter) c.self.view_is
-    (c.commit.ensures ∙ sym (ap (λ (given : Option Duty). of_some given c.self.inside.registers (committed c.self.inside.registers c.args.counter)) c.in-Some.is)) refl h
+    (c.commit.ensures
+    ∙ sym (ap (λ (given : Option Duty). of_some given c.self.inside.registers (committed c.self.inside.registers c.args.counter)) c.in-Some.is)) refl h
     (omega (arith, c.requires.floor))).stands

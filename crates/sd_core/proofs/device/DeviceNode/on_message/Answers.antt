@@ -7,12 +7,15 @@ use Rattle.sd_core.proofs.device.DeviceNode.on_message.Goals as goal
 
 kept : (c : goal.After-receive) → MessageKeeps c.args.self.now c.args.message c.args.counter (c.receive.new.self, c.receive.result)
 kept c =
-    message_keeps c.args.self.now c.self.inside.registers c.receive.new.self c.receive.result c.args.link c.args.message c.args.counter c.self.view_is c.receive.ensures.registers
+    message_keeps c.args.self.now c.self.inside.registers c.receive.new.self c.receive.result c.args.link c.args.message c.args.counter c.self.view_is
+    c.receive.ensures.registers
     c.receive.ensures.effect c.self.invariant c.requires.floor
 
-stands : (c : goal.After-receive) (life : Life) → StandsFor c.args.self.now life → Stood life (Receive c.args.link c.args.message c.args.counter) (c.receive.new.self, c.receive.result)
+stands : (c : goal.After-receive) (life : Life) → StandsFor c.args.self.now life
+    → Stood life (Receive c.args.link c.args.message c.args.counter) (c.receive.new.self, c.receive.result)
 stands c life h =
-    stood c.args.self.now c.self.inside.registers c.receive.new.self c.receive.result life (Receive c.args.link c.args.message c.args.counter) c.self.view_is c.receive.ensures.registers
+    stood c.args.self.now c.self.inside.registers c.receive.new.self c.receive.result life
+    (Receive c.args.link c.args.message c.args.counter) c.self.view_is c.receive.ensures.registers
     c.receive.ensures.effect h (omega (arith, c.requires.floor))
 
 pub invariant_of-self : goal.invariant_of-self

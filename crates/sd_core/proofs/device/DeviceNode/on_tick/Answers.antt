@@ -7,12 +7,14 @@ use Rattle.sd_core.proofs.device.DeviceNode.on_tick.Goals as goal
 
 kept : (c : goal.After-tick) → TickKeeps c.args.self.now c.args.counter (c.tick.new.self, c.tick.result)
 kept c =
-    tick_keeps c.args.self.now c.self.inside.registers c.tick.new.self c.tick.result c.args.counter c.self.view_is c.tick.ensures.registers c.tick.ensures.effect c.self.invariant c.requires.floor
+    tick_keeps c.args.self.now c.self.inside.registers c.tick.new.self c.tick.result c.args.counter c.self.view_is c.tick.ensures.registers
+    c.tick.ensures.effect c.self.invariant c.requires.floor
     c.requires.counter
 
 stands : (c : goal.After-tick) (life : Life) → StandsFor c.args.self.now life → Stood life (Tick c.args.counter) (c.tick.new.self, c.tick.result)
 stands c life h =
-    stood c.args.self.now c.self.inside.registers c.tick.new.self c.tick.result life (Tick c.args.counter) c.self.view_is c.tick.ensures.registers c.tick.ensures.effect h (omega (arith, c.requires.floor))
+    stood c.args.self.now c.self.inside.registers c.tick.new.self c.tick.result life
+    (Tick c.args.counter) c.self.view_is c.tick.ensures.registers c.tick.ensures.effect h (omega (arith, c.requires.floor))
 
 pub invariant_of-self : goal.invariant_of-self
 invariant_of-self c = (kept c).sound

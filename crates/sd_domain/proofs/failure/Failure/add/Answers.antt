@@ -10,14 +10,22 @@ use Rattle.sd_domain.proofs.failure.Failure.add.Goals as goal
 
 -- what is seen of two sets
 abbrev of_sets : Numbers → Numbers → FailedThings
-of_sets devices links = record { devices = set.from_list {R = nat_cmp} devices.numbers; links = set.from_list {R = nat_cmp} links.numbers; device_room = devices.bound; link_room = links.bound }
+of_sets devices links =
+    record {
+      devices = set.from_list {R = nat_cmp} devices.numbers;
+      links = set.from_list {R = nat_cmp} links.numbers;
+      device_room = devices.bound;
+      link_room = links.bound;
+    }
 
-device_added : (old new links : Numbers) (n : ℕ) → new ≡ record old { numbers = with_number old.numbers n } → of_sets new links ≡ with_thing (of_sets old links) (thing.Device n)
+device_added : (old new links : Numbers) (n : ℕ) → new ≡ record old { numbers = with_number old.numbers n }
+    → of_sets new links ≡ with_thing (of_sets old links) (thing.Device n)
 device_added old new links n added =
     ap (λ s. of_sets s links) added
     ∙ ap (λ (s : FinSet nat_cmp). record (of_sets old links) { devices = s }) (made_with old.numbers n)
 
-link_added : (devices old new : Numbers) (n : ℕ) → new ≡ record old { numbers = with_number old.numbers n } → of_sets devices new ≡ with_thing (of_sets devices old) (thing.Link n)
+link_added : (devices old new : Numbers) (n : ℕ) → new ≡ record old { numbers = with_number old.numbers n }
+    → of_sets devices new ≡ with_thing (of_sets devices old) (thing.Link n)
 link_added devices old new n added =
     ap (λ s. of_sets devices s) added
     ∙ ap (λ (s : FinSet nat_cmp). record (of_sets devices old) { links = s }) (made_with old.numbers n)

@@ -10,7 +10,8 @@ loop-d-preserved c =
     let kept = c.loop-d.invariant in
     let within : i < length xs = omega arith in
     record {
-      added = λ d. ap (λ f. set.contains f.devices d) c.add.ensures ∙ added_more xs i (get_or xs i 0) c.args.self.now.devices c.loop-d.self.devices within refl kept.added d;
+      added = λ d. ap (λ f. set.contains f.devices d) c.add.ensures
+          ∙ added_more xs i (get_or xs i 0) c.args.self.now.devices c.loop-d.self.devices within refl kept.added d;
       links = ap (λ f. f.links) c.add.ensures ∙ kept.links;
       device_room = ap (λ f. f.device_room) c.add.ensures ∙ kept.device_room;
       link_room = ap (λ f. f.link_room) c.add.ensures ∙ kept.link_room;

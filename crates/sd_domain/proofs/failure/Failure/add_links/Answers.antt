@@ -10,7 +10,8 @@ loop-l-preserved c =
     let kept = c.loop-l.invariant in
     let within : i < length xs = omega arith in
     record {
-      added = λ d. ap (λ f. set.contains f.links d) c.add.ensures ∙ added_more xs i (get_or xs i 0) c.args.self.now.links c.loop-l.self.links within refl kept.added d;
+      added = λ d. ap (λ f. set.contains f.links d) c.add.ensures
+          ∙ added_more xs i (get_or xs i 0) c.args.self.now.links c.loop-l.self.links within refl kept.added d;
       devices = ap (λ f. f.devices) c.add.ensures ∙ kept.devices;
       device_room = ap (λ f. f.device_room) c.add.ensures ∙ kept.device_room;
       link_room = ap (λ f. f.link_room) c.add.ensures ∙ kept.link_room;

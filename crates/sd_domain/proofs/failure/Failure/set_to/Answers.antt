@@ -11,22 +11,27 @@ use Rattle.sd_domain.proofs.failure.Failure.set_to.Goals as goal
 pub add_devices-requires : goal.add_devices-requires
 add_devices-requires c =
     let net = network c.args.topo.now in
-    devices_fit net c.in-Listed.k c.clear.new.self.device_room c.domain_devices.result.now c.args.topo.now.is_network (subst (IsDomain net) c.in-Listed.is c.requires.domain) c.domain_devices.ensures
+    devices_fit net c.in-Listed.k c.clear.new.self.device_room c.domain_devices.result.now c.args.topo.now.is_network
+    (subst (IsDomain net) c.in-Listed.is c.requires.domain) c.domain_devices.ensures
     (ap (λ f. f.device_room) c.clear.ensures ∙ c.requires.room.devices)
 
 pub add_links-requires : goal.add_links-requires
 add_links-requires c =
     let net = network c.args.topo.now in
-    links_fit net c.in-Listed.k c.add_devices.new.self.link_room c.domain_links.result.now c.args.topo.now.is_network (subst (IsDomain net) c.in-Listed.is c.requires.domain) c.domain_links.ensures
+    links_fit net c.in-Listed.k c.add_devices.new.self.link_room c.domain_links.result.now c.args.topo.now.is_network
+    (subst (IsDomain net) c.in-Listed.is c.requires.domain) c.domain_links.ensures
     (c.add_devices.ensures.link_room ∙ ap (λ f. f.link_room) c.clear.ensures ∙ c.requires.room.links)
 
 pub returns-in-Listed-clause-things : goal.returns-in-Listed-clause-things
 returns-in-Listed-clause-things c =
     let net = network c.args.topo.now in
-    listed_failed net c.args.f c.in-Listed.k c.args.self.now.device_room c.args.self.now.link_room c.domain_devices.result.now c.domain_links.result.now c.add_links.new.self
+    listed_failed net c.args.f c.in-Listed.k c.args.self.now.device_room c.args.self.now.link_room c.domain_devices.result.now c.domain_links.result.now
+    c.add_links.new.self
     c.in-Listed.is (subst (IsDomain net) c.in-Listed.is c.requires.domain) c.domain_devices.ensures c.domain_links.ensures
-    (λ d. ap (λ s. set.contains s d) c.add_links.ensures.devices ∙ c.add_devices.ensures.added d ∙ ap (λ f. set.contains f.devices d || has c.domain_devices.result.now d) c.clear.ensures)
-    (λ l. c.add_links.ensures.added l ∙ ap (λ s. set.contains s l || has c.domain_links.result.now l) (c.add_devices.ensures.links ∙ ap (λ f. f.links) c.clear.ensures))
+    (λ d. ap (λ s. set.contains s d) c.add_links.ensures.devices ∙ c.add_devices.ensures.added d
+    ∙ ap (λ f. set.contains f.devices d || has c.domain_devices.result.now d) c.clear.ensures)
+    (λ l. c.add_links.ensures.added l
+    ∙ ap (λ s. set.contains s l || has c.domain_links.result.now l) (c.add_devices.ensures.links ∙ ap (λ f. f.links) c.clear.ensures))
 
 pub returns-in-Device-clause-things : goal.returns-in-Device-clause-things
 returns-in-Device-clause-things c =

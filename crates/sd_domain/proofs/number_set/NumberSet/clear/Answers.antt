@@ -14,7 +14,8 @@ unmark-requires c =
 pub invariant_of-self : goal.invariant_of-self
 invariant_of-self c =
     let s = c.self.inside in
-    let kept : (with_items s.marks c.unmark.new.marks).items ≡ c.unmark.new.marks = with_items_is s.marks c.unmark.new.marks (omega (arith, c.deref_mut.ensures.len)) in
+    let kept : (with_items s.marks c.unmark.new.marks).items ≡ c.unmark.new.marks =
+    with_items_is s.marks c.unmark.new.marks (omega (arith, c.deref_mut.ensures.len)) in
     let taken : (k : ℕ) → get_or (with_items s.marks c.unmark.new.marks).items k false ≡ (get_or s.marks.items k false && not (has s.numbers.items k)) =
     rw (kept, ← c.deref.ensures.value, ← c.deref_mut.ensures.value) c.unmark.ensures
     in

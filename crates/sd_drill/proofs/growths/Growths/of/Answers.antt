@@ -11,5 +11,8 @@ returns-in-Some-clause-growth c =
     let plan = c.args.planned.plan.now in
     let known = c.in-Some.known in
     let at : known_at c.args.self.now.known.items c.args.d ≡ Some known =
-    sym (c.index.ensures ∙ get_or_default c.args.self.now.known.items c.args.d c.index.result.now None (omega (arith, c.requires.growths.size, c.requires.device))) ∙ c.in-Some.is in
-    subst (λ (n : ℕ). IsGrowth net plan c.args.d n known.growth) c.if-known-long.true (subst (λ (entry : Option Growth). IsKnown net plan c.args.d entry) at (c.requires.growths.each c.args.d))
+    sym (c.index.ensures
+    ∙ get_or_default c.args.self.now.known.items c.args.d c.index.result.now None (omega (arith, c.requires.growths.size, c.requires.device)))
+    ∙ c.in-Some.is in
+    subst (λ (n : ℕ). IsGrowth net plan c.args.d n known.growth) c.if-known-long.true
+    (subst (λ (entry : Option Growth). IsKnown net plan c.args.d entry) at (c.requires.growths.each c.args.d))

@@ -1,10 +1,12 @@
 use Rattle.std.proofs.Common.{◌∙◌, subst, ◌<◌, length}
 use Rattle.sd_topo.specs.Network.{Network}
-use Rattle.sd_history.specs.Nodes.{steps_of}
-use Rattle.sd_roster.proofs.Queries.{counted_is}
+use Rattle.sd_fleet_fabric.specs.History.Nodes.{steps_of}
+use Rattle.sd_fleet_fabric.proofs.FleetState.membership.Queries.{counted_is}
 use Rattle.sd_fleet.proofs.fleet.Fleet.is_counted.Goals as goal
 
 pub returns : goal.returns
 returns g c =
     λ setting run stands.
-    c.is_counted.ensures ∙ counted_is c.args.self.now.fabric.roster setting (steps_of run) stands.fabric.roster c.args.d (subst (λ (net : Network). c.args.d < length net.devices) stands.fabric.net c.requires)
+    c.is_counted.ensures
+    ∙ counted_is c.args.self.now.fabric.membership setting (steps_of run) stands.fabric.membership c.args.d
+    (subst (λ (net : Network). c.args.d < length net.devices) stands.fabric.net c.requires)

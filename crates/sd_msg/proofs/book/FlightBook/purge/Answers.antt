@@ -8,7 +8,8 @@ use Rattle.sd_msg.proofs.book.FlightBook.purge.Goals as goal
 pub returns-clause-given : goal.returns-clause-given
 returns-clause-given c =
     let b = c.self.inside in
-    seen_numbered (is_left c.purge.new.self) b.last c.purge.new.self c.drop_first.new.flights.items (c.drop_first.ensures.kept b.last (c.purge.ensures.kept b.last b.flights.items c.self.invariant))
+    seen_numbered (is_left c.purge.new.self) b.last c.purge.new.self c.drop_first.new.flights.items
+    (c.drop_first.ensures.kept b.last (c.purge.ensures.kept b.last b.flights.items c.self.invariant))
 
 pub returns-clause-flights : goal.returns-clause-flights
 returns-clause-flights c =

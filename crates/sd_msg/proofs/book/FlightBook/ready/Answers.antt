@@ -21,7 +21,8 @@ pub invariant_of-self-2 : goal.invariant_of-self-2
 invariant_of-self-2 c =
     let b = c.self.inside in
     let spent = c.ready.new.self in
-    subst (AreKept b.last spent) (sym (c.reserve.ensures.items ∙ c.keep_left.ensures.items)) (kept (is_left spent) b.last spent b.flights.items (c.ready.ensures.kept b.last b.flights.items c.self.invariant))
+    subst (AreKept b.last spent) (sym (c.reserve.ensures.items ∙ c.keep_left.ensures.items))
+    (kept (is_left spent) b.last spent b.flights.items (c.ready.ensures.kept b.last b.flights.items c.self.invariant))
 
 pub returns-clause-given : goal.returns-clause-given
 returns-clause-given c = seen_numbered (is_left c.ready.new.self) c.self.inside.last c.ready.new.self c.reserve.new.self.items (invariant_of-self-2 c)

@@ -14,7 +14,8 @@ entered c = c.enter.ensures.kept c.self.inside.last c.reopen.new.flights.items (
 
 pub invariant_of-self : goal.invariant_of-self
 invariant_of-self c =
-    rw c.push_back_reserved.ensures.items (pushed c.self.inside.last c.enter.new.self c.reopen.new.flights.items (numbered c) (entered c) refl c.enter.ensures.known)
+    rw c.push_back_reserved.ensures.items
+    (pushed c.self.inside.last c.enter.new.self c.reopen.new.flights.items (numbered c) (entered c) refl c.enter.ensures.known)
 
 pub invariant_of-self-else-flight : goal.invariant_of-self-else-flight
 invariant_of-self-else-flight c = skipped c.self.inside.last c.self.inside.spent c.self.inside.flights.items c.self.invariant

@@ -6,7 +6,8 @@ pub hops_before_cut-requires-clause-child : goal.hops_before_cut-requires-clause
 hops_before_cut-requires-clause-child c =
     let inside = c.self.inside in
     subst (λ index. c.in-Some.child < length index.spans) c.self.view_is
-    (child_within (length inside.spans.items) inside.carried.items c.args.self.now.carried c.args.link c.in-Some.child c.self.invariant.children (ap (λ index. index.carried) c.self.view_is) c.requires.range c.in-Some.ensures)
+    (child_within (length inside.spans.items) inside.carried.items c.args.self.now.carried c.args.link c.in-Some.child c.self.invariant.children
+    (ap (λ index. index.carried) c.self.view_is) c.requires.range c.in-Some.ensures)
 
 pub returns-in-Some : goal.returns-in-Some
 returns-in-Some c net plan law member other =
@@ -14,4 +15,5 @@ returns-in-Some c net plan law member other =
     ∙ has_link_by net plan c.args.self.now c.args.d c.args.link c.in-Some.child law c.requires.device c.requires.range (sym c.in-Some.ensures) member other
 
 pub returns-in-None : goal.returns-in-None
-returns-in-None c net plan law member other = has_no_link_by net plan c.args.self.now c.args.d c.args.link law c.requires.device c.requires.range (sym c.in-None.ensures) other
+returns-in-None c net plan law member other =
+    has_no_link_by net plan c.args.self.now c.args.d c.args.link law c.requires.device c.requires.range (sym c.in-None.ensures) other

@@ -15,11 +15,14 @@ loop-child-init c =
 pub add_child-requires-clause-parent : goal.add_child-requires-clause-parent
 add_child-requires-clause-parent c =
     has_parent (network c.args.topo.now) c.args.plan.now c.loop-child.child (length c.deref_mut.result.now) c.requires.fits
-    (ap length (c.deref_mut.ensures.value ∙ c.loop-child.invariant) ∙ length-numbered (children_before c.args.plan.now c.loop-child.child) (length (network c.args.topo.now).devices))
+    (ap length (c.deref_mut.ensures.value ∙ c.loop-child.invariant)
+    ∙ length-numbered (children_before c.args.plan.now c.loop-child.child) (length (network c.args.topo.now).devices))
 
 pub loop-child-preserved : goal.loop-child-preserved
 loop-child-preserved c =
     let n = c.loop-child.child in
-    written c.loop-child.lists.len c.add_child.new.lists c.loop-child.lists.items (omega (arith, c.loop-child.lists.ok.0)) (c.add_child.auto.lists ∙ ap length c.deref_mut.ensures.value)
-    ∙ rows_grown (children_before c.args.plan.now n) (children_before c.args.plan.now (n + 1)) (child_below c.args.plan.now n) (length (network c.args.topo.now).devices) c.deref_mut.result.now c.add_child.new.lists c.add_child.auto.lists
+    written c.loop-child.lists.len c.add_child.new.lists c.loop-child.lists.items (omega (arith, c.loop-child.lists.ok.0))
+    (c.add_child.auto.lists ∙ ap length c.deref_mut.ensures.value)
+    ∙ rows_grown (children_before c.args.plan.now n) (children_before c.args.plan.now (n + 1)) (child_below c.args.plan.now n)
+    (length (network c.args.topo.now).devices) c.deref_mut.result.now c.add_child.new.lists c.add_child.auto.lists
     (c.deref_mut.ensures.value ∙ c.loop-child.invariant) c.in_ok-add_child.ensures (λ d within. children_grown c.args.plan.now n d)

@@ -7,4 +7,6 @@ decreases-place l = l.hops
 
 -- behind the device itself the children so far are placed, with all below them
 abbrev pub invariant-loop-child : goal.invariant-loop-child
-invariant-loop-child l = ArePlaced l.children (flat_map (subtree l.children (l.hops - 1)) (take l.child-index l.below)) (l.fn.order.items ++ l.d ∷ []) l.order.items l.fn.spans l.spans
+invariant-loop-child l =
+    ArePlaced l.children (flat_map (subtree l.children (l.hops - 1)) (take l.child-index l.below))
+    (l.fn.order.items ++ l.d ∷ []) l.order.items l.fn.spans l.spans

@@ -10,13 +10,22 @@ use Rattle.sd_plan.proofs.index.usable.usable_ends.Goals as goal
 pub loop-l-init : goal.loop-l-init
 loop-l-init c =
     c.in_ok-rows.ensures
-    ∙ subst (λ n. replicate n [] ≡ map (usable_before (network c.args.topo.now) c.args.plan.now 0) (device_numbers (network c.args.topo.now))) (sym c.devices.ensures)
+    ∙ subst (λ n. replicate n [] ≡ map (usable_before (network c.args.topo.now) c.args.plan.now 0) (device_numbers (network c.args.topo.now)))
+    (sym c.devices.ensures)
     (rows_empty (usable_before (network c.args.topo.now) c.args.plan.now 0) (length (network c.args.topo.now).devices) (λ d within. refl))
 
 pub index-requires : goal.index-requires
 index-requires c =
-    omega (arith, ap length c.in_ok-links.ensures, length-numbered (λ x. not (has c.as_slice.result.now x)) c.links.result, c.links.ensures, c.in_ok-links.links.ok.0)
+    omega (
+      arith,
+      ap length c.in_ok-links.ensures,
+      length-numbered
+          (λ x. not (has c.as_slice.result.now x)) c.links.result,
+      c.links.ensures,
+      c.in_ok-links.links.ok.0,
+    )
 
 pub add_link-requires-clause-present : goal.add_link-requires-clause-present
 add_link-requires-clause-present c =
-    flag_read c.as_slice.result.now c.args.plan.now.absent.links c.links.result c.loop-l.l c.in_ok-links.links.items c.index.result.now c.in_ok-links.ensures c.as_slice.ensures (omega (arith, c.links.ensures)) c.index.ensures
+    flag_read c.as_slice.result.now c.args.plan.now.absent.links c.links.result c.loop-l.l c.in_ok-links.links.items c.index.result.now
+    c.in_ok-links.ensures c.as_slice.ensures (omega (arith, c.links.ensures)) c.index.ensures

@@ -9,7 +9,8 @@ returns-then-not-is_kept_at c =
     let net = network c.args.topo.now in
     let within = c.loop-d-test.true in
     ap (option_map (λ (d : ℕ). (number_of c.args.self, d)))
-    (sym (find_below_here (λ d. not (keeps c.args.self net c.args.plan.now d)) c.loop-d.d (length net.devices) (omega (arith, within, c.devices-d-end.ensures)) c.loop-d.invariant (ap not (sym (c.if-not-is_kept_at.ensures)))))
+    (sym (find_below_here (λ d. not (keeps c.args.self net c.args.plan.now d)) c.loop-d.d (length net.devices)
+    (omega (arith, within, c.devices-d-end.ensures)) c.loop-d.invariant (ap not (sym (c.if-not-is_kept_at.ensures)))))
 
 pub loop-d-preserved : goal.loop-d-preserved
 loop-d-preserved c =

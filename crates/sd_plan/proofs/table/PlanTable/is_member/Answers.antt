@@ -4,7 +4,13 @@ use Rattle.sd_plan.proofs.table.PlanTable.is_member.Goals as goal
 
 pub index-requires : goal.index-requires
 index-requires c =
-    omega (arith, c.requires, seen_length c.args.self.now c.self.inside.duties.items c.self.inside.ends.items c.self.inside.offsets.items c.self.view_is, c.self.inside.duties.ok.0)
+    omega (
+      arith,
+      c.requires,
+      seen_length c.args.self.now c.self.inside.duties.items c.self.inside.ends.items c.self.inside.offsets.items
+          c.self.view_is,
+      c.self.inside.duties.ok.0,
+    )
 
 pub returns : goal.returns
 returns c =
@@ -12,4 +18,5 @@ returns c =
     omega (arith, c.requires, seen_length c.args.self.now c.self.inside.duties.items c.self.inside.ends.items c.self.inside.offsets.items c.self.view_is)
     in
     c.is_some.ensures
-    ∙ has_row-seen c.args.self.now c.self.inside.duties.items c.self.inside.ends.items c.self.inside.offsets.items c.args.d c.index.result.now c.self.view_is within c.index.ensures
+    ∙ has_row-seen c.args.self.now c.self.inside.duties.items c.self.inside.ends.items c.self.inside.offsets.items c.args.d c.index.result.now c.self.view_is
+    within c.index.ensures

@@ -6,4 +6,5 @@ use Rattle.sd_plan.proofs.table.duties.is_member.Goals as goal
 pub returns-else-plan-d : goal.returns-else-plan-d
 returns-else-plan-d c =
     c.has_row.ensures
-    ∙ other_member (network c.args.topo.now) c.args.plan.now c.args.d (keeps_rules (network c.args.topo.now) c.args.plan.now c.requires.structured) c.requires.device c.if-plan-d.false
+    ∙ other_member (network c.args.topo.now) c.args.plan.now c.args.d
+    (keeps_rules (network c.args.topo.now) c.args.plan.now c.requires.structured) c.requires.device c.if-plan-d.false

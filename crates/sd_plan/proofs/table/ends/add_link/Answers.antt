@@ -10,14 +10,20 @@ use Rattle.sd_plan.proofs.table.ends.add_link.Goals as goal
 
 pub add_end-requires-clause-parent : goal.add_end-requires-clause-parent
 add_end-requires-clause-parent c =
-    let size : length c.args.rows.now ≡ length (network c.args.topo.now).devices = ap length c.requires.rows ∙ length-numbered (ends_before (network c.args.topo.now) c.args.plan.now c.args.l) (length (network c.args.topo.now).devices) in
-    let law : IsLink (length (network c.args.topo.now).devices) (link_of (network c.args.topo.now) c.args.l) = link_law (network c.args.topo.now) c.args.l c.args.topo.now.is_network c.requires.link in
+    let size : length c.args.rows.now ≡ length (network c.args.topo.now).devices =
+    ap length c.requires.rows
+    ∙ length-numbered (ends_before (network c.args.topo.now) c.args.plan.now c.args.l) (length (network c.args.topo.now).devices) in
+    let law : IsLink (length (network c.args.topo.now).devices) (link_of (network c.args.topo.now) c.args.l) =
+    link_law (network c.args.topo.now) c.args.l c.args.topo.now.is_network c.requires.link in
     rw (c.link-link.ensures, size) law.first
 
 pub add_end-requires-2-clause-parent : goal.add_end-requires-2-clause-parent
 add_end-requires-2-clause-parent c =
-    let size : length c.args.rows.now ≡ length (network c.args.topo.now).devices = ap length c.requires.rows ∙ length-numbered (ends_before (network c.args.topo.now) c.args.plan.now c.args.l) (length (network c.args.topo.now).devices) in
-    let law : IsLink (length (network c.args.topo.now).devices) (link_of (network c.args.topo.now) c.args.l) = link_law (network c.args.topo.now) c.args.l c.args.topo.now.is_network c.requires.link in
+    let size : length c.args.rows.now ≡ length (network c.args.topo.now).devices =
+    ap length c.requires.rows
+    ∙ length-numbered (ends_before (network c.args.topo.now) c.args.plan.now c.args.l) (length (network c.args.topo.now).devices) in
+    let law : IsLink (length (network c.args.topo.now).devices) (link_of (network c.args.topo.now) c.args.l) =
+    link_law (network c.args.topo.now) c.args.l c.args.topo.now.is_network c.requires.link in
     let within : c.link-link.result.end_b < length (network c.args.topo.now).devices = rw c.link-link.ensures law.second in
     let other : c.link-link.result.end_a < length (network c.args.topo.now).devices = rw c.link-link.ensures law.first in
     omega arith

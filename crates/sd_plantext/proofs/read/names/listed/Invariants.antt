@@ -7,4 +7,5 @@ use Rattle.sd_plantext.proofs.read.names.listed.Given as goal
 
 abbrev pub invariant-loop-item : goal.invariant-loop-item
 invariant-loop-item l =
-    names_from l.place (names_of l.kind (network l.topo)) l.listed.keys (items_view (drop l.item-index l.items)) ≡ names_from l.place (names_of l.kind (network l.topo)) [] (items_view l.items)
+    names_from l.place (names_of l.kind (network l.topo)) l.listed.keys (items_view (drop l.item-index l.items))
+    ≡ names_from l.place (names_of l.kind (network l.topo)) [] (items_view l.items)

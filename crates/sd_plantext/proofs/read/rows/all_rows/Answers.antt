@@ -17,4 +17,5 @@ returns-in-Err-add_row c =
     let v = c.item-item.result in
     let within : i < length items = omega arith in
     let first = drop_more items i v within ∙ ap (λ (w : Value). w ∷ drop (i + 1) items) (sym c.item-item.is) in
-    rows_fail (network c.args.topo.now) c.in-Err-add_row.fault c.loop-item.entry c.loop-item.rows.items v (drop (i + 1) items) (drop i items) _ first c.in-Err-add_row.ensures.err c.loop-item.invariant.rows
+    rows_fail (network c.args.topo.now) c.in-Err-add_row.fault c.loop-item.entry c.loop-item.rows.items v (drop (i + 1) items)
+    (drop i items) _ first c.in-Err-add_row.ensures.err c.loop-item.invariant.rows

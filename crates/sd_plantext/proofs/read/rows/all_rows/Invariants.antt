@@ -10,5 +10,6 @@ abbrev pub invariant-loop-item : goal.invariant-loop-item
 invariant-loop-item l = record {
   len : vec_len l.rows ≡ length (network l.topo).devices;
   entry : l.entry ≡ filled l.rows.items + 1;
-  rows : rows_from (network l.topo) l.entry l.rows.items (items_view (drop l.item-index l.items)) ≡ rows_from (network l.topo) 1 (no_rows (network l.topo)) (items_view l.items);
+  rows : rows_from (network l.topo) l.entry l.rows.items (items_view (drop l.item-index l.items))
+      ≡ rows_from (network l.topo) 1 (no_rows (network l.topo)) (items_view l.items);
 }

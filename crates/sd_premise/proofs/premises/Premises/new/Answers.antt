@@ -1,9 +1,9 @@
 use Rattle.std.proofs.Common.{ℕ, ◌<◌, ◌^◌, [], List, length, refl, sym, ap, ◌∙◌, subst, arith}
 use Rattle.sd_topo.specs.Network.{Network}
 use Rattle.sd_topo.specs.Topologies.{network}
-use Rattle.sd_domain.specs.Failing.{HasRoomFor}
+use Rattle.sd_plan.specs.Domain.Failing.{HasRoomFor}
 use Rattle.sd_plan.specs.declared.Plan.{Plan}
-use Rattle.sd_roster.specs.Plans.{AreSound}
+use Rattle.sd_fleet_state.specs.membership.Plans.{AreSound}
 use Rattle.sd_premise_renewal.specs.Progressing.{HasDevices}
 use Rattle.sd_premise.proofs.premises.Premises.new.Goals as goal
 
@@ -32,7 +32,8 @@ returns-clause-stands c setting net plans =
       order = tt;
       net = net ∙ sym ground.network;
       count = subst (λ (ps : List Plan). length ps < 2 ^ 32) (sym plans) c.requires.count;
-      sound = subst (λ (n : Network). AreSound n setting.plans) (sym net) (subst (λ (ps : List Plan). AreSound (network c.args.topo.now) ps) (sym plans) c.requires.sound);
+      sound = subst (λ (n : Network). AreSound n setting.plans) (sym net)
+          (subst (λ (ps : List Plan). AreSound (network c.args.topo.now) ps) (sym plans) c.requires.sound);
       members = members;
       links = ground.links setting net plans;
       world = ground.world setting net;

@@ -21,20 +21,28 @@ returns-clause-stands c setting earlier can stands =
       drift = c.observe-2.ensures.stands setting earlier stands.net stands.drift can.allowed;
       delay = c.observe-3.ensures.stands setting earlier stands.net stands.delay;
       tick = c.observe-4.ensures.stands setting earlier stands.members world stands.tick;
-      loss = c.observe-5.ensures.stands setting earlier s (record { event = refl; taken = sym c.number_taken.ensures; sent = refl }) (follows setting earlier s can) stands.loss;
+      loss = c.observe-5.ensures.stands setting earlier s (record { event = refl; taken = sym c.number_taken.ensures; sent = refl })
+          (follows setting earlier s can) stands.loss;
       domain = c.observe-6.ensures.stands setting earlier stands.net stands.domain;
-      renew = c.observe-renew.ensures.stands setting earlier (record { net = stands.net; sound = stands.sound; members = stands.members; links = stands.links; world = stands.world }) can.allowed stands.renew;
+      renew = c.observe-renew.ensures.stands setting earlier
+          (record { net = stands.net; sound = stands.sound; members = stands.members; links = stands.links; world = stands.world }) can.allowed stands.renew;
       broken =
-          answered setting (s ∷ earlier) c.observe.result c.observe-2.result c.observe-3.result c.observe-4.result c.observe-5.result c.observe-6.result c.observe-renew.result
+          answered setting (s ∷ earlier) c.observe.result c.observe-2.result c.observe-3.result c.observe-4.result c.observe-5.result c.observe-6.result
+          c.observe-renew.result
           (c.observe.ensures.holds earlier stands.start)
           (c.observe-2.ensures.holds setting earlier stands.net stands.drift can.allowed)
           (c.observe-3.ensures.holds setting earlier stands.net stands.delay)
           (c.observe-4.ensures.holds setting earlier stands.members world stands.tick)
-          (c.observe-5.ensures.holds setting earlier s (record { event = refl; taken = sym c.number_taken.ensures; sent = refl }) (follows setting earlier s can) stands.loss)
+          (c.observe-5.ensures.holds setting earlier s (record { event = refl; taken = sym c.number_taken.ensures; sent = refl })
+          (follows setting earlier s can) stands.loss)
           (c.observe-6.ensures.holds setting earlier stands.net stands.domain)
-          (c.observe-renew.ensures.holds setting earlier (record { net = stands.net; sound = stands.sound; members = stands.members; links = stands.links; world = stands.world }) can.allowed stands.renew);
+          (c.observe-renew.ensures.holds setting earlier
+          (record { net = stands.net; sound = stands.sound; members = stands.members; links = stands.links; world = stands.world }) can.allowed
+          stands.renew);
     }
 
 pub returns-clause-breaks : goal.returns-clause-breaks
 returns-clause-breaks c setting earlier can stands =
-    c.newly_broken-breaks.ensures ∙ breaks_with setting (sight_of c.args.seen.now) earlier c.args.self.now.broken _ stands.broken (returns-clause-stands c setting earlier can stands).broken
+    c.newly_broken-breaks.ensures
+    ∙ breaks_with setting (sight_of c.args.seen.now) earlier c.args.self.now.broken _ stands.broken
+    (returns-clause-stands c setting earlier can stands).broken

@@ -1,7 +1,7 @@
 use Rattle.std.proofs.Common.{◌≡◌, ℕ, ◌<◌, Bool, true, ◌&&◌, List, ◌∷◌, set, sym, ap, ◌∙◌, subst}
 use Rattle.sd_topo.specs.Network.{Network, rates_of}
-use Rattle.sd_history.specs.World.{Setting, Seen}
-use Rattle.sd_history.specs.Refusals.{may_be_seen}
+use Rattle.sd_fleet_state.specs.History.World.{Setting, Seen}
+use Rattle.sd_fleet_state.specs.History.Refusals.{may_be_seen}
 use Rattle.sd_topo.specs.Topologies.{network}
 use Rattle.sd_premise_clocks.specs.declared.drift.DriftMonitor.TheInside.{Inside}
 use Rattle.sd_premise_clocks.specs.Sights.{sight_of}
@@ -13,16 +13,20 @@ use Rattle.sd_premise_clocks.proofs.drift.DriftMonitor.observe.Goals as goal
 use Rattle.sd_premise_clocks.proofs.drift.DriftMonitor.observe.Goals.{in-Some, in_default}
 
 -- what is kept after the event stands for it too
-stands_after : (c : goal.Joined-reading_of) (setting : Setting) (earlier : List Seen) → setting.net ≡ network c.args.topo.now → DriftStands setting c.args.self.now earlier
-    → may_be_seen setting earlier c.args.seen.now.event ≡ true → DriftStands setting (drift_kept c.match-reading_of.self-inside) (sight_of c.args.seen.now ∷ earlier)
+stands_after : (c : goal.Joined-reading_of) (setting : Setting) (earlier : List Seen) → setting.net ≡ network c.args.topo.now
+    → DriftStands setting c.args.self.now earlier
+    → may_be_seen setting earlier c.args.seen.now.event ≡ true
+    → DriftStands setting (drift_kept c.match-reading_of.self-inside) (sight_of c.args.seen.now ∷ earlier)
 stands_after c setting earlier net stands may =
     elim c.match-reading_of.branch [
       | in-Some w ↦
-          (let read : Reads c.args.seen.now.event w.in-Some.device w.in-Some.reading = reads c.args.seen.now.event w.in-Some.device w.in-Some.reading (sym c.reading_of.ensures ∙ w.in-Some.is) in
+          (let read : Reads c.args.seen.now.event w.in-Some.device w.in-Some.reading =
+          reads c.args.seen.now.event w.in-Some.device w.in-Some.reading (sym c.reading_of.ensures ∙ w.in-Some.is) in
           let own = w.rates-rates.ensures ∙ ap (λ (n : Network). rates_of n w.in-Some.device) (sym net) in
           let known = c.requires.device w.in-Some.device read.device in
           subst (λ (inside : Inside). DriftStands setting (drift_kept inside) (sight_of c.args.seen.now ∷ earlier)) (sym w.self-inside-is)
-          (stands_reading setting w.rates-rates.result (sight_of c.args.seen.now) w.in-Some.device w.in-Some.reading w.life_before-life.result w.at-offsets.result w.begins_life.result
+          (stands_reading setting w.rates-rates.result (sight_of c.args.seen.now) w.in-Some.device w.in-Some.reading w.life_before-life.result
+          w.at-offsets.result w.begins_life.result
           c.args.self.now _ earlier read own
           (record {
             begins_life = w.begins_life.ensures;

@@ -1,5 +1,5 @@
 use Rattle.std.proofs.Common.{◌≡◌, ℕ, ◌<◌, length, get_or, vec_len, vec_capacity}
-use Rattle.sd_history.specs.World.{Setting, plan_numbered}
+use Rattle.sd_fleet_state.specs.History.World.{Setting, plan_numbered}
 use Rattle.sd_plan.specs.Plans.{is_member}
 use Rattle.sd_premise_clocks.specs.Memberships.{AreMembers}
 use Rattle.sd_premise_clocks.specs.Owing.{no_state}

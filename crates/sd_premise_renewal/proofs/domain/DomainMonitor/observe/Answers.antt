@@ -2,7 +2,7 @@ use Rattle.std.proofs.Common.{◌≤◌, ◌∷◌, length, Option, sym, ap, ◌
 use Rattle.sd_topo.specs.Network.{Network}
 use Rattle.sd_topo.specs.Topologies.{network}
 use Rattle.sd_topo.specs.declared.Thing.{Thing}
-use Rattle.sd_history.specs.Things as things
+use Rattle.sd_fleet_state.specs.History.Things as things
 use Rattle.sd_premise_clocks.specs.Sights.{sight_of}
 use Rattle.sd_premise_renewal.specs.Domains.{DomainKept, with_failure, if_closed, DomainStands}
 use Rattle.sd_premise_renewal.proofs.Failing.{domain_stands}
@@ -16,7 +16,9 @@ returns-clause-stands c setting earlier net stands =
     (c.fail.ensures
     ∙ ap (λ (o : Option Thing). with_failure (network c.args.topo.now) o c.args.self.now) c.failure_of.ensures
     ∙ ap (λ (n : Network). with_failure n (things.failure_of c.args.seen.now.event) c.args.self.now) (sym net))))
-    (domain_stands setting c.args.self.now (sight_of c.args.seen.now) earlier (subst (λ (n : Network). 1 ≤ length n.devices) (sym net) c.args.topo.now.is_network.devices.0) stands)
+    (domain_stands setting c.args.self.now (sight_of c.args.seen.now) earlier
+    (subst (λ (n : Network). 1 ≤ length n.devices) (sym net) c.args.topo.now.is_network.devices.0) stands)
 
 pub returns-clause-holds : goal.returns-clause-holds
-returns-clause-holds c setting earlier net stands = ap (λ (kept : DomainKept). kept.holds) c.self.view_is ∙ (returns-clause-stands c setting earlier net stands).holds
+returns-clause-holds c setting earlier net stands = ap (λ (kept : DomainKept). kept.holds) c.self.view_is
+    ∙ (returns-clause-stands c setting earlier net stands).holds

@@ -1,5 +1,5 @@
 use Rattle.std.proofs.Common.{◌≡◌, ℕ, ◌<◌, false, List}
-use Rattle.sd_history.specs.World.{Setting, Seen}
+use Rattle.sd_fleet_state.specs.History.World.{Setting, Seen}
 use Rattle.sd_premise_renewal.specs.Judging.{IsJudgeOf, lags}
 use Rattle.sd_premise_renewal.proofs.judge.Judge.have_entered.Given as goal
 

@@ -1,5 +1,5 @@
 use Rattle.std.proofs.Common.{◌≡◌, true, ◌&&◌, sym, ap, ◌∙◌}
-use Rattle.sd_history.specs.Premises.{leaves_out_cleanly}
+use Rattle.sd_fleet_state.specs.History.Premises.{leaves_out_cleanly}
 use Rattle.sd_premise_renewal.specs.Moments.{staged_plan}
 use Rattle.sd_premise_renewal.specs.Judging.{is_ready}
 use Rattle.sd_premise_renewal.proofs.Orderly.{ready_so}

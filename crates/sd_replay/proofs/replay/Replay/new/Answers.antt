@@ -1,13 +1,14 @@
 use Rattle.std.proofs.Common.{[], refl, sym, ◌∙◌, subst}
 use Rattle.sd_history.specs.World.{Setting}
 use Rattle.sd_topo.specs.Topologies.{network}
-use Rattle.sd_roster.specs.Plans.{AreSound}
+use Rattle.sd_premise.specs.FleetState.membership.Plans.{AreSound}
 use Rattle.sd_replay.proofs.Going.{are_sound, first_stands}
 use Rattle.sd_replay.proofs.replay.Replay.new.Goals as goal
 
-pub new-requires-2-clause-sound : goal.new-requires-2-clause-sound
-new-requires-2-clause-sound g c =
-    subst (λ net. AreSound net c.args.plans) (sym c.in_ok-journal.ensures.net) (are_sound (network c.args.topo) c.args.plans c.args.plans refl c.requires.fit c.requires.accepted)
+pub fleet_and_monitors-requires-clause-sound : goal.fleet_and_monitors-requires-clause-sound
+fleet_and_monitors-requires-clause-sound g c =
+    subst (λ net. AreSound net c.as_slice.result.now) (sym c.in_ok-event_output.ensures.net)
+    (are_sound (network c.args.topo) c.args.plans c.as_slice.result.now c.as_slice.ensures c.requires.fit c.requires.accepted)
 
 pub invariant_of-result : goal.invariant_of-result
 invariant_of-result g c =
@@ -18,9 +19,12 @@ invariant_of-result g c =
             setting = setting;
             steps = [];
             stands =
-                first_stands g.N.Node g.V.Observer c.args.topo c.args.plans c.in_ok-watched.watched.fleet c.in_ok-watched.watched.onlooker c.in_ok-journal.journal c.args.observer setting refl refl c.requires.some c.requires.fit c.requires.accepted
-                (c.in_ok-watched.ensures.fleet setting (sym c.in_ok-journal.ensures.net) refl) (c.in_ok-watched.ensures.onlooker setting (sym c.in_ok-journal.ensures.net) refl)
-                c.in_ok-journal.ensures.net c.in_ok-journal.ensures.lines c.in_ok-journal.ensures.tally c.in_ok-journal.ensures.ended c.requires.observer;
+                first_stands g.N.Node g.V.Observer c.args.topo c.args.plans c.in_ok-fleet.fleet c.in_ok-fleet.monitors c.in_ok-event_output.event_output
+                c.args.observer setting refl refl c.requires.some c.requires.fit c.requires.accepted
+                (c.in_ok-fleet.ensures.fleet setting (sym c.in_ok-event_output.ensures.net) (sym c.as_slice.ensures))
+                (c.in_ok-fleet.ensures.monitors setting (sym c.in_ok-event_output.ensures.net) (sym c.as_slice.ensures))
+                c.in_ok-event_output.ensures.net c.in_ok-event_output.ensures.lines c.in_ok-event_output.ensures.tally c.in_ok-event_output.ensures.ended
+                c.requires.observer;
           } ∣₁;
     }
 
@@ -28,7 +32,10 @@ pub returns : goal.returns
 returns g c =
     record {
       stands = λ setting net plans.
-          first_stands g.N.Node g.V.Observer c.args.topo c.args.plans c.in_ok-watched.watched.fleet c.in_ok-watched.watched.onlooker c.in_ok-journal.journal c.args.observer setting net plans c.requires.some c.requires.fit c.requires.accepted
-          (c.in_ok-watched.ensures.fleet setting (net ∙ sym c.in_ok-journal.ensures.net) plans) (c.in_ok-watched.ensures.onlooker setting (net ∙ sym c.in_ok-journal.ensures.net) plans)
-          c.in_ok-journal.ensures.net c.in_ok-journal.ensures.lines c.in_ok-journal.ensures.tally c.in_ok-journal.ensures.ended c.requires.observer;
+          first_stands g.N.Node g.V.Observer c.args.topo c.args.plans c.in_ok-fleet.fleet c.in_ok-fleet.monitors c.in_ok-event_output.event_output
+          c.args.observer setting net plans c.requires.some c.requires.fit c.requires.accepted
+          (c.in_ok-fleet.ensures.fleet setting (net ∙ sym c.in_ok-event_output.ensures.net) (plans ∙ sym c.as_slice.ensures))
+          (c.in_ok-fleet.ensures.monitors setting (net ∙ sym c.in_ok-event_output.ensures.net) (plans ∙ sym c.as_slice.ensures))
+          c.in_ok-event_output.ensures.net c.in_ok-event_output.ensures.lines c.in_ok-event_output.ensures.tally c.in_ok-event_output.ensures.ended
+          c.requires.observer;
     }

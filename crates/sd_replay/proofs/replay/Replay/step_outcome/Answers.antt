@@ -6,7 +6,7 @@ use Rattle.sd_msg.specs.Observed.{ReportAt}
 use Rattle.sd_msg.specs.Observing.{report_at}
 use Rattle.sd_sched.specs.Events.{reference_of}
 use Rattle.sd_history.specs.Nodes.{steps_of}
-use Rattle.sd_fabric.proofs.Refused.{refusal_is}
+use Rattle.sd_fleet.proofs.FleetFabric.Refused.{refusal_is}
 use Rattle.sd_replay.specs.FleetFaults.{of_fleet}
 use Rattle.sd_replay.proofs.Causes.{if_told, told_as, told_cause, told_of_fleet, unrefused}
 use Rattle.sd_replay.proofs.Calm.{stays_calm}
@@ -17,37 +17,48 @@ use Rattle.sd_replay.proofs.replay.Replay.step_outcome.Goals as goal
 
 pub invariant_of-self : goal.invariant_of-self
 invariant_of-self g c =
-    record { run = ∥∥₁_map c.args.self.now.run (with_fleet g.N.Node g.V.Observer c.args.self.now.fleet c.prepare.new.self c.args.self.now.onlooker c.args.self.now.journal c.args.self.now.observer c.prepare.ensures.stands) }
+    record {
+      run =
+          ∥∥₁_map c.args.self.now.run
+          (with_fleet g.N.Node g.V.Observer c.args.self.now.fleet c.prepare.new.self c.args.self.now.monitors c.args.self.now.event_output
+          c.args.self.now.observer c.prepare.ensures.stands);
+    }
 
 pub look-findings-requires-clause-step : goal.look-findings-requires-clause-step
 look-findings-requires-clause-step g c =
     ∥∥₁_map c.ready.new.self.run
-    (has_step g.N.Node g.V.Observer c.ready.new.self.fleet c.ready.new.self.onlooker c.ready.new.self.journal c.ready.new.self.observer c.happen.new.self c.args.event.now c.happen.new.outcome c.happen.ensures.accepted)
+    (has_step g.N.Node g.V.Observer c.ready.new.self.fleet c.ready.new.self.monitors c.ready.new.self.event_output c.ready.new.self.observer c.happen.new.self
+    c.args.event.now c.happen.new.outcome c.happen.ensures.accepted)
 
 pub look-findings-requires-clause-numbers : goal.look-findings-requires-clause-numbers
 look-findings-requires-clause-numbers g c =
-    numbers_merely g.N.Node g.V.Observer c.ready.new.self.fleet c.ready.new.self.onlooker c.ready.new.self.journal c.ready.new.self.observer c.happen.new.self c.args.event.now c.happen.new.outcome c.happen.ensures.accepted
+    numbers_merely g.N.Node g.V.Observer c.ready.new.self.fleet c.ready.new.self.monitors c.ready.new.self.event_output c.ready.new.self.observer
+    c.happen.new.self c.args.event.now c.happen.new.outcome c.happen.ensures.accepted
     c.ready.new.self.run
 
 pub note-requires-clause-room : goal.note-requires-clause-room
 note-requires-clause-room g c =
-    tally_merely g.N.Node g.V.Observer c.ready.new.self.fleet c.ready.new.self.onlooker c.ready.new.self.journal c.ready.new.self.observer c.happen.new.self c.args.event.now c.happen.new.outcome c.happen.ensures.accepted
+    tally_merely g.N.Node g.V.Observer c.ready.new.self.fleet c.ready.new.self.monitors c.ready.new.self.event_output c.ready.new.self.observer
+    c.happen.new.self c.args.event.now c.happen.new.outcome c.happen.ensures.accepted
     c.ready.new.self.run
 
 pub note-requires-clause-devices : goal.note-requires-clause-devices
 note-requires-clause-devices g c =
-    devices_merely g.N.Node g.V.Observer c.ready.new.self.fleet c.ready.new.self.onlooker c.ready.new.self.journal c.ready.new.self.observer c.happen.new.self c.args.event.now c.happen.new.outcome c.happen.ensures.accepted
+    devices_merely g.N.Node g.V.Observer c.ready.new.self.fleet c.ready.new.self.monitors c.ready.new.self.event_output c.ready.new.self.observer
+    c.happen.new.self c.args.event.now c.happen.new.outcome c.happen.ensures.accepted
     c.look-findings.result c.look-findings.ensures.devices c.ready.new.self.run
 
 pub seen-requires-clause-ready : goal.seen-requires-clause-ready
 seen-requires-clause-ready g c =
     let some : c.happen.new.outcome.report ≡ Some (c.in-Some.d, c.in-Some.report) = cc (c.in-Some.is, c.in-Some.d-is, c.in-Some.report-is) in
-    ready_merely g.N.Node g.V.Observer c.ready.new.self.fleet c.ready.new.self.onlooker c.ready.new.self.journal c.ready.new.self.observer c.happen.new.self c.args.event.now c.happen.new.outcome c.happen.ensures.accepted
+    ready_merely g.N.Node g.V.Observer c.ready.new.self.fleet c.ready.new.self.monitors c.ready.new.self.event_output c.ready.new.self.observer
+    c.happen.new.self c.args.event.now c.happen.new.outcome c.happen.ensures.accepted
     (c.in-Some.d, c.in-Some.report) some c.in-Ok.ensures.observer c.ready.new.self.run
 
 -- a report is told
 told : (g : Over) (c : goal.After-seen g)
-    → IsDone g.N.Node g.V.Observer c.ready.new.self.fleet c.happen.new.self c.ready.new.self.onlooker c.look-findings.new.self c.ready.new.self.journal c.note.new.self c.ready.new.self.observer c.seen.new.self c.args.event.now c.happen.new.outcome
+    → IsDone g.N.Node g.V.Observer c.ready.new.self.fleet c.happen.new.self c.ready.new.self.monitors c.look-findings.new.self c.ready.new.self.event_output
+    c.note.new.self c.ready.new.self.observer c.seen.new.self c.args.event.now c.happen.new.outcome
     c.look-findings.result
 told g c =
     let some : c.happen.new.outcome.report ≡ Some (c.in-Some.d, c.in-Some.report) = cc (c.in-Some.is, c.in-Some.d-is, c.in-Some.report-is) in
@@ -62,16 +73,19 @@ told g c =
       ended = c.note.ensures.ended;
       tells =
           subst
-          (λ (o : Option (ℕ × Report)). MatchOption o (c.seen.new.self ≡ c.ready.new.self.observer) (λ report. (reports_ : List ReportAt) → g.V.Observer.stands c.ready.new.self.observer reports_
+          (λ (o : Option (ℕ × Report)). MatchOption o (c.seen.new.self ≡ c.ready.new.self.observer) (λ report. (reports_ : List ReportAt)
+          → g.V.Observer.stands c.ready.new.self.observer reports_
           → g.V.Observer.stands c.seen.new.self (reports_ ++ report_at c.note.new.self.tally.events report.0 (reference_of c.args.event.now) report.1 ∷ [])))
           (sym some)
           (λ reports_ stands.
-          subst (λ (r : ℕ). g.V.Observer.stands c.seen.new.self (reports_ ++ report_at c.note.new.self.tally.events c.in-Some.d r c.in-Some.report ∷ [])) c.reference.ensures (c.seen.ensures.told reports_ stands));
+          subst (λ (r : ℕ). g.V.Observer.stands c.seen.new.self (reports_ ++ report_at c.note.new.self.tally.events c.in-Some.d r c.in-Some.report ∷ []))
+          c.reference.ensures (c.seen.ensures.told reports_ stands));
     }
 
 -- nothing is told
 untold : (g : Over) (c : goal.In_default-report g)
-    → IsDone g.N.Node g.V.Observer c.ready.new.self.fleet c.happen.new.self c.ready.new.self.onlooker c.look-findings.new.self c.ready.new.self.journal c.note.new.self c.ready.new.self.observer c.ready.new.self.observer c.args.event.now
+    → IsDone g.N.Node g.V.Observer c.ready.new.self.fleet c.happen.new.self c.ready.new.self.monitors c.look-findings.new.self c.ready.new.self.event_output
+    c.note.new.self c.ready.new.self.observer c.ready.new.self.observer c.args.event.now
     c.happen.new.outcome c.look-findings.result
 untold g c =
     record {
@@ -85,8 +99,10 @@ untold g c =
       ended = c.note.ensures.ended;
       tells =
           subst
-          (λ (o : Option (ℕ × Report)). MatchOption o (c.ready.new.self.observer ≡ c.ready.new.self.observer) (λ report. (reports_ : List ReportAt) → g.V.Observer.stands c.ready.new.self.observer reports_
-          → g.V.Observer.stands c.ready.new.self.observer (reports_ ++ report_at c.note.new.self.tally.events report.0 (reference_of c.args.event.now) report.1 ∷ [])))
+          (λ (o : Option (ℕ × Report)). MatchOption o (c.ready.new.self.observer ≡ c.ready.new.self.observer) (λ report. (reports_ : List ReportAt)
+          → g.V.Observer.stands c.ready.new.self.observer reports_
+          → g.V.Observer.stands c.ready.new.self.observer (reports_
+          ++ report_at c.note.new.self.tally.events report.0 (reference_of c.args.event.now) report.1 ∷ [])))
           (sym c.in_default-report.is) refl;
     }
 
@@ -95,7 +111,8 @@ invariant_of-self-in-Some g c =
     record {
       run =
           ∥∥₁_map c.ready.new.self.run
-          (run_on g.N.Node g.V.Observer c.ready.new.self.fleet c.happen.new.self c.ready.new.self.onlooker c.look-findings.new.self c.ready.new.self.journal c.note.new.self c.ready.new.self.observer c.seen.new.self c.args.event.now c.happen.new.outcome
+          (run_on g.N.Node g.V.Observer c.ready.new.self.fleet c.happen.new.self c.ready.new.self.monitors c.look-findings.new.self
+          c.ready.new.self.event_output c.note.new.self c.ready.new.self.observer c.seen.new.self c.args.event.now c.happen.new.outcome
           c.look-findings.result (told g c));
     }
 
@@ -104,27 +121,32 @@ invariant_of-self-in_default-report g c =
     record {
       run =
           ∥∥₁_map c.ready.new.self.run
-          (run_on g.N.Node g.V.Observer c.ready.new.self.fleet c.happen.new.self c.ready.new.self.onlooker c.look-findings.new.self c.ready.new.self.journal c.note.new.self c.ready.new.self.observer c.ready.new.self.observer c.args.event.now
+          (run_on g.N.Node g.V.Observer c.ready.new.self.fleet c.happen.new.self c.ready.new.self.monitors c.look-findings.new.self
+          c.ready.new.self.event_output c.note.new.self c.ready.new.self.observer c.ready.new.self.observer c.args.event.now
           c.happen.new.outcome c.look-findings.result (untold g c));
     }
 
 pub returns-in-Some-clause-accepted : goal.returns-in-Some-clause-accepted
 unfolding told
 returns-in-Some-clause-accepted g c = λ setting run stands.
-    let ready = stands_with_room g.N.Node g.V.Observer setting run c.prepare.ensures.stands c.ready.ensures.fleet c.ready.ensures.journal c.ready.ensures.onlooks c.ready.ensures.told stands in
+    let ready = stands_with_room g.N.Node g.V.Observer setting run c.prepare.ensures.stands c.ready.ensures.fleet c.ready.ensures.event_output
+    c.ready.ensures.onlooks c.ready.ensures.told stands in
     let accepted = c.happen.ensures.accepted setting run ready.made in
     let stands_after =
-    stands_on g.N.Node g.V.Observer c.ready.new.self.fleet c.happen.new.self c.ready.new.self.onlooker c.look-findings.new.self c.ready.new.self.journal c.note.new.self c.ready.new.self.observer c.seen.new.self c.args.event.now c.happen.new.outcome
+    stands_on g.N.Node g.V.Observer c.ready.new.self.fleet c.happen.new.self c.ready.new.self.monitors c.look-findings.new.self c.ready.new.self.event_output
+    c.note.new.self c.ready.new.self.observer c.seen.new.self c.args.event.now c.happen.new.outcome
     c.look-findings.result (told g c.before) setting run ready in
     record { stepped = record { next = accepted.next; happens = accepted.happens; stands = stands_after }; comes = accepted.comes }
 
 pub returns-in_default-report-clause-accepted : goal.returns-in_default-report-clause-accepted
 unfolding untold
 returns-in_default-report-clause-accepted g c = λ setting run stands.
-    let ready = stands_with_room g.N.Node g.V.Observer setting run c.prepare.ensures.stands c.ready.ensures.fleet c.ready.ensures.journal c.ready.ensures.onlooks c.ready.ensures.told stands in
+    let ready = stands_with_room g.N.Node g.V.Observer setting run c.prepare.ensures.stands c.ready.ensures.fleet c.ready.ensures.event_output
+    c.ready.ensures.onlooks c.ready.ensures.told stands in
     let accepted = c.happen.ensures.accepted setting run ready.made in
     let stands_after =
-    stands_on g.N.Node g.V.Observer c.ready.new.self.fleet c.happen.new.self c.ready.new.self.onlooker c.look-findings.new.self c.ready.new.self.journal c.note.new.self c.ready.new.self.observer c.ready.new.self.observer c.args.event.now c.happen.new.outcome
+    stands_on g.N.Node g.V.Observer c.ready.new.self.fleet c.happen.new.self c.ready.new.self.monitors c.look-findings.new.self c.ready.new.self.event_output
+    c.note.new.self c.ready.new.self.observer c.ready.new.self.observer c.args.event.now c.happen.new.outcome
     c.look-findings.result (untold g c.before) setting run ready in
     record { stepped = record { next = accepted.next; happens = accepted.happens; stands = stands_after }; comes = accepted.comes }
 
@@ -137,20 +159,36 @@ returns-in_default-report-clause-calm g c = λ setting run stands. stays_calm se
 -- the fleet answers a fault
 pub returns-in_err-most-clause-refusal : goal.returns-in_err-most-clause-refusal
 returns-in_err-most-clause-refusal g c = λ setting run stands.
-    told_cause setting (steps_of run) c.args.event.now c.in_err-most.field-0.0 c.from_residual.result (told_as c.from_residual.result (of_fleet c.in_err-most.field-0.0) c.from_residual.ensures.1)
+    told_cause setting (steps_of run) c.args.event.now c.in_err-most.field-0.0 c.from_residual.result
+    (told_as c.from_residual.result (of_fleet c.in_err-most.field-0.0) c.from_residual.ensures.1)
     (c.in_err-most.ensures.fault setting run stands.made)
 
 pub returns-in_err-most-clause-refused : goal.returns-in_err-most-clause-refused
 returns-in_err-most-clause-refused g c =
     if_told _ c.from_residual.result (of_fleet c.in_err-most.field-0.0) c.from_residual.ensures.1
-    (λ setting run stands. (stands_prepared g.N.Node g.V.Observer c.args.self.now.fleet c.prepare.new.self c.args.self.now.onlooker c.args.self.now.journal c.args.self.now.observer setting run c.prepare.ensures.stands stands, told_of_fleet setting (steps_of run) c.args.event.now c.in_err-most.field-0.0 (c.in_err-most.ensures.fault setting run stands.made)))
+    (λ setting run
+    stands. (
+      stands_prepared g.N.Node g.V.Observer c.args.self.now.fleet c.prepare.new.self c.args.self.now.monitors c.args.self.now.event_output
+          c.args.self.now.observer setting run c.prepare.ensures.stands stands,
+      told_of_fleet setting (steps_of run) c.args.event.now c.in_err-most.field-0.0
+          (c.in_err-most.ensures.fault setting run stands.made),
+    ))
 
 -- there is no room for an event that the history does not refuse
 pub returns-in_default-clause-refusal : goal.returns-in_default-clause-refusal
 returns-in_default-clause-refusal g c = λ setting run stands.
-    unrefused _ setting (steps_of run) c.args.event.now (sym (refusal_is setting c.prepare.new.self.fabric (steps_of run) c.args.event.now (c.prepare.ensures.stands setting run stands.made).fabric) ∙ c.in_ok-most.ensures.prepared.accepted)
+    unrefused _ setting (steps_of run) c.args.event.now
+    (sym (refusal_is setting c.prepare.new.self.fabric (steps_of run) c.args.event.now (c.prepare.ensures.stands setting run stands.made).fabric)
+    ∙ c.in_ok-most.ensures.prepared.accepted)
 
 pub returns-in_default-clause-refused : goal.returns-in_default-clause-refused
 returns-in_default-clause-refused g c = λ setting run stands.
-    let ready = stands_with_room g.N.Node g.V.Observer setting run c.prepare.ensures.stands c.ready.ensures.fleet c.ready.ensures.journal c.ready.ensures.onlooks c.ready.ensures.told stands in
-    (ready, (sym (refusal_is setting c.prepare.new.self.fabric (steps_of run) c.args.event.now (c.prepare.ensures.stands setting run stands.made).fabric) ∙ c.in_ok-most.ensures.prepared.accepted, c.in_default.ensures.memory))
+    let ready = stands_with_room g.N.Node g.V.Observer setting run c.prepare.ensures.stands c.ready.ensures.fleet c.ready.ensures.event_output
+    c.ready.ensures.onlooks c.ready.ensures.told stands in (
+      ready,
+      (
+        sym (refusal_is setting c.prepare.new.self.fabric (steps_of run) c.args.event.now (c.prepare.ensures.stands setting run stands.made).fabric)
+            ∙ c.in_ok-most.ensures.prepared.accepted,
+        c.in_default.ensures.memory,
+      ),
+    )

@@ -7,17 +7,23 @@ use Rattle.sd_stream.proofs.buffer.Buffer.fill.Goals as goal
 pub returns-clause-left : goal.returns-clause-left
 returns-clause-left g c =
     let mid = c.make_room.new.self in
-    rw (← c.make_room.ensures.same) (left_after_read _ _ _ _ _ (grown_range mid.bytes.items c.read_at.new.bytes.items mid.start mid.end c.in_ok-count.count mid.ordered c.read_at.ensures.front) c.in_ok-count.ensures.bytes)
+    rw (← c.make_room.ensures.same)
+    (left_after_read _ _ _ _ _
+    (grown_range mid.bytes.items c.read_at.new.bytes.items mid.start mid.end c.in_ok-count.count mid.ordered c.read_at.ensures.front)
+    c.in_ok-count.ensures.bytes)
 
 pub returns-clause-front : goal.returns-clause-front
 returns-clause-front g c =
     let mid = c.make_room.new.self in
-    rw (← c.make_room.ensures.same) (front_kept _ _ _ (grown_range mid.bytes.items c.read_at.new.bytes.items mid.start mid.end c.in_ok-count.count mid.ordered c.read_at.ensures.front))
+    rw (← c.make_room.ensures.same)
+    (front_kept _ _ _ (grown_range mid.bytes.items c.read_at.new.bytes.items mid.start mid.end c.in_ok-count.count mid.ordered c.read_at.ensures.front))
 
 pub returns-in_err-count-clause-left : goal.returns-in_err-count-clause-left
 returns-in_err-count-clause-left g c =
     let mid = c.make_room.new.self in
-    rw (← c.make_room.ensures.same) (left_kept _ _ _ _ (same_range mid.bytes.items c.read_at.new.bytes.items mid.start mid.end mid.ordered c.read_at.ensures.front) c.in_err-count.ensures.err)
+    rw (← c.make_room.ensures.same)
+    (left_kept _ _ _ _ (same_range mid.bytes.items c.read_at.new.bytes.items mid.start mid.end mid.ordered c.read_at.ensures.front)
+    c.in_err-count.ensures.err)
 
 pub returns-in_err-count-clause-front : goal.returns-in_err-count-clause-front
 returns-in_err-count-clause-front g c =

@@ -43,7 +43,8 @@ returns-in-Ok-eq0-2-clause-answer g c =
     let same : buffered c.fill.new.self ≡ buffered c.turns.self.buffer = same_bytes _ _ told.front (omega (arith, told.grown)) in
     let is = rw (c.waiting.ensures, ← same, c.turns.invariant.before) at c.in-Open.ensures in
     let more : 0 < length (buffered c.fill.new.self) = rw (same, ← c.waiting-searched.ensures) (omega arith) in
-    let all : take (length c.waiting-searched.result.now) (buffered c.fill.new.self) ≡ buffered c.fill.new.self = rw c.waiting-searched.ensures (told.front ∙ sym same) in
+    let all : take (length c.waiting-searched.result.now) (buffered c.fill.new.self) ≡ buffered c.fill.new.self =
+    rw c.waiting-searched.ensures (told.front ∙ sym same) in
     line_answers _ _ _ c.pass-in-Ok-eq0-2.new.self.buffer.bytes.items c.pass-in-Ok-eq0-2.result
     (last_line_left _ _ _ _ (Keeps-trans _ _ _ c.turns.invariant.left told.left) (told.end (omega arith)) is more) (c.pass-in-Ok-eq0-2.ensures.line ∙ all)
 

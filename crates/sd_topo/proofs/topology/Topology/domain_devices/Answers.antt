@@ -6,4 +6,5 @@ use Rattle.sd_topo.proofs.topology.Topology.domain_devices.Goals as goal
 pub returns : goal.returns
 returns c =
     let told = at_domain c.tables.inside.parts.domains.entries c.args.f c.index-group.result.now c.index-group.ensures in
-    c.as_slice.ensures.value ∙ sym (subst (λ (net : Network). (domain_of net c.args.f).devices ≡ c.index-group.result.now.devices.items) c.tables.view_is told.0)
+    c.as_slice.ensures.value
+    ∙ sym (subst (λ (net : Network). (domain_of net c.args.f).devices ≡ c.index-group.result.now.devices.items) c.tables.view_is told.0)

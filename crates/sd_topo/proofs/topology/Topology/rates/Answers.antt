@@ -7,5 +7,6 @@ use Rattle.sd_topo.proofs.topology.Topology.rates.Goals as goal
 
 pub returns : goal.returns
 returns c =
-    let told = at_value device_seen (λ device. device.rates) (λ value. value.rates) (λ e. refl) no_rates c.tables.inside.parts.devices.entries c.args.d _ c.index.ensures in
+    let told = at_value device_seen (λ device. device.rates) (λ value. value.rates)
+    (λ e. refl) no_rates c.tables.inside.parts.devices.entries c.args.d _ c.index.ensures in
     sym (subst (λ (net : Network). rates_of net c.args.d ≡ c.index.result.now.rates) c.tables.view_is told)

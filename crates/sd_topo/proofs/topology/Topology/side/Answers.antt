@@ -7,5 +7,6 @@ use Rattle.sd_topo.proofs.topology.Topology.side.Goals as goal
 
 pub returns : goal.returns
 returns c =
-    let told = at_value device_seen (λ device. device.side) (λ value. value.side) (λ e. refl) Root c.tables.inside.parts.devices.entries c.args.d _ c.index.ensures in
+    let told = at_value device_seen (λ device. device.side) (λ value. value.side)
+    (λ e. refl) Root c.tables.inside.parts.devices.entries c.args.d _ c.index.ensures in
     sym (subst (λ (net : Network). side_of net c.args.d ≡ c.index.result.now.side) c.tables.view_is told)

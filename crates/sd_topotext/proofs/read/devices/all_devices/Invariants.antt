@@ -8,5 +8,6 @@ use Rattle.sd_topotext.proofs.read.devices.all_devices.Given as goal
 abbrev pub invariant-loop-item : goal.invariant-loop-item
 invariant-loop-item l = record {
   len : index_map_len l.devices ≡ l.item-index;
-  devices : each_from (one_more_device l.version l.top) (devices_seen l.devices) (items_view (drop l.item-index l.items)) ≡ each_from (one_more_device l.version l.top) [] (items_view l.items);
+  devices : each_from (one_more_device l.version l.top) (devices_seen l.devices) (items_view (drop l.item-index l.items))
+      ≡ each_from (one_more_device l.version l.top) [] (items_view l.items);
 }

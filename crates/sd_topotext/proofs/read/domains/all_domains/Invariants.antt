@@ -10,5 +10,6 @@ invariant-loop-item l = record {
   len : index_map_len l.domains ≡ l.item-index;
   things : l.things ≡ things_listed (domains_seen l.domains);
   room : l.things ≤ 262144;
-  domains : each_from (one_more_domain (names_seen l.devices) (names_seen l.links)) (domains_seen l.domains) (items_view (drop l.item-index l.items)) ≡ each_from (one_more_domain (names_seen l.devices) (names_seen l.links)) [] (items_view l.items);
+  domains : each_from (one_more_domain (names_seen l.devices) (names_seen l.links)) (domains_seen l.domains) (items_view (drop l.item-index l.items))
+      ≡ each_from (one_more_domain (names_seen l.devices) (names_seen l.links)) [] (items_view l.items);
 }

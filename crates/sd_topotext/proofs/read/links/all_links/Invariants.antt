@@ -8,5 +8,6 @@ use Rattle.sd_topotext.proofs.read.links.all_links.Given as goal
 abbrev pub invariant-loop-item : goal.invariant-loop-item
 invariant-loop-item l = record {
   len : index_map_len l.links ≡ l.item-index;
-  links : each_from (one_more_link l.version (names_seen l.devices)) (links_seen l.links) (items_view (drop l.item-index l.items)) ≡ each_from (one_more_link l.version (names_seen l.devices)) [] (items_view l.items);
+  links : each_from (one_more_link l.version (names_seen l.devices)) (links_seen l.links) (items_view (drop l.item-index l.items))
+      ≡ each_from (one_more_link l.version (names_seen l.devices)) [] (items_view l.items);
 }

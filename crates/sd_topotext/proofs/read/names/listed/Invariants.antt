@@ -6,4 +6,5 @@ use Rattle.sd_topotext.proofs.read.names.listed.Given as goal
 
 abbrev pub invariant-loop-item : goal.invariant-loop-item
 invariant-loop-item g l =
-    each_from (one_more l.place (names_seen l.names)) l.listed.keys (items_view (drop l.item-index l.items)) ≡ each_from (one_more l.place (names_seen l.names)) [] (items_view l.items)
+    each_from (one_more l.place (names_seen l.names)) l.listed.keys (items_view (drop l.item-index l.items))
+    ≡ each_from (one_more l.place (names_seen l.names)) [] (items_view l.items)

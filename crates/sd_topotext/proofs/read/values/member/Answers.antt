@@ -6,4 +6,5 @@ use Rattle.sd_topotext.proofs.read.values.member.Goals as goal
 
 pub returns : goal.returns
 returns c =
-    table_get c.get.result c.in_table.result.now c.args.table.now.entries c.get.ensures.value ∙ ap (λ k. get_member k (members_view c.args.table.now.entries)) c.in_table.ensures
+    table_get c.get.result c.in_table.result.now c.args.table.now.entries c.get.ensures.value
+    ∙ ap (λ k. get_member k (members_view c.args.table.now.entries)) c.in_table.ensures

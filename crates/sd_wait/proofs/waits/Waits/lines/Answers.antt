@@ -11,13 +11,16 @@ use Rattle.sd_wait.specs.declared.printing.Shown.{Shown}
 use Rattle.sd_wait.proofs.Texts.{printed, nothing, shows_last, shows_none}
 use Rattle.sd_wait.proofs.waits.Waits.lines.Goals as goal
 
-shows : (held : Held) (told : List ReportAt) (shown : Shown) (name : List ℕ) → StandsFor held told → held.last ≡ Some shown → shown_bytes held.ended shown name ≡ bytes_at told (length told - 1) name
+shows : (held : Held) (told : List ReportAt) (shown : Shown) (name : List ℕ) → StandsFor held told → held.last ≡ Some shown
+    → shown_bytes held.ended shown name ≡ bytes_at told (length told - 1) name
 shows held told shown name stands is =
     let last = shows_last told held.last stands.last shown is in
-    ap (λ ended. shown_bytes ended shown name) stands.ended ∙ ap (λ s. shown_bytes (map (transaction_at told) (ended_at told (length told - 1))) s name) last.1 ∙ printed told (length told - 1) name last.0
+    ap (λ ended. shown_bytes ended shown name) stands.ended ∙ ap (λ s. shown_bytes (map (transaction_at told) (ended_at told (length told - 1))) s name) last.1
+    ∙ printed told (length told - 1) name last.0
 
 pub returns : goal.returns
 returns c = λ told stands.
     c.in_ok-print.ensures ∙ ap (λ (bytes : List ℕ). bytes ++ shown_bytes c.as_slice.result.now c.in-Some.shown c.args.name.now) c.new-text.ensures.items
     ∙ ap (λ (ended : List Transaction). shown_bytes ended c.in-Some.shown c.args.name.now) c.as_slice.ensures.value
-    ∙ shows (waits_seen c.self.inside) told c.in-Some.shown c.args.name.now (subst (λ (held : Held). StandsFor held told) (sym c.self.view_is) stands) c.in-Some.is
+    ∙ shows (waits_seen c.self.inside) told c.in-Some.shown c.args.name.now
+    (subst (λ (held : Held). StandsFor held told) (sym c.self.view_is) stands) c.in-Some.is

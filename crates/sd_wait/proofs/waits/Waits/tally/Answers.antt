@@ -19,8 +19,11 @@ tally : (held : Held) (told : List ReportAt) → StandsFor held told → (n : �
     → ◌≡◌ {A = WaitTally} (record { begun = held.begun; ended = held.begun - n; disorders = held.disorders }) (tally_of told)
 tally held told stands n is =
     let many : n ≡ length (unended told (length told)) = is ∙ ap length stands.waiting ∙ length_sorted (unended told (length told)) in
-    let ended : held.begun - n ≡ count_by (λ i. is_some (end_place told i)) (below (length told)) = omega (arith, many, stands.begun, counted told (length told)) in
-    ap (λ b. made b (held.begun - n) held.disorders) stands.begun ∙ ap (λ e. made (length told) e held.disorders) ended ∙ ap (λ d. made (length told) (count_by (λ i. is_some (end_place told i)) (below (length told))) d) stands.disorders
+    let ended : held.begun - n ≡ count_by (λ i. is_some (end_place told i)) (below (length told)) =
+    omega (arith, many, stands.begun, counted told (length told)) in
+    ap (λ b. made b (held.begun - n) held.disorders) stands.begun ∙ ap (λ e. made (length told) e held.disorders) ended
+    ∙ ap (λ d. made (length told) (count_by (λ i. is_some (end_place told i)) (below (length told))) d) stands.disorders
 
 pub returns : goal.returns
-returns c = λ told stands. tally (waits_seen c.self.inside) told (subst (λ (held : Held). StandsFor held told) (sym c.self.view_is) stands) c.len.result (omega (arith, c.len.ensures))
+returns c = λ told stands. tally (waits_seen c.self.inside) told (subst (λ (held : Held). StandsFor held told) (sym c.self.view_is) stands) c.len.result
+    (omega (arith, c.len.ensures))

@@ -1,6 +1,6 @@
 use Rattle.std.proofs.Common.{◌≡◌, length, Some, None, ap, sym, ◌∙◌, arith}
 use Rattle.std.proofs.lemmas.Option.{same_Some}
-use Rattle.sd_place.specs.Spreading.{placed_at}
+use Rattle.sd_planner_place.specs.Spreading.{placed_at}
 use Rattle.sd_planner.specs.Surveys.{net_in, absent_in, order_of}
 use Rattle.sd_planner.proofs.Adding.{goes_up, one_hop, way_done, way_ends}
 use Rattle.sd_planner.proofs.Placing.{survey_grows}
@@ -25,7 +25,8 @@ loop-here-smaller c =
     let s = c.args.self.now in
     let net = net_in s in
     let up = goes_up net s.root (absent_in s) (order_of s) c.loop-here.here c.in-Some.hop (survey_grows s) c.loop-here.invariant.found c.in-Some.is in
-    let same : up.parent ≡ c.in-Some-placed.parent = same_Some up.parent c.in-Some-placed.parent (sym up.found ∙ sym c.placed.ensures.is ∙ c.in-Some-placed.is) in
+    let same : up.parent ≡ c.in-Some-placed.parent =
+    same_Some up.parent c.in-Some-placed.parent (sym up.found ∙ sym c.placed.ensures.is ∙ c.in-Some-placed.is) in
     let deeper = up.deeper in
     rw (← same) (omega arith)
 
@@ -35,7 +36,8 @@ loop-here-preserved c =
     let net = net_in s in
     let up = goes_up net s.root (absent_in s) (order_of s) c.loop-here.here c.in-Some.hop (survey_grows s) c.loop-here.invariant.found c.in-Some.is in
     let same = c.in-Some-placed.ensures.same in
-    one_hop (order_of s) c.args.own c.loop-here.here c.in-Some-placed.parent c.in-Some.hop c.args.things.now c.loop-here.things c.add_hop.new.self c.loop-here.invariant c.add_hop.ensures up.way same
+    one_hop (order_of s) c.args.own c.loop-here.here c.in-Some-placed.parent c.in-Some.hop c.args.things.now c.loop-here.things c.add_hop.new.self
+    c.loop-here.invariant c.add_hop.ensures up.way same
     (ap (placed_at (order_of s)) same ∙ sym c.placed.ensures.is ∙ c.in-Some-placed.is)
 
 pub unreachable-requires : goal.unreachable-requires

@@ -5,4 +5,5 @@ use Rattle.sd_planner.proofs.FirstHops.{NonePasses}
 use Rattle.sd_planner.proofs.backups.survey.Survey.backup_root_backup.Given as goal
 
 abbrev pub invariant-loop-neighbour : goal.invariant-loop-neighbour
-invariant-loop-neighbour l = NonePasses (serves_backup_root (net_in l.self) l.self.root (absent_in l.self) l.own.device l.primary) (take l.neighbour-index l.neighbour-items)
+invariant-loop-neighbour l =
+    NonePasses (serves_backup_root (net_in l.self) l.self.root (absent_in l.self) l.own.device l.primary) (take l.neighbour-index l.neighbour-items)

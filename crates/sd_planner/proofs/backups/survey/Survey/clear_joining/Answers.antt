@@ -8,13 +8,23 @@ use Rattle.sd_planner.proofs.backups.survey.Survey.clear_joining.Goals as goal
 pub set_flags-requires : goal.set_flags-requires
 set_flags-requires c k there =
     let s = c.args.self.now in
-    omega (arith, links_within (net_in s) s.domains c.args.self.now.domains_are c.args.primary.link k (subst (λ xs. has xs k ≡ true) c.of_link.ensures there), c.requires.size)
+    omega (
+      arith,
+      links_within (net_in s) s.domains c.args.self.now.domains_are c.args.primary.link k
+          (subst (λ xs. has xs k ≡ true) c.of_link.ensures there),
+      c.requires.size,
+    )
 
 pub set_flags-requires-2 : goal.set_flags-requires-2
 set_flags-requires-2 c k there =
     let s = c.args.self.now in
-    omega
-    (arith, devices_within (net_in s) s.domains c.args.self.now.domains_are c.args.primary.parent k (subst (λ xs. has xs k ≡ true) c.of_device.ensures there), c.requires.size, c.set_flags.ensures.size)
+    omega (
+      arith,
+      devices_within (net_in s) s.domains c.args.self.now.domains_are c.args.primary.parent k
+          (subst (λ xs. has xs k ≡ true) c.of_device.ensures there),
+      c.requires.size,
+      c.set_flags.ensures.size,
+    )
 
 pub returns : goal.returns
 returns c d some =

@@ -1,11 +1,11 @@
 use Rattle.std.proofs.Common.{◌<◌, length, slice_get, refl, ap, sym, subst, ◌∙◌}
 use Rattle.sd_num.specs.Lists.{has}
 use Rattle.sd_plan.specs.Walks.{devices_of}
-use Rattle.sd_place.specs.Views.{net_of, left_out}
-use Rattle.sd_place.specs.Placing.{placed, Grows}
+use Rattle.sd_planner_place.specs.Views.{net_of, left_out}
+use Rattle.sd_planner_place.specs.Placing.{placed, Grows}
 use Rattle.sd_planner.specs.Flags.{is_set}
 use Rattle.sd_planner.specs.Climbs.{way_up}
-use Rattle.sd_place.proofs.Growing.{placed_grows}
+use Rattle.sd_planner_place.proofs.Growing.{placed_grows}
 use Rattle.sd_planner.proofs.Placing.{backup_root_within}
 use Rattle.sd_planner.proofs.Trees.{stands, Stands}
 use Rattle.sd_planner.proofs.Walking.{walk_is}
@@ -19,7 +19,8 @@ behind-requires-clause-grown c =
       net = net;
       root = c.args.root;
       absent = absent;
-      grown = subst (Grows net c.args.root absent) (sym (ap (λ p. p.order) c.requires.placement)) (placed_grows net c.args.root absent c.args.present.now.topo.now.is_network c.requires.root);
+      grown = subst (Grows net c.args.root absent) (sym (ap (λ p. p.order) c.requires.placement))
+          (placed_grows net c.args.root absent c.args.present.now.topo.now.is_network c.requires.root);
       size = refl;
     }
 

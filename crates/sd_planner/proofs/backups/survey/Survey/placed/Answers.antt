@@ -1,5 +1,5 @@
 use Rattle.std.proofs.Common.{sym, ap, ◌∙◌, arith}
-use Rattle.sd_place.specs.Spreading.{placed_at}
+use Rattle.sd_planner_place.specs.Spreading.{placed_at}
 use Rattle.sd_planner.specs.Surveys.{net_in, absent_in, order_of}
 use Rattle.sd_planner.proofs.Placing.{found_same, survey_grows}
 use Rattle.sd_planner.proofs.Walking.{past_none}

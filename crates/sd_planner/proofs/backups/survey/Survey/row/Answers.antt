@@ -13,11 +13,13 @@ returns-in_default-clause-row c =
 pub returns-in_default-hop-clause-row : goal.returns-in_default-hop-clause-row
 returns-in_default-hop-clause-row c =
     let s = c.args.self.now in
-    no_hop_row (net_in s) s.root (absent_in s) (survey_grows c.args.self.now) c.args.d c.in-Some.own (sym c.placed.ensures.is ∙ c.in-Some.is) c.in_default-hop.is
+    no_hop_row (net_in s) s.root (absent_in s) (survey_grows c.args.self.now) c.args.d c.in-Some.own
+    (sym c.placed.ensures.is ∙ c.in-Some.is) c.in_default-hop.is
 
 pub returns-clause-row : goal.returns-clause-row
 returns-clause-row c =
     let s = c.args.self.now in
     let net = net_in s in
-    hop_row net s.root (absent_in s) (survey_grows c.args.self.now) c.args.d c.in-Some.own c.in-Some-hop.primary c.in_ok-backup.backup (sym c.placed.ensures.is ∙ c.in-Some.is) c.in-Some-hop.is
+    hop_row net s.root (absent_in s) (survey_grows c.args.self.now) c.args.d c.in-Some.own c.in-Some-hop.primary c.in_ok-backup.backup
+    (sym c.placed.ensures.is ∙ c.in-Some.is) c.in-Some-hop.is
     (c.in_ok-backup.ensures.backup ∙ ap (λ x. backup_for net s.root (absent_in s) x c.in-Some-hop.primary) c.in-Some.ensures.same)

@@ -1,5 +1,5 @@
 use Rattle.std.proofs.Common.{◌≡◌, ℕ, ◌||◌, not, nat_eq, Some, ap, sym, ◌∙◌}
-use Rattle.sd_place.specs.Spreading.{is_placed, placed_at}
+use Rattle.sd_planner_place.specs.Spreading.{is_placed, placed_at}
 use Rattle.sd_planner.specs.Serving.{are_joined, differ, is_behind_backup_root, comes_before}
 use Rattle.sd_planner.specs.Surveys.{net_in, absent_in, order_of}
 use Rattle.sd_planner.proofs.Serving.{all_tests, not_placed, placed_found, placed_none}
@@ -13,9 +13,11 @@ returns-then-may_follow c =
     let d = c.args.own.device in
     let found : placed_at (order_of s) hop.parent ≡ Some c.in-Some.parent = sym c.placed.ensures.is ∙ c.in-Some.is in
     let same : c.in-Some.parent.device ≡ hop.parent = c.in-Some.ensures.same in
-    let follows = λ (y : ℕ). differ (is_behind_backup_root net s.root (absent_in s) y) (is_behind_backup_root net s.root (absent_in s) d) || comes_before net s.root (absent_in s) y d in
+    let follows = λ (y : ℕ). differ (is_behind_backup_root net s.root (absent_in s) y) (is_behind_backup_root net s.root (absent_in s) d)
+    || comes_before net s.root (absent_in s) y d in
     ap not (c.is_joined.ensures d c.args.primary c.requires.joining)
-    ∙ all_tests hop.link c.args.primary.link hop.parent c.args.primary.parent (is_placed (order_of s) hop.parent) (follows hop.parent) (are_joined net d c.args.primary hop)
+    ∙ all_tests hop.link c.args.primary.link hop.parent c.args.primary.parent (is_placed (order_of s) hop.parent) (follows hop.parent)
+    (are_joined net d c.args.primary hop)
     c.if-hop-primary.false c.if-hop-primary-2.false (placed_found (order_of s) hop.parent c.in-Some.parent found)
     (ap follows (sym same) ∙ sym c.may_follow.ensures ∙ c.if-may_follow.true)
 
@@ -26,5 +28,6 @@ returns-in-None c =
     let hop = c.args.hop in
     let d = c.args.own.device in
     not_placed (nat_eq hop.link c.args.primary.link) (is_placed (order_of s) hop.parent) (not (nat_eq hop.parent c.args.primary.parent))
-    (differ (is_behind_backup_root net s.root (absent_in s) hop.parent) (is_behind_backup_root net s.root (absent_in s) d) || comes_before net s.root (absent_in s) hop.parent d)
+    (differ (is_behind_backup_root net s.root (absent_in s) hop.parent) (is_behind_backup_root net s.root (absent_in s) d)
+    || comes_before net s.root (absent_in s) hop.parent d)
     (not (are_joined net d c.args.primary hop)) (placed_none (order_of s) hop.parent (sym c.placed.ensures.is ∙ c.in-None.is))

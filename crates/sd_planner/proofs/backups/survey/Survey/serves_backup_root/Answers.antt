@@ -1,7 +1,7 @@
 use Rattle.std.proofs.Common.{◌≡◌, ℕ, ◌&&◌, not, nat_eq, Some, ap, sym, ◌∙◌}
 use Rattle.std.proofs.lemmas.Bool.{eq-eqb, ne_eqb}
-use Rattle.sd_place.specs.Spreading.{is_placed, placed_at}
-use Rattle.sd_place.specs.Placing.{backup_root_of}
+use Rattle.sd_planner_place.specs.Spreading.{is_placed, placed_at}
+use Rattle.sd_planner_place.specs.Placing.{backup_root_of}
 use Rattle.sd_planner.specs.Flags.{is_set}
 use Rattle.sd_planner.specs.Serving.{are_walks_joined, on_walk_up}
 use Rattle.sd_planner.specs.Surveys.{net_in, absent_in, order_of}
@@ -19,10 +19,12 @@ returns-then-hop-primary c =
     let b = c.args.own.device in
     elim c.then-hop-primary.branch [
       | then-hop-primary-via-then-hop-primary w ↦
-          same_link (nat_eq hop.link c.args.primary.link) (is_placed (order_of s) hop.parent) (not (on_walk_up net s.root (absent_in s) hop.parent b)) (not (are_walks_joined net s.root (absent_in s) b hop))
+          same_link (nat_eq hop.link c.args.primary.link) (is_placed (order_of s) hop.parent) (not (on_walk_up net s.root (absent_in s) hop.parent b))
+          (not (are_walks_joined net s.root (absent_in s) b hop))
           (eq-eqb hop.link c.args.primary.link w.if-hop-primary.true)
       | then-hop-primary-via-else-hop-primary+then-is_set w ↦
-          is_joined (not (nat_eq hop.link c.args.primary.link) && is_placed (order_of s) hop.parent && not (on_walk_up net s.root (absent_in s) hop.parent b)) (are_walks_joined net s.root (absent_in s) b hop)
+          is_joined (not (nat_eq hop.link c.args.primary.link) && is_placed (order_of s) hop.parent && not (on_walk_up net s.root (absent_in s) hop.parent b))
+          (are_walks_joined net s.root (absent_in s) b hop)
           (link_joins net s.root (absent_in s) (survey_grows c.args.self.now) b hop c.args.unfit.now c.requires.unfit
           (ap (λ flags. is_set flags hop.link) (sym w.as_slice.ensures.value) ∙ sym w.is_set.ensures ∙ w.if-is_set.true))
     ]
@@ -39,10 +41,14 @@ returns-then-not-is_behind c =
     let joined = parent_joins net s.root (absent_in s) (survey_grows c.args.self.now) b hop c.in-Some.parent c.args.unfit.now c.requires.unfit found
     (ap (λ flags. is_set flags hop.link) (sym c.as_slice.ensures.value) ∙ sym c.is_set.ensures ∙ c.if-is_set.false)
     in
-    ap not (c.is_set-then-not-is_behind.ensures ∙ ap (λ flags. is_set flags c.in-Some.parent.device) c.as_slice-then-not-is_behind.ensures.value ∙ ap (is_set c.args.unfit.now.devices.items) same ∙ sym joined)
-    ∙ meets_all (nat_eq hop.link c.args.primary.link) (is_placed (order_of s) hop.parent) (on_walk_up net s.root (absent_in s) hop.parent b) (are_walks_joined net s.root (absent_in s) b hop)
+    ap not (c.is_set-then-not-is_behind.ensures ∙ ap (λ flags. is_set flags c.in-Some.parent.device) c.as_slice-then-not-is_behind.ensures.value
+    ∙ ap (is_set c.args.unfit.now.devices.items) same ∙ sym joined)
+    ∙ meets_all (nat_eq hop.link c.args.primary.link) (is_placed (order_of s) hop.parent) (on_walk_up net s.root (absent_in s) hop.parent b)
+    (are_walks_joined net s.root (absent_in s) b hop)
     (ne_eqb hop.link c.args.primary.link c.if-hop-primary.false) (placed_found (order_of s) hop.parent c.in-Some.parent found)
-    (ap (on_walk_up net s.root (absent_in s) hop.parent) own ∙ ap (λ (y : ℕ). on_walk_up net s.root (absent_in s) y (backup_root_of net s.root (absent_in s))) (sym same) ∙ sym c.is_behind.ensures ∙ c.if-not-is_behind.true)
+    (ap (on_walk_up net s.root (absent_in s) hop.parent) own
+    ∙ ap (λ (y : ℕ). on_walk_up net s.root (absent_in s) y (backup_root_of net s.root (absent_in s))) (sym same) ∙ sym c.is_behind.ensures
+    ∙ c.if-not-is_behind.true)
 
 pub returns-in-None : goal.returns-in-None
 returns-in-None c =
@@ -50,5 +56,6 @@ returns-in-None c =
     let net = net_in s in
     let hop = c.args.hop in
     let b = c.args.own.device in
-    none_placed (nat_eq hop.link c.args.primary.link) (is_placed (order_of s) hop.parent) (not (on_walk_up net s.root (absent_in s) hop.parent b)) (not (are_walks_joined net s.root (absent_in s) b hop))
+    none_placed (nat_eq hop.link c.args.primary.link) (is_placed (order_of s) hop.parent) (not (on_walk_up net s.root (absent_in s) hop.parent b))
+    (not (are_walks_joined net s.root (absent_in s) b hop))
     (placed_none (order_of s) hop.parent (sym c.placed.ensures.is ∙ c.in-None.is))

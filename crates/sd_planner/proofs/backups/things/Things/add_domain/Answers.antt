@@ -10,12 +10,22 @@ pub set_flags-requires : goal.set_flags-requires
 set_flags-requires c x there =
     let net = network c.args.topo.now in
     let law = domain_law net c.args.domain c.args.topo.now.is_network c.requires.range in
-    omega
-    (arith, had_within (length net.devices) (domain_of net c.args.domain).devices x law.devices_within (subst (λ xs. has xs x ≡ true) c.domain_devices.ensures there), c.requires.sized.devices, ap length c.as_mut_slice.ensures.value)
+    omega (
+      arith,
+      had_within (length net.devices) (domain_of net c.args.domain).devices x law.devices_within
+          (subst (λ xs. has xs x ≡ true) c.domain_devices.ensures there),
+      c.requires.sized.devices,
+      ap length c.as_mut_slice.ensures.value,
+    )
 
 pub set_flags-requires-2 : goal.set_flags-requires-2
 set_flags-requires-2 c x there =
     let net = network c.args.topo.now in
     let law = domain_law net c.args.domain c.args.topo.now.is_network c.requires.range in
-    omega
-    (arith, had_within (length net.links) (domain_of net c.args.domain).links x law.links_within (subst (λ xs. has xs x ≡ true) c.domain_links.ensures there), c.requires.sized.links, ap length c.as_mut_slice-2.ensures.value)
+    omega (
+      arith,
+      had_within (length net.links) (domain_of net c.args.domain).links x law.links_within
+          (subst (λ xs. has xs x ≡ true) c.domain_links.ensures there),
+      c.requires.sized.links,
+      ap length c.as_mut_slice-2.ensures.value,
+    )

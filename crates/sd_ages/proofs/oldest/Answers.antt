@@ -1,5 +1,0 @@
-use Rattle.sd_ages.proofs.Division.{oldest_is}
-use Rattle.sd_ages.proofs.oldest.Goals as goal
-
-pub returns-clause-is : goal.returns-clause-is
-returns-clause-is c = rw (c.from.ensures, c.from-2.ensures) (oldest_is c.args.rates c.args.s c.requires.rates)

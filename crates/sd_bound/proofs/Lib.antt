@@ -1,2 +1,0 @@
--- The bound from its two halves.
-pub mod Composing

@@ -1,5 +1,0 @@
--- Histories without a stage.
-pub mod Plain
-pub mod Lives
-pub mod Failures
-pub mod Standing

@@ -1,7 +1,0 @@
--- Ways that stand.
-pub mod Sources
-pub mod Sounding
-pub mod Receipts
-pub mod Emitters
-pub mod Served
-pub mod Lengths

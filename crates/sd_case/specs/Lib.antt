@@ -1,5 +1,0 @@
-pub mod Sizes
-pub mod Cases
-pub mod Laws
-pub mod Planned
-pub mod Replayed

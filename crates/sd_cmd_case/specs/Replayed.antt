@@ -1,0 +1,10 @@
+-- For which runs the replay of a case stands.
+use Rattle.sd_core.specs.contracts.device.DeviceNode.TheImpl.{ghosts as device}
+use Rattle.sd_msg.specs.contracts.observer.NoObserverObserver.TheImpl.{ghosts as nobody}
+use Rattle.sd_replay.specs.History.World.{Setting}
+use Rattle.sd_gen.specs.Driving.{Run}
+use Rattle.sd_replay.specs.Replaying as replays
+use Rattle.sd_cmd_case.specs.declared.replayed.Replayed.{Replayed}
+
+abbrev pub StandsFor : Replayed → Setting → Run → Type 0
+StandsFor replayed setting run = replays.StandsFor device nobody replayed.replay setting run

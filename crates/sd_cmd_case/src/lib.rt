@@ -1,0 +1,68 @@
+//! The command `case` behind its words: a network of leaves and spines is made from its sizes and
+//! planned twice, and a replay is driven through the schedule that a number makes over it.
+//!
+//! So it keeps no event of the schedule, and none of the lines that a replay of it would print: the
+//! tally counts these.
+#![tactic(auto)]
+
+ghost use Rattle.std.specs.Prelude.{◌≡◌, ◌≤◌, ◌∷◌, [], IsTrue, IfErr, IfOk, length};
+ghost use Rattle.sd_topo.specs.Topologies as topologies;
+ghost use Rattle.sd_cmd_files.specs.Statuses.{is_among};
+ghost use Rattle.sd_cmd_files.specs.Writes.{Makes};
+ghost use Rattle.sd_cmd_case.specs.Cases.{IsCase, IsCaseOver};
+ghost use Rattle.sd_cmd_case.specs.Sizes.{IsWithin};
+
+mod network;
+mod plans;
+mod replayed;
+mod tally;
+#[cfg(test)]
+mod tests;
+
+use network::fabric_topology;
+use plans::greedy_plans;
+use replayed::replay_case;
+use sd_cmd_files::{Answer, CommandError, Status};
+use sd_topo::Topology;
+use std::alloc::Global;
+
+/// The sizes of a network of leaves and spines.
+#[derive(Clone, Copy, Debug, PartialEq, Eq)]
+pub struct Fabric {
+    /// 2 to 256.
+    pub leaves: u32,
+    /// 3 to 32.
+    pub spines: u32,
+}
+
+/// Makes the case of a number over a network of leaves and spines, and replays it.
+///
+/// The answer is the line `case` with what its tally counts, with the status `Done`, or `Broken`
+/// where a premise broke or an alarm was due; or it is the line of the first greedy plan that the
+/// checker refuses. The only error is out of memory.
+pub fn case(alloc: Global, number: u64, fabric: Fabric) -> Result<Answer, CommandError>
+    requires { IsWithin fabric }
+    ensures makes { Makes (IsCase number fabric.leaves fabric.spines) result }
+    ensures gives { IfOk result
+        (λ answer. IsTrue
+        (is_among (Status.Done ∷ Status.PlanRefused ∷ Status.Broken ∷ []) answer.status)) }
+    ensures only { IfErr result (λ why. why ≡ CommandError.Memory) }
+{
+    let topo = fabric_topology(alloc, fabric)?;
+    case_over(alloc, topo, number)
+}
+
+/// The same over a topology, which is handed on to the replay and so dropped in one place here.
+fn case_over(alloc: Global, topo: Topology, number: u64) -> Result<Answer, CommandError>
+    requires { 2 ≤ length (topologies.network topo).devices }
+    ensures makes { Makes (IsCaseOver (topologies.network topo) number) result }
+    ensures gives { IfOk result
+        (λ answer. IsTrue
+        (is_among (Status.Done ∷ Status.PlanRefused ∷ Status.Broken ∷ []) answer.status)) }
+    ensures only { IfErr result (λ why. why ≡ CommandError.Memory) }
+{
+    match greedy_plans(alloc, &topo) {
+        Ok(plans) => replay_case(alloc, topo, plans, number),
+        Err(early) => early.made(),
+    }
+}

@@ -1,0 +1,104 @@
+//! The two plans of a case, each judged before the next is made.
+ghost use Rattle.std.specs.Prelude.{◌≡◌, ◌≤◌, ◌<◌, length, IfErr, IfOk};
+ghost use Rattle.sd_topo.specs.Topologies.{network};
+ghost use Rattle.sd_planner.specs.PlannerPlace.Usable.{IsAbsentOf};
+ghost use Rattle.sd_gen.specs.fabric.Fabrics.{first_absent, second_absent};
+ghost use Rattle.sd_cmd_files.specs.Writes.{Makes};
+ghost use Rattle.sd_cmd_files.specs.planfiles.SetupError.{made_of};
+ghost use Rattle.sd_cmd_files.specs.planfiles.PlanFiles.{Nothing};
+ghost use Rattle.sd_cmd_case.specs.Cases.{AfterBoth, AfterGreedy};
+ghost use Rattle.sd_cmd_case.specs.Planned.{AreMade, IsSetupError, IsMade};
+
+use sd_cmd_files::planfiles::SetupError;
+use sd_cmd_files::refused_plan;
+use sd_num::NoMemory;
+use sd_plan::{Absent, DeviceList, Plan};
+use sd_planner::{Planned, plan_for};
+use sd_replay::PlanList;
+use sd_topo::Topology;
+use std::alloc::Global;
+
+/// The greedy plan from a root without what is absent, if it is accepted; else the line of its
+/// breach, with its place among the plans of the case.
+fn accepted_plan(
+    alloc: Global,
+    topo: &Topology,
+    place: u32,
+    root: u32,
+    absent: &Absent,
+) -> Result<Plan, SetupError>
+    requires root { root < length (network topo.now).devices }
+    requires absent { IsAbsentOf (network topo.now) absent.now }
+    ensures made { IfOk result (IsMade (network topo.now) root absent.now) }
+    ensures makes { IfErr result
+        (λ early. Makes (AfterGreedy (network topo.now) place root absent.now Nothing)
+        (made_of early)) }
+    ensures early { IfErr result IsSetupError }
+{
+    match plan_for(alloc, topo, root, absent)? {
+        Planned::Plan(plan) => Ok(plan),
+        Planned::NoPlan(_, breach) => Err(SetupError::Answered(refused_plan(
+            alloc, topo, place, &breach,
+        )?)),
+    }
+}
+
+/// What the first plan leaves out: nothing.
+fn nothing(alloc: Global) -> Absent
+    ensures { result ≡ first_absent }
+{
+    Absent {
+        devices: DeviceList::new(alloc),
+        links: DeviceList::new(alloc),
+    }
+}
+
+/// The plan from the first root, with nothing absent.
+fn first_plan(alloc: Global, topo: &Topology) -> Result<Plan, SetupError>
+    requires { 2 ≤ length (network topo.now).devices }
+    ensures made { IfOk result (IsMade (network topo.now) 0 first_absent) }
+    ensures makes { IfErr result
+        (λ early. Makes (AfterGreedy (network topo.now) 1 0 first_absent Nothing) (made_of early)) }
+    ensures early { IfErr result IsSetupError }
+{
+    let absent = nothing(alloc);
+    accepted_plan(alloc, topo, 1, 0, &absent)
+}
+
+/// What the second plan leaves out: the first device.
+fn without_first(alloc: Global) -> Result<Absent, NoMemory>
+    ensures { IfOk result (λ absent. absent ≡ second_absent) }
+{
+    let mut devices = DeviceList::new(alloc);
+    devices.push(alloc, 0)?;
+    Ok(Absent {
+        devices,
+        links: DeviceList::new(alloc),
+    })
+}
+
+/// The plan from the second root, without the first device.
+fn second_plan(alloc: Global, topo: &Topology) -> Result<Plan, SetupError>
+    requires { 2 ≤ length (network topo.now).devices }
+    ensures made { IfOk result (IsMade (network topo.now) 1 second_absent) }
+    ensures makes { IfErr result
+        (λ early. Makes (AfterGreedy (network topo.now) 2 1 second_absent Nothing)
+        (made_of early)) }
+    ensures early { IfErr result IsSetupError }
+{
+    let absent = without_first(alloc)?;
+    accepted_plan(alloc, topo, 2, 1, &absent)
+}
+
+/// Both plans of a case, where they are accepted; else the line of the first that is refused.
+pub(crate) fn greedy_plans(alloc: Global, topo: &Topology) -> Result<PlanList, SetupError>
+    requires { 2 ≤ length (network topo.now).devices }
+    ensures made { IfOk result (AreMade (network topo.now)) }
+    ensures makes { IfErr result (λ early. Makes (AfterBoth (network topo.now) Nothing) (made_of early)) }
+    ensures early { IfErr result IsSetupError }
+{
+    let mut plans = PlanList::new(alloc);
+    plans.push(alloc, first_plan(alloc, topo)?)?;
+    plans.push(alloc, second_plan(alloc, topo)?)?;
+    Ok(plans)
+}

@@ -1,0 +1,4 @@
+mod Prefixes
+mod Ranges
+mod Names
+mod Membership

@@ -1,0 +1,81 @@
+//! The lines of bounds.
+ghost use Rattle.std.specs.Prelude.{◌≡◌, ◌<◌, ◌≤◌, [], ◌∷◌, length, codes, decimal};
+ghost use Rattle.sd_drill.specs.Checker.Text as text;
+ghost use Rattle.sd_domain.specs.Domains.{IsDomain};
+ghost use Rattle.sd_cmd_drill.specs.Printing.{IsShort};
+ghost use Rattle.sd_num.specs.Texts.{text_of};
+ghost use Rattle.sd_outside.specs.Printed.{printed};
+ghost use Rattle.sd_topo.specs.Topologies.{network};
+
+use sd_domain::DomainId;
+use sd_outside::LineBuffer;
+use sd_topo::Topology;
+
+/// What a domain is, and its name.
+#[derive(Clone, Copy)]
+pub(crate) struct Named<'a> {
+    pub(crate) kind: &'static str,
+    pub(crate) name: &'a str,
+}
+
+/// The name of a device, of at most 64 bytes.
+pub(crate) fn device_name(topo: &Topology, d: u32) -> &str
+    requires { d < length (network topo.now).devices }
+    ensures is { result.now ≡ text.device_name (network topo.now) d }
+    ensures short { length result.now ≤ 64 }
+{
+    topo.device_name(d)
+}
+
+/// The name of a link, of at most 64 bytes.
+fn link_name(topo: &Topology, l: u32) -> &str
+    requires { l < length (network topo.now).links }
+    ensures is { result.now ≡ text.link_name (network topo.now) l }
+    ensures short { length result.now ≤ 64 }
+{
+    topo.link_name(l)
+}
+
+/// The name of a listed domain, of at most 64 bytes.
+fn listed_name(topo: &Topology, k: u32) -> &str
+    requires { k < length (network topo.now).domains }
+    ensures is { result.now ≡ text.domain_name (network topo.now) k }
+    ensures short { length result.now ≤ 64 }
+{
+    topo.domain_name(k)
+}
+
+/// How a domain is named.
+pub(crate) fn domain_named(topo: &Topology, domain: DomainId) -> Named<'_>
+    requires { IsDomain (network topo.now) domain }
+    ensures is { text.domain_words (network topo.now) domain
+        ≡ result.kind.now ∷ result.name.now ∷ [] }
+    ensures short { IsShort result }
+{
+    match domain {
+        DomainId::Listed(k) => Named {
+            kind: "listed",
+            name: listed_name(topo, k),
+        },
+        DomainId::Device(d) => Named {
+            kind: "device",
+            name: device_name(topo, d),
+        },
+        DomainId::Link(l) => Named {
+            kind: "link",
+            name: link_name(topo, l),
+        },
+    }
+}
+
+/// Prints the last line: how many domains and how many members there are.
+pub(crate) fn print_done(out: &mut LineBuffer, domains: u32, members: usize)
+    ensures { printed out.new ≡ text_of (codes "done" ∷ decimal domains ∷ decimal members ∷ []) }
+{
+    out.clear();
+    out.push(b"done ");
+    out.push_number(u128::from(domains));
+    out.push(b" ");
+    out.push_number(members as u128);
+    out.push(b"\n");
+}

@@ -1,0 +1,5 @@
+pub mod Loading
+-- Handed on: what crates above name of those below.
+pub use Rattle.sd_topotext.proofs as Topotext
+pub use Rattle.sd_plantext.proofs as Plantext
+pub use Rattle.sd_checker.proofs as Checker

@@ -1,0 +1,6 @@
+pub mod Stepping
+pub mod Writing
+pub mod Reading
+pub mod Whole
+pub mod Coming
+pub mod Adding

@@ -1,0 +1,248 @@
+-- How far a run has come, line by line, and that it then ends as its outcome says.
+use Rattle.std.proofs.Common.{◌≡◌, ℕ, ◌+◌, Bool, true, List, [], ◌∷◌, ◌++◌, Option, Some, None, Result, Ok, Err, refl, inr, sym, ap, ◌∙◌, subst, length, take, drop, append_assoc, append-nil, take-append-drop, arith}
+use Rattle.std.proofs.Math.Seq.{take-append_seam}
+use Rattle.std.specs.Prelude.{IfSome, IsErrAnd, IsTrue}
+use Rattle.std.specs.Io.KnownBytes.{Appends, Keeps}
+use Rattle.std.proofs.KnownBytes.{Appends-nil, Appends-trans, Appends-kept}
+use Rattle.sd_outside.specs.declared.shelf.Shelf.{Ghosts}
+use Rattle.sd_outside.specs.Prefixes.{WritesPrefix}
+use Rattle.sd_stream.specs.Lines.{lines, after_line}
+use Rattle.sd_stream.specs.Reader.{text_left, bytes_before, GoesPast, IsNear}
+use Rattle.sd_stream.specs.declared.reader.LineReader.{LineReader}
+use Rattle.sd_stream.specs.declared.buffer.Buffer.{Buffer}
+use Rattle.sd_cmd_files.specs.Writes.{Adds}
+use Rattle.sd_cmd_files.specs.declared.Status.{Status}
+use Rattle.sd_cmd_files.specs.declared.command_error.IoError.{IoError}
+use Rattle.sd_cmd_files.specs.declared.command_error.IoError.TheVariants as stop
+use Rattle.sd_cmd_files.specs.work.Works.{Work, Reading, IsOutcome, WritesWhole, reading, reading_from, all_bytes, last_bytes, written_for, status_for, refused_part, text_behind}
+use Rattle.sd_cmd_files.specs.work.Leaving.{WritesLines, LeavesAt, are_lines}
+use Rattle.sd_cmd_files.specs.work.Steps.{Step, step_of, step_bytes}
+use Rattle.sd_cmd_files.specs.work.Comes.{HasCome, Makes}
+use Rattle.sd_cmd_files.proofs.work.Reading.{reads_on, reads_end, EndsWith, begins_with_step}
+use Rattle.sd_cmd_files.proofs.work.Whole.{append_whole}
+use Rattle.sd_cmd_files.proofs.work.Writing.{AddsNext, MakesNext}
+
+-- before the first line
+pub comes : {S E : Type 0} (g : Ghosts S) (work : Work E) (Stands : List E → Type 0) (text : List ℕ) (reader : LineReader S Buffer g) (out : Option (List ℕ))
+    → Stands [] → text_left g reader ≡ Some text → bytes_before reader ≡ 0
+    → Appends out out [] → HasCome g work Stands text reader out out
+unfolding reading all_bytes
+comes g work Stands text reader out stands left none nothing =
+    record {
+      taken = [];
+      stands = stands;
+      left = left;
+      total = ap (λ (n : ℕ). n + length text) none ∙ zero_front (length text);
+      further = ap (λ (n : ℕ). reading_from work (length text) n [] (lines text)) (sym none);
+      written = nothing;
+    }
+  where
+    zero_front : (n : ℕ) → 0 + n ≡ n
+    zero_front n = omega arith
+
+-- after a line that was accepted
+pub comes_on : {S E : Type 0} (g : Ghosts S) (work : Work E) (Stood Stands : Work E → List E
+    → Type 0) (text : List ℕ) (old new : LineReader S Buffer g) (first before after : Option (List ℕ)) → HasCome g work (Stood work) text old first before
+    → MakesNext (text_left g old) (bytes_before old) Stood Stands (Ok None)
+    → AddsNext {T = Option Status} (text_left g old) (bytes_before old) Stood before after (Ok None)
+    → IfSome (text_left g old) (GoesPast (bytes_before old) (bytes_before new) (text_left g new)) → HasCome g work (Stands work) text new first after
+unfolding all_bytes
+comes_on {E = E} g work Stood Stands text old new first before after h makes adds past =
+    let left = text_behind (length h.taken) text in
+    let total = bytes_before old + length left in
+    let step = step_of work total (bytes_before old) h.taken (lines left) in
+    let made = subst (λ (l : Option (List ℕ)). MakesNext l (bytes_before old) Stood Stands (Ok None)) h.left makes work h.taken h.stands in
+    let added = subst (λ (l : Option (List ℕ)). AddsNext {T = Option Status} l (bytes_before old) Stood before after (Ok None)) h.left adds work h.taken
+    h.stands in
+    let gone = subst (λ (l : Option (List ℕ)). IfSome l (GoesPast (bytes_before old) (bytes_before new) (text_left g new))) h.left past in
+    record {
+      taken = made.0 ∷ h.taken;
+      stands = made.2;
+      left = gone.after;
+      total = gone.count ∙ h.total;
+      further =
+          h.further
+          ∙ subst (λ (n : ℕ). reading_from work n (bytes_before old) h.taken (lines left)
+          ≡ reading_from work n (bytes_before new) (made.0 ∷ h.taken) (lines (after_line left))) h.total
+          (reads_on work total (bytes_before old) (bytes_before new) h.taken made.0 left made.1 gone.count);
+      written = Appends-trans first before after (all_bytes work h.taken) (work.bytes h.taken made.0) h.written
+          (subst (λ (s : Step E). Appends before after (step_bytes work h.taken s)) made.1 added);
+    }
+
+regroup : (a b c d : List ℕ) → (a ++ (b ++ c)) ++ d ≡ (a ++ b) ++ (c ++ d)
+regroup a b c d = simp append_assoc
+
+-- all that is written for lines is whole lines
+all_lines : {E : Type 0} (work : Work E) → WritesWhole work → (xs : List E) → are_lines (all_bytes work xs) ≡ true
+unfolding all_bytes
+all_lines work whole [] = refl
+all_lines work whole (x ∷ earlier) = append_whole (all_bytes work earlier) (work.bytes earlier x) (all_lines work whole earlier) (whole earlier x)
+
+-- the outcome begins with what was written, and goes on with the next step
+outcome_begins : {S E : Type 0} (g : Ghosts S) (work : Work E) (Stands : List E
+    → Type 0) (text : List ℕ) (reader : LineReader S Buffer g) (first before : Option (List ℕ)) (h : HasCome g work Stands text reader first before)
+    → (more : List ℕ)
+    × ((written_for work (reading work text))
+    ≡ (all_bytes work h.taken
+    ++ step_bytes work h.taken
+    (step_of work (bytes_before reader + length (text_behind (length h.taken) text)) (bytes_before reader) h.taken
+    (lines (text_behind (length h.taken) text)))) ++ more)
+outcome_begins g work Stands text reader first before h =
+    let left = text_behind (length h.taken) text in
+    let begun = begins_with_step work (bytes_before reader + length left) (bytes_before reader) h.taken (lines left) in
+    (begun.0, ap (written_for work) (h.further ∙ ap (λ (n : ℕ). reading_from work n (bytes_before reader) h.taken (lines left)) (sym h.total)) ∙ begun.1)
+
+-- a run that was stopped has written a front of its outcome
+pub stops : {S E : Type 0} (g : Ghosts S) (work : Work E) (Stood : Work E → List E
+    → Type 0) (text : List ℕ) (reader : LineReader S Buffer g) (first before after : Option (List ℕ)) (why : IoError) → WritesWhole work
+    → HasCome g work (Stood work) text reader first before
+    → AddsNext {T = Option Status} (text_left g reader) (bytes_before reader) Stood before after (Err why)
+    → LeavesAt true (IsOutcome work text) first after (Err why)
+stops {E = E} g work Stood text reader first before after why whole h adds =
+    by why (outcome_begins g work (Stood work) text reader first before h)
+    (subst (λ (l : Option (List ℕ)). AddsNext {T = Option Status} l (bytes_before reader) Stood before after (Err why)) h.left adds work h.taken h.stands)
+  where
+    all : List ℕ
+    all = written_for work (reading work text)
+
+    answer : Status
+    answer = status_for work (reading work text).taken (reading work text).refused
+
+    done : List ℕ
+    done = all_bytes work h.taken
+
+    left : List ℕ
+    left = text_behind (length h.taken) text
+
+    next : List ℕ
+    next = step_bytes work h.taken (step_of work (bytes_before reader + length left) (bytes_before reader) h.taken (lines left))
+
+    front : (more : List ℕ) → all ≡ (done ++ next) ++ more → Keeps before after → WritesLines first after all
+    front more same kept =
+        let taken : take (length done) all ≡ done = ap (take (length done)) (same ∙ append_assoc done next more) ∙ take-append_seam done (next ++ more) in (
+          length done,
+          ap are_lines taken
+              ∙ all_lines work whole h.taken,
+          subst (Appends first after) (sym taken) (Appends-kept first before after done h.written kept),
+        )
+
+    cut : (more : List ℕ) → all ≡ (done ++ next) ++ more → WritesPrefix before after next → WritesPrefix first after all
+    cut more same written =
+        let part = take written.0 next in
+        let rest = drop written.0 next in
+        let split : all ≡ (done ++ part) ++ (rest ++ more) = same ∙ ap (λ (l : List ℕ). (done ++ l) ++ more) (sym (take-append-drop written.0 next))
+        ∙ regroup done part rest more in (
+          length (done ++ part),
+          subst (Appends first after) (sym (ap (take (length (done ++ part))) split ∙ take-append_seam (done ++ part) (rest ++ more)))
+              (Appends-trans first before after done part h.written written.1),
+        )
+
+    by : (cause : IoError) → (more : List ℕ) × (all ≡ (done ++ next) ++ more) → Adds {T = Option Status} next before after (Err cause)
+        → LeavesAt true (IsOutcome work text) first after (Err cause)
+    by stop.Shelf begun kept = inr (all, answer, (refl, refl), front begun.0 begun.1 kept)
+    by stop.Sink begun written = (all, answer, (refl, refl), cut begun.0 begun.1 written)
+    by stop.Memory begun kept = inr (all, answer, (refl, refl), front begun.0 begun.1 kept)
+
+-- what is written where a reading ends is all that is written for it
+ends_reading : {E : Type 0} (work : Work E) (r : Reading E) (xs : List E) (bytes : List ℕ) (status : Status) (first after : Option (List ℕ))
+    → EndsWith work r xs bytes status → Appends first after (all_bytes work xs ++ bytes)
+    → (written : List ℕ) × ((written ≡ written_for work r) × (status ≡ status_for work r.taken r.refused)) × Appends first after written
+ends_reading {E = E} work r xs bytes status first after e written =
+    let same : all_bytes work xs ++ bytes ≡ written_for work r =
+    sym (ap (λ (l : List E). all_bytes work l ++ last_bytes work l r.refused) e.taken_are ∙ ap (λ (l : List ℕ). all_bytes work xs ++ l) e.bytes_are) in
+    (all_bytes work xs ++ bytes, (same, sym (ap (λ (l : List E). status_for work l r.refused) e.taken_are ∙ e.status_is)), written)
+
+-- a run that ended has written its outcome, and answers its status
+pub ends : {S E : Type 0} (g : Ghosts S) (work : Work E) (Stood Stands : Work E → List E
+    → Type 0) (text : List ℕ) (reader : LineReader S Buffer g) (first before after : Option (List ℕ)) (status : Status)
+    → HasCome g work (Stood work) text reader first before
+    → MakesNext (text_left g reader) (bytes_before reader) Stood Stands (Ok (Some status))
+    → AddsNext {T = Option Status} (text_left g reader) (bytes_before reader) Stood before after (Ok (Some status))
+    → LeavesAt true (IsOutcome work text) first after (Ok status)
+ends {E = E} g work Stood Stands text reader first before after status h makes adds =
+    let left = text_behind (length h.taken) text in
+    let total = bytes_before reader + length left in
+    let made = subst (λ (l : Option (List ℕ)). MakesNext l (bytes_before reader) Stood Stands (Ok (Some status))) h.left makes work h.taken h.stands in
+    let added = subst (λ (l : Option (List ℕ)). AddsNext {T = Option Status} l (bytes_before reader) Stood before after (Ok (Some status))) h.left adds work
+    h.taken h.stands in
+    let last = subst (λ (s : Step E). Appends before after (step_bytes work h.taken s)) made.1 added in
+    let further : reading work text ≡ reading_from work total (bytes_before reader) h.taken (lines left) =
+    h.further ∙ ap (λ (n : ℕ). reading_from work n (bytes_before reader) h.taken (lines left)) (sym h.total) in
+    let ended = subst (λ (r : Reading E). EndsWith work r h.taken made.0 status) (sym further)
+    (reads_end work total (bytes_before reader) h.taken (lines left) made.0 status made.1) in
+    ends_reading work (reading work text) h.taken made.0 status first after ended
+    (Appends-trans first before after (all_bytes work h.taken) made.0 h.written last)
+
+-- the line of a text at which its reading ends
+pub ends_behind : {S E : Type 0} (g : Ghosts S) (work : Work E) (Stood Stands : Work E → List E
+    → Type 0) (text : List ℕ) (reader : LineReader S Buffer g) (first before : Option (List ℕ)) (status : Status)
+    → HasCome g work (Stood work) text reader first before
+    → MakesNext (text_left g reader) (bytes_before reader) Stood Stands (Ok (Some status)) → text_left g reader ≡ Some (refused_part work text)
+ends_behind {E = E} g work Stood Stands text reader first before status h makes =
+    let left = text_behind (length h.taken) text in
+    let total = bytes_before reader + length left in
+    let made = subst (λ (l : Option (List ℕ)). MakesNext l (bytes_before reader) Stood Stands (Ok (Some status))) h.left makes work h.taken h.stands in
+    let further : reading work text ≡ reading_from work total (bytes_before reader) h.taken (lines left) =
+    h.further ∙ ap (λ (n : ℕ). reading_from work n (bytes_before reader) h.taken (lines left)) (sym h.total) in
+    let ended = subst (λ (r : Reading E). EndsWith work r h.taken made.0 status) (sym further)
+    (reads_end work total (bytes_before reader) h.taken (lines left) made.0 status made.1) in
+    h.left ∙ ap (λ (l : List E). Some (text_behind (length l) text)) (sym ended.taken_are)
+
+-- the same of a text that is told or not
+pub told_comes : {S E : Type 0} (g : Ghosts S) (work : Work E) (Stands : List E
+    → Type 0) (rest : Option (List ℕ)) (reader : LineReader S Buffer g) (out : Option (List ℕ)) → Stands [] → text_left g reader ≡ rest
+    → bytes_before reader ≡ 0
+    → IfSome rest (λ text. HasCome g work Stands text reader out out)
+told_comes g work Stands None reader out stands left none = tt
+told_comes g work Stands (Some text) reader out stands left none = comes g work Stands text reader out stands left none (Appends-nil out)
+
+-- the answer of a line that is not the last
+abbrev pub goes_on : Result (Option Status) IoError
+goes_on = Ok None
+
+pub told_comes_on : {S E : Type 0} (g : Ghosts S) (work : Work E) (Stood Stands : Work E → List E
+    → Type 0) (rest : Option (List ℕ)) (old new : LineReader S Buffer g) (first before after : Option (List ℕ))
+    → IfSome rest (λ text. HasCome g work (Stood work) text old first before) → MakesNext (text_left g old) (bytes_before old) Stood Stands (Ok None)
+    → AddsNext {T = Option Status} (text_left g old) (bytes_before old) Stood before after (Ok None)
+    → IfSome (text_left g old) (λ text. goes_on ≡ Ok None → GoesPast (bytes_before old) (bytes_before new) (text_left g new) text)
+    → IfSome rest (λ text. HasCome g work (Stands work) text new first after)
+told_comes_on g work Stood Stands None old new first before after h makes adds past = tt
+told_comes_on g work Stood Stands (Some text) old new first before after h makes adds past =
+    comes_on g work Stood Stands text old new first before after h makes adds (when (text_left g old) past)
+  where
+    when : (left : Option (List ℕ)) → IfSome left (λ t. goes_on ≡ Ok None → GoesPast (bytes_before old) (bytes_before new) (text_left g new) t)
+        → IfSome left (GoesPast (bytes_before old) (bytes_before new) (text_left g new))
+    when None gone = tt
+    when (Some t) gone = gone refl
+
+pub told_stops : {S E : Type 0} (g : Ghosts S) (work : Work E) (Stood : Work E → List E
+    → Type 0) (rest : Option (List ℕ)) (reader : LineReader S Buffer g) (first before after : Option (List ℕ)) (why : IoError) → WritesWhole work
+    → IfSome rest (λ text. HasCome g work (Stood work) text reader first before)
+    → AddsNext {T = Option Status} (text_left g reader) (bytes_before reader) Stood before after (Err why)
+    → IfSome rest (λ text. LeavesAt true (IsOutcome work text) first after (Err why))
+told_stops g work Stood None reader first before after why whole h adds = tt
+told_stops g work Stood (Some text) reader first before after why whole h adds = stops g work Stood text reader first before after why whole h adds
+
+pub told_ends : {S E : Type 0} (g : Ghosts S) (work : Work E) (Stood Stands : Work E → List E
+    → Type 0) (rest : Option (List ℕ)) (reader : LineReader S Buffer g) (first before after : Option (List ℕ)) (status : Status)
+    → IfSome rest (λ text. HasCome g work (Stood work) text reader first before)
+    → MakesNext (text_left g reader) (bytes_before reader) Stood Stands (Ok (Some status))
+    → AddsNext {T = Option Status} (text_left g reader) (bytes_before reader) Stood before after (Ok (Some status))
+    → IfSome rest (λ text. LeavesAt true (IsOutcome work text) first after (Ok status))
+told_ends g work Stood Stands None reader first before after status h makes adds = tt
+told_ends g work Stood Stands (Some text) reader first before after status h makes adds =
+    ends g work Stood Stands text reader first before after status h makes adds
+
+pub told_near : {S E : Type 0} (g : Ghosts S) (work : Work E) (Stood Stands : Work E → List E
+    → Type 0) (rest shelf : Option (List ℕ)) (reader : LineReader S Buffer g) (first before : Option (List ℕ)) (status : Status)
+    → IfSome rest (λ text. HasCome g work (Stood work) text reader first before)
+    → MakesNext (text_left g reader) (bytes_before reader) Stood Stands (Ok (Some status)) → IsNear (text_left g reader) shelf
+    → IfSome rest (λ text. IsNear (Some (refused_part work text)) shelf)
+told_near g work Stood Stands None shelf reader first before status h makes near = tt
+told_near g work Stood Stands (Some text) shelf reader first before status h makes near =
+    subst (λ (l : Option (List ℕ)). IsNear l shelf) (ends_behind g work Stood Stands text reader first before status h makes) near
+
+-- a stop that is handed on stays what it was
+pub handed_on : (result : Result Status IoError) (why : IoError) → IsErrAnd result (λ other. other ≡ why) → Err why ≡ result
+handed_on (Ok status) why same = absurd same
+handed_on (Err other) why same = ap Err (sym same)

@@ -1,0 +1,121 @@
+-- What the reader answers is the step that the definition says comes next.
+use Rattle.std.proofs.Common.{◌≡◌, ℕ, ◌+◌, ◌^◌, ◌<◌, ◌≤◌, Bool, true, false, cond, List, [], ◌∷◌, Option, Some, None, Result, Ok, Err, refl, sym, ap, ◌∙◌, subst, arith, length, IfOk}
+use Rattle.std.specs.Prelude.{nat_le, nat_lt, IfSome, codes}
+use Rattle.std.specs.Option.{option_copied}
+use Rattle.std.specs.Borrow.{Bor}
+use Rattle.std.proofs.lemmas.Bool.{and_parts, ltb-true}
+use Rattle.sd_stream.specs.Lines.{lines, line_len, next_of}
+use Rattle.sd_stream.specs.Limits.{Answers, answer_of, is_long, is_past}
+use Rattle.sd_stream.specs.declared.faults.StreamFault.{StreamFault}
+use Rattle.sd_stream.specs.declared.faults.StreamFault.TheVariants as stream
+use Rattle.sd_stream.proofs.LineLaws.{line_len-le-length, length-take-line_len, next_of-none, length-next_of, lines-more, lines-some}
+use Rattle.sd_cmd_files.specs.declared.command_error.IoError.{IoError}
+use Rattle.sd_cmd_files.specs.work.Works.{Work, judged}
+use Rattle.sd_cmd_files.specs.work.Steps.{Step, step_for, step_of, end_step, refused_step}
+use Rattle.sd_cmd_files.specs.work.Comes.{Finds}
+use Rattle.sd_cmd_files.specs.declared.work.taking.Found.{Found}
+use Rattle.sd_cmd_files.specs.declared.work.taking.Found.TheVariants as found
+
+-- which tests hold where an answer is known
+long_holds : (long past : Bool) (line : Option (List ℕ)) → cond long (Err stream.LongLine) (cond past (Err stream.Limit) (Ok line)) ≡ Err stream.LongLine
+    → long ≡ true
+long_holds true past line same = refl
+long_holds false true line same = cc
+long_holds false false line same = cc
+
+past_holds : (long past : Bool) (line : Option (List ℕ)) → cond long (Err stream.LongLine) (cond past (Err stream.Limit) (Ok line)) ≡ Err stream.Limit
+    → (long ≡ false) × (past ≡ true)
+past_holds true past line same = cc
+past_holds false true line same = (refl, refl)
+past_holds false false line same = cc
+
+none_holds : (long past : Bool) (line other : Option (List ℕ)) → cond long (Err stream.LongLine) (cond past (Err stream.Limit) (Ok line)) ≡ Ok other
+    → (long ≡ false) × (past ≡ false) × (line ≡ other)
+none_holds true past line other same = cc
+none_holds false true line other same = cc
+none_holds false false line other same = (refl, refl, cc)
+
+-- a text whose next line is too long
+pub step_long : {E : Type 0} (work : Work E) (before : ℕ) (text : List ℕ) (xs : List E) → answer_of before text ≡ Err stream.LongLine
+    → step_of work (before + length text) before xs (lines text) ≡ refused_step work xs (codes "LongLine")
+unfolding answer_of
+step_long work before text xs answer =
+    let long : is_long before text ≡ true = long_holds (is_long before text) (is_past before text) (next_of text) answer in
+    let more : 4096 < line_len text = ltb-true 4096 (line_len text) (and_parts (nat_le (before + 4097) (2 ^ 32)) (nat_lt 4096 (line_len text)) long).1 in
+    let some : 0 < length text = omega (arith, more, line_len-le-length text) in
+    rw (lines-more text some, length-take-line_len text, long) refl
+
+-- a text that goes on past its limit
+pub step_past : {E : Type 0} (work : Work E) (before : ℕ) (text : List ℕ) (xs : List E) → before ≤ 2 ^ 32 → answer_of before text ≡ Err stream.Limit
+    → step_of work (before + length text) before xs (lines text) ≡ refused_step work xs (codes "Limit")
+unfolding answer_of
+step_past work before text xs within answer =
+    let tests : (is_long before text ≡ false) × (is_past before text ≡ true) = past_holds (is_long before text) (is_past before text) (next_of text) answer in
+    let more : 2 ^ 32 < before + length text =
+    ltb-true (2 ^ 32) (before + length text)
+    (and_parts (nat_lt (2 ^ 32) (before + length text)) (nat_lt (2 ^ 32) (before + line_len text + 1)) tests.1).0 in
+    let some : 0 < length text = omega (arith, more, within) in
+    rw (lines-more text some, length-take-line_len text, tests.0, tests.1) refl
+
+-- a text whose next line is lent
+pub step_line : {E : Type 0} (work : Work E) (before : ℕ) (text line : List ℕ) (xs : List E) → answer_of before text ≡ Ok (Some line)
+    → step_of work (before + length text) before xs (lines text) ≡ step_for work xs (work.says xs line)
+unfolding answer_of
+step_line work before text line xs answer =
+    let tests : (is_long before text ≡ false) × (is_past before text ≡ false) × (next_of text ≡ Some line) =
+    none_holds (is_long before text) (is_past before text) (next_of text) (Some line) answer in
+    rw (lines-some text line tests.2, length-next_of text line tests.2, tests.0, tests.1) refl
+
+-- a text that is used up
+pub step_end : {E : Type 0} (work : Work E) (before : ℕ) (text : List ℕ) (xs : List E) → answer_of before text ≡ Ok None
+    → step_of work (before + length text) before xs (lines text) ≡ end_step work xs
+unfolding answer_of
+step_end work before text xs answer =
+    let tests : (is_long before text ≡ false) × (is_past before text ≡ false) × (next_of text ≡ None) =
+    none_holds (is_long before text) (is_past before text) (next_of text) None answer in
+    let used_up : text ≡ [] = next_of-none text tests.2 in
+    rw used_up refl
+
+-- what is found in the text that is left, if that is told: whatever work was done, with what it took, it is done on
+abbrev pub FindsNext : {E : Type 0} → Option (List ℕ) → ℕ → (Stood Stands : Work E → List E → Type 0) → (printed : List ℕ) → Found → Type 0
+FindsNext {E = E} left before Stood Stands printed what =
+    IfSome left (λ text. (w : Work E) (xs : List E) → Stood w xs → Finds w (step_of w (before + length text) before xs (lines text)) xs (Stands w) printed what)
+
+finds_line : {E : Type 0} (left : Option (List ℕ)) (before : ℕ) (Stood Stands : Work E → List E
+    → Type 0) (printed : List ℕ) (what : Found) (field : Option (Bor (List ℕ))) (line : Bor (List ℕ)) → field ≡ Some line
+    → IfSome left (λ text. Answers (answer_of before text) (Ok field))
+    → ((w : Work E) (xs : List E) → Stood w xs → Finds w (step_for w xs (w.says xs line.now)) xs (Stands w) printed what)
+    → FindsNext left before Stood Stands printed what
+finds_line None before Stood Stands printed what field line is answer judged = tt
+finds_line {E = E} (Some text) before Stood Stands printed what field line is answer judged =
+    λ w xs h. subst (λ (step : Step E). Finds w step xs (Stands w) printed what)
+    (sym (step_line w before text line.now xs (answer ∙ ap (λ (f : Option (Bor (List ℕ))). Ok (option_copied f)) is))) (judged w xs h)
+
+-- the same of what is answered
+pub finds_taken : {E : Type 0} (left : Option (List ℕ)) (before : ℕ) (Stood Stands : Work E → List E
+    → Type 0) (printed : List ℕ) (result : Result Found IoError) (field : Option (Bor (List ℕ))) (line : Bor (List ℕ)) → field ≡ Some line
+    → IfSome left (λ text. Answers (answer_of before text) (Ok field))
+    → IfOk result (λ what. (w : Work E) (xs : List E) → Stood w xs → Finds w (step_for w xs (w.says xs line.now)) xs (Stands w) printed what)
+    → IfOk result (λ what. FindsNext left before Stood Stands printed what)
+finds_taken left before Stood Stands printed (Ok what) field line is answer judged =
+    finds_line left before Stood Stands printed what field line is answer judged
+finds_taken left before Stood Stands printed (Err why) field line is answer judged = tt
+
+pub finds_end : {E : Type 0} (left : Option (List ℕ)) (before : ℕ) (Stood : Work E → List E → Type 0) (printed : List ℕ) (field : Option (Bor (List ℕ)))
+    → field ≡ None → IfSome left (λ text. Answers (answer_of before text) (Ok field))
+    → FindsNext left before Stood Stood printed found.Ended
+finds_end None before Stood printed field is answer = tt
+finds_end (Some text) before Stood printed field is answer =
+    λ w xs h. (step_end w before text xs (answer ∙ ap (λ (f : Option (Bor (List ℕ))). Ok (option_copied f)) is), h)
+
+pub finds_long : {E : Type 0} (left : Option (List ℕ)) (before : ℕ) (Stood : Work E → List E → Type 0) (printed : List ℕ) (why : StreamFault)
+    → why ≡ stream.LongLine → IfSome left (λ text. Answers (answer_of before text) (Err why))
+    → FindsNext left before Stood Stood printed found.LongLine
+finds_long None before Stood printed why is answer = tt
+finds_long (Some text) before Stood printed why is answer = λ w xs h. (step_long w before text xs (rw is at answer), h)
+
+pub finds_past : {E : Type 0} (left : Option (List ℕ)) (before : ℕ) (Stood : Work E → List E → Type 0) (printed : List ℕ) (why : StreamFault) → before ≤ 2 ^ 32
+    → why ≡ stream.Limit → IfSome left (λ text. Answers (answer_of before text) (Err why))
+    → FindsNext left before Stood Stood printed found.Limit
+finds_past None before Stood printed why within is answer = tt
+finds_past (Some text) before Stood printed why within is answer = λ w xs h. (step_past w before text xs within (rw is at answer), h)

@@ -1,0 +1,41 @@
+-- What is written of what was made.
+use Rattle.std.specs.Prelude.{◌≡◌, ℕ, List, Option, Result, Ok, Err}
+use Rattle.std.specs.Io.KnownBytes.{Appends, Keeps}
+use Rattle.sd_outside.specs.Prefixes.{WritesPrefix}
+use Rattle.sd_cmd_files.specs.Answering.{May}
+use Rattle.sd_cmd_files.specs.Reasons.{refusal_line}
+use Rattle.sd_cmd_files.specs.declared.Status.{Status}
+use Rattle.sd_cmd_files.specs.declared.Status.TheVariants.{InputRefused}
+use Rattle.sd_cmd_files.specs.declared.command_error.Answer.{Answer}
+use Rattle.sd_cmd_files.specs.declared.command_error.CommandError.{CommandError}
+use Rattle.sd_cmd_files.specs.declared.command_error.CommandError.TheVariants as ended
+use Rattle.sd_cmd_files.specs.declared.command_error.IoError.{IoError}
+use Rattle.sd_cmd_files.specs.declared.command_error.IoError.TheVariants as stop
+
+-- the bytes were added; or the run was stopped, and where that was by the sink some front of them was
+abbrev pub Adds : {T : Type 0} → List ℕ → Option (List ℕ) → Option (List ℕ) → Result T IoError → Type 0
+Adds bytes old new (Ok done) = Appends old new bytes
+Adds bytes old new (Err stop.Shelf) = Keeps old new
+Adds bytes old new (Err stop.Sink) = WritesPrefix old new bytes
+Adds bytes old new (Err stop.Memory) = Keeps old new
+
+-- all of it is written by one write: such bytes with such a status, some front of them where the sink fails, and nothing where the run is stopped before
+abbrev pub WritesOnce : May → Option (List ℕ) → Option (List ℕ) → Result Status IoError → Type 0
+WritesOnce Answers old new (Ok status) = (bytes : List ℕ) × Answers bytes status × Appends old new bytes
+WritesOnce Answers old new (Err stop.Shelf) = Keeps old new
+WritesOnce Answers old new (Err stop.Sink) = (bytes : List ℕ) × (status : Status) × Answers bytes status × WritesPrefix old new bytes
+WritesOnce Answers old new (Err stop.Memory) = Keeps old new
+
+-- the bytes and the status of what was made, or of the file that is refused
+abbrev pub Tells : Result Answer CommandError → List ℕ → Status → Type 0
+Tells (Ok answer) bytes status = (bytes ≡ answer.text.items) × (status ≡ answer.status)
+Tells (Err (ended.Refused why)) bytes status = (bytes ≡ refusal_line why) × (status ≡ InputRefused)
+Tells (Err ended.Shelf) bytes status = ⊥
+Tells (Err ended.Memory) bytes status = ⊥
+
+-- what was made may be written, or the line of the file that is refused
+abbrev pub Makes : May → Result Answer CommandError → Type 0
+Makes Answers (Ok answer) = Answers answer.text.items answer.status
+Makes Answers (Err (ended.Refused why)) = Answers (refusal_line why) InputRefused
+Makes Answers (Err ended.Shelf) = Unit {0}
+Makes Answers (Err ended.Memory) = Unit {0}

@@ -1,0 +1,2 @@
+pub mod PlanFiles
+pub mod SetupError

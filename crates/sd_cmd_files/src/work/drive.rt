@@ -1,0 +1,109 @@
+//! The way through a text: every line is taken, and what is due for it is written.
+ghost use Rattle.std.specs.Prelude.{◌≡◌, ◌<◌, ◌≤◌, ◌+◌, ◌^◌, ◌∷◌, [], List, length, true, Ok, Err, Some, None, IsTrue, IfOk, IfSome};
+ghost use Rattle.sd_outside.specs.Causes.{Rose};
+ghost use Rattle.sd_stream.specs.Lines.{lines};
+ghost use Rattle.sd_stream.specs.Reader.{text_left, bytes_before, IsNear, GoesPast};
+ghost use Rattle.sd_cmd_files.specs.Statuses.{is_among};
+ghost use Rattle.sd_cmd_files.specs.Writes.{Adds};
+ghost use Rattle.sd_cmd_files.specs.work.Leaving.{LeavesAt};
+ghost use Rattle.sd_cmd_files.specs.work.Works.{Work, IsOutcome, WritesWhole, refused_part};
+ghost use Rattle.sd_cmd_files.specs.work.Steps.{step_bytes, step_of};
+ghost use Rattle.sd_cmd_files.specs.work.Comes.{Makes};
+ghost use Rattle.sd_cmd_files.specs.work.Progresses.{Holds};
+
+use crate::work::LineWork;
+use crate::work::progress::Progress;
+use crate::work::taking::{Found, find};
+use crate::{IoError, Status};
+use sd_outside::{LineBuffer, Shelf, Sink};
+use sd_stream::{Buffer, LineReader};
+use std::alloc::Global;
+
+/// Goes through the begun text of a shelf line by line, and writes what the work makes of it. One
+/// buffer to read into and one for a refusal are taken at the start.
+pub fn work_through<S: Shelf, O: Sink, W: LineWork>(
+    alloc: Global,
+    shelf: &mut S,
+    work: W,
+    out: &mut O,
+) -> Result<Status, IoError>
+    requires begun { IsTrue (S.begun shelf.old) }
+    ensures outcome { (w : Work W.Item) → W.does work w [] → WritesWhole w
+        → IfSome (S.rest shelf.old)
+        (λ text. LeavesAt true (IsOutcome w text) (O.written out.old) (O.written out.new) result) }
+    ensures gives { IfOk result (λ status. IsTrue (is_among (Status.InputRefused ∷ W.gives) status)) }
+    ensures near { (w : Work W.Item) → W.does work w [] → result ≡ Ok Status.InputRefused
+        → IfSome (S.rest shelf.old)
+        (λ text. IsNear (Some (refused_part w text)) (S.rest shelf.new)) }
+    ensures shelf { result ≡ Err IoError.Shelf → Rose (S.faults shelf.old) (S.faults shelf.new) }
+    ensures sink { result ≡ Err IoError.Sink → Rose (O.faults out.old) (O.faults out.new) }
+    ensures begun { IsTrue (S.begun shelf.new) }
+    ensures later { S.faults shelf.old ≤ S.faults shelf.new }
+    ensures same_held { S.held shelf.new ≡ S.held shelf.old }
+{
+    let buffer = match Buffer::new(alloc) {
+        Ok(buffer) => buffer,
+        Err(_) => return Err(IoError::Memory),
+    };
+    let line = match LineBuffer::new(alloc) {
+        Ok(line) => line,
+        Err(_) => return Err(IoError::Memory),
+    };
+    let mut reader = LineReader::over(shelf, buffer);
+    let mut progress = Progress {
+        work,
+        taken: 0,
+        line,
+    };
+    'lines: loop {
+        if let Some(status) = take_line(alloc, &mut reader, &mut progress, out)? {
+            return Ok(status);
+        }
+    }
+}
+
+/// Takes the next line. It answers the status where that is the last one.
+fn take_line<S: Shelf, O: Sink, W: LineWork>(
+    alloc: Global,
+    reader: &mut LineReader<'_, S>,
+    progress: &mut Progress<W>,
+    out: &mut O,
+) -> Result<Option<Status>, IoError>
+    requires more { progress.old.taken ≤ 2 ^ 32 }
+    ensures makes { IfSome (text_left S.Shelf reader.old) (λ text. (w : Work W.Item) (xs : List W.Item)
+        → Holds W.LineWork progress.old w xs
+        → Makes (step_of w (bytes_before reader.old + length text) (bytes_before reader.old) xs
+        (lines text)) xs (Holds W.LineWork progress.new w) result) }
+    ensures writes { IfSome (text_left S.Shelf reader.old) (λ text. (w : Work W.Item) (xs : List W.Item)
+        → Holds W.LineWork progress.old w xs
+        → Adds (step_bytes w xs
+        (step_of w (bytes_before reader.old + length text) (bytes_before reader.old) xs
+        (lines text))) (O.written out.old) (O.written out.new) result) }
+    ensures counts { result ≡ Ok None → progress.new.taken ≡ progress.old.taken + 1 }
+    ensures gives { IfOk result
+        (λ last. IfSome last (λ status. IsTrue (is_among (Status.InputRefused ∷ W.gives) status))) }
+    ensures passes { IfSome (text_left S.Shelf reader.old) (λ text. result ≡ Ok None
+        → GoesPast (bytes_before reader.old) (bytes_before reader.new)
+        (text_left S.Shelf reader.new) text) }
+    ensures moves { result ≡ Ok None → bytes_before reader.old < bytes_before reader.new }
+    ensures within { bytes_before reader.new ≤ 2 ^ 32 }
+    ensures near { IsNear (text_left S.Shelf reader.old) (S.rest reader.new.shelf.now) }
+    ensures shelf { result ≡ Err IoError.Shelf
+        → Rose (S.faults reader.old.shelf.now) (S.faults reader.new.shelf.now) }
+    ensures sink { result ≡ Err IoError.Sink → Rose (O.faults out.old) (O.faults out.new) }
+    ensures later { S.faults reader.old.shelf.now ≤ S.faults reader.new.shelf.now }
+    ensures sink_later { O.faults out.old ≤ O.faults out.new }
+    ensures same_shelf { reader.new.shelf.ghost_name ≡ reader.old.shelf.ghost_name }
+    ensures same_held { S.held reader.new.shelf.now ≡ S.held reader.old.shelf.now }
+{
+    match find(alloc, reader, &mut progress.work)? {
+        Found::Accepted => {
+            progress.write_accepted(out)?;
+            Ok(None)
+        }
+        Found::Refused => Ok(Some(progress.refuse(out)?)),
+        Found::LongLine => Ok(Some(progress.refuse_for(b"LongLine", out)?)),
+        Found::Limit => Ok(Some(progress.refuse_for(b"Limit", out)?)),
+        Found::Ended => Ok(Some(progress.finish(alloc, out)?)),
+    }
+}

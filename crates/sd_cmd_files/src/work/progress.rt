@@ -1,0 +1,144 @@
+//! A work on its way, and what is written for it.
+ghost use Rattle.std.specs.Prelude.{◌≡◌, ◌≢◌, ◌≤◌, ◌<◌, ◌+◌, ◌∷◌, ◌^◌, [], ℕ, List, Ok, Err, IfOk, codes, decimal, length, IsTrue};
+ghost use Rattle.sd_num.specs.Texts.{text_of};
+ghost use Rattle.sd_outside.specs.Causes.{Rose};
+ghost use Rattle.sd_cmd_files.specs.Statuses.{is_among};
+ghost use Rattle.sd_cmd_files.specs.Writes.{Adds};
+ghost use Rattle.sd_cmd_files.specs.work.Works.{Work, refused_line};
+ghost use Rattle.sd_cmd_files.specs.work.Steps.{Last, end_step, step_bytes};
+
+use crate::work::LineWork;
+use crate::{IoError, Status, send};
+use sd_outside::{LineBuffer, Sink};
+use std::alloc::Global;
+
+/// Why a text is refused at one of its lines.
+#[derive(Clone, Copy)]
+struct Refusal<'r> {
+    /// What the text is called.
+    name: &'r str,
+    /// The number of the line, from 1.
+    number: u64,
+    why: &'r [u8],
+}
+
+/// Writes that a text is refused at a line.
+fn write_refusal<O: Sink>(
+    line: &mut LineBuffer,
+    refusal: Refusal<'_>,
+    out: &mut O,
+) -> Result<Status, IoError>
+    requires name { length refusal.name.now ≤ 64 }
+    requires why { length refusal.why.now ≤ 64 }
+    ensures writes { Adds (text_of
+        (codes "input" ∷ refusal.entry.name.now ∷ decimal
+        refusal.entry.number ∷ refusal.entry.why.now ∷ [])) (O.written out.old)
+        (O.written out.new) result }
+    ensures status { IfOk result (λ status. status ≡ Status.InputRefused) }
+    ensures sink { result ≡ Err IoError.Sink → Rose (O.faults out.old) (O.faults out.new) }
+    ensures never_shelf { result ≢ Err IoError.Shelf }
+    ensures later { O.faults out.old ≤ O.faults out.new }
+{
+    line.clear();
+    line.push(b"input ");
+    line.push(refusal.name.as_bytes());
+    line.push(b" ");
+    line.push_number(u128::from(refusal.number));
+    line.push(b" ");
+    line.push(refusal.why);
+    line.push(b"\n");
+    send(out, line.printed())?;
+    Ok(Status::InputRefused)
+}
+
+/// A work, and how many lines it has accepted.
+#[derive(Drop)]
+pub struct Progress<W> {
+    pub work: W,
+    pub taken: u64,
+    /// Where a refusal is printed.
+    pub line: LineBuffer,
+}
+
+impl<W: LineWork> Progress<W> {
+    /// Writes what is due for a line that was accepted, by one write, if it is anything.
+    pub fn write_accepted<O: Sink>(&mut self, out: &mut O) -> Result<(), IoError>
+        requires more { self.old.taken < 2 ^ 63 }
+        ensures writes { Adds (W.printing self.old.work) (O.written out.old) (O.written out.new) result }
+        ensures same { self.new.work ≡ self.old.work }
+        ensures counts { self.new.taken ≡ self.old.taken + 1 }
+        ensures sink { result ≡ Err IoError.Sink → Rose (O.faults out.old) (O.faults out.new) }
+        ensures never_shelf { result ≢ Err IoError.Shelf }
+        ensures later { O.faults out.old ≤ O.faults out.new }
+    {
+        self.taken += 1;
+        let printed = self.work.printed();
+        if printed.is_empty() {
+            return Ok(());
+        }
+        send(out, printed)
+    }
+
+    /// Writes that the text is refused at its next line, for the reason that the work has printed.
+    pub fn refuse<O: Sink>(&mut self, out: &mut O) -> Result<Status, IoError>
+        requires more { self.old.taken < 2 ^ 63 }
+        requires short { length (W.printing self.old.work) ≤ 64 }
+        ensures writes { (w : Work W.Item) (xs : List W.Item) → W.does self.old.work w xs
+            → Adds (refused_line w (self.old.taken + 1) (W.printing self.old.work))
+            (O.written out.old) (O.written out.new) result }
+        ensures status { IfOk result (λ status. status ≡ Status.InputRefused) }
+        ensures same { self.new.work ≡ self.old.work }
+        ensures sink { result ≡ Err IoError.Sink → Rose (O.faults out.old) (O.faults out.new) }
+        ensures never_shelf { result ≢ Err IoError.Shelf }
+        ensures later { O.faults out.old ≤ O.faults out.new }
+    {
+        let refusal = Refusal {
+            name: self.work.name(),
+            number: self.taken + 1,
+            why: self.work.printed(),
+        };
+        write_refusal(&mut self.line, refusal, out)
+    }
+
+    /// Writes that the text is refused at its next line, for this reason.
+    pub fn refuse_for<O: Sink>(&mut self, why: &[u8], out: &mut O) -> Result<Status, IoError>
+        requires more { self.old.taken < 2 ^ 63 }
+        requires short { length why.now ≤ 64 }
+        ensures writes { (w : Work W.Item) (xs : List W.Item) → W.does self.old.work w xs
+            → Adds (refused_line w (self.old.taken + 1) why.now) (O.written out.old)
+            (O.written out.new) result }
+        ensures status { IfOk result (λ status. status ≡ Status.InputRefused) }
+        ensures same { self.new.work ≡ self.old.work }
+        ensures sink { result ≡ Err IoError.Sink → Rose (O.faults out.old) (O.faults out.new) }
+        ensures never_shelf { result ≢ Err IoError.Shelf }
+        ensures later { O.faults out.old ≤ O.faults out.new }
+    {
+        let refusal = Refusal {
+            name: self.work.name(),
+            number: self.taken + 1,
+            why,
+        };
+        write_refusal(&mut self.line, refusal, out)
+    }
+
+    /// Writes what is due at the end of the text.
+    pub fn finish<O: Sink>(&mut self, alloc: Global, out: &mut O) -> Result<Status, IoError>
+        requires more { self.old.taken < 2 ^ 63 }
+        ensures writes { (w : Work W.Item) (xs : List W.Item) → W.does self.old.work w xs
+            → self.old.taken ≡ length xs
+            → Adds (step_bytes w xs (end_step w xs)) (O.written out.old)
+            (O.written out.new) result }
+        ensures makes { (w : Work W.Item) (xs : List W.Item) → W.does self.old.work w xs
+            → self.old.taken ≡ length xs
+            → IfOk result (λ status. (bytes : List ℕ) × (end_step w xs ≡ Last bytes status)) }
+        ensures gives { IfOk result (λ status. IsTrue (is_among (Status.InputRefused ∷ W.gives) status)) }
+        ensures sink { result ≡ Err IoError.Sink → Rose (O.faults out.old) (O.faults out.new) }
+        ensures never_shelf { result ≢ Err IoError.Shelf }
+        ensures later { O.faults out.old ≤ O.faults out.new }
+    {
+        if !self.work.ended() {
+            return self.refuse_for(b"NoEnd", out);
+        }
+        self.work.finish(alloc, out)
+    }
+}

@@ -1,0 +1,80 @@
+-- The device of the latest report, and the lines of commit wait that bear its name.
+use Rattle.std.proofs.Common.{◌≡◌, ℕ, ◌-◌, ◌<◌, List, [], Option, Some, None, Result, Ok, Err, sym, ap, ◌∙◌, subst, length}
+use Rattle.std.specs.Prelude.{IfOk}
+use Rattle.std.proofs.Props.{props}
+use Rattle.std.proofs.Math.Logic.{∥∥₁_elim}
+use Rattle.sd_num.specs.Lists.{of_some}
+use Rattle.sd_num.specs.declared.NoMemory.{NoMemory}
+use Rattle.sd_msg.specs.Topo.Network.{Network, device_names, name_at}
+use Rattle.sd_core.specs.declared.registers.Registers.{Registers}
+use Rattle.sd_core.specs.contracts.device.DeviceNode.TheImpl.{ghosts as device}
+use Rattle.sd_msg.specs.Observed.{ReportAt}
+use Rattle.sd_sched.specs.declared.Event.{Event}
+use Rattle.sd_replay.specs.History.World.{Setting}
+use Rattle.sd_replay.specs.History.Steps.{Step}
+use Rattle.sd_replay.specs.History.Chronicle.{chronicle}
+use Rattle.sd_replay.specs.History.Nodes.{NodeStep, steps_of}
+use Rattle.sd_replay.specs.History.Lines.{reports}
+use Rattle.sd_replay.specs.History.Text.{device_name}
+use Rattle.sd_replay.proofs.History.Accepting.{run_is_accepted}
+use Rattle.sd_replay.specs.declared.replay.Replay.{Replay}
+use Rattle.sd_replay.specs.Devices.{HasReplayed}
+use Rattle.sd_replay.specs.Replaying.{StandsFor as StandsForRun}
+use Rattle.sd_replay.specs.Standing.{HasRun}
+use Rattle.sd_wait.specs.Printed.{bytes_at}
+use Rattle.sd_wait.specs.Standing.{StandsFor}
+use Rattle.sd_cmd_replay.specs.Telling.{IsTold, latest_device, latest_name, latest_waits}
+use Rattle.sd_cmd_replay.specs.contracts.told.ToldWaitsObserver.TheImpl.{ghosts}
+use Rattle.sd_cmd_replay.specs.declared.told.ToldWaits.{ToldWaits}
+use Rattle.sd_cmd_replay.proofs.Reporting.{latest_known}
+use Rattle.sd_cmd_replay.proofs.Stepping.{chronicled}
+
+module _ (replay : Replay Registers ToldWaits device ghosts) (observer : ToldWaits) (same : observer ≡ replay.observer) (net : Network)
+    (net_is : (s : Setting) (run : List (NodeStep Registers)) → StandsForRun device ghosts replay s run → net ≡ s.net) where
+  -- it is one of the topology's
+  pub name_known : (d : ℕ) → observer.device ≡ Some d → ∥ HasRun device ghosts replay.fleet replay.monitors replay.event_output replay.observer ∥₁
+      → d < length net.devices
+  name_known d is there = ∥∥₁_elim there (search props) known
+    where
+      known : HasRun device ghosts replay.fleet replay.monitors replay.event_output replay.observer → d < length net.devices
+      known has =
+          let latest : latest_device (reports (steps_of has.steps)) ≡ Some d = sym has.stands.told.device ∙ ap (λ (w : ToldWaits). w.device) (sym same) ∙ is in
+          subst (λ (n : Network). d < length n.devices) (sym (net_is has.setting has.steps has.stands))
+          (latest_known has.setting (steps_of has.steps) d (run_is_accepted device has.setting has.steps has.stands.made.is_run) latest)
+
+  -- and so its name is that of the latest report
+  pub named : (d : ℕ) (name : List ℕ) → observer.device ≡ Some d → name ≡ name_at (device_names net) d → (setting : Setting) (events : List Event)
+      → HasReplayed ghosts replay setting events
+      → name ≡ latest_name setting.net (reports (chronicle setting events))
+  named d name is called setting events replayed =
+      let steps : steps_of replayed.run ≡ chronicle setting events = chronicled ghosts setting events replay replayed in
+      let latest : latest_device (reports (chronicle setting events)) ≡ Some d =
+      subst (λ (ss : List Step). latest_device (reports ss) ≡ Some d) steps
+      (sym replayed.stands.told.device ∙ ap (λ (w : ToldWaits). w.device) (sym same) ∙ is) in
+      called ∙ ap (λ (n : Network). device_name n d) (net_is setting replayed.run replayed.stands)
+      ∙ ap (λ (o : Option ℕ). of_some o [] (device_name setting.net)) (sym latest)
+
+-- no report, no name
+pub unnamed : (replay : Replay Registers ToldWaits device ghosts) (observer : ToldWaits) → observer ≡ replay.observer → (name : List ℕ) → observer.device ≡ None
+    → name ≡ [] → (setting : Setting) (events : List Event) → HasReplayed ghosts replay setting events
+    → name ≡ latest_name setting.net (reports (chronicle setting events))
+unnamed replay observer same name is called setting events replayed =
+    let steps : steps_of replayed.run ≡ chronicle setting events = chronicled ghosts setting events replay replayed in
+    let latest : latest_device (reports (chronicle setting events)) ≡ None =
+    subst (λ (ss : List Step). latest_device (reports ss) ≡ None) steps (sym replayed.stands.told.device ∙ ap (λ (w : ToldWaits). w.device) (sym same) ∙ is) in
+    called ∙ ap (λ (o : Option ℕ). of_some o [] (device_name setting.net)) (sym latest)
+
+-- the lines that bear the name are those of the latest report
+pub waits_named : {A : Type 0} (items : A → List ℕ) (result : Result A NoMemory) (replay : Replay Registers ToldWaits device ghosts) (observer : ToldWaits)
+    → observer ≡ replay.observer → (name : List ℕ)
+    → ((told : List ReportAt) → StandsFor observer.waits told → IfOk result (λ text. items text ≡ bytes_at told (length told - 1) name))
+    → (setting : Setting) (events : List Event) → HasReplayed ghosts replay setting events
+    → name ≡ latest_name setting.net (reports (chronicle setting events))
+    → IfOk result (λ text. items text ≡ latest_waits setting.net (reports (chronicle setting events)))
+waits_named items result replay observer same name says setting events replayed called =
+    let told : List ReportAt = reports (chronicle setting events) in
+    let stands : StandsFor observer.waits told =
+    subst (λ (w : ToldWaits). StandsFor w.waits told) (sym same)
+    (subst (λ (ss : List Step). StandsFor replay.observer.waits (reports ss))
+    (chronicled ghosts setting events replay replayed) replayed.stands.told.waits) in
+    subst (λ (n : List ℕ). IfOk result (λ text. items text ≡ bytes_at told (length told - 1) n)) called (says told stands)

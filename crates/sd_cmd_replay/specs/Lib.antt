@@ -1,0 +1,9 @@
+pub mod Reasons
+pub mod Replays
+pub mod Loaded
+pub mod Starting
+pub mod Doing
+pub mod Telling
+pub mod Promises
+-- Handed on: what crates above name of those below.
+pub use Rattle.sd_replay.specs as Replay

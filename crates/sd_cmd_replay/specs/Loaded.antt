@@ -1,0 +1,18 @@
+-- The files of a topology and of plans that were read, and what ends a command before its schedule.
+use Rattle.std.specs.Prelude.{◌≡◌, ℕ, List, Ok}
+use Rattle.sd_msg.specs.Topo.Network.{Each}
+use Rattle.sd_cmd_files.specs.Checker.Verdicts.{IsAccepted}
+use Rattle.sd_replay.specs.History.World.{Setting}
+use Rattle.sd_cmd_files.specs.Answering.{May, After}
+use Rattle.sd_cmd_files.specs.Inputs.{topology_of}
+use Rattle.sd_cmd_files.specs.planfiles.PlanFiles.{AfterAllPlans, AreRead, Nothing}
+
+-- the topology and the plans were read, and each plan is accepted
+pub record AreLoaded (topology : List ℕ) (plans : List (List ℕ)) (setting : Setting) : Type 0 where
+  pub topology_is : topology_of topology ≡ Ok setting.net
+  pub plans_are : AreRead setting.net 1 plans setting.plans
+  pub accepted : Each (IsAccepted setting.net) setting.plans
+
+-- what ends a command before its schedule
+abbrev pub EndsBefore : (topology : List ℕ) (plans : List (List ℕ)) → May
+EndsBefore topology plans bytes status = After (topology_of topology) (λ net. AfterAllPlans net plans Nothing) bytes status

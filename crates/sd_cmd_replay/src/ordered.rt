@@ -1,0 +1,137 @@
+//! A replay with commit wait: the work of `order`.
+ghost use Rattle.std.specs.Prelude.{◌≡◌, ◌++◌, ◌||◌, List, nat_lt, IfOk, OnOk};
+ghost use Rattle.sd_outside.specs.Printed.{printed};
+ghost use Rattle.sd_sched.specs.declared.Event.{Event as AnyEvent};
+ghost use Rattle.sd_replay.specs.History.World.{Setting};
+ghost use Rattle.sd_replay.specs.History.Chronicle.{chronicle};
+ghost use Rattle.sd_replay.specs.History.Lines.{reports};
+ghost use Rattle.sd_replay.specs.Devices.{HasReplayed};
+ghost use Rattle.sd_wait.specs.Printed.{waits_line};
+ghost use Rattle.sd_wait.specs.declared.WaitTally.{WaitTally as AnyTally};
+ghost use Rattle.sd_cmd_replay.specs.Telling.{latest_name, latest_waits};
+ghost use Rattle.sd_cmd_replay.specs.contracts.told.ToldWaitsObserver.TheImpl.{ghosts};
+
+use crate::replayed::{Replayed, status_if};
+use crate::told::ToldWaits;
+use sd_cmd_files::work::{LineWork, Taken};
+use sd_cmd_files::{IoError, Status, send};
+use sd_core::Device;
+use sd_num::NoMemory;
+use sd_outside::{LineBuffer, Sink};
+use sd_replay::{Event, Replay};
+use sd_wait::WaitTally;
+use std::alloc::Global;
+
+/// A replay that tells commit wait of its reports.
+#[derive(Drop)]
+pub struct Ordered {
+    pub replayed: Replayed<ToldWaits>,
+}
+
+/// The name of the device of the latest report.
+fn name_of(replay: &Replay<Device, ToldWaits>) -> &str
+    ensures { (setting : Setting) (events : List AnyEvent)
+        → HasReplayed ghosts replay.now setting events
+        → result.now ≡ latest_name setting.net (reports (chronicle setting events)) }
+{
+    match replay.observer().device {
+        Some(d) => replay.topology().device_name(d),
+        None => "",
+    }
+}
+
+/// The lines of commit wait of the latest report.
+fn waits_of(alloc: Global, replay: &Replay<Device, ToldWaits>) -> Result<Vec<u8>, NoMemory>
+    ensures { (setting : Setting) (events : List AnyEvent)
+        → HasReplayed ghosts replay.now setting events
+        → IfOk result (λ lines. lines.items
+        ≡ latest_waits setting.net (reports (chronicle setting events))) }
+{
+    let name = name_of(replay);
+    replay.observer().waits.lines(alloc, name)
+}
+
+/// Adds the lines of commit wait of the latest report.
+fn add_waits(alloc: Global, replayed: &mut Replayed<ToldWaits>) -> Result<(), NoMemory>
+    ensures text { (setting : Setting) (events : List AnyEvent)
+        → HasReplayed ghosts replayed.old.replay setting events
+        → OnOk result (replayed.new.text.items ≡ replayed.old.text.items
+        ++ latest_waits setting.net (reports (chronicle setting events))) }
+    ensures same { replayed.new.replay ≡ replayed.old.replay }
+{
+    let lines = waits_of(alloc, &replayed.replay)?;
+    match replayed.text.extend_from_slice(lines.as_slice()) {
+        Ok(()) => Ok(()),
+        Err(_) => Err(NoMemory),
+    }
+}
+
+/// Prints how many transactions began and ended, and at how many reports a disorder showed.
+fn print_waits(line: &mut LineBuffer, tally: WaitTally)
+    ensures { printed line.new ≡ waits_line tally }
+{
+    line.clear();
+    line.push(b"waits ");
+    line.push_number(u128::from(tally.begun));
+    line.push(b" ");
+    line.push_number(u128::from(tally.ended));
+    line.push(b" ");
+    line.push_number(u128::from(tally.disorders));
+    line.push(b"\n");
+}
+
+/// Whether there was trouble before, or some disorder.
+fn has_trouble(trouble: bool, tally: WaitTally) -> bool
+    ensures { result ≡ (trouble || nat_lt 0 tally.disorders) }
+{
+    trouble || tally.disorders > 0
+}
+
+impl LineWork for Ordered {
+    ghost use Rattle.std.specs.Prelude.{[], ◌∷◌};
+    ghost use Rattle.sd_cmd_files.specs.declared.Status.TheVariants.{Broken, Done};
+    ghost use Rattle.sd_cmd_replay.specs.Doing.{DoesOrder};
+
+    type Item = Event;
+
+    ghost does = { DoesOrder };
+
+    ghost printing = { λ ordered. ordered.replayed.text.items };
+
+    ghost gives = { Done ∷ Broken ∷ [] };
+
+    fn name(&self) -> &str {
+        "schedule"
+    }
+
+    fn take(&mut self, alloc: Global, line: &[u8]) -> Result<Taken, NoMemory> {
+        let reports = self.replayed.reports();
+        match self.replayed.step(alloc, line)? {
+            Taken::Accepted => {
+                if self.replayed.reports() > reports {
+                    add_waits(alloc, &mut self.replayed)?;
+                }
+                Ok(Taken::Accepted)
+            }
+            Taken::Refused => Ok(Taken::Refused),
+        }
+    }
+
+    fn ended(&self) -> bool {
+        self.replayed.is_over()
+    }
+
+    fn finish<O: Sink>(&mut self, _alloc: Global, out: &mut O) -> Result<Status, IoError> {
+        let tally = self.replayed.replay.observer().waits.tally();
+        let trouble = has_trouble(self.replayed.shows_trouble(), tally);
+        self.replayed.print_done();
+        send(out, self.replayed.line.printed())?;
+        print_waits(&mut self.replayed.line, tally);
+        send(out, self.replayed.line.printed())?;
+        Ok(status_if(trouble))
+    }
+
+    fn printed(&self) -> &[u8] {
+        self.replayed.text.as_slice()
+    }
+}

@@ -1,0 +1,117 @@
+//! `replay` and `order`: the schedule behind the topology and the plans, line by line.
+ghost use Rattle.std.specs.Prelude.{◌≡◌, ◌≤◌, All, [], ◌∷◌, true, Ok, Err, IsTrue, IfOk, IfSome, Some, length, map, string_bytes};
+ghost use Rattle.sd_outside.specs.Causes.{Rose};
+ghost use Rattle.sd_cmd_files.specs.Stream.Reader.{IsNear};
+ghost use Rattle.sd_cmd_files.specs.Inputs.{topology_of};
+ghost use Rattle.sd_cmd_files.specs.Statuses.{is_among};
+ghost use Rattle.sd_cmd_files.specs.Texts.{texts_of};
+ghost use Rattle.sd_cmd_files.specs.work.Leaving.{LeavesAt};
+ghost use Rattle.sd_cmd_files.specs.work.Works.{Work, IsOutcome, WritesWhole, refused_part};
+ghost use Rattle.sd_cmd_replay.specs.Replays.{IsOrder, IsReplay, refused_over};
+
+use crate::Files;
+use crate::files::{end_early, start};
+use crate::ordered::Ordered;
+use crate::replayed::Replayed;
+use crate::told::ToldWaits;
+use sd_cmd_files::work::{LineWork, work_through};
+use sd_cmd_files::{IoError, Status};
+use sd_msg::NoObserver;
+use sd_outside::{LineBuffer, Shelf, Sink};
+use std::alloc::Global;
+
+/// Reads a topology and plans and then a schedule line by line, and writes what a replay of the
+/// schedule shows: the lines of each step by one write.
+pub fn replay<S: Shelf, O: Sink>(
+    alloc: Global,
+    shelf: &mut S,
+    files: Files<'_>,
+    out: &mut O,
+) -> Result<Status, IoError>
+    requires topology { IsTrue (S.serves shelf.old files.topology.now) }
+    requires plans { All (λ name. IsTrue (S.serves shelf.old name)) (map string_bytes files.plans.now) }
+    requires schedule { IsTrue (S.serves shelf.old files.schedule.now) }
+    requires some { 1 ≤ length files.plans.now }
+    requires few { length files.plans.now ≤ 64 }
+    ensures outcome { IfSome (S.held shelf.old) (λ held.
+        LeavesAt true (IsReplay (texts_of held files.entry.topology.now) (map (λ name. texts_of held name) (map string_bytes files.entry.plans.now)) (texts_of held files.entry.schedule.now)) (O.written out.old) (O.written out.new) result) }
+    ensures gives { IfOk result
+        (λ status. IsTrue
+        (is_among (Status.Done ∷ Status.PlanRefused ∷ Status.InputRefused ∷ Status.Broken ∷ [])
+        status)) }
+    ensures near { result ≡ Ok Status.InputRefused → IfSome (S.held shelf.old) (λ held.
+        IfSome (refused_over (topology_of (texts_of held files.entry.topology.now)) (map (λ name. texts_of held name) (map string_bytes files.entry.plans.now)) (texts_of held files.entry.schedule.now)) (λ part. IsNear (Some part) (S.rest shelf.new))) }
+    ensures shelf { result ≡ Err IoError.Shelf → Rose (S.faults shelf.old) (S.faults shelf.new) }
+    ensures sink { result ≡ Err IoError.Sink → Rose (O.faults out.old) (O.faults out.new) }
+{
+    let line = LineBuffer::new(alloc)?;
+    match start(alloc, shelf, files, NoObserver) {
+        Ok(replay) => {
+            let work = Replayed::new(alloc, replay, line);
+            go_through(alloc, shelf, files.schedule, work, out)
+        }
+        Err(early) => end_early(alloc, early, out),
+    }
+}
+
+/// The same with commit wait: behind the lines of a step stand those of its report, by the same
+/// write.
+pub fn order<S: Shelf, O: Sink>(
+    alloc: Global,
+    shelf: &mut S,
+    files: Files<'_>,
+    out: &mut O,
+) -> Result<Status, IoError>
+    requires topology { IsTrue (S.serves shelf.old files.topology.now) }
+    requires plans { All (λ name. IsTrue (S.serves shelf.old name)) (map string_bytes files.plans.now) }
+    requires schedule { IsTrue (S.serves shelf.old files.schedule.now) }
+    requires some { 1 ≤ length files.plans.now }
+    requires few { length files.plans.now ≤ 64 }
+    ensures outcome { IfSome (S.held shelf.old) (λ held.
+        LeavesAt true (IsOrder (texts_of held files.entry.topology.now) (map (λ name. texts_of held name) (map string_bytes files.entry.plans.now)) (texts_of held files.entry.schedule.now)) (O.written out.old) (O.written out.new) result) }
+    ensures gives { IfOk result
+        (λ status. IsTrue
+        (is_among (Status.Done ∷ Status.PlanRefused ∷ Status.InputRefused ∷ Status.Broken ∷ [])
+        status)) }
+    ensures near { result ≡ Ok Status.InputRefused → IfSome (S.held shelf.old) (λ held.
+        IfSome (refused_over (topology_of (texts_of held files.entry.topology.now)) (map (λ name. texts_of held name) (map string_bytes files.entry.plans.now)) (texts_of held files.entry.schedule.now)) (λ part. IsNear (Some part) (S.rest shelf.new))) }
+    ensures shelf { result ≡ Err IoError.Shelf → Rose (S.faults shelf.old) (S.faults shelf.new) }
+    ensures sink { result ≡ Err IoError.Sink → Rose (O.faults out.old) (O.faults out.new) }
+{
+    let line = LineBuffer::new(alloc)?;
+    match start(alloc, shelf, files, ToldWaits::new(alloc)) {
+        Ok(replay) => {
+            let replayed = Replayed::new(alloc, replay, line);
+            go_through(alloc, shelf, files.schedule, Ordered { replayed }, out)
+        }
+        Err(early) => end_early(alloc, early, out),
+    }
+}
+
+/// Begins a schedule, and has the work take it line by line.
+fn go_through<S: Shelf, O: Sink, W: LineWork>(
+    alloc: Global,
+    shelf: &mut S,
+    schedule: &str,
+    work: W,
+    out: &mut O,
+) -> Result<Status, IoError>
+    requires { IsTrue (S.serves shelf.old schedule.now) }
+    ensures outcome { (w : Work W.Item) → W.does work w [] → WritesWhole w
+        → IfSome (S.held shelf.old)
+        (λ held. LeavesAt true (IsOutcome w (texts_of held schedule.now)) (O.written out.old)
+        (O.written out.new) result) }
+    ensures gives { IfOk result (λ status. IsTrue (is_among (Status.InputRefused ∷ W.gives) status)) }
+    ensures near { (w : Work W.Item) → W.does work w [] → result ≡ Ok Status.InputRefused
+        → IfSome (S.held shelf.old)
+        (λ held. IsNear (Some (refused_part w (texts_of held schedule.now)))
+        (S.rest shelf.new)) }
+    ensures shelf { result ≡ Err IoError.Shelf → Rose (S.faults shelf.old) (S.faults shelf.new) }
+    ensures sink { result ≡ Err IoError.Sink → Rose (O.faults out.old) (O.faults out.new) }
+    ensures later { S.faults shelf.old ≤ S.faults shelf.new }
+{
+    match shelf.begin(schedule) {
+        Ok(()) => work_through(alloc, shelf, work, out),
+        Err(_) => Err(IoError::Shelf),
+    }
+}

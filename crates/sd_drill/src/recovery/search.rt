@@ -1,0 +1,192 @@
+//! How all devices recover: a search that settles each after those to which its hops lead.
+ghost use Rattle.std.specs.Prelude.{◌≡◌, length, IfOk};
+
+use crate::recovery::hops::hops_of;
+use crate::recovery::marks::{Mark, first_new, settled_at};
+use crate::recovery::{Recovery, settle};
+use sd_checker::check_hit::Outage;
+use sd_num::NoMemory;
+use sd_topo::Topology;
+use std::alloc::Global;
+
+/// How each device recovers, in room that serves one domain after another.
+#[derive(Drop)]
+pub struct Recoveries {
+    /// By device.
+    marks: Vec<Mark>,
+    /// The devices that were entered and are not settled: hops lead from each to the next.
+    stack: Vec<u32>,
+}
+
+/// A mark for each device.
+fn new_marks(alloc: Global, count: u32) -> Result<Vec<Mark>, NoMemory>
+    ensures { IfOk result (λ marks. length marks.items ≡ count) }
+{
+    match vec![in alloc; Mark::New; count as usize] {
+        Ok(marks) => Ok(marks),
+        Err(_) => Err(NoMemory),
+    }
+}
+
+impl Recoveries {
+    ghost use Rattle.std.specs.Prelude.{◌≢◌, ℕ, ◌+◌, ◌<◌, [], OnOk};
+    ghost use Rattle.sd_checker.specs.CheckLoop.Loops.{HasNoCycle};
+    ghost use Rattle.sd_checker.specs.CheckHit.Outages.{net_of, plan_of};
+    ghost use Rattle.sd_topo.specs.Topologies.{network};
+    ghost use Rattle.sd_drill.specs.recovery.Recoveries.{IsRecovery};
+    ghost use Rattle.sd_drill.specs.recovery.Searches as searches;
+    ghost use Rattle.sd_drill.specs.recovery.Searches.{AreRecoveries, HasRoom, IsSearch, Leads, NoneNewer, mark_at, search_left, stacked_at};
+    ghost use Rattle.sd_drill.specs.declared.recovery.marks.Mark.TheVariants as mark;
+
+    /// Room for the devices of a topology.
+    pub fn new(alloc: Global, topo: &Topology) -> Result<Recoveries, NoMemory>
+        ensures { IfOk result (HasRoom (network topo.now)) }
+    {
+        let marks = new_marks(alloc, topo.devices())?;
+        Ok(Recoveries {
+            marks,
+            stack: Vec::new(alloc),
+        })
+    }
+
+    /// Forgets what was found out.
+    fn clear(&mut self)
+        ensures marks { length self.new.marks.items ≡ length self.old.marks.items }
+        ensures new { (d : ℕ) → mark_at self.new.marks.items d ≡ mark.New }
+        ensures stack { self.new.stack.items ≡ [] }
+    {
+        self.stack.clear();
+        self.marks.fill(Mark::New);
+    }
+
+    /// Enters a new device, to which the one on top of the stack leads.
+    fn enter(&mut self, outage: &Outage<'_>, next: u32) -> Result<(), NoMemory>
+        requires searched { IsSearch (net_of outage.now) (plan_of outage.now) outage.now.domain
+            self.old.marks.items self.old.stack.items }
+        requires device { next < length (net_of outage.now).devices }
+        requires new { mark_at self.old.marks.items next ≡ mark.New }
+        requires led { (k : ℕ) → k + 1 ≡ length self.old.stack.items
+            → Leads (net_of outage.now) (plan_of outage.now) outage.now.domain
+            (stacked_at self.old.stack.items k) next }
+        ensures searched { OnOk result
+            (IsSearch (net_of outage.now) (plan_of outage.now) outage.now.domain
+            self.new.marks.items self.new.stack.items) }
+        ensures newer { OnOk result (NoneNewer self.old.marks.items self.new.marks.items) }
+        ensures left { OnOk result
+            (search_left self.new.marks.items self.new.stack.items < search_left
+            self.old.marks.items self.old.stack.items) }
+        ensures entered { OnOk result (mark_at self.new.marks.items next ≡ mark.Entered) }
+        ensures size { length self.new.marks.items ≡ length self.old.marks.items }
+    {
+        let Ok(()) = self.stack.push(next) else {
+            return Err(NoMemory);
+        };
+        self.marks[next as usize] = Mark::Entered;
+        Ok(())
+    }
+
+    /// Takes the device off the stack that is on top, since it is settled.
+    fn finish(&mut self, outage: &Outage<'_>, top: u32, recovery: Recovery)
+        requires searched { IsSearch (net_of outage.now) (plan_of outage.now) outage.now.domain
+            self.old.marks.items self.old.stack.items }
+        requires top { (k : ℕ) → k + 1 ≡ length self.old.stack.items
+            → stacked_at self.old.stack.items k ≡ top }
+        requires some { 0 < length self.old.stack.items }
+        requires recovery { IsRecovery (net_of outage.now) (plan_of outage.now) outage.now.domain top recovery }
+        ensures searched { IsSearch (net_of outage.now) (plan_of outage.now) outage.now.domain
+            self.new.marks.items self.new.stack.items }
+        ensures newer { NoneNewer self.old.marks.items self.new.marks.items }
+        ensures left { search_left self.new.marks.items self.new.stack.items < search_left
+            self.old.marks.items self.old.stack.items }
+        ensures size { length self.new.marks.items ≡ length self.old.marks.items }
+    {
+        self.marks[top as usize] = Mark::Settled(recovery);
+        let _ = self.stack.pop();
+    }
+
+    /// One step of the search, at the top of the stack.
+    fn turn(&mut self, outage: &Outage<'_>, top: u32) -> Result<(), NoMemory>
+        requires acyclic { HasNoCycle (net_of outage.now) (plan_of outage.now) outage.now.domain }
+        requires searched { IsSearch (net_of outage.now) (plan_of outage.now) outage.now.domain
+            self.old.marks.items self.old.stack.items }
+        requires top { (k : ℕ) → k + 1 ≡ length self.old.stack.items
+            → stacked_at self.old.stack.items k ≡ top }
+        requires some { 0 < length self.old.stack.items }
+        ensures searched { OnOk result
+            (IsSearch (net_of outage.now) (plan_of outage.now) outage.now.domain
+            self.new.marks.items self.new.stack.items) }
+        ensures newer { OnOk result (NoneNewer self.old.marks.items self.new.marks.items) }
+        ensures left { OnOk result
+            (search_left self.new.marks.items self.new.stack.items < search_left
+            self.old.marks.items self.old.stack.items) }
+        ensures size { length self.new.marks.items ≡ length self.old.marks.items }
+    {
+        let hops = hops_of(outage, top);
+        match first_new(&self.marks, hops) {
+            Some(next) => self.enter(outage, next),
+            None => {
+                let recovery = settle(outage, &self.marks, top, hops);
+                self.finish(outage, top, recovery);
+                Ok(())
+            }
+        }
+    }
+
+    /// Settles a new device, and before it all to which hops lead from it.
+    fn settle_from(&mut self, outage: &Outage<'_>, start: u32) -> Result<(), NoMemory>
+        requires acyclic { HasNoCycle (net_of outage.now) (plan_of outage.now) outage.now.domain }
+        requires searched { IsSearch (net_of outage.now) (plan_of outage.now) outage.now.domain
+            self.old.marks.items self.old.stack.items }
+        requires alone { self.old.stack.items ≡ [] }
+        requires device { start < length (net_of outage.now).devices }
+        requires new { mark_at self.old.marks.items start ≡ mark.New }
+        ensures searched { OnOk result
+            (IsSearch (net_of outage.now) (plan_of outage.now) outage.now.domain
+            self.new.marks.items []) }
+        ensures alone { OnOk result (self.new.stack.items ≡ []) }
+        ensures newer { OnOk result (NoneNewer self.old.marks.items self.new.marks.items) }
+        ensures started { OnOk result (mark_at self.new.marks.items start ≢ mark.New) }
+        ensures size { length self.new.marks.items ≡ length self.old.marks.items }
+    {
+        self.enter(outage, start)?;
+        while let Some(top) = self.stack.last().copied() {
+            self.turn(outage, top)?;
+        }
+        Ok(())
+    }
+
+    /// Whether nothing is known of a device.
+    fn is_new(&self, d: u32) -> bool
+        requires { d < length self.now.marks.items }
+        ensures { result ≡ searches.is_new (mark_at self.now.marks.items d) }
+    {
+        matches!(self.marks[d as usize], Mark::New)
+    }
+
+    /// Finds out how each device recovers from a domain under which hops lead in no circle. It looks
+    /// at each device at most as often as it has hops, and once more.
+    pub fn find(&mut self, outage: &Outage<'_>) -> Result<(), NoMemory>
+        requires acyclic { HasNoCycle (net_of outage.now) (plan_of outage.now) outage.now.domain }
+        requires room { HasRoom (net_of outage.now) self.old }
+        ensures found { OnOk result
+            (AreRecoveries (net_of outage.now) (plan_of outage.now) outage.now.domain self.new) }
+        ensures room { HasRoom (net_of outage.now) self.new }
+    {
+        self.clear();
+        for start in 0..outage.planned.topo.devices() {
+            if self.is_new(start) {
+                self.settle_from(outage, start)?;
+            }
+        }
+        Ok(())
+    }
+
+    /// How a device recovers from the domain that was asked about last.
+    pub fn of(&self, outage: &Outage<'_>, d: u32) -> Recovery
+        requires found { AreRecoveries (net_of outage.now) (plan_of outage.now) outage.now.domain self.now }
+        requires device { d < length (net_of outage.now).devices }
+        ensures { IsRecovery (net_of outage.now) (plan_of outage.now) outage.now.domain d result }
+    {
+        settled_at(outage, &self.marks, d)
+    }
+}

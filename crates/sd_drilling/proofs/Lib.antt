@@ -1,4 +1,0 @@
-mod Fronts
-mod Ranges
-mod Names
-mod Membership

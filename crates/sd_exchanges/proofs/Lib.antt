@@ -1,4 +1,0 @@
-pub mod Standing
-pub mod Written
-pub mod Printing
-pub mod Bounding

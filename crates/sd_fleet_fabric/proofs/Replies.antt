@@ -1,0 +1,60 @@
+-- What a reply makes an event send, case by case.
+use Rattle.std.specs.Prelude.{◌≡◌, ℕ, ◌+◌, List, [], length, Option, Some, None, refl}
+use Rattle.std.proofs.Common.{sym, ◌∙◌, ap}
+use Rattle.sd_num.specs.Lists.{of_some}
+use Rattle.sd_plan.specs.declared.End.{End}
+use Rattle.sd_msg.specs.declared.Message.{Message}
+use Rattle.sd_msg.specs.declared.Flight.{Flight}
+use Rattle.sd_core.specs.declared.Effect.TheVariants.{Quiet, Send}
+use Rattle.sd_sched.specs.declared.Event.{Event}
+use Rattle.sd_sched.specs.Events.{reference_of, device_of}
+use Rattle.sd_fleet_state.specs.declared.membership.Answered.{Answered}
+use Rattle.sd_fleet_state.specs.membership.Memberships.{ends_below}
+use Rattle.sd_fleet_fabric.specs.declared.Reply.{Reply}
+use Rattle.sd_fleet_fabric.specs.Registers.{Registers}
+use Rattle.sd_fleet_fabric.specs.Sending.{Covers, flights_over, sent_by, sent_in}
+use Rattle.sd_fleet_fabric.specs.Sound.{IsSound}
+use Rattle.sd_fleet_fabric.proofs.Adding.{length-over}
+
+module _ (r : Registers) (e : Event) (reply : Reply) where
+  pub sent_nobody : device_of e ≡ None → sent_in r e reply ≡ []
+  sent_nobody none = ap (λ o. of_some o [] (λ d. of_some reply.answers [] (λ (a : Answered). sent_by r (reference_of e) d a.epoch reply.effect))) none
+
+  pub sent_unanswered : reply.answers ≡ None → sent_in r e reply ≡ []
+  sent_unanswered none = ap (λ o. of_some (device_of e) [] (λ d. of_some o [] (λ (a : Answered). sent_by r (reference_of e) d a.epoch reply.effect))) none
+      ∙ by (device_of e)
+    where
+      by : (o : Option ℕ) → ◌≡◌ {A = List Flight} (of_some o [] (λ d. [])) []
+      by None = refl
+      by (Some d) = refl
+
+  pub sent_quiet : reply.effect ≡ Quiet → sent_in r e reply ≡ []
+  sent_quiet quiet = ap (λ x. of_some (device_of e) [] (λ d. of_some reply.answers [] (λ (a : Answered). sent_by r (reference_of e) d a.epoch x))) quiet
+      ∙ by (device_of e) reply.answers
+    where
+      by : (o : Option ℕ) (a : Option Answered) → ◌≡◌ {A = List Flight} (of_some o [] (λ d. of_some a [] (λ (x : Answered). []))) []
+      by None a = refl
+      by (Some d) None = refl
+      by (Some d) (Some a) = refl
+
+  pub sent_over : (d : ℕ) (a : Answered) (m : Message) → device_of e ≡ Some d → reply.answers ≡ Some a → reply.effect ≡ Send m
+      → sent_in r e reply ≡ flights_over r.net r.membership.world (record { reference = reference_of e; sender = d; message = m }) (r.book.last + 1)
+      (ends_below r.membership a.epoch d)
+  sent_over d a m named answered sends =
+      ap (λ o. of_some o [] (λ d. of_some reply.answers [] (λ (a : Answered). sent_by r (reference_of e) d a.epoch reply.effect))) named
+      ∙ ap (λ o. of_some o [] (λ (a : Answered). sent_by r (reference_of e) d a.epoch reply.effect)) answered
+      ∙ ap (sent_by r (reference_of e) d a.epoch) sends
+
+-- as many messages as ends
+pub sent_size : (r : Registers) (e : Event) (reply : Reply) (ends : List End) (device : Option ℕ) (d : ℕ) (a : Answered) (m : Message)
+    → ends ≡ ends_below r.membership a.epoch d → device ≡ device_of e → device ≡ Some d → reply.answers ≡ Some a
+    → reply.effect ≡ Send m → length ends ≡ length (sent_in r e reply)
+sent_size r e reply ends device d a m are named is answered sends =
+    ap length are
+    ∙ sym
+    (ap length (sent_over r e reply d a m (sym named ∙ is) answered sends)
+    ∙ length-over r.net r.membership.world (record { reference = reference_of e; sender = d; message = m }) (r.book.last + 1)
+    (ends_below r.membership a.epoch d))
+
+pub covers_sound : (r : Registers) → IsSound r → Covers r.net r.membership.world
+covers_sound r sound = record { net = sound.net; devices = sound.membership.devices ∙ sound.answers; links = sound.links }

@@ -1,9 +1,0 @@
-use Rattle.std.proofs.Common.{◌≡◌}
-use Rattle.toml.specs.Data.{string}
-use Rattle.toml.specs.View.{items_of, items_view}
-use Rattle.sd_gen_fabric.specs.Numbered.{device_name}
-use Rattle.sd_gen_fabric.proofs.Numbering.{numbered}
-use Rattle.sd_gen_fabric.proofs.arrays.roots_value.Given as goal
-
-abbrev pub invariant-roots : goal.invariant-roots
-invariant-roots l = items_view l.items.items ≡ items_of (numbered (λ k. string (device_name l.spines k)) l.spine)

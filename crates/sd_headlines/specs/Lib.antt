@@ -1,5 +1,0 @@
-pub mod Words
-pub mod Headlines
-pub mod Kinds
-pub mod Works
-pub mod Runs

@@ -1,7 +1,0 @@
--- What a failed write has added.
-use Rattle.std.specs.Prelude.{ℕ, List, Option, take}
-use Rattle.std.specs.Io.KnownBytes.{Appends}
-
--- some front of the bytes was added
-abbrev pub WritesFront : Option (List ℕ) → Option (List ℕ) → List ℕ → Type 0
-WritesFront old new bytes = (n : ℕ) × Appends old new (take n bytes)

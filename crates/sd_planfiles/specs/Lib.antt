@@ -1,2 +1,0 @@
-pub mod PlanFiles
-pub mod Early

@@ -1,0 +1,178 @@
+-- Which flights wait after one more event.
+use Rattle.std.proofs.Common.{◌≡◌, ℕ, zero, suc, ◌+◌, ◌<◌, ◌≤◌, Bool, true, false, cond, List, [], ◌∷◌, map, Option, Some, None, option_map, nat_eq, nat_lt, ◌⊎◌, inl, inr, refl, sym, ◌∙◌, ap, subst, arith}
+use Rattle.std.specs.List.{Contains}
+use Rattle.std.proofs.lemmas.Bool.{or_from, or_parts, or_cases, and_parts, cases_eq, cases_lt, eq-eqb, ne_eqb, le-ltb, le-leb, lt-leb, ltb-false, leb-true, false_from_ne_true}
+use Rattle.std.proofs.lemmas.Option.{same_Some, none-some}
+use Rattle.std.proofs.lemmas.List.Elements.{Contains-append_cases, Contains-append_left, Contains-append_right, All-contains}
+use Rattle.sd_num.specs.Lists.{of_some, same_number, ascends}
+use Rattle.sd_msg.specs.declared.Flight.{Flight}
+use Rattle.sd_sched.specs.Events.{reference_of}
+use Rattle.sd_history.specs.World.{Setting, Seen, latest_reference}
+use Rattle.sd_history.specs.Premises.{flights, is_overdue, was_received}
+use Rattle.sd_premise_loss.specs.rounds.Order.{last_sent, Follows, IsInOrder}
+use Rattle.sd_premise_loss.specs.rounds.Loss.{number_taken, Waits, AreWaiting, with_sent, if_in_time}
+use Rattle.sd_premise_loss.proofs.rounds.InOrder.{time_rises, le_greatest, sent_above, not_overdue, taken_low, received_low}
+
+-- the same flights wait
+pub waiting_same : (seen : List Seen) (old new : ℕ → Option Flight) → ((n : ℕ) → new n ≡ old n) → AreWaiting seen old → AreWaiting seen new
+waiting_same seen old new same h = record { found = λ n f at. h.found n f (sym (same n) ∙ at); all = λ f waits. same f.number ∙ h.all f waits }
+
+-- Flights that are sent
+
+-- what stands under a number was sent now, or stood there before
+sent_or_before : (fs : List Flight) (w : ℕ → Option Flight) (n : ℕ) (f : Flight) → with_sent fs w n ≡ Some f → (Contains fs f × (f.number ≡ n)) ⊎ (w n ≡ Some f)
+sent_or_before [] w n f at = inr at
+sent_or_before (g ∷ gs) w n f at = by_rest (sent_or_before gs (λ m. cond (nat_eq g.number m) (Some g) (w m)) n f at)
+  where
+    first_one : g.number ≡ n → cond (nat_eq g.number n) (Some g) (w n) ≡ Some f → Contains (g ∷ gs) f × (f.number ≡ n)
+    first_one here there =
+        let same : g ≡ f = same_Some g f (sym (rw (eq-eqb g.number n here) refl) ∙ there) in
+        let number : f.number ≡ n = sym (ap (λ (k : Flight). k.number) same) ∙ here in
+        ((zero, omega arith, same), number)
+
+    by_number : (g.number ≡ n) ⊎ (g.number ≡ n → ⊥) → cond (nat_eq g.number n) (Some g) (w n) ≡ Some f → (Contains (g ∷ gs) f × (f.number ≡ n)) ⊎ (w n ≡ Some f)
+    by_number (inl here) there = inl (first_one here there)
+    by_number (inr other) there = inr (sym (rw (ne_eqb g.number n other) refl) ∙ there)
+
+    by_rest : (Contains gs f × (f.number ≡ n)) ⊎ (cond (nat_eq g.number n) (Some g) (w n) ≡ Some f) → (Contains (g ∷ gs) f × (f.number ≡ n)) ⊎ (w n ≡ Some f)
+    by_rest (inl (held, number)) = inl ((suc held.0, omega (arith, held.1), held.2), number)
+    by_rest (inr there) = by_number (cases_eq g.number n) there
+
+-- a number that is not above the floor is none of theirs
+below_sent : (floor : ℕ) (fs : List Flight) (w : ℕ → Option Flight) (n : ℕ) → ascends (floor ∷ map (λ (g : Flight). g.number) fs) ≡ true → n ≤ floor
+    → with_sent fs w n ≡ w n
+below_sent floor [] w n up low = refl
+below_sent floor (g ∷ gs) w n up low =
+    let above : floor + 1 ≤ g.number = leb-true (floor + 1) g.number (and_parts _ _ up).0 in
+    let other : cond (nat_eq g.number n) (Some g) (w n) ≡ w n = rw (ne_eqb g.number n (λ e. omega (arith, above, low, e))) refl in
+    below_sent g.number gs (λ m. cond (nat_eq g.number m) (Some g) (w m)) n ((and_parts _ _ up).1) (omega (arith, above, low)) ∙ other
+
+-- each stands under its number
+sent_stands : (floor : ℕ) (fs : List Flight) (w : ℕ → Option Flight) (f : Flight) → ascends (floor ∷ map (λ (g : Flight). g.number) fs) ≡ true → Contains fs f
+    → with_sent fs w f.number ≡ Some f
+sent_stands floor [] w f up (k, within, at) = absurd (omega arith)
+sent_stands floor (g ∷ gs) w f up (zero, within, at) =
+    let here : cond (nat_eq g.number f.number) (Some g) (w f.number) ≡ Some f =
+    rw (eq-eqb g.number f.number (ap (λ (k : Flight). k.number) at)) (ap (λ (k : Flight). Some k) at) in
+    below_sent g.number gs (λ m. cond (nat_eq g.number m) (Some g) (w m)) f.number ((and_parts _ _ up).1) (let same : g.number ≡ f.number =
+    ap (λ (k : Flight). k.number) at in omega (arith, same)) ∙ here
+sent_stands floor (g ∷ gs) w f up (suc k, within, at) =
+    sent_stands g.number gs (λ m. cond (nat_eq g.number m) (Some g) (w m)) f ((and_parts _ _ up).1) (k, omega (arith, within), at)
+
+-- Flights that were sent before
+
+-- whether the event receives the number, in the two ways in which it is said
+pub received_now : (s : Seen) (n : ℕ) → of_some s.taken false (λ f. nat_eq f.number n) ≡ same_number (number_taken s) n
+received_now s n = by_flight s.taken
+  where
+    by_flight : (taken : Option Flight) → of_some taken false (λ f. nat_eq f.number n) ≡ same_number (option_map (λ (f : Flight). f.number) taken) n
+    by_flight None = refl
+    by_flight (Some f) = refl
+
+-- the flight that the event receives leaves, if there is one
+abbrev pub LeavesTaken : Seen → (ℕ → Option Flight) → (ℕ → Option Flight) → Type 0
+LeavesTaken s was left = (n : ℕ) → left n ≡ cond (same_number (number_taken s) n) None (was n)
+
+-- what is left after the receipt
+pub left_parts : (s : Seen) (was left : ℕ → Option Flight) → LeavesTaken s was left → (n : ℕ) (f : Flight) → left n ≡ Some f
+    → (was n ≡ Some f) × (same_number (number_taken s) n ≡ false)
+left_parts s was left received n f at = by_test (same_number (number_taken s) n) refl
+  where
+    by_test : (b : Bool) → same_number (number_taken s) n ≡ b → (was n ≡ Some f) × (same_number (number_taken s) n ≡ false)
+    by_test true is = absurd (none-some f (sym (received n ∙ ap (λ b. cond b None (was n)) is) ∙ at))
+    by_test false is = (sym (received n ∙ ap (λ b. cond b None (was n)) is) ∙ at, is)
+
+in_time_parts : (reference : ℕ) (o : Option Flight) (f : Flight) → if_in_time reference o ≡ Some f → (o ≡ Some f) × (reference ≤ f.due)
+in_time_parts reference None f at = absurd (none-some f at)
+in_time_parts reference (Some g) f at = by_due (cases_lt g.due reference)
+  where
+    by_due : (g.due < reference) ⊎ (reference ≤ g.due) → (◌≡◌ {A = Option Flight} (Some g) (Some f)) × (reference ≤ f.due)
+    by_due (inl past) = absurd (none-some f (sym (rw (lt-leb reference g.due past) refl) ∙ at))
+    by_due (inr late) =
+        let same : ◌≡◌ {A = Option Flight} (Some g) (Some f) = sym (rw (le-leb reference g.due late) refl) ∙ at in
+        (same, subst (λ (k : Flight). reference ≤ k.due) (same_Some g f same) late)
+
+module _ (setting : Setting) (earlier : List Seen) (s : Seen) (order : IsInOrder setting earlier) (follows : Follows setting earlier s) where
+  -- a flight that is sent now waits
+  pub sent_waits : (f : Flight) → Contains s.sent f → Waits (s ∷ earlier) f
+  sent_waits f held =
+      let due : reference_of s.event ≤ f.due = All-contains (λ (g : Flight). reference_of s.event ≤ g.due) s.sent f follows.due held in
+      let above : last_sent earlier < f.number = sent_above (last_sent earlier) s.sent f follows.numbers held in
+      let rises : latest_reference earlier ≤ reference_of s.event = time_rises setting earlier s.event follows.allowed in
+      record {
+        sent = Contains-append_left s.sent (flights earlier) f held;
+        in_time = or_from (nat_lt f.due (reference_of s.event)) (is_overdue earlier f) (le-ltb f.due (reference_of s.event) due)
+            (not_overdue setting earlier f order (omega (arith, due, rises)));
+        unreceived =
+            false_from_ne_true (was_received (s ∷ earlier) f.number) (λ was. let low : f.number ≤ last_sent earlier =
+            by_receipt (received_before f.number was) in omega (arith, above, low));
+      }
+    where
+      received_before : (n : ℕ) → was_received (s ∷ earlier) n ≡ true
+          → (of_some s.taken false (λ g. nat_eq g.number n) ≡ true) ⊎ (was_received earlier n ≡ true)
+      received_before n was = or_cases _ _ was
+
+      by_receipt : (of_some s.taken false (λ g. nat_eq g.number f.number) ≡ true) ⊎ (was_received earlier f.number ≡ true) → f.number ≤ last_sent earlier
+      by_receipt (inl here) = taken_low s.taken f.number (last_sent earlier) follows.taken here
+      by_receipt (inr before) = received_low setting earlier f.number order before
+
+  -- a flight that waited goes on waiting, where it is neither received nor overdue
+  waits_on : (f : Flight) → Waits earlier f → same_number (number_taken s) f.number ≡ false → reference_of s.event ≤ f.due → Waits (s ∷ earlier) f
+  waits_on f waited other late =
+      record {
+        sent = Contains-append_right s.sent (flights earlier) f waited.sent;
+        in_time = or_from (nat_lt f.due (reference_of s.event)) (is_overdue earlier f) (le-ltb f.due (reference_of s.event) late) waited.in_time;
+        unreceived =
+            or_from (of_some s.taken false (λ g. nat_eq g.number f.number)) (was_received earlier f.number) (received_now s f.number ∙ other) waited.unreceived;
+      }
+
+  -- and one that waits now, and was sent before, waited
+  waited_before : (f : Flight) → Waits (s ∷ earlier) f → Contains (flights earlier) f
+      → Waits earlier f × (same_number (number_taken s) f.number ≡ false) × (reference_of s.event ≤ f.due)
+  waited_before f waits held =
+      let time = or_parts (nat_lt f.due (reference_of s.event)) (is_overdue earlier f) waits.in_time in
+      let receipt = or_parts (of_some s.taken false (λ g. nat_eq g.number f.number)) (was_received earlier f.number) waits.unreceived in (
+        record { sent = held; in_time = time.1; unreceived = receipt.1 },
+        sym (received_now s f.number)
+            ∙ receipt.0,
+        ltb-false f.due (reference_of s.event) time.0,
+      )
+
+  module _ (was left now : ℕ → Option Flight) (waiting : AreWaiting earlier was)
+      (received : LeavesTaken s was left)
+      (sent : (n : ℕ) → now n ≡ with_sent s.sent (λ m. if_in_time (reference_of s.event) (left m)) n) where
+    pub waits_next : AreWaiting (s ∷ earlier) now
+    waits_next = record { found = found; all = all }
+      where
+        before : (n : ℕ) (f : Flight) → if_in_time (reference_of s.event) (left n) ≡ Some f → (f.number ≡ n) × Waits (s ∷ earlier) f
+        before n f at =
+            let time = in_time_parts (reference_of s.event) (left n) f at in
+            let there = left_parts s was left received n f time.0 in
+            let known = waiting.found n f there.0 in
+            (known.0, waits_on f known.1 (ap (same_number (number_taken s)) known.0 ∙ there.1) time.1)
+
+        by_sending : (n : ℕ) (f : Flight) → (Contains s.sent f × (f.number ≡ n)) ⊎ (if_in_time (reference_of s.event) (left n) ≡ Some f)
+            → (f.number ≡ n) × Waits (s ∷ earlier) f
+        by_sending n f (inl (held, number)) = (number, sent_waits f held)
+        by_sending n f (inr at) = before n f at
+
+        found : (n : ℕ) (f : Flight) → now n ≡ Some f → (f.number ≡ n) × Waits (s ∷ earlier) f
+        found n f at = by_sending n f (sent_or_before s.sent (λ m. if_in_time (reference_of s.event) (left m)) n f (sym (sent n) ∙ at))
+
+        on_time : (f : Flight) → Waits earlier f × (same_number (number_taken s) f.number ≡ false) × (reference_of s.event ≤ f.due)
+            → if_in_time (reference_of s.event) (left f.number) ≡ Some f
+        on_time f (waited, other, late) =
+            let there : left f.number ≡ Some f = received f.number ∙ ap (λ b. cond b None (was f.number)) other ∙ waiting.all f waited in
+            ap (if_in_time (reference_of s.event)) there ∙ rw (le-leb (reference_of s.event) f.due late) refl
+
+        by_place : (f : Flight) → Waits (s ∷ earlier) f → Contains s.sent f ⊎ Contains (flights earlier) f → now f.number ≡ Some f
+        by_place f waits (inl held) =
+            sent f.number ∙ sent_stands (last_sent earlier) s.sent (λ m. if_in_time (reference_of s.event) (left m)) f follows.numbers held
+        by_place f waits (inr held) =
+            sent f.number
+            ∙ below_sent (last_sent earlier) s.sent (λ m. if_in_time (reference_of s.event) (left m)) f.number follows.numbers
+            (le_greatest (flights earlier) f held)
+            ∙ on_time f (waited_before f waits held)
+
+        all : (f : Flight) → Waits (s ∷ earlier) f → now f.number ≡ Some f
+        all f waits = by_place f waits (Contains-append_cases s.sent (flights earlier) f waits.sent)

@@ -1,0 +1,2 @@
+pub mod flights
+pub mod rounds

@@ -1,0 +1,15 @@
+-- What is seen of spoiled rounds.
+use Rattle.std.specs.Prelude.{ℕ, Bool, Option}
+use Rattle.std.specs.HashMap.{spare}
+use Rattle.sd_premise_loss.specs.flights.RunsKept.{beside, is_there}
+use Rattle.sd_premise_loss.specs.declared.flights.runs.Runs.{Runs}
+
+abbrev pub end_beside : Runs → ℕ → ℕ → Option ℕ
+end_beside runs term round = beside runs.ends term round
+
+abbrev pub has_round : Runs → ℕ → ℕ → Bool
+has_round runs term round = is_there runs.ends term round
+
+-- for how many more rounds there is room
+abbrev pub room_of : Runs → ℕ
+room_of runs = spare runs.ends

@@ -1,0 +1,19 @@
+-- What is seen of flights that wait in no order.
+use Rattle.std.specs.Prelude.{ℕ, ◌-◌, min, Option}
+use Rattle.std.specs.HashMap.{spare, hash_map_len}
+use Rattle.std.specs.BinaryHeap.{heap_len, heap_capacity}
+use Rattle.sd_msg.specs.declared.Flight.{Flight}
+use Rattle.sd_premise_loss.specs.flights.UnorderedKept.{flight_in}
+use Rattle.sd_premise_loss.specs.declared.flights.unordered.Unordered.{Unordered}
+
+-- the flight of a number, where it waits
+abbrev pub unordered_at : Unordered → ℕ → Option Flight
+unordered_at unordered n = flight_in unordered.flights n
+
+-- how many wait
+abbrev pub unordered_count : Unordered → ℕ
+unordered_count unordered = hash_map_len unordered.flights
+
+-- for how many more there is room
+abbrev pub unordered_room : Unordered → ℕ
+unordered_room unordered = min (spare unordered.flights) (heap_capacity unordered.dues - heap_len unordered.dues)

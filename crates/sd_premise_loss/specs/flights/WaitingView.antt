@@ -1,0 +1,19 @@
+-- What is seen of flights that wait for their receipt.
+use Rattle.std.specs.Prelude.{ℕ, ◌+◌, min, Option}
+use Rattle.sd_msg.specs.declared.Flight.{Flight}
+use Rattle.sd_premise_loss.specs.flights.WaitingKept.{either_at}
+use Rattle.sd_premise_loss.specs.flights.OrderlyView.{orderly_at, orderly_count, orderly_room}
+use Rattle.sd_premise_loss.specs.flights.UnorderedView.{unordered_at, unordered_count, unordered_room}
+use Rattle.sd_premise_loss.specs.declared.flights.waiting.Waiting.{Waiting}
+
+-- the flight of a number, where it waits
+abbrev pub waiting_at : Waiting → ℕ → Option Flight
+waiting_at waiting n = either_at (orderly_at waiting.orderly) (unordered_at waiting.others) n
+
+-- how many are kept: no fewer than wait
+abbrev pub count_of : Waiting → ℕ
+count_of waiting = orderly_count waiting.orderly + unordered_count waiting.others
+
+-- for how many more there is room
+abbrev pub room_for : Waiting → ℕ
+room_for waiting = min (orderly_room waiting.orderly) (unordered_room waiting.others)

@@ -1,0 +1,69 @@
+-- What is kept of the flights that were seen: those that wait, up to which number a failure interrupted them, and the rounds that are spoiled.
+use Rattle.std.specs.Prelude.{◌≡◌, ℕ, ◌<◌, Bool, true, false, ◌⊎◌, List, [], ◌∷◌, Contains, Option, Some, None, option_map, nat_eq, nat_le, if◌then◌else◌}
+use Rattle.std.specs.List.{list_any}
+use Rattle.sd_num.specs.Lists.{of_some}
+use Rattle.sd_topo.specs.declared.Thing.{Thing}
+use Rattle.sd_msg.specs.declared.Flight.{Flight}
+use Rattle.sd_history.specs.World.{Seen, fails}
+use Rattle.sd_history.specs.Premises.{flights, is_overdue, was_received, spoiled_rounds, is_round}
+use Rattle.sd_premise_loss.specs.flights.Interrupted.{is_interrupted}
+use Rattle.sd_premise_loss.specs.rounds.Order.{last_sent}
+
+-- Flights that wait
+
+-- the number of the flight that the event receives
+abbrev pub number_taken : Seen → Option ℕ
+number_taken s = option_map (λ f. f.number) s.taken
+
+-- the flight was sent and not received, and no event lies past its due
+pub record Waits (seen : List Seen) (f : Flight) : Type 0 where
+  pub sent : Contains (flights seen) f
+  pub in_time : is_overdue seen f ≡ false
+  pub unreceived : was_received seen f.number ≡ false
+
+-- under each number stands the flight of that number that waits
+pub record AreWaiting (seen : List Seen) (waiting : ℕ → Option Flight) : Type 0 where
+  pub found : (n : ℕ) (f : Flight) → waiting n ≡ Some f → (f.number ≡ n) × Waits seen f
+  pub all : (f : Flight) → Waits seen f → waiting f.number ≡ Some f
+
+-- what waits with the flights that are sent
+abbrev pub with_sent : List Flight → (ℕ → Option Flight) → ℕ → Option Flight
+with_sent [] waiting n = waiting n
+with_sent (f ∷ fs) waiting n = with_sent fs (λ m. if nat_eq f.number m then Some f else waiting m) n
+
+-- the flight where its due does not lie before the reference
+abbrev pub if_in_time : ℕ → Option Flight → Option Flight
+if_in_time reference waiting = of_some waiting None (λ f. if nat_le reference f.due then Some f else None)
+
+-- Interruptions
+
+-- the number up to which the flights of the thing were interrupted: they were sent before its latest failure
+abbrev pub mark_in : List Seen → Thing → ℕ
+mark_in [] x = 0
+mark_in (s ∷ earlier) x = if fails x s.event then last_sent earlier else mark_in earlier x
+
+-- Spoiled rounds
+
+-- some message of the round was spoiled
+abbrev pub is_spoiled : List Seen → ℕ → ℕ → Bool
+is_spoiled seen term round = list_any (λ other. is_round other term round) (spoiled_rounds seen)
+
+-- a waiting flight is overdue at the reference, and was not interrupted
+pub record IsLost (waiting : ℕ → Option Flight) (marks : Thing → ℕ) (reference : ℕ) (f : Flight) : Type 0 where
+  pub waits : waiting f.number ≡ Some f
+  pub overdue : f.due < reference
+  pub whole : is_interrupted marks f ≡ false
+
+-- the round is that of a flight
+abbrev pub is_round_of : Flight → ℕ → ℕ → Bool
+is_round_of f term round = is_round f.message.stamp term round
+
+-- what the new rounds are: old ones, and those of lost flights
+abbrev pub HasOnlyLost : (ℕ → Option Flight) → (Thing → ℕ) → ℕ → (ℕ → ℕ → Bool) → (ℕ → ℕ → Bool) → Type 0
+HasOnlyLost waiting marks reference old new =
+    (term round : ℕ) → new term round ≡ true → (old term round ≡ true) ⊎ ((f : Flight) × IsLost waiting marks reference f × (is_round_of f term round ≡ true))
+
+-- the rounds of all lost flights are added, and none is left out
+pub record AddsLost (waiting : ℕ → Option Flight) (marks : Thing → ℕ) (reference : ℕ) (old new : ℕ → ℕ → Bool) : Type 0 where
+  pub kept : (term round : ℕ) → old term round ≡ true → new term round ≡ true
+  pub added : (f : Flight) → IsLost waiting marks reference f → new f.message.stamp.term f.message.stamp.round ≡ true

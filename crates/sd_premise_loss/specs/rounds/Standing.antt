@@ -1,0 +1,39 @@
+-- For which settings and lists the monitor of loss stands.
+use Rattle.std.specs.Prelude.{◌≡◌, ℕ, ◌-◌, true, List, length, min, Option}
+use Rattle.sd_topo.specs.declared.Thing.{Thing}
+use Rattle.sd_msg.specs.declared.Flight.{Flight}
+use Rattle.sd_sched.specs.declared.Event.{Event}
+use Rattle.sd_history.specs.World.{Setting, Seen}
+use Rattle.sd_history.specs.Premises.{loss_holds}
+use Rattle.sd_premise_loss.specs.rounds.Order.{last_sent, IsInOrder}
+use Rattle.sd_premise_loss.specs.rounds.Loss.{number_taken, AreWaiting, mark_in, is_spoiled}
+use Rattle.sd_premise_loss.specs.flights.RunsView.{has_round, room_of as room_of_runs}
+use Rattle.sd_premise_loss.specs.flights.WaitingView.{waiting_at, count_of, room_for}
+use Rattle.sd_premise_loss.specs.flights.InterruptionsView.{mark_of, last_number, device_places, link_places}
+use Rattle.sd_premise_loss.specs.declared.rounds.Rounds.{Rounds}
+
+-- what is kept of the list
+pub record Keeps (rounds : Rounds) (setting : Setting) (seen : List Seen) : Type 0 where
+  pub devices : device_places rounds.interruptions ≡ length setting.net.devices
+  pub links : link_places rounds.interruptions ≡ length setting.net.links
+  pub waiting : AreWaiting seen (waiting_at rounds.waiting)
+  pub last : last_number rounds.interruptions ≡ last_sent seen
+  pub marks : (x : Thing) → mark_of rounds.interruptions x ≡ mark_in seen x
+  pub spoiled : (term round : ℕ) → has_round rounds.runs term round ≡ is_spoiled seen term round
+
+-- it stands for the list, whose events came in order; once the premise is broken, the rest need not be kept
+pub record StandsFor (rounds : Rounds) (setting : Setting) (seen : List Seen) : Type 0 where
+  pub order : IsInOrder setting seen
+  pub limit : rounds.limit ≡ setting.net.params.loss
+  pub holds : rounds.holds ≡ loss_holds setting seen
+  pub kept : rounds.holds ≡ true → Keeps rounds setting seen
+
+-- what the monitor is told is what is seen of the event
+pub record IsTold (told : Event) (received : Option ℕ) (flights : List Flight) (s : Seen) : Type 0 where
+  pub event : s.event ≡ told
+  pub taken : number_taken s ≡ received
+  pub sent : s.sent ≡ flights
+
+-- for how many more flights there is room: each that waits may spoil a round
+abbrev pub room_of : Rounds → ℕ
+room_of rounds = min (room_for rounds.waiting) (room_of_runs rounds.runs - count_of rounds.waiting)

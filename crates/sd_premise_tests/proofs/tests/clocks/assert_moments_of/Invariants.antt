@@ -1,6 +1,0 @@
-use Rattle.std.proofs.Common.{◌≡◌, length}
-use Rattle.sd_topo.specs.Topologies.{network}
-use Rattle.sd_premise_tests.proofs.tests.clocks.assert_moments_of.Given as goal
-
-abbrev pub invariant-loop-moment : goal.invariant-loop-moment
-invariant-loop-moment g l = length l.monitor.lives ≡ length (network l.topo).devices

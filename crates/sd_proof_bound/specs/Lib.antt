@@ -1,0 +1,9 @@
+pub mod Bound
+pub mod Recovering
+pub mod Halves
+pub mod ages
+pub mod chains
+pub mod timeouts
+pub mod traces
+-- Handed on: what crates above name of those below.
+pub use Rattle.sd_proof_safety.specs.History as History

@@ -1,0 +1,27 @@
+//! The recovery bound: no report of a live device is above what the drill lists for it, on every
+//! history without a renewal in which nothing fails or one domain does so at once. No function here
+//! has a body: this crate has definitions and proofs alone, a folder for each chapter.
+//!
+//! # The result
+//!
+//! `bound_holds` (proofs/Bounded) is `BoundHolds net plan budget f` for every topology, plan, budget
+//! and domain, with nothing assumed. `BoundHolds` stands in specs/Bound, with the premises on the
+//! history. `sd_top` stands on it: it is the clause `bounds` of `run`.
+//!
+//! # The route
+//!
+//! A report's eps is the uncertainty with which the estimate was set, and what the device's oscillator
+//! may have added since. An acting root is bounded by the budget's hold alone.
+//!
+//! 1. `Composing` composes the two: `BasesHold net plan → AgesHold net plan → BoundHolds net plan budget f`.
+//! 2. `histories` says what such a history is like, and `bases` with which uncertainty an estimate is
+//!    set (`BasesHold`): the invariant of `sd_proof_safety` says where devices are.
+//! 3. `timeouts`, `traces` and `chains` say when devices hear, and `ages` how old their estimates are
+//!    (`AgesHold`).
+//! 4. `Bounded` puts both together.
+//!
+//! # The words, in reading order
+//!
+//! `Bound` what is promised; `Recovering` what is given of a history, as one record; `Halves` the two
+//! statements, of the state after some events of it.
+#![tactic(auto)]

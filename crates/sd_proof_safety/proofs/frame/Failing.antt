@@ -1,0 +1,120 @@
+-- A device that fails stands outside: it is not up, so no clause asks anything of it. And the backup root does not fail once it acts, since no domain
+-- holds it and the root.
+use Rattle.std.specs.Prelude.{◌≡◌, ℕ, ◌+◌, ◌*◌, Bool, true, false, ◌&&◌, ◌||◌, not, List, ◌∷◌, filter, max, nat_le, Option, Some, None, is_some, option_map, refl, ◌⊎◌, if◌then◌else◌}
+use Rattle.std.specs.List.{list_any, list_all}
+use Rattle.std.proofs.Common.{◌∙◌, ap, sym, inl, inr}
+use Rattle.std.proofs.lemmas.Bool.{and_parts, and_from, and_right, or_left, or_right, or_cases}
+use Rattle.sd_checker.specs.Num.Lists.{of_some, same_number, has}
+use Rattle.sd_checker.specs.Topo.declared.Thing.{Thing}
+use Rattle.sd_checker.specs.Topo.declared.Thing.TheVariants as thing
+use Rattle.sd_checker.specs.Domain.Failures.{same_thing}
+use Rattle.sd_checker.specs.Domain.Domains.{holds_device, domains}
+use Rattle.sd_checker.specs.Plan.declared.Plan.{Plan}
+use Rattle.sd_checker.specs.Plan.Plans.{is_member, is_present, is_root}
+use Rattle.sd_checker.specs.Plan.Walks.{path, epath}
+use Rattle.sd_checker.specs.CheckRoot.Roots.{root_breach}
+use Rattle.sd_checker.specs.Conditions.{RootHolds}
+use Rattle.sd_history.specs.Core.Words.{has_moved}
+use Rattle.sd_history.specs.Sched.declared.Event.{Event}
+use Rattle.sd_history.specs.World.{Setting, is_up, is_untouched, link_has_failed, has_commit, joined_in_window, staged_epoch, is_counted}
+use Rattle.sd_history.specs.Steps.{Answers, Step, seen_of, answers_in, live_answers, acts_in, parent_in, flights}
+use Rattle.sd_history.specs.Chronicle.{chronicle, past_in}
+use Rattle.sd_proof_safety.specs.invariant.Bounds.{depth, delay, tick_gap}
+use Rattle.sd_proof_safety.specs.invariant.Eras.{era, plan_now, failed_now, is_among, device_failed_now, link_failed_now, touches, is_old, is_new, is_blank, is_past, moved, on_primary, is_ordinary, belongs, hit, hit_otherwise, path_hit, root_failed, root_lives, heard_at}
+use Rattle.sd_proof_safety.specs.invariant.Clauses.{is_beginning, just_closed, was_touched, member_is_up, member_follows, returned_is_joined, outsider_is_past, counted_is_current, blank_is_idle, link_is_sound, root_acts, failed_root_is_not_old, ordinary_follows, backup_root_acts, backup_is_caused, move_is_caused, takeover_is_caused, above_backup_root, backup_root_stays, path_stays, shadow_is_short, none_sent_ahead}
+use Rattle.sd_proof_safety.specs.invariant.Invariant.{Core}
+use Rattle.sd_proof_safety.specs.invariant.Coming.{IsFair, IsClean}
+use Rattle.sd_proof_safety.proofs.invariant.Prefix.{Passing, some_passing, any_passing}
+use Rattle.sd_proof_safety.proofs.invariant.Sides.{implied, not_both}
+use Rattle.sd_proof_safety.proofs.invariant.Domains.{Holding, each_among, held}
+use Rattle.sd_proof_safety.proofs.invariant.Facts.{not_both_failed}
+use Rattle.sd_proof_safety.proofs.invariant.Following.{held_now, accepted_now}
+use Rattle.sd_proof_safety.specs.frame.Frames.{IsAlikeAt}
+use Rattle.sd_proof_safety.proofs.frame.Words as words
+use Rattle.sd_proof_safety.proofs.waits.Beginning.{quiet, still}
+use Rattle.sd_proof_safety.proofs.frame.Timely.{touched_now, member_up_now}
+use Rattle.sd_proof_safety.proofs.frame.Core.{closed_of, committed_none}
+use Rattle.sd_proof_safety.proofs.invariant.Empty.{asks_nothing}
+use Rattle.sd_proof_safety.proofs.frame.Changing.{IsOutside}
+
+false_if : (b : Bool) → (b ≡ true → ⊥) → b ≡ false
+false_if true never = absurd (never refl)
+false_if false never = refl
+
+-- of a device that is not up
+module _ (two : List Step) (x : ℕ) (down : is_up (seen_of two) x ≡ false) where
+  live_none : live_answers two x ≡ None
+  live_none = ap (λ b. if b then answers_in two x else None) down
+
+  old_none : is_old two x ≡ false
+  old_none = ap (λ (o : Option Answers). same_number (option_map (λ a. a.epoch) o) (era two)) live_none
+
+  new_none : is_new two x ≡ false
+  new_none = ap (λ (o : Option Answers). same_number (option_map (λ a. a.epoch) o) (staged_epoch (seen_of two))) live_none
+
+  blank_none : is_blank two x ≡ false
+  blank_none = ap (λ (o : Option Answers). same_number (option_map (λ a. a.epoch) o) 0) live_none
+
+  pub acts_none : acts_in two x ≡ false
+  acts_none = ap (λ (o : Option Answers). of_some o false (λ a. a.acts)) live_none
+
+  moved_none : moved two x ≡ false
+  moved_none = ap (λ b. of_some (if b then past_in two x else None) false has_moved) down
+
+module _ (setting : Setting) (e : Event) (history : List Event) (fair : IsFair setting) (clean : IsClean setting (e ∷ history))
+    (core : Core setting (chronicle setting history))
+    (eras : era (chronicle setting (e ∷ history)) ≡ era (chronicle setting history)) (t : Thing)
+    (more : failed_now (chronicle setting (e ∷ history)) ≡ t ∷ failed_now (chronicle setting history))
+    (x : ℕ) (down : is_up (seen_of (chronicle setting (e ∷ history))) x ≡ false) (failed : device_failed_now (chronicle setting (e ∷ history)) x ≡ true)
+    (touched : is_untouched (seen_of (chronicle setting (e ∷ history))) x ≡ false) where
+  abbrev one : List Step
+  one = chronicle setting history
+
+  abbrev two : List Step
+  two = chronicle setting (e ∷ history)
+
+  plan : plan_now setting (chronicle setting (e ∷ history)) ≡ plan_now setting (chronicle setting history)
+  plan = words.plan_same setting one two eras
+
+  root_fails_on : root_failed setting (chronicle setting history) ≡ true → root_failed setting (chronicle setting (e ∷ history)) ≡ true
+  root_fails_on was =
+      ap (λ (p : Plan). device_failed_now two p.root) plan
+      ∙ ap (λ xs. is_among xs (thing.Device (plan_now setting one).root)) more
+      ∙ or_right (same_thing (thing.Device (plan_now setting one).root) t) (root_failed setting one) was
+
+  -- a backup root that acted goes on
+  never_acted : (plan_now setting (chronicle setting history)).backup_root ≡ x → backup_root_acts setting (chronicle setting history) ≡ false
+  never_acted is =
+      false_if (backup_root_acts setting one)
+      (λ acting.
+      not_both (device_failed_now two (plan_now setting two).backup_root)
+      (ap (λ (p : Plan). device_failed_now two p.backup_root) plan ∙ ap (device_failed_now two) is ∙ failed)
+      (not_both_failed setting two (held_now setting e history clean) (accepted_now setting e history fair clean)
+      (root_fails_on (implied (backup_root_acts setting one) (root_failed setting one) core.causes.takeover acting))))
+
+  pub falls : IsOutside setting (chronicle setting history) (chronicle setting (e ∷ history)) x
+  falls =
+      record {
+        old = old_none two x down;
+        new = new_none two x down;
+        acts = acts_none two x down;
+        moved = moved_none two x down;
+        touched = touched;
+        up =
+            asks_nothing (not (is_beginning setting two) && belongs setting.net (plan_now setting two) x && not (device_failed_now two x))
+            (is_up (seen_of two) x)
+            (and_right (not (is_beginning setting two) && belongs setting.net (plan_now setting two) x) (not (device_failed_now two x)) (ap not failed));
+        follows =
+            asks_nothing (is_member (plan_now setting two) x && not (device_failed_now two x) && is_up (seen_of two) x) (is_old two x || is_new two x)
+            (and_right (is_member (plan_now setting two) x && not (device_failed_now two x)) (is_up (seen_of two) x) down);
+        returned =
+            asks_nothing (is_member (plan_now setting two) x && device_failed_now two x && is_up (seen_of two) x)
+            (joined_in_window (seen_of two) x && (is_blank two x || is_new two x))
+            (and_right (is_member (plan_now setting two) x && device_failed_now two x) (is_up (seen_of two) x) down);
+        outsider = ap (λ b. not (b && not (is_member (plan_now setting two) x))
+            || (is_past two x || (joined_in_window (seen_of two) x && (is_blank two x || is_new two x)))) down;
+        current = ap (λ b. not (b && (is_member (plan_now setting two) x || joined_in_window (seen_of two) x)) || not (is_past two x)) down;
+        blank = ap (λ b. not b || (not (is_some (parent_in two x)) && not (acts_in two x))) (blank_none two x down);
+        root = λ is. ap (λ b. b && not (root_failed setting two)) (ap (is_up (seen_of two)) is ∙ down);
+        backup_root = never_acted;
+      }

@@ -1,0 +1,52 @@
+-- The places of a trace: so many hops before its end stands a device with its moment, to which the rest of the trace leads, and from which
+-- the end is so many hops away. Each hop lasts at least the least delay of its direction.
+use Rattle.std.specs.Prelude.{ℕ, zero, suc, ◌+◌, ◌*◌, ◌-◌, ◌≤◌, nat_le}
+use Rattle.std.proofs.Common.{arith}
+use Rattle.std.proofs.lemmas.Bool.{and_parts, leb-true}
+use Rattle.sd_checker.specs.Topo.Network.{delay_of, greatest_delay}
+use Rattle.sd_history.specs.Msg.declared.Stamp.{Stamp}
+use Rattle.sd_history.specs.World.{Setting}
+use Rattle.sd_proof_safety.specs.messages.Moments.{whole, behind, IsChronicle, Moment, upto, when, IsIn}
+use Rattle.sd_proof_safety.specs.messages.Traces.{Hop, Trace, begins, goes_on, Chain, stands, hops_on, Place}
+use Rattle.sd_proof_safety.proofs.messages.Tails.{tail_trans, before_is_earlier}
+use Rattle.sd_proof_safety.proofs.messages.Overlap.{hop_time}
+
+-- the place so many hops before the end
+pub place_at : (setting : Setting) (stamp : Stamp) (epoch : ℕ) (first : Moment) (source m : ℕ) (p : Moment) (d k : ℕ)
+    → Trace setting stamp epoch first source m p d → k ≤ m → Place setting stamp epoch first source m p d k
+place_at setting stamp epoch first source m p d zero trace most = record { moment = p; device = d; gone = m; sum = omega arith; trace = trace; chain = stands }
+place_at setting stamp epoch first source zero p d (suc k) (begins message emits carries epoch_is) most = absurd (omega (arith, most))
+place_at setting stamp epoch first source (suc m) p d (suc k) (goes_on {from = from} {x = x} trace hop) most =
+    let place = place_at setting stamp epoch first source m from x k trace (omega (arith, most)) in
+    let sum = place.sum in
+    record { moment = place.moment; device = place.device; gone = place.gone; sum = omega (arith, sum); trace = place.trace; chain = hops_on place.chain hop }
+
+one_more : (a b c k D : ℕ) → b ≤ a + k * D → c ≤ b + D → c ≤ a + suc k * D
+one_more a b c k D first second = omega (arith, first, second)
+
+-- how long so many hops last at most
+pub chain_time : (setting : Setting) (stamp : Stamp) (epoch : ℕ) (q : Moment) (y k : ℕ) (p : Moment) (d : ℕ) → Chain setting stamp epoch q y k p d
+    → when p ≤ when q + k * greatest_delay setting.net
+chain_time setting stamp epoch q y zero p d stands = omega arith
+chain_time setting stamp epoch q y (suc k) p d (hops_on {from = from} {x = x} chain hop) =
+    one_more (when q) (when from) (when p) k (greatest_delay setting.net) (chain_time setting stamp epoch q y k from x chain)
+    (hop_time setting stamp epoch from p x d hop)
+
+-- its beginning is one of the steps up to its end
+pub chain_in : (setting : Setting) (stamp : Stamp) (epoch : ℕ) (q : Moment) (y k : ℕ) (p : Moment) (d : ℕ) → Chain setting stamp epoch q y k p d
+    → IsIn q (upto p)
+chain_in setting stamp epoch q y zero p d stands = whole
+chain_in setting stamp epoch q y (suc k) p d (hops_on {from = from} {x = x} chain hop) =
+    behind (tail_trans (chain_in setting stamp epoch q y k from x chain) hop.before)
+
+-- and each hop at least
+pub hop_least : (setting : Setting) (stamp : Stamp) (epoch : ℕ) (from to : Moment) (x d : ℕ) → IsChronicle setting (upto to)
+    → (hop : Hop setting stamp epoch from x to d)
+    → when from + (delay_of setting.net hop.flight.link hop.flight.receiver).min ≤ when to
+hop_least setting stamp epoch from to x d is hop =
+    let parts = and_parts (nat_le (delay_of setting.net hop.flight.link hop.flight.receiver).min (when to - hop.flight.sent_at))
+    (nat_le (when to - hop.flight.sent_at) (delay_of setting.net hop.flight.link hop.flight.receiver).max) hop.in_time in
+    let least = leb-true (delay_of setting.net hop.flight.link hop.flight.receiver).min (when to - hop.flight.sent_at) parts.0 in
+    let order = before_is_earlier setting from to is hop.before in
+    let at = hop.sent_at in
+    omega (arith, least, order, at)

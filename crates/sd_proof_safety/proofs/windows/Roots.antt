@@ -1,0 +1,24 @@
+-- Of an accepted plan: the backup root is a member, and is not the root.
+use Rattle.std.specs.Prelude.{◌≡◌, Bool, true, false, ◌||◌, not, nat_eq, Option, Some, None, option_map, refl, if◌then◌else◌}
+use Rattle.std.specs.Option.{option_or}
+use Rattle.sd_checker.specs.Topo.Network.{Network}
+use Rattle.sd_checker.specs.Plan.declared.Plan.{Plan}
+use Rattle.sd_checker.specs.Plan.Plans.{is_member}
+use Rattle.sd_checker.specs.Plan.Structure.{structure_breach, roots_breach}
+use Rattle.sd_proof_safety.proofs.invariant.Fallback.{none_mapped}
+
+first_none : {X : Type 0} (a b : Option X) → option_or a b ≡ None → a ≡ None
+first_none None b none = refl
+first_none (Some x) b none = cc
+
+pub backup_root_member : (net : Network) (plan : Plan) → structure_breach net plan ≡ None
+    → (is_member plan plan.backup_root ≡ true) × (nat_eq plan.root plan.backup_root ≡ false)
+backup_root_member net plan structured =
+    by_tests (is_member plan plan.root) (is_member plan plan.backup_root) (nat_eq plan.root plan.backup_root)
+    (none_mapped (λ d. (1, d)) (roots_breach plan) (first_none (option_map (λ d. (1, d)) (roots_breach plan)) _ structured))
+  where
+    by_tests : (m b e : Bool) → (if not m then Some plan.root else if not b || e then Some plan.backup_root else None) ≡ None → (b ≡ true) × (e ≡ false)
+    by_tests false b e none = cc
+    by_tests true false e none = cc
+    by_tests true true true none = cc
+    by_tests true true false none = (refl, refl)

@@ -1,0 +1,22 @@
+-- Names are short.
+use Rattle.std.specs.Prelude.{◌≡◌, ℕ, ◌≤◌, true, ◌&&◌, List, [], length, nat_le, slice_get, Option, Some, None, IsTrue, refl}
+use Rattle.std.specs.List.{list_all}
+use Rattle.std.proofs.Common.{arith}
+use Rattle.std.proofs.lemmas.Bool.{and_parts, leb-true}
+use Rattle.sd_num.specs.Lists.{of_some}
+use Rattle.sd_topo.specs.Network.{Network, IsNetwork, device_names, name_at, is_name, is_name_byte, Each}
+use Rattle.sd_history.specs.Text.{device_name}
+
+short : (name : List ℕ) → IsTrue (is_name name) → length name ≤ 64
+short name is =
+    leb-true (length name) 64
+    (and_parts (nat_le 1 (length name)) (nat_le (length name) 64)
+    (and_parts (nat_le 1 (length name) && nat_le (length name) 64) (list_all is_name_byte name) is).0).1
+
+-- the name of a device has at most 64 bytes
+pub name_short : (net : Network) (d : ℕ) → IsNetwork net → length (device_name net d) ≤ 64
+name_short net d is = by (slice_get (device_names net) d) (λ name at. short name (is.names.0 d name at))
+  where
+    by : (o : Option (List ℕ)) → ((name : List ℕ) → o ≡ Some name → length name ≤ 64) → length (of_some o [] (λ name. name)) ≤ 64
+    by None each = omega arith
+    by (Some name) each = each name refl

@@ -1,0 +1,108 @@
+-- What is seen of the step, how devices stand after it, and what is found of it.
+use Rattle.std.proofs.Common.{◌≡◌, ◌∷◌, ◌<◌, ℕ, List, Option, length, arith, sym, ap, ◌∙◌, subst, IfSome, Some, None, refl}
+use Rattle.std.proofs.Props.{props}
+use Rattle.std.proofs.Math.Logic.{∥∥₁_elim, ∥∥₁_map}
+use Rattle.sd_topo.specs.Network.{Network}
+use Rattle.sd_sched.specs.Events.{device_of, reference_of}
+use Rattle.sd_history.specs.World.{Setting}
+use Rattle.sd_history.specs.Steps.{seen_of}
+use Rattle.sd_history.specs.Nodes.{NodeStep, steps_of}
+use Rattle.sd_history.proofs.Known.{named_is_known}
+use Rattle.sd_fleet.specs.FleetFabric.declared.Outcome.{Outcome}
+use Rattle.sd_watch.specs.Watch.{two_least}
+use Rattle.sd_fleet.specs.Standing.{IsAccepted}
+use Rattle.sd_replay.specs.Standing.{Onlooks}
+use Rattle.sd_replay.proofs.Others.{steps_know}
+use Rattle.sd_replay.proofs.ParentTable.{loop_is, roots_are}
+use Rattle.sd_replay.proofs.Looking.{seen_by, AreFound, lines_are, found_of}
+use Rattle.sd_replay.proofs.Observing.{can_show, can_see, ask_merely, seen_on, broken_on}
+use Rattle.sd_replay.proofs.monitors.Monitors.look.Given.{Over}
+use Rattle.sd_replay.proofs.monitors.Monitors.look.Goals as goal
+
+-- a fact of the device that an event names
+named : (count : ℕ) (o : Option ℕ) → ((d : ℕ) → o ≡ Some d → d < count) → IfSome o (λ d. d < count)
+named count None within = tt
+named count (Some d) within = within d refl
+
+pub observe-broken-requires : goal.observe-broken-requires
+observe-broken-requires g c =
+    ask_merely c.args.self.now.premises
+    (seen_by c.args.event.now c.args.outcome.now.taken c.deref.result.now c.args.outcome.now.activated c.args.outcome.now.acted c.args.outcome.now.closed)
+    (∥∥₁_map c.requires.step (λ has.
+    can_see g.N.Node c.args.fleet.now has.setting has.run c.args.event.now c.args.outcome.now has.accepted c.deref.result.now
+    (c.deref.ensures.value ∙ c.collect.ensures.flights has.setting has.run c.args.event.now has.accepted)
+    c.args.self.now.premises has.onlooks.premises
+    (let few = c.collect.ensures.few in let same = ap length c.deref.ensures.value in omega (arith, few, same, c.requires.room))))
+
+pub restand-requires-clause-device : goal.restand-requires-clause-device
+restand-requires-clause-device g c =
+    named (length c.args.fleet.now.fabric.net.devices) (device_of c.args.event.now)
+    (λ d at. ∥∥₁_elim c.requires.step (search props)
+    (λ has.
+    subst (λ (net : Network). d < length net.devices) (sym has.accepted.stands.fabric.net)
+    (named_is_known has.setting (steps_of has.run) has.accepted.next.step.seen.event d has.accepted.stands.fabric.accepted.1
+    (ap device_of has.accepted.happens ∙ at))))
+
+pub restand-requires-clause-parents : goal.restand-requires-clause-parents
+restand-requires-clause-parents g c =
+    ∥∥₁_elim c.requires.step (search props) (λ has. has.onlooks.parent_table.parents
+    ∙ sym (ap (λ (net : Network). length net.devices) has.accepted.stands.fabric.net))
+
+pub restand-requires-clause-acting : goal.restand-requires-clause-acting
+restand-requires-clause-acting g c =
+    ∥∥₁_elim c.requires.step (search props) (λ has. has.onlooks.parent_table.acting
+    ∙ sym (ap (λ (net : Network). length net.devices) has.accepted.stands.fabric.net))
+
+pub returns-clause-stands : goal.returns-clause-stands
+returns-clause-stands g c = λ setting run accepted onlooks.
+    let collected = c.deref.ensures.value ∙ c.collect.ensures.flights setting run c.args.event.now accepted in
+    record {
+      premises =
+          seen_on g.N.Node c.args.fleet.now setting run c.args.event.now c.args.outcome.now accepted c.deref.result.now collected c.observe-broken.new.self
+          (c.observe-broken.ensures.stands setting (seen_of (steps_of run))
+          (can_show g.N.Node c.args.fleet.now setting run c.args.event.now c.args.outcome.now accepted c.deref.result.now collected) onlooks.premises);
+      parent_table = c.restand.ensures setting run accepted onlooks.parent_table;
+    }
+
+-- the parts of what was found
+found : (g : Over) (c : goal.After-reference g) (setting : Setting) (run : List (NodeStep _))
+    (accepted : IsAccepted g.N.Node c.args.fleet.now setting run c.args.event.now c.args.outcome.now) → Onlooks c.args.self.now setting (steps_of run)
+    → AreFound setting accepted.next.step (steps_of run)
+    (record {
+      broken = c.observe-broken.result;
+      looped = c.newly.result;
+      roots = c.newly-2.result;
+      report = c.args.outcome.now.report;
+      reference = c.reference.result;
+    })
+    c.first_loop-looped.result c.first_loop.result c.two_acting-roots.result c.two_acting.result
+found g c setting run accepted onlooks =
+    let collected = c.deref.ensures.value ∙ c.collect.ensures.flights setting run c.args.event.now accepted in
+    let after = c.restand.ensures setting run accepted onlooks.parent_table in
+    let known = steps_know setting (steps_of run) accepted.stands.fabric.accepted.0 in
+    let known_after = steps_know setting (accepted.next.step ∷ steps_of run) accepted.stands.fabric.accepted in
+    record {
+      broken =
+          broken_on g.N.Node c.args.fleet.now setting run c.args.event.now c.args.outcome.now accepted c.deref.result.now collected c.observe-broken.result
+          (c.observe-broken.ensures.breaks setting (seen_of (steps_of run))
+          (can_show g.N.Node c.args.fleet.now setting run c.args.event.now c.args.outcome.now accepted c.deref.result.now collected) onlooks.premises);
+      looped = c.newly.ensures;
+      before_loop =
+          loop_is c.args.self.now.parent_table setting (steps_of run) onlooks.parent_table known c.first_loop-looped.result c.first_loop-looped.ensures;
+      now_loop = loop_is c.restand.new.parent_table setting (accepted.next.step ∷ steps_of run) after known_after c.first_loop.result c.first_loop.ensures;
+      acting = c.newly-2.ensures;
+      before_roots = c.two_acting-roots.ensures ∙ ap two_least (roots_are c.args.self.now.parent_table setting (steps_of run) onlooks.parent_table known);
+      now_roots = c.two_acting.ensures ∙ ap two_least (roots_are c.restand.new.parent_table setting (accepted.next.step ∷ steps_of run) after known_after);
+      report = ap (λ (o : Outcome). o.report) accepted.comes;
+      reference = c.reference.ensures ∙ ap reference_of (sym accepted.happens);
+    }
+
+pub returns-clause-found : goal.returns-clause-found
+returns-clause-found g c = λ setting run accepted onlooks.
+    lines_are setting accepted.next.step (steps_of run) _ c.first_loop-looped.result c.first_loop.result c.two_acting-roots.result c.two_acting.result
+    (found g c setting run accepted onlooks)
+
+pub returns-clause-devices : goal.returns-clause-devices
+returns-clause-devices g c = λ setting run accepted onlooks.
+    found_of setting accepted.next.step (steps_of run) _ c.first_loop-looped.result c.first_loop.result c.two_acting-roots.result c.two_acting.result
+    (found g c setting run accepted onlooks) accepted.stands.fabric.accepted

@@ -1,0 +1,57 @@
+-- The lines of what is found of one event.
+use Rattle.std.specs.Prelude.{◌≡◌, ◌⊎◌, ℕ, ◌<◌, Bool, false, not, ◌||◌, ◌&&◌, is_some, List, [], ◌∷◌, ◌++◌, length, flat_map, Option, IfSome}
+use Rattle.sd_num.specs.Lists.{of_some}
+use Rattle.sd_num.specs.Texts.{text_of}
+use Rattle.sd_topo.specs.Network.{Network}
+use Rattle.sd_clock.specs.Estimates.{contains}
+use Rattle.sd_history.specs.declared.BrokenSet.{BrokenSet}
+use Rattle.sd_history.specs.Lines.{Line, LoopAlarm, RootsAlarm, broken_lines, report_lines}
+use Rattle.sd_history.specs.World.{Setting}
+use Rattle.sd_history.specs.Steps.{Step}
+use Rattle.sd_history.specs.Text.{line_words, bytes_of}
+use Rattle.sd_replay.specs.declared.lines.findings.Findings.{Findings}
+
+-- all devices of what was found are of the network
+pub record IsOf (net : Network) (found : Findings) : Type 0 where
+  pub looped : IfSome found.looped (λ d. d < length net.devices)
+  pub first : IfSome found.roots (λ two. two.0 < length net.devices)
+  pub second : IfSome found.roots (λ two. two.1 < length net.devices)
+  pub asked : IfSome found.report (λ told. told.0 < length net.devices)
+
+-- some premise breaks
+abbrev pub breaks_some : BrokenSet → Bool
+breaks_some b = b.start || (b.drift || (b.delay || (b.tick || (b.loss || (b.domain || b.renew)))))
+
+-- nothing is to be printed
+abbrev pub are_none : Findings → Bool
+are_none found = not (breaks_some found.broken) && (not (is_some found.looped) && (not (is_some found.roots) && not (is_some found.report)))
+
+-- there is a report that misses the reference
+abbrev pub misses_in : Findings → Bool
+misses_in found = of_some found.report false (λ told. not (contains told.1 found.reference))
+
+abbrev pub loop_found : Option ℕ → List Line
+loop_found looped = of_some looped [] (λ d. LoopAlarm d ∷ [])
+
+abbrev pub roots_found : Option (ℕ × ℕ) → List Line
+roots_found roots = of_some roots [] (λ two. RootsAlarm two.0 two.1 ∷ [])
+
+-- the lines of what was found, in their order
+abbrev pub found_lines : Findings → List Line
+found_lines found =
+    broken_lines found.broken ++ loop_found found.looped ++ roots_found found.roots ++ of_some found.report [] (report_lines found.reference)
+
+-- a line of the event with number n, as it is printed
+abbrev pub line_bytes : Network → ℕ → Line → List ℕ
+line_bytes net n line = text_of (line_words net n line)
+
+abbrev pub found_bytes : Network → ℕ → Findings → List ℕ
+found_bytes net n found = flat_map (line_bytes net n) (found_lines found)
+
+-- nothing, or what ends with a newline
+abbrev pub AreWhole : List ℕ → Type 0
+AreWhole bytes = (bytes ≡ []) ⊎ ((front : List ℕ) × (bytes ≡ front ++ 10 ∷ []))
+
+-- what is printed of each event is whole lines
+abbrev pub PrintsWhole : Type 0
+PrintsWhole = (setting : Setting) (steps : List Step) → AreWhole (bytes_of setting steps)

@@ -1,0 +1,129 @@
+//! Who looks on: judges the premises, and looks for loops of parents and several roots.
+ghost use Rattle.std.specs.Prelude.{◌≡◌, ◌<◌, ◌≤◌, ◌+◌, ◌^◌, List, [], ◌∷◌, length, OnOk, IfOk, if◌then◌else◌, is_some, None};
+ghost use Rattle.sd_topo.specs.Topologies.{network};
+ghost use Rattle.sd_history.specs.World.{Setting};
+ghost use Rattle.sd_history.specs.Steps.{Step};
+ghost use Rattle.sd_history.specs.Nodes.{NodeStep, steps_of};
+ghost use Rattle.sd_history.specs.Lines.{lines_of};
+ghost use Rattle.sd_fleet.specs.Standing.{IsAccepted};
+ghost use Rattle.sd_premise.specs.FleetState.membership.Plans.{AreSound};
+ghost use Rattle.sd_replay.specs.lines.Findings.{IsOf, found_lines};
+
+use crate::lines::Findings;
+use crate::sights::{collect, restand};
+use sd_core::Node;
+use sd_fleet::{Fleet, Outcome};
+use sd_msg::Flight;
+use sd_num::NoMemory;
+use sd_plan::Plan;
+use sd_premise::{Premises, Seen};
+use sd_sched::Event;
+use sd_topo::Topology;
+use sd_watch::parent_table::ParentTable;
+use std::alloc::Global;
+
+/// What is kept to judge events: the premises, and how each device stood after the last one.
+#[derive(Drop)]
+pub(crate) struct Monitors {
+    premises: Premises,
+    parent_table: ParentTable,
+    /// The flights of one event, of which there is room for those that the next may send.
+    sent: Vec<Flight>,
+}
+
+/// What there is now, where there was nothing of its kind before.
+fn newly<T: Copy>(before: Option<T>, now: Option<T>) -> Option<T>
+    ensures { result ≡ (if is_some before then None else now) }
+{
+    match before {
+        Some(_) => None,
+        None => now,
+    }
+}
+
+impl Monitors {
+    ghost use Rattle.sd_replay.specs.Standing.{Onlooks, HasStep, room_of};
+
+    /// Before any event.
+    pub(crate) fn new(alloc: Global, topo: &Topology, plans: &[Plan]) -> Result<Monitors, NoMemory>
+        requires some { 1 ≤ length plans.now }
+        requires count { length plans.now < 2 ^ 32 }
+        requires sound { AreSound (network topo.now) plans.now }
+        ensures stands { IfOk result (λ monitors. (setting : Setting)
+            → setting.net ≡ network topo.now → setting.plans ≡ plans.now
+            → Onlooks monitors setting []) }
+    {
+        let parent_table = ParentTable::new(alloc, topo.devices())?;
+        let premises = Premises::new(alloc, topo, plans)?;
+        Ok(Monitors {
+            premises,
+            parent_table,
+            sent: Vec::new(alloc),
+        })
+    }
+
+    /// Makes room for an event that sends so many messages. Only this takes memory.
+    #[inline(always)]
+    pub(crate) fn ready(&mut self, alloc: Global, sent: usize) -> Result<(), NoMemory>
+        ensures room { OnOk result (sent ≤ room_of self.new) }
+        ensures grows { room_of self.old ≤ room_of self.new }
+        ensures stands { (setting : Setting) (steps : List Step) → Onlooks self.old setting steps
+            → Onlooks self.new setting steps }
+    {
+        // Most devices have nobody below them.
+        if sent == 0 {
+            return Ok(());
+        }
+        self.sent.clear();
+        let Ok(()) = self.sent.reserve(sent) else {
+            return Err(NoMemory);
+        };
+        self.premises.ready(alloc, sent)
+    }
+
+    /// Looks at an event that has just happened in the fleet, and tells what is to be printed of
+    /// it. It takes no memory.
+    #[inline(always)]
+    pub(crate) fn look<N: Node>(
+        &mut self,
+        fleet: &Fleet<N>,
+        event: &Event,
+        outcome: &Outcome,
+    ) -> Findings
+        requires step { ∥ HasStep N.Node self.old fleet.now event.now outcome.now ∥₁ }
+        requires room { outcome.now.sent ≤ room_of self.old }
+        requires numbers { outcome.now.first_sent + outcome.now.sent < 2 ^ 64 }
+        ensures stands { (setting : Setting) (run : List (NodeStep N))
+            (accepted : IsAccepted N.Node fleet.now setting run event.now outcome.now)
+            → Onlooks self.old setting (steps_of run)
+            → Onlooks self.new setting (accepted.next.step ∷ steps_of run) }
+        ensures found { (setting : Setting) (run : List (NodeStep N))
+            (accepted : IsAccepted N.Node fleet.now setting run event.now outcome.now)
+            → Onlooks self.old setting (steps_of run)
+            → found_lines result ≡ lines_of setting (accepted.next.step ∷ steps_of run) }
+        ensures devices { (setting : Setting) (run : List (NodeStep N))
+            → IsAccepted N.Node fleet.now setting run event.now outcome.now
+            → Onlooks self.old setting (steps_of run) → IsOf setting.net result }
+        ensures report { result.report ≡ outcome.now.report }
+    {
+        collect(fleet, outcome, &mut self.sent);
+        let broken = self.premises.observe(&Seen {
+            event: *event,
+            taken: outcome.taken,
+            sent: &self.sent,
+            activated: outcome.activated,
+            acted: outcome.acted,
+            closed: outcome.closed,
+        });
+        let looped = self.parent_table.first_loop();
+        let roots = self.parent_table.two_acting();
+        restand(&mut self.parent_table, fleet, event, outcome);
+        Findings {
+            broken,
+            looped: newly(looped, self.parent_table.first_loop()),
+            roots: newly(roots, self.parent_table.two_acting()),
+            report: outcome.report,
+            reference: event.reference(),
+        }
+    }
+}

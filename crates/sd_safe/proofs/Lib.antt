@@ -1,4 +1,0 @@
-pub mod Silent
-pub mod Kept
-pub mod Safe
-pub mod Bounded

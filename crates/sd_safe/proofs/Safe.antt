@@ -1,8 +1,0 @@
--- No loop of parents and one acting root, with nothing assumed beside the premises.
-use Rattle.sd_history.specs.World.{Setting}
-use Rattle.sd_safety.specs.Kept.{StaysSafe}
-use Rattle.sd_safety_renewals.proofs.Each.{safe_if_silent}
-use Rattle.sd_safe.proofs.Silent.{are_silent, members_enter_soon}
-
-pub stays_safe : (setting : Setting) → StaysSafe setting
-stays_safe setting = safe_if_silent setting (are_silent setting) (members_enter_soon setting)

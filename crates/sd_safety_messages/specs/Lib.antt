@@ -1,6 +1,0 @@
--- Moments, traces, the order of stamps, and rounds on their way.
-pub mod Moments
-pub mod Traces
-pub mod Rounds
-pub mod Stamping
-pub mod Wanted

@@ -1,5 +1,0 @@
-//! Lines of schedules and of exchanges.
-#![tactic(auto)]
-
-#[cfg(test)]
-mod tests;

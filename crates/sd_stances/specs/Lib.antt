@@ -1,3 +1,0 @@
--- What is kept of the stances of devices.
-pub mod Stances
-pub mod StancesView

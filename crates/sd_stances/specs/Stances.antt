@@ -1,6 +1,0 @@
--- What is kept of the stances of devices: by device, whom it follows, and whether it acts as root.
-use Rattle.std.specs.Prelude.{ℕ, Bool, List, Option}
-
-pub record Kept : Type 0 where
-  pub parents : List (Option ℕ)
-  pub acting : List Bool

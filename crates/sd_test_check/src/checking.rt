@@ -1,0 +1,3 @@
+//! Tests that compare the checker with a plain slow program.
+#[cfg(test)]
+mod tests;

@@ -1,0 +1,3 @@
+//! Tests that compare the drill with a plain slow program.
+#[cfg(test)]
+mod tests;

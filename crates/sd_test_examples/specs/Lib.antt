@@ -1,0 +1,3 @@
+-- Handed on: what crates above name of those below.
+pub use Rattle.sd_topo.specs as Topo
+pub use Rattle.sd_plan.specs as Plan

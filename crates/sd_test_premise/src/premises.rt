@@ -1,0 +1,3 @@
+//! The monitors of the premises on worked events.
+#[cfg(test)]
+mod tests;

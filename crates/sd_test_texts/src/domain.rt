@@ -1,0 +1,3 @@
+//! What has failed, the fault domains that hold it, and sets of numbers.
+#[cfg(test)]
+mod tests;

@@ -1,0 +1,3 @@
+//! Plans as texts: read, refused and printed.
+#[cfg(test)]
+mod tests;

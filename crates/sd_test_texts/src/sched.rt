@@ -1,0 +1,3 @@
+//! Lines of schedules and of exchanges.
+#[cfg(test)]
+mod tests;

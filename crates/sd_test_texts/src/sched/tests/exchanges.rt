@@ -1,0 +1,297 @@
+//! Spans beside a plain slow search over all honest runs, spans and lines worked out by hand.
+ghost use Rattle.std.specs.Prelude.{◌≤◌};
+
+use sd_test_examples::num::Rates;
+use sd_test_examples::topo::LinkEntry;
+use sd_twoway::bounds::{is_inside, span};
+use sd_twoway::{
+    Exchange, ExchangeFault, ExchangeLine, ExchangeLineFault, Span, Spans, read_exchange,
+};
+use std::test::Fail;
+
+/// 200 ppm and 1 ns, as most of the examples have.
+const USUAL: Rates = Rates {
+    ppm: 200,
+    grain: 1_000,
+};
+
+const BACKWARDS: Result<Span, ExchangeFault> = Err(ExchangeFault::Backwards);
+
+const IMPOSSIBLE: Result<Span, ExchangeFault> = Err(ExchangeFault::Impossible);
+
+const TOO_LARGE: Result<Span, ExchangeFault> = Err(ExchangeFault::TooLarge);
+
+/// An exchange of these numbers.
+const fn exchange(asym: u64, t1: u64, t2: u64, t3: u64, t4: u64) -> Exchange {
+    Exchange {
+        asym,
+        t1,
+        t2,
+        t3,
+        t4,
+    }
+}
+
+/// A span of these numbers.
+const fn from_to(min: u64, max: u64) -> Result<Span, ExchangeFault> {
+    Ok(Span { min, max })
+}
+
+#[test]
+fn spans_are_as_worked_out_by_hand(rt: HostRuntime) {
+    for (x, wanted) in [
+        (
+            exchange(0, 0, 5_000_000, 6_000_000, 2_400_000),
+            from_to(698_660, 701_340),
+        ),
+        (
+            exchange(1, 0, 5_000_000, 6_000_000, 2_400_000),
+            from_to(698_660, 701_340),
+        ),
+        (
+            exchange(100_000, 0, 5_000_000, 6_000_000, 2_400_000),
+            from_to(648_660, 751_340),
+        ),
+        (exchange(0, 7, 5, 5, 7), from_to(0, 500)),
+        (exchange(0, 7, 0, 1_000_000, 7), IMPOSSIBLE),
+        (exchange(0, 7, 0, 0, 6), BACKWARDS),
+        (exchange(0, 7, 8, 7, 9), BACKWARDS),
+        // Half of it is 10^12 ps, and the drift takes the greatest delay past that.
+        (exchange(0, 0, 0, 0, 2_000_000_000_000), TOO_LARGE),
+        (
+            exchange(0, 0, 0, 0, 1_999_600_000_000),
+            from_to(999_600_039_000, 999_999_960_500),
+        ),
+    ] {
+        assert_eq!(rt; span(USUAL, USUAL, x), wanted, "{x:?}");
+    }
+}
+
+/// Rates by a small number: none, a grain, and a quarter of what passes.
+fn rates(kind: u32) -> Rates
+    ensures { result.ppm ≤ 1000000 }
+{
+    match kind {
+        0 => Rates { ppm: 0, grain: 0 },
+        1 => Rates { ppm: 0, grain: 1 },
+        _ => Rates {
+            ppm: 250_000,
+            grain: 0,
+        },
+    }
+}
+
+/// The drift rule for two readings of a counter, `counter` apart while `passed` passed.
+fn keeps(rates: Rates, counter: u64, passed: u64) -> bool {
+    let apart = u128::from(counter.abs_diff(passed)).saturating_mul(1_000_000);
+    let ppm = u128::from(rates.ppm).saturating_mul(u128::from(counter));
+    apart <= ppm.saturating_add(u128::from(rates.grain).saturating_mul(1_000_000))
+}
+
+/// The least and the greatest delay of all honest runs that begin at 0 and end by 10, if there is
+/// one.
+fn searched(first: Rates, second: Rates, x: Exchange) -> Option<Span> {
+    let whole = x.t4.saturating_sub(x.t1);
+    let inside = x.t3.saturating_sub(x.t2);
+    let mut found: Option<Span> = None;
+    for r2 in 0..11u64 {
+        for r3 in r2..11 {
+            for r4 in r3..11 {
+                let back = r4.saturating_sub(r3);
+                let held = r3.saturating_sub(r2);
+                let near = r2.abs_diff(back) <= x.asym;
+                if near && keeps(first, whole, r4) && keeps(second, inside, held) {
+                    found = Some(widened(found, r2.min(back), r2.max(back)));
+                }
+            }
+        }
+    }
+    found
+}
+
+/// A span with two more delays in it.
+fn widened(span: Option<Span>, low: u64, high: u64) -> Span {
+    match span {
+        Some(span) => Span {
+            min: span.min.min(low),
+            max: span.max.max(high),
+        },
+        None => Span {
+            min: low,
+            max: high,
+        },
+    }
+}
+
+/// How many exchanges were looked at, how many of them had an honest run, and how many of those
+/// runs came to both ends of the span.
+#[derive(Clone, Copy, Debug, PartialEq, Eq)]
+struct Seen {
+    exchanges: u32,
+    honest: u32,
+    exact: u32,
+}
+
+/// Looks at one exchange: whether its delays lie in its span, if it has runs.
+fn look(seen: &mut Seen, first: Rates, second: Rates, x: Exchange) -> bool
+    requires first { first.ppm ≤ 1000000 }
+    requires second { second.ppm ≤ 1000000 }
+{
+    seen.exchanges = seen.exchanges.saturating_add(1);
+    let Some(found) = searched(first, second, x) else {
+        return true;
+    };
+    seen.honest = seen.honest.saturating_add(1);
+    match span(first, second, x) {
+        Ok(span) => {
+            seen.exact = seen.exact.saturating_add(u32::from(span == found));
+            span.min <= found.min && found.max <= span.max
+        }
+        Err(_) => false,
+    }
+}
+
+/// Looks at all small exchanges of two devices.
+fn look_at_all(seen: &mut Seen, first: Rates, second: Rates) -> bool
+    requires first { first.ppm ≤ 1000000 }
+    requires second { second.ppm ≤ 1000000 }
+{
+    let mut right = true;
+    for whole in 0..7u64 {
+        for inside in 0..7u64 {
+            for asym in 0..3u64 {
+                let x = exchange(
+                    asym,
+                    5,
+                    9,
+                    inside.saturating_add(9),
+                    whole.saturating_add(5),
+                );
+                right = look(seen, first, second, x) && right;
+            }
+        }
+    }
+    right
+}
+
+#[test]
+fn the_delays_of_all_honest_runs_lie_in_the_span(rt: HostRuntime) {
+    let mut seen = Seen {
+        exchanges: 0,
+        honest: 0,
+        exact: 0,
+    };
+    for first in 0..3 {
+        for second in 0..3 {
+            let right = look_at_all(&mut seen, rates(first), rates(second));
+            assert!(rt; right, "rates {first} and {second}");
+        }
+    }
+    // The numbers are those of another program.
+    let wanted = Seen {
+        exchanges: 1_323,
+        honest: 870,
+        exact: 656,
+    };
+    assert_eq!(rt; seen, wanted);
+}
+
+#[test]
+fn the_spans_of_a_link_are_joined(rt: HostRuntime) -> Result<(), Fail> {
+    let mut spans = Spans::new(rt.alloc(), 3)?;
+    assert_eq!(rt; spans.get(2), None);
+    spans.add(2, Span { min: 5, max: 9 });
+    spans.add(0, Span { min: 7, max: 7 });
+    spans.add(2, Span { min: 6, max: 12 });
+    assert_eq!(rt; spans.get(0), Some((Span { min: 7, max: 7 }, 1)));
+    assert_eq!(rt; spans.get(1), None);
+    assert_eq!(rt; spans.get(2), Some((Span { min: 5, max: 12 }, 2)));
+    Ok(())
+}
+
+#[test]
+fn a_span_is_inside_where_it_meets_the_bounds_of_both_directions(rt: HostRuntime) {
+    let link = LinkEntry {
+        end_a: 0,
+        end_b: 1,
+        min: 3,
+        max: 9,
+        back_min: 4,
+        back_max: 8,
+    };
+    for (min, max, inside) in [
+        (4, 8, true),
+        (3, 8, false),
+        (4, 9, false),
+        (2, 8, false),
+        (8, 4, true),
+        (9, 3, true),
+    ] {
+        assert_eq!(rt;
+            is_inside(link, Span { min, max }),
+            inside,
+            "{min} to {max}"
+        );
+    }
+}
+
+#[test]
+fn lines_are_read_and_their_faults_named(rt: HostRuntime) {
+    let whole = ExchangeLine::Exchange {
+        link: 4_294_967_295,
+        side: 1,
+        exchange: exchange(1_000_000_000_000, 1, 2, 3, 1 << 60),
+    };
+    let cases: [(&[u8], Result<ExchangeLine, ExchangeLineFault>); 17] = [
+        (
+            b"exchange 4294967295 1 1000000000000 1 2 3 1152921504606846976",
+            Ok(whole),
+        ),
+        (b"end", Ok(ExchangeLine::End)),
+        (b"end ", Err(ExchangeLineFault::FieldCount)),
+        (b"end 0", Err(ExchangeLineFault::FieldCount)),
+        (b"", Err(ExchangeLineFault::UnknownWord)),
+        (b"ends", Err(ExchangeLineFault::UnknownWord)),
+        (
+            b"exchanged 0 0 0 0 0 0 0",
+            Err(ExchangeLineFault::UnknownWord),
+        ),
+        (
+            b" exchange 0 0 0 0 0 0 0",
+            Err(ExchangeLineFault::UnknownWord),
+        ),
+        (b"exchange 0 0 0 0 0 0", Err(ExchangeLineFault::FieldCount)),
+        (
+            b"exchange 0 0 0 0 0 0 0 ",
+            Err(ExchangeLineFault::FieldCount),
+        ),
+        (
+            b"exchange x 0 0 0 0 0 0 0",
+            Err(ExchangeLineFault::FieldCount),
+        ),
+        (
+            b"exchange 4294967296 2 0 0 0 0 0",
+            Err(ExchangeLineFault::Number(1)),
+        ),
+        (
+            b"exchange 0 2 1000000000001 0 0 0 0",
+            Err(ExchangeLineFault::Number(2)),
+        ),
+        (
+            b"exchange 0 0 1000000000001 0 0 0 0",
+            Err(ExchangeLineFault::Number(3)),
+        ),
+        (b"exchange 0 0 0  0 0 0", Err(ExchangeLineFault::Number(4))),
+        (
+            b"exchange 0 0 0 0 00 0 0",
+            Err(ExchangeLineFault::Number(5)),
+        ),
+        (
+            b"exchange 0 0 0 0 0 0 1152921504606846977",
+            Err(ExchangeLineFault::Number(7)),
+        ),
+    ];
+    for (line, wanted) in cases {
+        assert_eq!(rt; read_exchange(line), wanted, "{line:?}");
+    }
+}

@@ -1,0 +1,3 @@
+//! Topologies that are read and printed.
+#[cfg(test)]
+mod tests;

@@ -1,5 +1,0 @@
-//! Topologies that are read and printed.
-#![tactic(auto)]
-
-#[cfg(test)]
-mod tests;

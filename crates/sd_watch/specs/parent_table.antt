@@ -1,0 +1,3 @@
+-- What is kept of the parent_table of devices.
+pub mod ParentTable
+pub mod ParentTableView

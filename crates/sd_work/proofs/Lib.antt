@@ -1,5 +1,0 @@
-pub mod Stepping
-pub mod Writing
-pub mod Reading
-pub mod Whole
-pub mod Coming

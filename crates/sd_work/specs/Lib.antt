@@ -1,6 +1,0 @@
-pub mod Works
-pub mod Leaving
-pub mod Steps
-pub mod Taking
-pub mod Comes
-pub mod Courses
