@@ -1,0 +1,55 @@
+//! A backup root from its start to its takeover, beside values worked out by hand.
+
+use sundial_device::raw::{Stamp, Wide};
+use sundial_device::{Device, Duty, Edge, Fault, Message, Rates, Report};
+
+fn edge(parent: u32, link: u32) -> Edge {
+    Edge { mid: 7, half: 3, parent, link }
+}
+
+fn standby() -> Duty {
+    Duty {
+        primary: edge(0, 0),
+        backup: edge(2, 2),
+        period: 100,
+        wait_first: 300,
+        wait_second: 200,
+        wait: 900,
+        rates: Rates { grain: 1_000, ppm: 200 },
+        epoch: 1,
+        role: 1,
+        has_primary: 1,
+        has_backup: 1,
+    }
+}
+
+#[test]
+fn takes_over_after_two_silences() {
+    let mut device = Device::start(&standby(), 0, 0, 500).unwrap();
+    let heard = Message {
+        clock: Wide { low: 110, high: 0 },
+        eps: Wide { low: 50, high: 0 },
+        stamp: Stamp { round: 1, term: 0 },
+        epoch: 1,
+    };
+    let relayed = device.receive(0, &heard, 120).unwrap().unwrap();
+    assert_eq!((relayed.clock.low, relayed.eps.low), (117, 53));
+    assert!(device.tick(420).unwrap().is_none());
+    assert_eq!(device.parent(), Ok(Some(2)));
+    assert_eq!(device.report(500), Ok(Report { clock: 497, eps: 1_054 }));
+    let mut again = Device::restore(device.kept()).unwrap();
+    let sent = again.tick(620).unwrap().unwrap();
+    assert_eq!((sent.stamp.term, sent.stamp.round), (1, 1));
+    assert_eq!((sent.clock.low, sent.eps.low), (617, 1_054));
+    assert_eq!(again.acts(), Ok(true));
+}
+
+#[test]
+fn names_what_is_wrong() {
+    let mut device = Device::start(&standby(), 100, 0, 500).unwrap();
+    assert_eq!(device.tick(99).err(), Some(Fault::CounterFell));
+    let mut kept = device.kept();
+    kept.mode = 4;
+    assert_eq!(Device::restore(kept).err(), Some(Fault::NoDevice));
+    assert_eq!(device.commit(100).err(), Some(Fault::NotRoot));
+}

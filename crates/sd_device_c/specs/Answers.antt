@@ -1,0 +1,100 @@
+-- What the answers of the exports say, and what a call makes of a struct.
+use Rattle.std.specs.Prelude.{◌≡◌, ◌≢◌, ◌↔◌, ◌⊎◌, ℕ, Some}
+use Rattle.sd_plan.specs.declared.Duty.{Duty}
+use Rattle.sd_core.specs.declared.Effect.{Effect}
+use Rattle.sd_core.specs.declared.registers.Registers.{Registers}
+use Rattle.sd_core.specs.Calls.{Making, Started, Joined, Call, Give, Life, Past}
+use Rattle.sd_core.specs.Words.{effect_of}
+use Rattle.sd_core.specs.Limits.{IsDuty}
+use Rattle.sd_core.specs.Rules.{called, made}
+use Rattle.sd_core.specs.Lives.{past_of, longer}
+use Rattle.sd_core.specs.Standing.{StandsFor, alone}
+use Rattle.sd_device_c.specs.declared.plain.PlainDevice.{PlainDevice}
+use Rattle.sd_device_c.specs.declared.faults.Fault.{Fault}
+use Rattle.sd_device_c.specs.declared.faults.Fault.TheVariants.{NoDevice, NoDuty}
+use Rattle.sd_device_c.specs.declared.plain.PlainDuty.{PlainDuty}
+use Rattle.sd_device_c.specs.declared.plain.PlainRates.{PlainRates}
+use Rattle.sd_device_c.specs.Plain.{Holds, duty_from, rates_from}
+use Rattle.sd_device_c.specs.Faults.{code_of}
+use Rattle.sd_device_c.specs.Owed.{Owes, OwesToReport, OwesToMake}
+
+-- the answer is 0 exactly where the call may be made, and else the code of a fault that is true of it
+pub record Answers (answer : ℕ) (May : Type 0) (Has : Fault → Type 0) : Type 0 where
+  pub done : (answer ≡ 0) ↔ May
+  pub refused : answer ≢ 0 → (fault : Fault) × (answer ≡ code_of fault) × Has fault
+
+abbrev pub IsDevice : PlainDevice → Type 0
+IsDevice device = (r : Registers) × Holds device r
+
+-- the struct holds a device, and all that is owed of it holds
+abbrev pub Pays : PlainDevice → (Fault → Registers → Type 0) → Type 0
+Pays device Owed = (r : Registers) × Holds device r × ((fault : Fault) → Owed fault r)
+
+-- the struct holds no device, or what the fault names is owed and does not hold
+abbrev pub Fails : Fault → PlainDevice → (Fault → Registers → Type 0) → Type 0
+Fails fault device Owed =
+    ((fault ≡ NoDevice) × (IsDevice device → ⊥))
+    ⊎ ((r : Registers) × Holds device r × (Owed fault r → ⊥))
+
+abbrev pub MayCall : PlainDevice → Call → Type 0
+MayCall device call = Pays device (λ fault r. Owes fault r call)
+
+abbrev pub HasFault : PlainDevice → Call → Fault → Type 0
+HasFault device call fault = Fails fault device (λ f r. Owes f r call)
+
+abbrev pub MayReport : PlainDevice → ℕ → Type 0
+MayReport device counter = Pays device (λ fault r. OwesToReport fault r counter)
+
+abbrev pub HasReportFault : PlainDevice → ℕ → Fault → Type 0
+HasReportFault device counter fault = Fails fault device (λ f r. OwesToReport f r counter)
+
+abbrev pub IsNoDevice : PlainDevice → Fault → Type 0
+IsNoDevice device fault = (fault ≡ NoDevice) × (IsDevice device → ⊥)
+
+-- the struct is that of a device with this life
+abbrev pub StandsIn : PlainDevice → Life → Type 0
+StandsIn device life = (r : Registers) × Holds device r × StandsFor r life
+
+-- the call was made of the device: its registers and what it sent are those of the rules, and those of its life
+pub record IsCalled (old : PlainDevice) (call : Call) (new : PlainDevice) (effect : Effect) : Type 0 where
+  pub registers : (r : Registers) → Holds old r → Holds new (called r call).0
+  pub sent : (r : Registers) → Holds old r → effect ≡ (called r call).1
+  pub told : (life : Life) → StandsIn old life → StandsIn new (longer life call)
+  pub sent_told : (life : Life) → StandsIn old life → effect ≡ effect_of (past_of life) call
+
+-- a device was made: its registers are those of the rules, and those of its life
+pub record IsMade (making : Making) (new : PlainDevice) : Type 0 where
+  pub registers : Holds new (made making)
+  pub told : StandsIn new (alone making)
+
+-- what is told of the device: by its registers, and by its life
+pub record Tells {T : Type 0} (device : PlainDevice) (by_rules : Registers → T) (by_words : Past → T) (told : T) : Type 0 where
+  pub registers : (r : Registers) → Holds device r → told ≡ by_rules r
+  pub life : (life : Life) → StandsIn device life → told ≡ by_words (past_of life)
+
+-- it is a duty, the device was made of it, and what is owed holds
+abbrev pub MayStart : PlainDuty → (counter clock eps : ℕ) → Type 0
+MayStart plain counter clock eps =
+    (duty : Duty) × (duty_from plain ≡ Some duty) × ((fault : Fault) → OwesToMake fault (Started duty counter clock eps))
+
+-- it is no duty within the limits
+abbrev pub IsNoDuty : PlainDuty → Type 0
+IsNoDuty plain = (duty : Duty) → duty_from plain ≡ Some duty → IsDuty duty → ⊥
+
+abbrev pub HasStartFault : PlainDuty → (counter clock eps : ℕ) → Fault → Type 0
+HasStartFault plain counter clock eps fault =
+    ((fault ≡ NoDuty) × IsNoDuty plain)
+    ⊎ ((duty : Duty) × (duty_from plain ≡ Some duty) × (OwesToMake fault (Started duty counter clock eps) → ⊥))
+
+abbrev pub MayJoin : PlainRates → (counter clock eps : ℕ) → Type 0
+MayJoin rates counter clock eps = (fault : Fault) → OwesToMake fault (Joined (rates_from rates) counter clock eps)
+
+abbrev pub HasJoinFault : PlainRates → (counter clock eps : ℕ) → Fault → Type 0
+HasJoinFault rates counter clock eps fault = OwesToMake fault (Joined (rates_from rates) counter clock eps) → ⊥
+
+abbrev pub MayGive : PlainDevice → PlainDuty → Type 0
+MayGive device plain = (duty : Duty) × (duty_from plain ≡ Some duty) × MayCall device (Give duty)
+
+abbrev pub HasGiveFault : PlainDevice → PlainDuty → Fault → Type 0
+HasGiveFault device plain fault =
+    ((fault ≡ NoDevice) × (IsDevice device → ⊥)) ⊎ ((fault ≡ NoDuty) × IsNoDuty plain)

@@ -1,0 +1,4 @@
+pub mod Plain
+pub mod Faults
+pub mod Owed
+pub mod Answers

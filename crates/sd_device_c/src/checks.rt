@@ -1,0 +1,215 @@
+//! What the calls owe, tested.
+ghost use Rattle.std.specs.Prelude.{◌≡◌, ◌≤◌, ◌<◌, ◌^◌, ◌↔◌, Some, IsTrue, OnOk, IfOk, IfErr, option_map};
+ghost use Rattle.sd_plan.specs.Topo.Network.{IsRates};
+ghost use Rattle.sd_plan.specs.declared.Role.TheVariants as role;
+ghost use Rattle.sd_core.specs.Calls.{Making, Call, Tick, Receive, Fix, Commit};
+ghost use Rattle.sd_core.specs.Words.{counter_of};
+ghost use Rattle.sd_core.specs.Rules.{ceiling_in, height_in};
+ghost use Rattle.sd_core.specs.Limits.{IsDuty};
+ghost use Rattle.sd_device_c.specs.Plain.{Holds, duty_from};
+ghost use Rattle.sd_device_c.specs.Owed.{Owes, OwesToReport, OwesToMake, SetsTo, IsTimely, IsModest, IsSetting};
+ghost use Rattle.sd_device_c.specs.Answers.{IsDevice, IsNoDuty};
+
+use crate::faults::Fault;
+use crate::limits::{ceiling, floor, height, is_duty, is_rates, is_sound};
+use crate::plain::{PlainDevice, PlainDuty};
+use crate::reading;
+use sd_core::Registers;
+use sd_msg::Message;
+use sd_num::Rates;
+use sd_plan::{Duty, Role};
+
+/// The greatest counter, and the greatest clock and uncertainty that are set from outside, in ps.
+const MOST_SET: u64 = 1 << 60;
+
+/// The clocks and uncertainties of messages and of estimates lie below this, in ps.
+const CLOCKS: u128 = 1 << 100;
+
+/// Terms and rounds lie below this.
+const COUNTS: u64 = 1 << 31;
+
+/// The registers of the device that the struct holds.
+#[inline(always)]
+pub(crate) fn held(plain: &PlainDevice) -> Result<Registers, Fault>
+    ensures ok { IfOk result (Holds plain.now) }
+    ensures err { IfErr result (λ fault. (fault ≡ Fault.NoDevice) × (IsDevice plain.now → ⊥)) }
+{
+    match reading::registers(plain) {
+        Some(registers) if is_sound(&registers) => Ok(registers),
+        _ => Err(Fault::NoDevice),
+    }
+}
+
+/// The duty that the struct holds, within the limits.
+#[inline(always)]
+pub(crate) fn held_duty(plain: &PlainDuty) -> Result<Duty, Fault>
+    ensures ok { IfOk result (λ duty. duty_from plain.now ≡ Some duty) }
+    ensures limits { IfOk result IsDuty }
+    ensures err { IfErr result (λ fault. (fault ≡ Fault.NoDuty) × IsNoDuty plain.now) }
+{
+    match reading::duty(plain) {
+        Some(duty) if is_duty(&duty) => Ok(duty),
+        _ => Err(Fault::NoDuty),
+    }
+}
+
+/// The counter does not fall, and is within its limit.
+#[inline(always)]
+pub(crate) fn check_counter(registers: &Registers, counter: u64) -> Result<(), Fault>
+    ensures ok { OnOk result (IsTimely registers.now counter) }
+    ensures err { IfErr result (λ fault. (call : Call) → counter_of call ≡ Some counter
+        → Owes fault registers.now call → ⊥) }
+    ensures report { IfErr result (λ fault. OwesToReport fault registers.now counter → ⊥) }
+{
+    if counter < floor(registers) {
+        return Err(Fault::CounterFell);
+    }
+    if counter > MOST_SET {
+        return Err(Fault::CounterTooGreat);
+    }
+    Ok(())
+}
+
+#[inline(always)]
+pub(crate) fn check_tick(registers: &Registers, counter: u64) -> Result<(), Fault>
+    ensures timely { OnOk result (IsTimely registers.now counter) }
+    ensures ceiling { OnOk result (ceiling_in registers.now < 2 ^ 100) }
+    ensures height { OnOk result (height_in registers.now < 2 ^ 31) }
+    ensures err { IfErr result (λ fault. Owes fault registers.now (Tick counter) → ⊥) }
+{
+    check_counter(registers, counter)?;
+    if ceiling(registers) >= CLOCKS {
+        return Err(Fault::EstimateTooGreat);
+    }
+    if height(registers) >= COUNTS {
+        return Err(Fault::StampTooGreat);
+    }
+    Ok(())
+}
+
+/// What a tick owes, and a message within its limits.
+#[inline(always)]
+pub(crate) fn check_receipt(
+    registers: &Registers,
+    link: u32,
+    message: &Message,
+    counter: u64,
+) -> Result<(), Fault>
+    ensures timely { OnOk result (IsTimely registers.now counter) }
+    ensures ceiling { OnOk result (ceiling_in registers.now < 2 ^ 100) }
+    ensures height { OnOk result (height_in registers.now < 2 ^ 31) }
+    ensures message { OnOk result (IsModest message.now) }
+    ensures err { IfErr result (λ fault.
+        Owes fault registers.now (Receive link message.now counter) → ⊥) }
+{
+    check_tick(registers, counter)?;
+    if is_modest(message) {
+        Ok(())
+    } else {
+        Err(Fault::MessageTooGreat)
+    }
+}
+
+#[inline(always)]
+fn is_modest(message: &Message) -> bool
+    ensures { IsTrue result ↔ IsModest message.now }
+{
+    message.clock < CLOCKS
+        && message.eps < CLOCKS
+        && u64::from(message.stamp.term) < COUNTS
+        && message.stamp.round < COUNTS
+}
+
+#[inline(always)]
+pub(crate) fn check_fix(
+    registers: &Registers,
+    counter: u64,
+    clock: u64,
+    eps: u64,
+) -> Result<(), Fault>
+    ensures timely { OnOk result (IsTimely registers.now counter) }
+    ensures setting { OnOk result (IsSetting clock eps) }
+    ensures err { IfErr result (λ fault. Owes fault registers.now (Fix counter clock eps) → ⊥) }
+{
+    check_counter(registers, counter)?;
+    if is_setting(clock, eps) {
+        Ok(())
+    } else {
+        Err(Fault::ClockTooGreat)
+    }
+}
+
+#[inline(always)]
+fn is_setting(clock: u64, eps: u64) -> bool
+    ensures { IsTrue result ↔ IsSetting clock eps }
+{
+    clock <= MOST_SET && eps <= MOST_SET
+}
+
+#[inline(always)]
+pub(crate) fn check_commit(registers: &Registers, counter: u64) -> Result<(), Fault>
+    ensures timely { OnOk result (IsTimely registers.now counter) }
+    ensures height { OnOk result (height_in registers.now < 2 ^ 31) }
+    ensures root { OnOk result (option_map (λ duty. duty.role) registers.now.given ≡ Some role.Root) }
+    ensures err { IfErr result (λ fault. Owes fault registers.now (Commit counter) → ⊥) }
+{
+    check_counter(registers, counter)?;
+    if height(registers) >= COUNTS {
+        return Err(Fault::StampTooGreat);
+    }
+    if is_given_root(&registers.given) {
+        Ok(())
+    } else {
+        Err(Fault::NotRoot)
+    }
+}
+
+#[inline(always)]
+fn is_given_root(given: &Option<Duty>) -> bool
+    ensures { IsTrue result ↔ (option_map (λ duty. duty.role) given.now ≡ Some role.Root) }
+{
+    matches!(given, Some(duty) if duty.role == Role::Root)
+}
+
+#[inline(always)]
+pub(crate) fn check_report(registers: &Registers, counter: u64) -> Result<(), Fault>
+    ensures timely { OnOk result (IsTimely registers.now counter) }
+    ensures ceiling { OnOk result (ceiling_in registers.now < 2 ^ 100) }
+    ensures err { IfErr result (λ fault. OwesToReport fault registers.now counter → ⊥) }
+{
+    check_counter(registers, counter)?;
+    if ceiling(registers) >= CLOCKS {
+        Err(Fault::EstimateTooGreat)
+    } else {
+        Ok(())
+    }
+}
+
+#[inline(always)]
+pub(crate) fn check_start(counter: u64, clock: u64, eps: u64) -> Result<(), Fault>
+    ensures counter { OnOk result (counter ≤ 2 ^ 60) }
+    ensures setting { OnOk result (IsSetting clock eps) }
+    ensures err { IfErr result (λ fault. (making : Making) → SetsTo making counter clock eps
+        → OwesToMake fault making → ⊥) }
+{
+    if counter > MOST_SET {
+        return Err(Fault::CounterTooGreat);
+    }
+    if is_setting(clock, eps) {
+        Ok(())
+    } else {
+        Err(Fault::ClockTooGreat)
+    }
+}
+
+#[inline(always)]
+pub(crate) fn check_rates(rates: &Rates) -> Result<(), Fault>
+    ensures ok { OnOk result (IsRates rates.now) }
+    ensures err { IfErr result (λ fault. (fault ≡ Fault.RatesTooGreat) × (IsRates rates.now → ⊥)) }
+{
+    if is_rates(rates) {
+        Ok(())
+    } else {
+        Err(Fault::RatesTooGreat)
+    }
+}

@@ -1,0 +1,18 @@
+//! The core of a device, for C: each call of `Device` on structs of plain numbers that the caller
+//! holds. Nothing is allocated.
+//!
+//! Each call answers 0 where it was made. Else it changes nothing, and its answer names what was
+//! wrong (`faults`).
+#![tactic(auto)]
+
+mod checks;
+mod faults;
+mod limits;
+mod makings;
+mod plain;
+mod queries;
+mod reading;
+mod steps;
+#[cfg(test)]
+mod tests;
+mod writing;

@@ -1,0 +1,147 @@
+//! A backup root from its start to its takeover, beside values worked out by hand, and faults.
+use super::faults::{DONE, Fault};
+use super::makings::{sundial_made, sundial_start};
+use super::plain::{
+    PlainDevice, PlainDuty, PlainEdge, PlainEffect, PlainEstimate, PlainMessage, PlainParent,
+    PlainRates, PlainReport, PlainStamp, PlainWide,
+};
+use super::queries::{sundial_acts, sundial_epoch, sundial_parent, sundial_report};
+use super::steps::{sundial_receive, sundial_tick};
+
+const ZERO: PlainWide = PlainWide { low: 0, high: 0 };
+
+const RATES: PlainRates = PlainRates {
+    grain: 1_000,
+    ppm: 200,
+};
+
+/// A backup root of the first plan, over link 0 below device 0, or over link 2 below device 2.
+const STANDBY: PlainDuty = PlainDuty {
+    primary: PlainEdge {
+        mid: 7,
+        half: 3,
+        parent: 0,
+        link: 0,
+    },
+    backup: PlainEdge {
+        mid: 7,
+        half: 3,
+        parent: 2,
+        link: 2,
+    },
+    period: 100,
+    wait_first: 300,
+    wait_second: 200,
+    wait: 900,
+    rates: RATES,
+    epoch: 1,
+    role: 1,
+    has_primary: 1,
+    has_backup: 1,
+};
+
+/// What was never started: it has a mode without a duty.
+const UNMADE: PlainDevice = PlainDevice {
+    duty: STANDBY,
+    given: STANDBY,
+    estimate: PlainEstimate {
+        clock: ZERO,
+        base: ZERO,
+        at: 0,
+    },
+    stamp: PlainStamp { round: 0, term: 0 },
+    rates: RATES,
+    last: 0,
+    sent: 0,
+    has_duty: 0,
+    has_given: 0,
+    mode: 0,
+    sealed: 0,
+};
+
+const NOTHING: PlainMessage = PlainMessage {
+    clock: ZERO,
+    eps: ZERO,
+    stamp: PlainStamp { round: 0, term: 0 },
+    epoch: 0,
+};
+
+const QUIET: PlainEffect = PlainEffect {
+    message: NOTHING,
+    sends: 0,
+};
+
+fn wide(low: u64) -> PlainWide {
+    PlainWide { low, high: 0 }
+}
+
+fn message(term: u32, round: u64, clock: u64, eps: u64) -> PlainMessage {
+    PlainMessage {
+        clock: wide(clock),
+        eps: wide(eps),
+        stamp: PlainStamp { round, term },
+        epoch: 1,
+    }
+}
+
+fn sends(message: PlainMessage) -> PlainEffect {
+    PlainEffect { message, sends: 1 }
+}
+
+#[test]
+fn takes_over_after_two_silences(rt: HostRuntime) {
+    let mut device = UNMADE;
+    let mut effect = QUIET;
+    assert_eq!(rt; sundial_start(&mut device, &STANDBY, 0, 0, 500), DONE);
+    let heard = message(0, 1, 110, 50);
+    assert_eq!(rt;
+        sundial_receive(&mut device, 0, &heard, 120, &mut effect),
+        DONE
+    );
+    assert_eq!(rt; effect, sends(message(0, 1, 117, 53)));
+    assert_eq!(rt; sundial_tick(&mut device, 420, &mut effect), DONE);
+    assert_eq!(rt; effect, QUIET);
+    let mut parent = PlainParent {
+        parent: 0,
+        has_parent: 0,
+    };
+    assert_eq!(rt; sundial_parent(&device, &mut parent), DONE);
+    assert_eq!(rt; (parent.parent, parent.has_parent), (2, 1));
+    let mut report = PlainReport {
+        clock: ZERO,
+        eps: ZERO,
+    };
+    assert_eq!(rt; sundial_report(&device, 500, &mut report), DONE);
+    assert_eq!(rt; (report.clock, report.eps), (wide(497), wide(1_054)));
+    assert_eq!(rt; sundial_tick(&mut device, 620, &mut effect), DONE);
+    assert_eq!(rt; effect, sends(message(1, 1, 617, 1_054)));
+    let mut acts = 0;
+    assert_eq!(rt; sundial_acts(&device, &mut acts), DONE);
+    assert_eq!(rt; acts, 1);
+    let mut epoch = 0;
+    assert_eq!(rt; sundial_epoch(&device, &mut epoch), DONE);
+    assert_eq!(rt; epoch, 1);
+}
+
+#[test]
+fn names_what_is_wrong(rt: HostRuntime) {
+    let mut device = UNMADE;
+    let mut effect = QUIET;
+    assert_eq!(rt; sundial_made(&device), Fault::NoDevice.code());
+    assert_eq!(rt;
+        sundial_tick(&mut device, 1, &mut effect),
+        Fault::NoDevice.code()
+    );
+    assert_eq!(rt; sundial_start(&mut device, &STANDBY, 100, 0, 500), DONE);
+    assert_eq!(rt; sundial_made(&device), DONE);
+    assert_eq!(rt;
+        sundial_tick(&mut device, 99, &mut effect),
+        Fault::CounterFell.code()
+    );
+    assert_eq!(rt;
+        sundial_tick(&mut device, (1 << 60) + 1, &mut effect),
+        Fault::CounterTooGreat.code()
+    );
+    let tampered = PlainDevice { mode: 4, ..device };
+    assert_eq!(rt; sundial_made(&tampered), Fault::NoDevice.code());
+}

@@ -1,0 +1,44 @@
+#!/usr/bin/env bash
+# Builds the example and runs it: for each seed its reports have to be those of `sundial replay` for
+# the schedule that it wrote, with nothing broken and no alarm; and with a fault planted `replay`
+# has to name the premise.
+#
+#     examples/embed/run.sh LIBRARY SUNDIAL [SEED..]
+#
+# LIBRARY is libsd_device_c.a, SUNDIAL the program. It needs a C compiler, `cc` or what CC names.
+set -u
+library=$(realpath "$1") || exit 2
+sundial=$(realpath "$2") || exit 2
+shift 2
+[ $# -gt 0 ] || set -- 1 2 3
+cd "$(dirname "$0")" || exit 2
+work=$(mktemp -d) || exit 2
+trap 'rm -rf "$work"' EXIT
+
+"${CC:-cc}" -std=c11 -O2 -Wall -Wextra -Werror -o "$work/embed" embed.c "$library" || exit 1
+
+replay() {
+    "$sundial" replay topology.toml plan-1.json plan-2.json "$work/schedule" > "$work/replayed"
+}
+
+bad=0
+for seed in "$@"; do
+    if "$work/embed" "$seed" "$work/schedule" > "$work/told" && replay \
+        && cmp "$work/told" "$work/replayed"; then
+        echo "embed $seed: $(tail -1 "$work/told"), as replayed"
+    else
+        echo "embed $seed: differs from the replay" >&2
+        grep -m 3 -E '^(broken|alarm|input|refused)' "$work/replayed" >&2
+        bad=1
+    fi
+done
+for fault in drift tick; do
+    "$work/embed" "$1" "$work/schedule" "$fault" > "$work/told"
+    replay
+    named=$(grep -m 1 '^broken' "$work/replayed")
+    case "$named" in
+        "broken "*" $fault") echo "embed $1 $fault: $named" ;;
+        *) echo "embed $1 $fault: the replay names '$named'" >&2; bad=1 ;;
+    esac
+done
+exit "$bad"

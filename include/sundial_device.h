@@ -1,0 +1,299 @@
+/* The core of a device, from the library of the crate sd_device_c.
+ *
+ * A device follows a root's clock through a tree of links. It is a struct of plain numbers that
+ * the caller holds: it may be copied, and kept over a restart of the process as long as its
+ * counter goes on. Nothing is allocated, nothing blocks, and no call keeps a pointer.
+ *
+ * How to wire it
+ *   1. Call sundial_start with the device's part of the plan, its counter, and a clock with an
+ *      uncertainty.
+ *   2. On a timer: read the counter and call sundial_tick.
+ *   3. On each message of a link: read the counter and call sundial_receive.
+ *   4. Where the effect's `sends` is not 0, send its message at once over each link below the
+ *      device: those of the devices whose duty names it as primary or backup parent.
+ *   5. To tell the time: read the counter, call sundial_report, and take the interval from
+ *      clock - eps to clock + eps (sundial_earliest and sundial_latest).
+ *
+ * What you owe. The calls test what they can of the first three, and name the fault. Nothing can
+ * test the rest, and the interval is right only while all of them hold.
+ *   - One counter for each device, which never falls between its start and its end. Read it anew
+ *     for each call. A fall below a counter that the device keeps is answered by COUNTER_FELL.
+ *   - Counters, and clocks and uncertainties that you set, are at most 2^60 ps (13 days).
+ *   - The struct is changed by these calls alone. One that is no device, or has a number past its
+ *     limit, is answered by NO_DEVICE; another change within the limits goes unseen.
+ *   - start:  a clock that you set (start, join, fix) is within the eps that you give of the
+ *             reference time.
+ *   - drift:  while the counter advances by x ps, the reference time advances by x, plus or minus
+ *             x * ppm / 1000000 + grain.
+ *   - delay:  a message takes from mid - half to mid + half ps over its link, from the reading of
+ *             the sender's counter in the call that sent it to the reading of the receiver's.
+ *   - tick:   two ticks of a device are at most the topology's `tick` apart.
+ *   - loss:   no more rounds of the root in a row are lost than the topology's `loss`.
+ *   - domain: at most one fault domain fails between two renewals.
+ *   - renew:  give, commit and seal come in the order of a renewal.
+ *
+ * Units. Counters, clocks, uncertainties (eps), delays, waits and grains are in picoseconds, ppm
+ * in parts per million. A number of 128 bits is two of 64. A flag is set where its byte is not 0.
+ *
+ * Answers. Each call answers SUNDIAL_DONE exactly where it could be made. Every other answer
+ * names what was wrong, and then the call has changed nothing. Pointers are not null, aligned, to
+ * initialised memory, and to different objects. One device is in one call at a time; different
+ * devices may be called from different threads.
+ */
+#ifndef SUNDIAL_DEVICE_H
+#define SUNDIAL_DEVICE_H
+
+#include <stddef.h>
+#include <stdint.h>
+
+#ifdef __cplusplus
+extern "C" {
+#define SUNDIAL_ASSERT(holds) static_assert(holds, #holds)
+#else
+#define SUNDIAL_ASSERT(holds) _Static_assert(holds, #holds)
+#endif
+
+enum {
+    SUNDIAL_DONE = 0,
+    /* a byte of a role or mode that is none, a mode without a duty, or a number past its limit */
+    SUNDIAL_NO_DEVICE = 1,
+    /* epoch 0, a role that is none, mid, half or grain over 10^12, or ppm over 100000 */
+    SUNDIAL_NO_DUTY = 2,
+    /* ppm over 100000, or grain over 10^12 */
+    SUNDIAL_RATES_TOO_GREAT = 3,
+    /* the counter is below one that the device keeps: that of its start, of its latest fix, of the
+     * latest message that it accepted, of its latest move or of its latest sending as root */
+    SUNDIAL_COUNTER_FELL = 4,
+    /* the counter is over 2^60 */
+    SUNDIAL_COUNTER_TOO_GREAT = 5,
+    /* the clock or its eps, set from outside, is over 2^60 */
+    SUNDIAL_CLOCK_TOO_GREAT = 6,
+    /* the device's own clock or eps is 2^100 or more */
+    SUNDIAL_ESTIMATE_TOO_GREAT = 7,
+    /* the device's own term or round is 2^31 or more */
+    SUNDIAL_STAMP_TOO_GREAT = 8,
+    /* the message's clock or eps is 2^100 or more, or its term or round 2^31 or more */
+    SUNDIAL_MESSAGE_TOO_GREAT = 9,
+    /* no duty of a root was given to the device */
+    SUNDIAL_NOT_ROOT = 10
+};
+
+enum { SUNDIAL_ROOT = 0, SUNDIAL_BACKUP_ROOT = 1, SUNDIAL_ORDINARY = 2 };
+
+enum { SUNDIAL_PRIMARY = 0, SUNDIAL_BACKUP = 1, SUNDIAL_ACTING = 2, SUNDIAL_IDLE = 3 };
+
+struct sundial_wide {
+    uint64_t low;
+    uint64_t high;
+};
+
+/* How far the oscillator may drift: parts per million, and a constant in ps. */
+struct sundial_rates {
+    uint64_t grain;
+    uint32_t ppm;
+};
+
+/* A parent, the link to it, and the correction of what comes over it: for delays from min to max,
+ * mid = (min + max) / 2 rounded down, and half = max - mid. */
+struct sundial_edge {
+    uint64_t mid;
+    uint64_t half;
+    uint32_t parent;
+    uint32_t link;
+};
+
+/* The device's part of a plan. */
+struct sundial_duty {
+    struct sundial_edge primary;
+    struct sundial_edge backup;
+    uint64_t period;
+    uint64_t wait_first;
+    uint64_t wait_second;
+    uint64_t wait;
+    struct sundial_rates rates;
+    uint32_t epoch;
+    uint8_t role;
+    uint8_t has_primary;
+    uint8_t has_backup;
+};
+
+struct sundial_stamp {
+    uint64_t round;
+    uint32_t term;
+};
+
+struct sundial_estimate {
+    struct sundial_wide clock;
+    struct sundial_wide base;
+    uint64_t at;
+};
+
+/* The reference time lies from clock - eps to clock + eps. */
+struct sundial_report {
+    struct sundial_wide clock;
+    struct sundial_wide eps;
+};
+
+struct sundial_message {
+    struct sundial_wide clock;
+    struct sundial_wide eps;
+    struct sundial_stamp stamp;
+    uint32_t epoch;
+};
+
+struct sundial_effect {
+    struct sundial_message message;
+    uint8_t sends;
+};
+
+struct sundial_parent {
+    uint32_t parent;
+    uint8_t has_parent;
+};
+
+/* All that a device keeps. Read it by the calls below. */
+struct sundial_device {
+    struct sundial_duty duty;
+    struct sundial_duty given;
+    struct sundial_estimate estimate;
+    struct sundial_stamp stamp;
+    struct sundial_rates rates;
+    uint64_t last;
+    uint64_t sent;
+    uint8_t has_duty;
+    uint8_t has_given;
+    uint8_t mode;
+    uint8_t sealed;
+};
+
+SUNDIAL_ASSERT(sizeof(struct sundial_wide) == 16);
+SUNDIAL_ASSERT(offsetof(struct sundial_wide, high) == 8);
+SUNDIAL_ASSERT(sizeof(struct sundial_rates) == 16);
+SUNDIAL_ASSERT(offsetof(struct sundial_rates, ppm) == 8);
+SUNDIAL_ASSERT(sizeof(struct sundial_edge) == 24);
+SUNDIAL_ASSERT(offsetof(struct sundial_edge, half) == 8);
+SUNDIAL_ASSERT(offsetof(struct sundial_edge, parent) == 16);
+SUNDIAL_ASSERT(offsetof(struct sundial_edge, link) == 20);
+SUNDIAL_ASSERT(sizeof(struct sundial_duty) == 104);
+SUNDIAL_ASSERT(offsetof(struct sundial_duty, backup) == 24);
+SUNDIAL_ASSERT(offsetof(struct sundial_duty, period) == 48);
+SUNDIAL_ASSERT(offsetof(struct sundial_duty, wait_first) == 56);
+SUNDIAL_ASSERT(offsetof(struct sundial_duty, wait_second) == 64);
+SUNDIAL_ASSERT(offsetof(struct sundial_duty, wait) == 72);
+SUNDIAL_ASSERT(offsetof(struct sundial_duty, rates) == 80);
+SUNDIAL_ASSERT(offsetof(struct sundial_duty, epoch) == 96);
+SUNDIAL_ASSERT(offsetof(struct sundial_duty, role) == 100);
+SUNDIAL_ASSERT(offsetof(struct sundial_duty, has_primary) == 101);
+SUNDIAL_ASSERT(offsetof(struct sundial_duty, has_backup) == 102);
+SUNDIAL_ASSERT(sizeof(struct sundial_stamp) == 16);
+SUNDIAL_ASSERT(offsetof(struct sundial_stamp, term) == 8);
+SUNDIAL_ASSERT(sizeof(struct sundial_estimate) == 40);
+SUNDIAL_ASSERT(offsetof(struct sundial_estimate, base) == 16);
+SUNDIAL_ASSERT(offsetof(struct sundial_estimate, at) == 32);
+SUNDIAL_ASSERT(sizeof(struct sundial_report) == 32);
+SUNDIAL_ASSERT(offsetof(struct sundial_report, eps) == 16);
+SUNDIAL_ASSERT(sizeof(struct sundial_message) == 56);
+SUNDIAL_ASSERT(offsetof(struct sundial_message, eps) == 16);
+SUNDIAL_ASSERT(offsetof(struct sundial_message, stamp) == 32);
+SUNDIAL_ASSERT(offsetof(struct sundial_message, epoch) == 48);
+SUNDIAL_ASSERT(sizeof(struct sundial_effect) == 64);
+SUNDIAL_ASSERT(offsetof(struct sundial_effect, sends) == 56);
+SUNDIAL_ASSERT(sizeof(struct sundial_parent) == 8);
+SUNDIAL_ASSERT(offsetof(struct sundial_parent, has_parent) == 4);
+SUNDIAL_ASSERT(sizeof(struct sundial_device) == 304);
+SUNDIAL_ASSERT(offsetof(struct sundial_device, given) == 104);
+SUNDIAL_ASSERT(offsetof(struct sundial_device, estimate) == 208);
+SUNDIAL_ASSERT(offsetof(struct sundial_device, stamp) == 248);
+SUNDIAL_ASSERT(offsetof(struct sundial_device, rates) == 264);
+SUNDIAL_ASSERT(offsetof(struct sundial_device, last) == 280);
+SUNDIAL_ASSERT(offsetof(struct sundial_device, sent) == 288);
+SUNDIAL_ASSERT(offsetof(struct sundial_device, has_duty) == 296);
+SUNDIAL_ASSERT(offsetof(struct sundial_device, has_given) == 297);
+SUNDIAL_ASSERT(offsetof(struct sundial_device, mode) == 298);
+SUNDIAL_ASSERT(offsetof(struct sundial_device, sealed) == 299);
+
+/* Whether the struct holds a device. Faults: NO_DEVICE. Call it on a struct that was kept over a
+ * restart. */
+uint32_t sundial_made(const struct sundial_device *device);
+
+/* Makes a device of a plan that was never part of one before (rule `start`). Of the old struct
+ * nothing is read that matters, but it is to be initialised. Faults: NO_DUTY, COUNTER_TOO_GREAT,
+ * CLOCK_TOO_GREAT. */
+uint32_t sundial_start(struct sundial_device *device, const struct sundial_duty *duty,
+                       uint64_t counter, uint64_t clock, uint64_t eps);
+
+/* Makes a device that joins while a new plan is brought in: it has no duty until it commits or
+ * hears of that plan (rule `join`). Faults: RATES_TOO_GREAT, COUNTER_TOO_GREAT, CLOCK_TOO_GREAT. */
+uint32_t sundial_join(struct sundial_device *device, const struct sundial_rates *rates,
+                      uint64_t counter, uint64_t clock, uint64_t eps);
+
+/* Its duty in the next plan, kept beside the present one (rule `give`). Faults: NO_DEVICE,
+ * NO_DUTY. */
+uint32_t sundial_give(struct sundial_device *device, const struct sundial_duty *duty);
+
+/* Takes up the given duty, as the root of the next plan (rule `commit`). Faults: NO_DEVICE,
+ * COUNTER_FELL, COUNTER_TOO_GREAT, STAMP_TOO_GREAT, NOT_ROOT. */
+uint32_t sundial_commit(struct sundial_device *device, uint64_t counter);
+
+/* From now on it may move to its backup parent (rule `seal`). Faults: NO_DEVICE. */
+uint32_t sundial_seal(struct sundial_device *device);
+
+/* Sets the clock from outside (rule `fix`). Faults: NO_DEVICE, COUNTER_FELL, COUNTER_TOO_GREAT,
+ * CLOCK_TOO_GREAT. */
+uint32_t sundial_fix(struct sundial_device *device, uint64_t counter, uint64_t clock, uint64_t eps);
+
+/* The device's own timer (rule `tick`): it sends its report as root, takes over, moves to its
+ * backup parent, or does nothing. Faults: NO_DEVICE, COUNTER_FELL, COUNTER_TOO_GREAT,
+ * ESTIMATE_TOO_GREAT, STAMP_TOO_GREAT. */
+uint32_t sundial_tick(struct sundial_device *device, uint64_t counter,
+                      struct sundial_effect *effect);
+
+/* A message came over the link (rule `recv`). Where the device does not accept it, the answer is
+ * still SUNDIAL_DONE, nothing changes and nothing is sent. Faults: those of a tick, and
+ * MESSAGE_TOO_GREAT. */
+uint32_t sundial_receive(struct sundial_device *device, uint32_t link,
+                         const struct sundial_message *message, uint64_t counter,
+                         struct sundial_effect *effect);
+
+/* What the device takes the reference time for (rule `ask`). Faults: NO_DEVICE, COUNTER_FELL,
+ * COUNTER_TOO_GREAT, ESTIMATE_TOO_GREAT. */
+uint32_t sundial_report(const struct sundial_device *device, uint64_t counter,
+                        struct sundial_report *report);
+
+/* The device that it follows, if it follows one. Faults: NO_DEVICE. */
+uint32_t sundial_parent(const struct sundial_device *device, struct sundial_parent *parent);
+
+/* 1 where it acts as root, and else 0. Faults: NO_DEVICE. */
+uint32_t sundial_acts(const struct sundial_device *device, uint8_t *acts);
+
+/* The number of the plan that it follows, from 1; 0 where it follows none yet. Faults:
+ * NO_DEVICE. */
+uint32_t sundial_epoch(const struct sundial_device *device, uint32_t *epoch);
+
+/* The earliest reference time that a report allows. */
+static inline struct sundial_wide sundial_earliest(const struct sundial_report *report)
+{
+    struct sundial_wide earliest = {0, 0};
+    struct sundial_wide clock = report->clock;
+    struct sundial_wide eps = report->eps;
+    if (clock.high < eps.high || (clock.high == eps.high && clock.low <= eps.low))
+        return earliest;
+    earliest.low = clock.low - eps.low;
+    earliest.high = clock.high - eps.high - (clock.low < eps.low);
+    return earliest;
+}
+
+/* The latest reference time that a report allows. */
+static inline struct sundial_wide sundial_latest(const struct sundial_report *report)
+{
+    struct sundial_wide latest;
+    latest.low = report->clock.low + report->eps.low;
+    latest.high = report->clock.high + report->eps.high + (latest.low < report->clock.low);
+    return latest;
+}
+
+#ifdef __cplusplus
+}
+#endif
+#undef SUNDIAL_ASSERT
+#endif
