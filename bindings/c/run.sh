@@ -3,7 +3,7 @@
 # the schedule that it wrote, with nothing broken and no alarm; and with a fault planted `replay`
 # has to name the premise.
 #
-#     examples/embed/run.sh LIBRARY SUNDIAL [SEED..]
+#     bindings/c/run.sh LIBRARY SUNDIAL [SEED..]
 #
 # LIBRARY is libsd_device_c.a, SUNDIAL the program. It needs a C compiler, `cc` or what CC names.
 set -u
