@@ -6,9 +6,11 @@ use Rattle.std.proofs.lemmas.List.Folds.{find-append}
 use Rattle.std.proofs.lemmas.Bool.{cases_lt}
 use Rattle.std.specs.Option.{option_or, IfSome}
 use Rattle.sd_num.specs.Lists.{below, of_some}
-use Rattle.sd_topo.specs.Network.{Network, IsNetwork, link_numbers, domain_of}
+use Rattle.sd_topo.specs.Network.{Network, link_numbers}
+use Rattle.sd_topo.specs.Limits.{IsNetwork}
+use Rattle.sd_topo.specs.Places.{domain_of}
 use Rattle.sd_topo.proofs.Laws.{domain_law}
-use Rattle.sd_domain.specs.Domains.{IsDomain}
+use Rattle.sd_domain.specs.Lone.{IsDomain}
 use Rattle.sd_domain.specs.declared.DomainId.{DomainId}
 use Rattle.sd_domain.specs.declared.DomainId.TheVariants as domain
 use Rattle.sd_plan.specs.Indexed.{Indexed, IsIndexOf, span_of, goes_over, carried_over, is_within}

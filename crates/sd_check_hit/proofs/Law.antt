@@ -8,8 +8,11 @@ use Rattle.std.proofs.lemmas.List.Folds.{list_any-append}
 use Rattle.std.proofs.lemmas.List.Sorted.{sum_by-IsPermutation, list_any-IsPermutation}
 use Rattle.std.proofs.lemmas.Option.{slice_get-get_or, slice_get_within}
 use Rattle.sd_num.specs.Lists.{below, has, of_some}
-use Rattle.sd_topo.specs.Network.{Network, IsNetwork, domain_of}
-use Rattle.sd_domain.specs.Domains.{IsDomain, hits}
+use Rattle.sd_topo.specs.Network.{Network}
+use Rattle.sd_topo.specs.Limits.{IsNetwork}
+use Rattle.sd_topo.specs.Places.{domain_of}
+use Rattle.sd_domain.specs.Domains.{hits}
+use Rattle.sd_domain.specs.Lone.{IsDomain}
 use Rattle.sd_domain.specs.declared.DomainId.{DomainId}
 use Rattle.sd_domain.specs.declared.DomainId.TheVariants as domain
 use Rattle.sd_plan.specs.Plans.{is_member, is_root}

@@ -2,7 +2,8 @@
 use Rattle.std.specs.Prelude.{◌≡◌, ℕ, ◌+◌, ◌<◌, Bool, List, [], ◌∷◌, ◌++◌, map, filter, flat_map, max, min, nat_lt, slice_index, slice_index_or, None, Some, length, if◌then◌else◌}
 use Rattle.std.specs.List.{list_any}
 use Rattle.sd_num.specs.Lists.{below, of_some}
-use Rattle.sd_topo.specs.Network.{Network, domain_of}
+use Rattle.sd_topo.specs.Network.{Network}
+use Rattle.sd_topo.specs.Places.{domain_of}
 use Rattle.sd_domain.specs.declared.DomainId.{DomainId}
 use Rattle.sd_domain.specs.declared.DomainId.TheVariants as domain
 use Rattle.sd_plan.specs.Indexed.{Indexed, span_of, is_within}

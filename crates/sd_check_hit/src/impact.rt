@@ -44,7 +44,7 @@ fn note_places(places: &mut [u32], listed: &[u32])
 
 impl Impact {
     ghost use Rattle.std.specs.Prelude.{OnOk};
-    ghost use Rattle.sd_domain.specs.Domains.{IsDomain};
+    ghost use Rattle.sd_domain.specs.Lone.{IsDomain};
     ghost use Rattle.sd_topo.specs.Topologies.{network};
     ghost use Rattle.sd_check_hit.specs.Outages.{HasRoom, IsImpactOf};
 

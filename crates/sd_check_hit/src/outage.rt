@@ -1,7 +1,7 @@
 //! A fault domain over a plan: what it fails, and which devices it hits.
 ghost use Rattle.std.specs.Prelude.{◌≡◌, length};
 ghost use Rattle.sd_topo.specs.Topologies.{network};
-ghost use Rattle.sd_domain.specs.Domains.{IsDomain};
+ghost use Rattle.sd_domain.specs.Lone.{IsDomain};
 ghost use Rattle.sd_domain.specs.Failing.{IsDomain-prop, IsFailureOf};
 ghost use Rattle.sd_check_hit.specs.Hit.{hit_by};
 ghost use Rattle.sd_check_hit.specs.Places.{ArePlaces};

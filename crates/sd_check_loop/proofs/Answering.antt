@@ -11,7 +11,8 @@ use Rattle.sd_plan.specs.Plans.{Fits}
 use Rattle.sd_plan.specs.Structure.{structure_breach}
 use Rattle.sd_check_hit.specs.Hit.{hit_by}
 use Rattle.sd_check_loop.specs.Graphs.{place_in, successors_of, graph_of}
-use Rattle.sd_check_loop.specs.Loops.{IsChain, IsFirstOf, IsLeast, IsEndless, IsNextShown, LoopShown, ShowsCycle}
+use Rattle.sd_check_loop.specs.Loops.{IsChain, IsFirstOf, IsLeast, IsEndless, IsNextShown, ShowsCycle}
+use Rattle.sd_check_loop.specs.Answered.{LoopShown}
 use Rattle.sd_check_loop.specs.Markings.{mark_at, IsMarked}
 use Rattle.sd_check_loop.specs.Shown.{IsStep, CycleIs, IsAnswer, AnswersFor}
 use Rattle.sd_check_loop.specs.declared.graph.Successors.{Successors}

@@ -1,5 +1,5 @@
 -- No loop of parents, whichever of the hit devices have moved to their backups.
-use Rattle.std.specs.Prelude.{◌≡◌, ◌≢◌, ℕ, ◌<◌, Bool, true, ◌&&◌, not, List, [], ◌∷◌, ◌++◌, length, nat_eq, IsTrue, option_to_list, Option, Some, None, if◌then◌else◌}
+use Rattle.std.specs.Prelude.{◌≡◌, ◌≢◌, ℕ, ◌<◌, Bool, true, ◌&&◌, not, List, ◌∷◌, ◌++◌, length, nat_eq, IsTrue, option_to_list, if◌then◌else◌}
 use Rattle.std.specs.List.{list_any}
 use Rattle.sd_topo.specs.Network.{Network}
 use Rattle.sd_domain.specs.declared.DomainId.{DomainId}
@@ -70,8 +70,3 @@ pub record IsShownCycle (net : Network) (plan : Plan) (domain : DomainId) (first
 abbrev pub ShowsCycle : Network → Plan → DomainId → List ℕ → Type 0
 ShowsCycle net plan domain [] = ⊥
 ShowsCycle net plan domain (first ∷ others) = IsShownCycle net plan domain first others
-
--- what is to be answered: nothing where there is no cycle, else the one to be shown
-abbrev pub LoopShown : Network → Plan → DomainId → Option (List ℕ) → Type 0
-LoopShown net plan domain None = HasNoCycle net plan domain
-LoopShown net plan domain (Some cycle) = ShowsCycle net plan domain cycle

@@ -5,9 +5,9 @@
 ghost use Rattle.std.specs.Prelude.{◌≡◌, None, IsTrue, IfOk};
 ghost use Rattle.sd_num.specs.Lists.{ascends};
 ghost use Rattle.sd_check_loop.specs.Graphs as graphs;
-ghost use Rattle.sd_check_loop.specs.Loops.{LoopShown};
+ghost use Rattle.sd_check_loop.specs.Answered.{LoopShown};
 ghost use Rattle.sd_check_loop.specs.Shown.{AnswersFor};
-ghost use Rattle.sd_domain.specs.Domains.{IsDomain};
+ghost use Rattle.sd_domain.specs.Lone.{IsDomain};
 ghost use Rattle.sd_check_hit.specs.Outages.{net_of, plan_of};
 ghost use Rattle.sd_plan.specs.Indexed.{IsIndexOf};
 ghost use Rattle.sd_plan.specs.Plans.{Fits};

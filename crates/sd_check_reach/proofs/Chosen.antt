@@ -13,7 +13,8 @@ use Rattle.sd_plan.specs.declared.Plan.{Plan}
 use Rattle.sd_plan.specs.Plans.{Fits, is_member, is_root, backup_of}
 use Rattle.sd_plan.specs.Walks.{is_hit, is_end}
 use Rattle.sd_plan.proofs.Rules.{KeepsRules}
-use Rattle.sd_check_reach.specs.Reach.{Fed, spared, acting_end, is_sound, LosesBackup, DomainShown, ReachHolds, IsShownChain}
+use Rattle.sd_check_reach.specs.Reach.{Fed, spared, acting_end, is_sound, LosesBackup, ReachHolds, IsShownChain}
+use Rattle.sd_check_reach.specs.Answered.{DomainShown}
 use Rattle.sd_check_reach.specs.Reached.{Reaches, AreAll, FirstReached}
 use Rattle.sd_check_reach.specs.Candidates.{AreDecided, Chooses, loses, IsLosing, IsUnheard}
 use Rattle.sd_check_reach.specs.Chains.{IsChainOf}

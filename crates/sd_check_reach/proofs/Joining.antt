@@ -6,7 +6,9 @@ use Rattle.std.proofs.lemmas.Option.{slice_get-get_or, slice_get_within, same_So
 use Rattle.std.specs.List.{cons_option}
 use Rattle.sd_domain.specs.NumberSets.{with_number}
 use Rattle.sd_num.specs.Lists.{has}
-use Rattle.sd_topo.specs.Network.{Network, IsNetwork, IsLink, joins, link_of, is_end, link_numbers}
+use Rattle.sd_topo.specs.Network.{Network, joins, link_of, link_numbers}
+use Rattle.sd_topo.specs.Limits.{IsNetwork, IsLink}
+use Rattle.sd_topo.specs.Places.{is_end}
 use Rattle.sd_topo.specs.Joined.{Joined, here, over}
 use Rattle.sd_topo.proofs.Laws.{link_law, joined_end}
 use Rattle.sd_domain.specs.Domains.{holds_device, holds_link}

@@ -1,5 +1,5 @@
 -- Whatever one domain fails, each sound device is cut off by it or comes to hear the acting end again.
-use Rattle.std.specs.Prelude.{◌≡◌, ℕ, ◌<◌, Bool, true, false, ◌&&◌, ◌||◌, not, List, [], ◌∷◌, nat_eq, IsTrue, Option, Some, None, ◌⊎◌, if◌then◌else◌}
+use Rattle.std.specs.Prelude.{◌≡◌, ℕ, ◌<◌, Bool, true, false, ◌&&◌, not, List, ◌∷◌, nat_eq, IsTrue, Option, Some, ◌⊎◌, if◌then◌else◌}
 use Rattle.sd_num.specs.Lists.{has, of_some}
 use Rattle.sd_topo.specs.Network.{Network}
 use Rattle.sd_topo.specs.Joined.{Joined}
@@ -94,13 +94,3 @@ pub record IsShownChain (net : Network) (plan : Plan) (domain : DomainId) (chain
 -- the least device that breaks the domain condition
 abbrev pub ShowsDevice : Network → Plan → DomainId → ℕ → Type 0
 ShowsDevice net plan domain d = LosesBackup net plan domain d × ((e : ℕ) → e < d → ¬ LosesBackup net plan domain e)
-
--- what is to be answered of the domain condition: nothing where it holds, else the device to be shown
-abbrev pub DomainShown : Network → Plan → DomainId → Option ℕ → Type 0
-DomainShown net plan domain None = DomainHolds net plan domain
-DomainShown net plan domain (Some d) = ShowsDevice net plan domain d
-
--- what is to be answered of reach: nothing where it holds, else the chain to be shown
-abbrev pub ReachShown : Network → Plan → DomainId → Option (List ℕ) → Type 0
-ReachShown net plan domain None = ReachHolds net plan domain
-ReachShown net plan domain (Some chain) = IsShownChain net plan domain chain

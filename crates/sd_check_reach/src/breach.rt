@@ -10,7 +10,7 @@ use std::alloc::Global;
 impl Aftermath<'_> {
     ghost use Rattle.std.specs.Prelude.{◌≡◌, None, IfOk};
     ghost use Rattle.sd_check_reach.specs.Aftermaths.{net_of, plan_of, domain_of};
-    ghost use Rattle.sd_check_reach.specs.Reach.{DomainShown, ReachShown};
+    ghost use Rattle.sd_check_reach.specs.Answered.{DomainShown, ReachShown};
     ghost use Rattle.sd_check_reach.specs.Searches.{HasRoom, IsSearchOf};
 
     /// The lowest device that breaks the domain condition.
@@ -49,7 +49,7 @@ impl Aftermath<'_> {
 impl Search {
     ghost use Rattle.std.specs.Prelude.{◌≡◌, None, IfOk};
     ghost use Rattle.sd_check_hit.specs.Outages.{net_of, plan_of};
-    ghost use Rattle.sd_check_reach.specs.Reach.{DomainShown, ReachShown};
+    ghost use Rattle.sd_check_reach.specs.Answered.{DomainShown, ReachShown};
     ghost use Rattle.sd_check_reach.specs.Searches.{HasRoom, IsSearchOf};
 
     /// The lowest sound device, no root, that the domain hits and does not cut off, and whose backup

@@ -4,11 +4,14 @@ use Rattle.std.specs.List.{list_any}
 use Rattle.std.proofs.lemmas.Bool.{cases_eq, eq-eqb, ne_eqb}
 use Rattle.std.proofs.lemmas.List.Elements.{All-nil, All-cons, All-get_or, All-same}
 use Rattle.sd_num.specs.Lists.{has, ascends}
-use Rattle.sd_topo.specs.Network.{Network, IsNetwork, no_domain}
+use Rattle.sd_topo.specs.Network.{Network}
+use Rattle.sd_topo.specs.Limits.{IsNetwork}
+use Rattle.sd_topo.specs.Places.{no_domain}
 use Rattle.sd_topo.specs.declared.Thing.{Thing}
 use Rattle.sd_topo.specs.declared.Thing.TheVariants as thing
 use Rattle.sd_topo.proofs.Laws.{found_at, domain_law}
-use Rattle.sd_domain.specs.Domains.{IsDomain, holds_device, holds_link, hits}
+use Rattle.sd_domain.specs.Domains.{holds_device, holds_link, hits}
+use Rattle.sd_domain.specs.Lone.{IsDomain}
 use Rattle.sd_domain.specs.declared.DomainId.{DomainId}
 use Rattle.sd_domain.specs.declared.DomainId.TheVariants as domain
 use Rattle.sd_plan.specs.Indexed.{has_device, has_link}

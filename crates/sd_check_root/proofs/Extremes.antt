@@ -4,7 +4,9 @@ use Rattle.std.proofs.lemmas.List.{map_more, take_all, length-map, length-take-l
 use Rattle.std.proofs.Math.Nat.{mul-le-mul_right}
 use Rattle.sd_num.specs.Lists.{least, greatest, at_place}
 use Rattle.sd_num.specs.Numbers.{low, up}
-use Rattle.sd_topo.specs.Network.{Network, Device, IsNetwork, IsRates, rates_of, no_rates, no_device, least_low, greatest_up}
+use Rattle.sd_topo.specs.Network.{Network, Device, rates_of, no_rates, least_low, greatest_up}
+use Rattle.sd_topo.specs.Limits.{IsNetwork, IsRates}
+use Rattle.sd_topo.specs.Places.{no_device}
 use Rattle.sd_topo.proofs.Laws.{found_at, rates_law}
 
 -- one more number

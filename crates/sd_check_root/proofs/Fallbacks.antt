@@ -4,9 +4,11 @@ use Rattle.std.specs.Option.{option_map, option_or}
 use Rattle.std.proofs.lemmas.Bool.{eqb-true, and_right}
 use Rattle.std.proofs.lemmas.Map.Views.{any-filter_same}
 use Rattle.sd_num.specs.Lists.{has, of_some}
-use Rattle.sd_topo.specs.Network.{Network, IsNetwork, device_numbers, link_numbers}
+use Rattle.sd_topo.specs.Network.{Network, device_numbers, link_numbers}
+use Rattle.sd_topo.specs.Limits.{IsNetwork}
 use Rattle.sd_topo.specs.declared.Thing.TheVariants as thing
-use Rattle.sd_domain.specs.Domains.{IsDomain, holds_device, holds_link}
+use Rattle.sd_domain.specs.Domains.{holds_device, holds_link}
+use Rattle.sd_domain.specs.Lone.{IsDomain}
 use Rattle.sd_domain.specs.declared.DomainId.{DomainId}
 use Rattle.sd_plan.specs.Indexed.{has_link}
 use Rattle.sd_plan.specs.Plans.{is_root, backup_of}

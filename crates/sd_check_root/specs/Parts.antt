@@ -1,6 +1,7 @@
 -- The devices and the links of a domain, as lists.
 use Rattle.std.specs.Prelude.{ℕ, List, [], ◌∷◌}
-use Rattle.sd_topo.specs.Network.{Network, domain_of}
+use Rattle.sd_topo.specs.Network.{Network}
+use Rattle.sd_topo.specs.Places.{domain_of}
 use Rattle.sd_domain.specs.declared.DomainId.{DomainId}
 use Rattle.sd_domain.specs.declared.DomainId.TheVariants as domain
 

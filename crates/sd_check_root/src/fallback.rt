@@ -5,7 +5,7 @@ ghost use Rattle.std.specs.List.{list_any};
 ghost use Rattle.sd_check_root.specs.Parts as parts;
 ghost use Rattle.sd_check_root.specs.Roots as roots;
 ghost use Rattle.sd_domain.specs.Domains as domains;
-ghost use Rattle.sd_domain.specs.Domains.{IsDomain};
+ghost use Rattle.sd_domain.specs.Lone.{IsDomain};
 ghost use Rattle.sd_plan.specs.Indexed.{has_device, has_link};
 ghost use Rattle.sd_plan.specs.Plans.{Fits, is_member, is_root};
 ghost use Rattle.sd_plan.specs.Structure.{structure_breach};

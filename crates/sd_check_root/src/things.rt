@@ -1,7 +1,7 @@
 //! What a domain has, as lists.
 ghost use Rattle.std.specs.Prelude.{◌≡◌};
 ghost use Rattle.sd_check_root.specs.Parts as parts;
-ghost use Rattle.sd_domain.specs.Domains.{IsDomain};
+ghost use Rattle.sd_domain.specs.Lone.{IsDomain};
 ghost use Rattle.sd_topo.specs.Topologies.{network};
 
 use sd_domain::DomainId;

@@ -14,7 +14,8 @@ use Rattle.sd_check_loop.proofs.Unique.{one_cycle}
 use Rattle.sd_check_reach.specs.Reach.{DomainHolds, ShowsDevice, ReachHolds, IsShownChain}
 use Rattle.sd_check_reach.proofs.Unique.{one_device, one_chain}
 use Rattle.sd_checker.specs.Conditions.{Shows, IsFirstSuspect, RootHolds, place_of, condition_of}
-use Rattle.sd_checker.specs.Verdicts.{IsBreach, IsVerdict, HasOneVerdict}
+use Rattle.sd_checker.specs.Verdicts.{IsBreach, IsVerdict}
+use Rattle.sd_checker.specs.Laws.{HasOneVerdict}
 use Rattle.sd_checker.specs.declared.Breach.{Breach}
 use Rattle.sd_checker.specs.declared.Breach.TheVariants as breach
 use Rattle.sd_checker.specs.declared.Verdict.{Verdict}

@@ -3,7 +3,9 @@ pub mod Conditions
 pub mod Findings
 pub mod Showing
 pub mod Text
+pub mod Named
 pub mod Verdicts
+pub mod Laws
 -- Handed on: what crates above name of those below.
 pub use Rattle.sd_num.specs as Num
 pub use Rattle.sd_topo.specs as Topo

@@ -1,5 +1,5 @@
 -- How a verdict is printed.
-use Rattle.std.specs.Prelude.{ℕ, List, [], ◌∷◌, ◌++◌, length, map, flat_map, codes, decimal}
+use Rattle.std.specs.Prelude.{ℕ, List, ◌∷◌, ◌++◌, length, map, codes, decimal}
 use Rattle.std.specs.List.{join_with_byte}
 use Rattle.sd_num.specs.Lists.{at_place}
 use Rattle.sd_topo.specs.Network.{Network}
@@ -49,7 +49,3 @@ refused_line net place breach = spaced (codes "refused" ∷ codes "plan" ∷ dec
 -- the line for an accepted plan: how many devices, links and domains there are
 abbrev pub accepted_line : Network → List ℕ
 accepted_line net = spaced (codes "accepted" ∷ decimal (length net.devices) ∷ decimal (length net.links) ∷ decimal (length (domains net)) ∷ []) ++ 10 ∷ []
-
--- the names of devices, each behind a space
-abbrev pub named : Network → List ℕ → List ℕ
-named net devices = flat_map (λ d. 32 ∷ device_name net d) devices

@@ -1,5 +1,5 @@
 -- A plan is accepted, or it has a first breach.
-use Rattle.std.specs.Prelude.{◌≡◌, IsTrue}
+use Rattle.std.specs.Prelude.{IsTrue}
 use Rattle.sd_topo.specs.Network.{Network}
 use Rattle.sd_plan.specs.declared.Plan.{Plan}
 use Rattle.sd_checker.specs.Conditions.{Condition, Holds, Shows, is_before, condition_of}
@@ -27,7 +27,3 @@ pub record IsBreach (net : Network) (plan : Plan) (breach : Breach) : Type 0 whe
 abbrev pub IsVerdict : Network → Plan → Verdict → Type 0
 IsVerdict net plan Accepted = IsAccepted net plan
 IsVerdict net plan (Refused breach) = IsBreach net plan breach
-
--- at most one verdict is right: one breach, one cycle, one chain
-abbrev pub HasOneVerdict : Network → Plan → Type 0
-HasOneVerdict net plan = (a b : Verdict) → IsVerdict net plan a → IsVerdict net plan b → a ≡ b

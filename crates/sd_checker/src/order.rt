@@ -1,7 +1,8 @@
 //! The fault domains in their order: the listed ones, each device alone, each link alone.
 ghost use Rattle.std.specs.Prelude.{◌≡◌, ◌<◌, length, Some};
 ghost use Rattle.std.specs.List.{slice_get};
-ghost use Rattle.sd_domain.specs.Domains.{IsDomain, domains};
+ghost use Rattle.sd_domain.specs.Domains.{domains};
+ghost use Rattle.sd_domain.specs.Lone.{IsDomain};
 ghost use Rattle.sd_topo.specs.Topologies.{network};
 
 use sd_domain::DomainId;

@@ -1,7 +1,7 @@
 //! How a verdict is printed.
 ghost use Rattle.std.specs.Prelude.{◌≡◌, ◌++◌, ◌∷◌, [], IfOk, OnOk, string_bytes, flat_map, drop};
 ghost use Rattle.sd_checker.specs.Text as text;
-ghost use Rattle.sd_checker.specs.Text.{named};
+ghost use Rattle.sd_checker.specs.Named.{named};
 ghost use Rattle.sd_checker.specs.Showing.{refused_by};
 ghost use Rattle.sd_topo.specs.Topologies.{network};
 

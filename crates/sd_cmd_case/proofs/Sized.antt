@@ -2,7 +2,8 @@
 use Rattle.std.specs.Prelude.{ℕ, ◌≤◌, length, map}
 use Rattle.std.proofs.Common.{arith, length-append}
 use Rattle.sd_num.specs.Lists.{below}
-use Rattle.sd_topo.specs.Network.{Device, IsNetwork}
+use Rattle.sd_topo.specs.Network.{Device}
+use Rattle.sd_topo.specs.Limits.{IsNetwork}
 use Rattle.sd_topotext.proofs.Meant.{network_in_ok}
 use Rattle.sd_plan.proofs.Numbered.{length-numbered}
 use Rattle.sd_gen.specs.fabric.Fabrics.{device_named, fabric, leaf_name, spine_name}

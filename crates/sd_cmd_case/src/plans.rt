@@ -1,7 +1,7 @@
 //! The two plans of a case, each judged before the next is made.
 ghost use Rattle.std.specs.Prelude.{◌≡◌, ◌≤◌, ◌<◌, length, IfErr, IfOk};
 ghost use Rattle.sd_topo.specs.Topologies.{network};
-ghost use Rattle.sd_planner.specs.PlannerPlace.Usable.{IsAbsentOf};
+ghost use Rattle.sd_planner.specs.PlannerPlace.Absences.{IsAbsentOf};
 ghost use Rattle.sd_gen.specs.fabric.Fabrics.{first_absent, second_absent};
 ghost use Rattle.sd_cmd_files.specs.Writes.{Makes};
 ghost use Rattle.sd_cmd_files.specs.planfiles.SetupError.{made_of};

@@ -4,8 +4,10 @@ use Rattle.std.proofs.Common.{add-one, arith, refl, sym, ap, ◌∙◌, subst, i
 use Rattle.std.proofs.lemmas.Bool.{cases_lt}
 use Rattle.std.proofs.lemmas.List.{length-append, length-map, map-append}
 use Rattle.sd_num.specs.Lists.{below}
-use Rattle.sd_topo.specs.Network.{Network, IsNetwork}
-use Rattle.sd_domain.specs.Domains.{IsDomain, domains}
+use Rattle.sd_topo.specs.Network.{Network}
+use Rattle.sd_topo.specs.Limits.{IsNetwork}
+use Rattle.sd_domain.specs.Domains.{domains}
+use Rattle.sd_domain.specs.Lone.{IsDomain}
 use Rattle.sd_domain.specs.declared.DomainId.{DomainId}
 use Rattle.sd_plan.specs.Plans.{Fits}
 use Rattle.sd_plan.specs.declared.Plan.{Plan}

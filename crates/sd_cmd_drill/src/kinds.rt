@@ -1,6 +1,6 @@
 //! The kinds of fault domains, in the order in which they are drilled.
 ghost use Rattle.std.specs.Prelude.{◌≡◌, ◌<◌};
-ghost use Rattle.sd_domain.specs.Domains.{IsDomain};
+ghost use Rattle.sd_domain.specs.Lone.{IsDomain};
 ghost use Rattle.sd_cmd_drill.specs.Kinds as words;
 ghost use Rattle.sd_topo.specs.Network.{Network};
 ghost use Rattle.sd_topo.specs.Topologies.{network};

@@ -1,7 +1,7 @@
 //! The lines of bounds.
 ghost use Rattle.std.specs.Prelude.{◌≡◌, ◌<◌, ◌≤◌, [], ◌∷◌, length, codes, decimal};
 ghost use Rattle.sd_drill.specs.Checker.Text as text;
-ghost use Rattle.sd_domain.specs.Domains.{IsDomain};
+ghost use Rattle.sd_domain.specs.Lone.{IsDomain};
 ghost use Rattle.sd_cmd_drill.specs.Printing.{IsShort};
 ghost use Rattle.sd_num.specs.Texts.{text_of};
 ghost use Rattle.sd_outside.specs.Printed.{printed};

@@ -1,8 +1,9 @@
 //! Writing a drill, domain by domain.
 ghost use Rattle.std.specs.Prelude.{◌≡◌, ◌≤◌, ◌<◌, ◌++◌, ◌∷◌, [], All, length, slice_index_or, flat_map, None, Err, IfErr, IfOk, OnOk};
 ghost use Rattle.sd_drill.specs.Checker.Verdicts.{IsAccepted};
-ghost use Rattle.sd_domain.specs.Domains.{IsDomain, domains};
-ghost use Rattle.sd_drill.specs.Bounds.{IsBudget};
+ghost use Rattle.sd_domain.specs.Domains.{domains};
+ghost use Rattle.sd_domain.specs.Lone.{IsDomain};
+ghost use Rattle.sd_drill.specs.Budgets.{IsBudget};
 ghost use Rattle.sd_drill.specs.Printed.{IsLinesOf, bound_line, done_line};
 ghost use Rattle.sd_cmd_drill.specs.Adding.{AddsLines, Drills};
 ghost use Rattle.sd_cmd_drill.specs.Kinds.{all_of};

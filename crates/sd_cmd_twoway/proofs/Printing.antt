@@ -6,7 +6,8 @@ use Rattle.std.proofs.lemmas.Bool.{and_parts, leb-true}
 use Rattle.std.proofs.lemmas.List.{length-map}
 use Rattle.std.proofs.lemmas.Option.{slice_get-get_or}
 use Rattle.sd_num.specs.Texts.{text_of}
-use Rattle.sd_topo.specs.Network.{IsNetwork, Network, is_name, is_name_byte, link_names, name_at}
+use Rattle.sd_topo.specs.Network.{Network, is_name, is_name_byte, link_names, name_at}
+use Rattle.sd_topo.specs.Limits.{IsNetwork}
 use Rattle.sd_topo.proofs.Laws.{found_at}
 
 -- the name of a link is short

@@ -4,7 +4,7 @@ use Rattle.std.specs.Prelude.{max, IfSome, nat_eq, if◌then◌else◌, option_m
 use Rattle.sd_num.specs.Lists.{of_some}
 use Rattle.sd_num.specs.Numbers.{grow}
 use Rattle.sd_num.specs.declared.Rates.{Rates}
-use Rattle.sd_plan.specs.Topo.Network.{IsRates}
+use Rattle.sd_plan.specs.Topo.Limits.{IsRates}
 use Rattle.sd_plan.specs.declared.Duty.{Duty}
 use Rattle.sd_plan.specs.declared.Edge.{Edge}
 use Rattle.sd_msg.specs.declared.Message.{Message}

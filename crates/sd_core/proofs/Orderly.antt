@@ -10,7 +10,8 @@ use Rattle.sd_core.specs.declared.registers.Registers.{Registers}
 use Rattle.sd_core.specs.declared.registers.Mode.TheVariants.{Acting}
 use Rattle.sd_core.specs.declared.turns.Turn.{Turn}
 use Rattle.sd_core.specs.declared.turns.Turn.TheVariants.{Emit, TakeOver, Move, Stay}
-use Rattle.sd_core.specs.Calls.{Making, Call, Tick, Receive, Fix, Give, Commit, Seal, Life}
+use Rattle.sd_core.specs.Calls.{Making, Call, Tick, Receive, Fix, Give, Commit, Seal}
+use Rattle.sd_core.specs.Living.{Life}
 use Rattle.sd_core.specs.Words.{counter_of}
 use Rattle.sd_core.specs.Lives.{past_by, past_of, latest_counter, NeverFalls}
 use Rattle.sd_core.specs.Rules.{turn_of, turned, called, entering, accepting, accepted, entered, quietly, committed, is_acting_mode}

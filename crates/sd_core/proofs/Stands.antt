@@ -11,7 +11,8 @@ use Rattle.sd_core.specs.declared.registers.Registers.{Registers}
 use Rattle.sd_core.specs.declared.registers.Mode.TheVariants.{Primary, Backup, Acting, Idle}
 use Rattle.sd_core.specs.declared.turns.Turn.{Turn}
 use Rattle.sd_core.specs.declared.turns.Turn.TheVariants.{Emit, TakeOver, Move, Stay}
-use Rattle.sd_core.specs.Calls.{Call, Tick, Receive, Fix, Give, Commit, Seal, Transition, Committed, Recommitted, TookOver, Nothing, Past, Life}
+use Rattle.sd_core.specs.Calls.{Call, Tick, Receive, Fix, Give, Commit, Seal, Transition, Committed, Recommitted, TookOver, Nothing, Past}
+use Rattle.sd_core.specs.Living.{Life}
 use Rattle.sd_core.specs.Words.{duty_now, given_now, is_acting, has_moved, heard, moved_at, sent_at, transition_of, after, later_entry, starts_as_root, is_commit, counter_of, effect_of, effect_of_latest}
 use Rattle.sd_core.specs.Lives.{past_of, longer}
 use Rattle.sd_core.specs.Rules.{turn_of, turned, called, entering, accepting, accepted, entered, quietly, committed, is_acting_mode}

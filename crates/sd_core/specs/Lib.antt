@@ -1,4 +1,5 @@
 pub mod Calls
+pub mod Living
 pub mod Words
 pub mod Lives
 pub mod Rules

@@ -1,6 +1,6 @@
 -- The limits of what a device is told, and what is true of its registers at any time.
 use Rattle.std.specs.Prelude.{◌≡◌, ℕ, ◌≤◌, ◌^◌, None, IfSome}
-use Rattle.sd_plan.specs.Topo.Network.{IsRates}
+use Rattle.sd_plan.specs.Topo.Limits.{IsRates}
 use Rattle.sd_plan.specs.declared.Duty.{Duty}
 use Rattle.sd_plan.specs.declared.Edge.{Edge}
 use Rattle.sd_msg.specs.declared.Message.{Message}

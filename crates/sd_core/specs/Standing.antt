@@ -4,7 +4,8 @@ use Rattle.sd_num.specs.Lists.{of_some, latest}
 use Rattle.sd_core.specs.declared.registers.Registers.{Registers}
 use Rattle.sd_core.specs.declared.registers.Mode.{Mode}
 use Rattle.sd_core.specs.declared.registers.Mode.TheVariants.{Primary, Backup, Acting, Idle}
-use Rattle.sd_core.specs.Calls.{Making, Past, Life}
+use Rattle.sd_core.specs.Calls.{Making, Past}
+use Rattle.sd_core.specs.Living.{Life}
 use Rattle.sd_core.specs.Words.{duty_now, given_now, is_acting, has_moved, is_sealed, stamp_now, is_move, accepted_over, counter_of, making_counter, sent_at, estimate_now, rates_now, heard, moved_at}
 use Rattle.sd_core.specs.Lives.{past_of}
 

@@ -36,7 +36,7 @@ impl Model for Device {
 
 impl Device {
     ghost use Rattle.std.specs.Prelude.{◌≡◌};
-    ghost use Rattle.sd_core.specs.Calls.{Life};
+    ghost use Rattle.sd_core.specs.Living.{Life};
     ghost use Rattle.sd_core.specs.Limits.{IsSound};
     ghost use Rattle.sd_core.specs.Standing.{StandsFor};
 

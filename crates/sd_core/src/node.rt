@@ -1,11 +1,12 @@
 //! What every kind of device states of itself: its steps as relations, what it owes and is owed, and its laws.
 ghost use Rattle.std.specs.Prelude.{◌≡◌, ◌≤◌, ◌<◌, ◌+◌, ◌^◌, ◌⊎◌, ℕ, Bool, true, false, IsTrue, Option, Some, None, is_some, max, option_map};
-ghost use Rattle.sd_plan.specs.Topo.Network.{IsRates};
+ghost use Rattle.sd_plan.specs.Topo.Limits.{IsRates};
 ghost use Rattle.sd_clock.specs.declared.Report.{Report};
 ghost use Rattle.sd_plan.specs.declared.Duty.{Duty};
 ghost use Rattle.sd_plan.specs.declared.Role.TheVariants as role;
 ghost use Rattle.sd_core.specs.declared.Effect.{Effect};
-ghost use Rattle.sd_core.specs.Calls.{Making, Started, Joined, Call, Tick, Receive, Fix, Give, Commit, Seal, Life};
+ghost use Rattle.sd_core.specs.Calls.{Making, Started, Joined, Call, Tick, Receive, Fix, Give, Commit, Seal};
+ghost use Rattle.sd_core.specs.Living.{Life};
 ghost use Rattle.sd_core.specs.Words.{effect_of, report_at, parent_now, is_acting, epoch_now, given_now, is_sealed as is_sealed_now};
 ghost use Rattle.sd_core.specs.Lives.{past_of, longer};
 ghost use Rattle.sd_core.specs.Standing.{alone};

@@ -1,6 +1,6 @@
 //! What a device keeps, and how the calls that bring no message and no tick change it.
 ghost use Rattle.std.specs.Prelude.{◌≡◌, ◌≤◌, ◌<◌, ◌^◌, Some};
-ghost use Rattle.sd_plan.specs.Topo.Network.{IsRates};
+ghost use Rattle.sd_plan.specs.Topo.Limits.{IsRates};
 
 use sd_clock::{Estimate, Report};
 use sd_msg::Stamp;

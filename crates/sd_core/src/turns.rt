@@ -1,7 +1,7 @@
 //! What a tick makes of a device: it moves to its backup, takes over, emits as the acting root, or stays as it is.
 ghost use Rattle.std.specs.Prelude.{◌≡◌, ◌≤◌, ◌<◌, ◌^◌, ◌&&◌, nat_le, false};
 ghost use Rattle.sd_num.specs.Lists.{of_some};
-ghost use Rattle.sd_plan.specs.Topo.Network.{IsRates};
+ghost use Rattle.sd_plan.specs.Topo.Limits.{IsRates};
 ghost use Rattle.sd_core.specs.Words.{wait_to_move as silence_of};
 ghost use Rattle.sd_core.specs.Rules.{is_backup_root};
 

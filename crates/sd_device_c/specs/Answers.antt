@@ -3,7 +3,8 @@ use Rattle.std.specs.Prelude.{◌≡◌, ◌≢◌, ◌↔◌, ◌⊎◌, ℕ, S
 use Rattle.sd_plan.specs.declared.Duty.{Duty}
 use Rattle.sd_core.specs.declared.Effect.{Effect}
 use Rattle.sd_core.specs.declared.registers.Registers.{Registers}
-use Rattle.sd_core.specs.Calls.{Making, Started, Joined, Call, Give, Life, Past}
+use Rattle.sd_core.specs.Calls.{Making, Started, Joined, Call, Give, Past}
+use Rattle.sd_core.specs.Living.{Life}
 use Rattle.sd_core.specs.Words.{effect_of}
 use Rattle.sd_core.specs.Limits.{IsDuty}
 use Rattle.sd_core.specs.Rules.{called, made}

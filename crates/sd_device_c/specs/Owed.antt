@@ -1,6 +1,6 @@
 -- What a call owes, by the fault that is answered where it does not hold.
 use Rattle.std.specs.Prelude.{◌≡◌, ℕ, ◌≤◌, ◌<◌, ◌^◌, Some, option_map, IfSome}
-use Rattle.sd_plan.specs.Topo.Network.{IsRates}
+use Rattle.sd_plan.specs.Topo.Limits.{IsRates}
 use Rattle.sd_plan.specs.declared.Role.TheVariants as role
 use Rattle.sd_msg.specs.declared.Message.{Message}
 use Rattle.sd_core.specs.declared.registers.Registers.{Registers}

@@ -1,6 +1,6 @@
 //! What the calls owe, tested.
 ghost use Rattle.std.specs.Prelude.{◌≡◌, ◌≤◌, ◌<◌, ◌^◌, ◌↔◌, Some, IsTrue, OnOk, IfOk, IfErr, option_map};
-ghost use Rattle.sd_plan.specs.Topo.Network.{IsRates};
+ghost use Rattle.sd_plan.specs.Topo.Limits.{IsRates};
 ghost use Rattle.sd_plan.specs.declared.Role.TheVariants as role;
 ghost use Rattle.sd_core.specs.Calls.{Making, Call, Tick, Receive, Fix, Commit};
 ghost use Rattle.sd_core.specs.Words.{counter_of};

@@ -1,6 +1,6 @@
 //! Whether what a struct says is within the limits.
 ghost use Rattle.std.specs.Prelude.{◌≡◌, ◌↔◌, IsTrue, IfSome};
-ghost use Rattle.sd_plan.specs.Topo.Network.{IsRates};
+ghost use Rattle.sd_plan.specs.Topo.Limits.{IsRates};
 ghost use Rattle.sd_core.specs.Rules.{floor_in, ceiling_in, height_in};
 ghost use Rattle.sd_core.specs.Limits.{IsDuty, IsEdge, IsSound};
 

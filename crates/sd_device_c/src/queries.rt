@@ -1,6 +1,6 @@
 //! The calls that ask a device, and leave it as it is.
 ghost use Rattle.std.specs.Prelude.{◌≡◌, ◌≢◌, Some, OnOk, IfOk, IfErr};
-ghost use Rattle.sd_core.specs.Calls.{Life};
+ghost use Rattle.sd_core.specs.Living.{Life};
 ghost use Rattle.sd_core.specs.declared.registers.Registers.{Registers};
 ghost use Rattle.sd_core.specs.Words.{report_at, parent_now, is_acting, epoch_now};
 ghost use Rattle.sd_core.specs.Lives.{past_of};

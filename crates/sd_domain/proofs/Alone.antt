@@ -9,7 +9,8 @@ use Rattle.std.proofs.lemmas.List.Folds.{find-append}
 use Rattle.std.proofs.lemmas.Map.Keys.{apart_from_distinct}
 use Rattle.sd_num.specs.Lists.{below}
 use Rattle.sd_topo.specs.Network.{Network, device_numbers, link_numbers}
-use Rattle.sd_domain.specs.Domains.{alone, holds}
+use Rattle.sd_domain.specs.Domains.{holds}
+use Rattle.sd_domain.specs.Lone.{alone}
 use Rattle.sd_domain.specs.declared.DomainId.{DomainId}
 use Rattle.sd_domain.specs.declared.DomainId.TheVariants as domain
 use Rattle.sd_domain.specs.Failures.{FailedThings}

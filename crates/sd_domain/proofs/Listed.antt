@@ -7,7 +7,8 @@ use Rattle.sd_num.specs.Lists.{below}
 use Rattle.sd_num.proofs.Firsts.{find-map}
 use Rattle.sd_topo.specs.Network.{Network, device_numbers, link_numbers}
 use Rattle.sd_topo.specs.declared.Thing.{Thing}
-use Rattle.sd_domain.specs.Domains.{alone, holds, within_one}
+use Rattle.sd_domain.specs.Domains.{holds, within_one}
+use Rattle.sd_domain.specs.Lone.{alone}
 use Rattle.sd_domain.specs.declared.DomainId.{DomainId}
 use Rattle.sd_domain.specs.declared.DomainId.TheVariants as domain
 

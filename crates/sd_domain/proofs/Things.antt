@@ -7,7 +7,9 @@ use Rattle.std.proofs.lemmas.Bool.{and_parts, and_left}
 use Rattle.std.proofs.lemmas.List.Folds.{list_all-append, list_all-map}
 use Rattle.std.proofs.lemmas.Option.{slice_get-get_or}
 use Rattle.sd_num.specs.Lists.{ascends, all_below, has}
-use Rattle.sd_topo.specs.Network.{Network, Domain, IsNetwork, domain_of, no_domain}
+use Rattle.sd_topo.specs.Network.{Network, Domain}
+use Rattle.sd_topo.specs.Limits.{IsNetwork}
+use Rattle.sd_topo.specs.Places.{domain_of, no_domain}
 use Rattle.sd_topo.specs.declared.Thing.{Thing}
 use Rattle.sd_topo.specs.declared.Thing.TheVariants as thing
 use Rattle.sd_domain.specs.Domains.{holds}

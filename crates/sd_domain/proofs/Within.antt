@@ -10,7 +10,8 @@ use Rattle.sd_topo.specs.Network.{Network}
 use Rattle.sd_topo.specs.declared.Thing.{Thing}
 use Rattle.sd_topo.specs.declared.Thing.TheVariants as thing
 use Rattle.sd_domain.specs.Domains.{domains, holds, within_one}
-use Rattle.sd_domain.specs.Failures.{FailedThings, nothing_of, with_thing, has_thing, things_of, same_thing}
+use Rattle.sd_domain.specs.Failures.{FailedThings, nothing_of, with_thing, has_thing, things_of}
+use Rattle.sd_domain.specs.Things.{same_thing}
 use Rattle.sd_domain.proofs.Members.{list_all_same, contains-among, contains-insert-nat}
 
 -- things that pass the test are one thing

@@ -3,7 +3,8 @@ use Rattle.std.specs.Prelude.{◌≡◌, ℕ, length}
 use Rattle.std.specs.FinSet as set
 use native.Mathlib.Bridge.{le_prop}
 use Rattle.sd_topo.specs.Network.{Network}
-use Rattle.sd_domain.specs.Domains.{IsDomain, holds_device, holds_link}
+use Rattle.sd_domain.specs.Domains.{holds_device, holds_link}
+use Rattle.sd_domain.specs.Lone.{IsDomain}
 use Rattle.sd_domain.specs.Failures.{FailedThings}
 use Rattle.sd_domain.specs.declared.DomainId.{DomainId}
 use Rattle.sd_domain.specs.declared.DomainId.TheVariants as domain

@@ -1,9 +1,9 @@
 -- Failures: sets of devices and links that have failed.
-use Rattle.std.specs.Prelude.{ℕ, ◌<◌, Bool, false, List, ◌++◌, length, map, nat_eq, refl}
+use Rattle.std.specs.Prelude.{ℕ, ◌<◌, Bool, List, ◌++◌, length, map, refl}
 use Rattle.std.specs.Ordering.{nat_cmp}
 use Rattle.std.specs.FinSet as set
 use Rattle.std.specs.FinSet.{FinSet}
-use Rattle.std.specs.Coded.{Coded, code_by, coded×, coded_ℕ}
+use Rattle.std.specs.Coded.{Coded, code_by, coded_ℕ}
 use Rattle.sd_topo.specs.Network.{Network}
 use Rattle.sd_topo.specs.declared.Thing.{Thing}
 use Rattle.sd_topo.specs.declared.Thing.TheVariants as thing
@@ -50,10 +50,3 @@ has_thing failed (thing.Link l) = set.contains failed.links l
 -- all that has failed: devices by number, then links by number
 abbrev pub things_of : FailedThings → List Thing
 things_of failed = map thing.Device (set.items failed.devices) ++ map thing.Link (set.items failed.links)
-
--- the two are one device, or one link
-abbrev pub same_thing : Thing → Thing → Bool
-same_thing (thing.Device d) (thing.Device e) = nat_eq d e
-same_thing (thing.Device d) (thing.Link m) = false
-same_thing (thing.Link l) (thing.Device e) = false
-same_thing (thing.Link l) (thing.Link m) = nat_eq l m

@@ -3,7 +3,7 @@ ghost use Rattle.std.specs.Prelude.{◌≡◌, ◌<◌, ◌||◌, ℕ, All, IfOk
 ghost use Rattle.std.specs.FinSet as set;
 ghost use Rattle.sd_num.specs.Lists.{has};
 ghost use Rattle.sd_topo.specs.Topologies.{network};
-ghost use Rattle.sd_domain.specs.Domains.{IsDomain};
+ghost use Rattle.sd_domain.specs.Lone.{IsDomain};
 ghost use Rattle.sd_domain.specs.Failing.{HasRoomFor, IsFailureOf};
 
 use crate::{DomainId, Failure};

@@ -4,7 +4,7 @@ ghost use Rattle.std.specs.List.{list_all};
 ghost use Rattle.sd_num.specs.Lists.{ascends, has, below};
 ghost use Rattle.sd_topo.specs.Topologies.{network};
 ghost use Rattle.sd_domain.specs.Domains as domains;
-ghost use Rattle.sd_domain.specs.Domains.{IsDomain};
+ghost use Rattle.sd_domain.specs.Lone.{IsDomain};
 ghost use Rattle.sd_domain.specs.Failures.{things_of};
 ghost use Rattle.sd_domain.specs.Within.{has_all};
 

@@ -1,15 +1,11 @@
 -- The bounds of all devices.
-use Rattle.std.specs.Prelude.{◌≡◌, ℕ, ◌^◌, ◌<◌, ◌≤◌, List, length, Option, None}
+use Rattle.std.specs.Prelude.{◌≡◌, ℕ, ◌<◌, List, length, Option, None}
 use Rattle.sd_num.specs.Lists.{at_place}
 use Rattle.sd_topo.specs.Network.{Network}
 use Rattle.sd_domain.specs.declared.DomainId.{DomainId}
 use Rattle.sd_plan.specs.declared.Plan.{Plan}
 use Rattle.sd_drill.specs.Drill.{IsListed}
 use Rattle.sd_drill.specs.declared.Budget.{Budget}
-
--- a budget within the limits
-abbrev pub IsBudget : Budget → Type 0
-IsBudget budget = (budget.base ≤ 2 ^ 60) × (budget.hold ≤ 2 ^ 60)
 
 abbrev pub bound_at : List (Option ℕ) → ℕ → Option ℕ
 bound_at bounds d = at_place bounds d None (λ bound. bound)

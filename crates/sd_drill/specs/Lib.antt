@@ -1,5 +1,6 @@
 pub mod Drill
 pub mod Bounds
+pub mod Budgets
 pub mod Times
 pub mod Printed
 pub mod ages

@@ -3,7 +3,7 @@
 ghost use Rattle.std.specs.Prelude.{◌≡◌, ◌≤◌, ◌+◌, ◌*◌, ◌^◌};
 ghost use Rattle.sd_drill.specs.ages.Ages as ages;
 ghost use Rattle.sd_drill.specs.ages.Ages.{IsOldest};
-ghost use Rattle.sd_topo.specs.Network.{IsRates};
+ghost use Rattle.sd_topo.specs.Limits.{IsRates};
 
 #[cfg(test)]
 mod tests;

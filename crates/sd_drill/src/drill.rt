@@ -1,6 +1,7 @@
 //! A plan under drill: one domain after another.
 ghost use Rattle.std.specs.Prelude.{◌≡◌, ◌≤◌, ◌<◌, ◌+◌, length, IfOk};
-ghost use Rattle.sd_drill.specs.Bounds.{AreBounds, IsBudget};
+ghost use Rattle.sd_drill.specs.Bounds.{AreBounds};
+ghost use Rattle.sd_drill.specs.Budgets.{IsBudget};
 ghost use Rattle.sd_drill.specs.Drill.{IsListed};
 ghost use Rattle.sd_drill.specs.Times.{AreGrowths, AreTimes, IsBoundOf};
 ghost use Rattle.sd_checker.specs.CheckHit.Outages.{net_of, plan_of};
@@ -122,7 +123,7 @@ fn bounds_under(
 impl Drill {
     ghost use Rattle.std.specs.Prelude.{OnOk};
     ghost use Rattle.sd_checker.specs.CheckLoop.Loops.{HasNoCycle};
-    ghost use Rattle.sd_domain.specs.Domains.{IsDomain};
+    ghost use Rattle.sd_domain.specs.Lone.{IsDomain};
     ghost use Rattle.sd_drill.specs.Times.{IsDrillOf};
     ghost use Rattle.sd_topo.specs.Topologies.{network};
 

@@ -3,8 +3,9 @@
 
 ghost use Rattle.std.specs.Prelude.{◌≡◌, ◌^◌, ◌≤◌, IfOk};
 ghost use Rattle.sd_checker.specs.Verdicts.{IsAccepted};
-ghost use Rattle.sd_domain.specs.Domains.{IsDomain};
-ghost use Rattle.sd_drill.specs.Bounds.{AreBounds, IsBudget};
+ghost use Rattle.sd_domain.specs.Lone.{IsDomain};
+ghost use Rattle.sd_drill.specs.Bounds.{AreBounds};
+ghost use Rattle.sd_drill.specs.Budgets.{IsBudget};
 ghost use Rattle.sd_plan.specs.Plans.{Fits};
 ghost use Rattle.sd_topo.specs.Topologies.{network};
 

@@ -1,7 +1,7 @@
 //! What the bounds of all domains share.
 ghost use Rattle.std.specs.Prelude.{◌≡◌, ◌≤◌, ◌<◌, ◌+◌, ◌*◌, ◌^◌, length};
 ghost use Rattle.sd_drill.specs.ages.Ages as ages;
-ghost use Rattle.sd_drill.specs.Bounds.{IsBudget};
+ghost use Rattle.sd_drill.specs.Budgets.{IsBudget};
 ghost use Rattle.sd_drill.specs.Drill as words;
 ghost use Rattle.sd_drill.specs.Times.{AreTimes, IsGrowth};
 ghost use Rattle.sd_plan.specs.Plans.{Fits};

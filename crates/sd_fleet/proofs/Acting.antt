@@ -12,7 +12,7 @@ use Rattle.sd_core.specs.declared.node.Node.{Ghosts}
 use Rattle.sd_sched.specs.declared.Event.{Event}
 use Rattle.sd_sched.specs.declared.Event.TheVariants as event
 use Rattle.sd_sched.specs.Events.{device_of}
-use Rattle.sd_sched.specs.Lines.{is_within}
+use Rattle.sd_sched.specs.Spelled.{is_within}
 use Rattle.sd_fleet_fabric.specs.History.Things.{failure_of, mended}
 use Rattle.sd_fleet_fabric.specs.History.Refusals.{makes_some}
 use Rattle.sd_fleet_fabric.specs.FleetState.world.Registers.{up_at, reading_at, is_open}

@@ -28,7 +28,7 @@ use Rattle.sd_fleet_fabric.specs.Sound.{IsSound}
 use Rattle.sd_fleet_fabric.specs.History.Steps.{Act}
 use Rattle.sd_fleet_fabric.proofs.Admitted.{device_known}
 use Rattle.sd_sched.specs.Events.{device_of}
-use Rattle.sd_sched.specs.Lines.{is_within}
+use Rattle.sd_sched.specs.Spelled.{is_within}
 use Rattle.sd_fleet_fabric.proofs.Refused.{refusal_is}
 use Rattle.sd_fleet_fabric.proofs.Acting.{act_is}
 use Rattle.sd_fleet.specs.declared.crew.CallContext.{CallContext}

@@ -13,7 +13,8 @@ use Rattle.sd_plan.specs.Duties.{duty_of}
 use Rattle.sd_msg.specs.declared.Flight.{Flight}
 use Rattle.sd_fleet_fabric.specs.History.World.{Setting, staged, staged_epoch}
 use Rattle.sd_fleet_fabric.specs.History.Steps as steps
-use Rattle.sd_fleet_fabric.specs.History.Steps.{Calls, Passes, seen_of, flight_numbered, Told, tells_nothing, tells_made, tells_called, tells_report, Step, changed, act_by, step_of}
+use Rattle.sd_fleet_fabric.specs.History.Steps.{Calls, Passes, seen_of, flight_numbered, Told, tells_nothing, tells_made, tells_called, Step, changed, act_by, step_of}
+use Rattle.sd_fleet_fabric.specs.History.Lives.{tells_report}
 use Rattle.sd_fleet_fabric.specs.History.Nodes.{answers_of, NodeStep, steps_of, node_in, addressed, Allows, IsRun}
 use Rattle.sd_fleet_fabric.specs.History.Steps.{Act}
 use Rattle.sd_fleet_fabric.specs.declared.Reply.{Reply}

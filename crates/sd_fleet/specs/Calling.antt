@@ -1,6 +1,6 @@
 -- What a node owes and is owed where it is made or called: bounds of its numbers, and the duty that was given to it.
 use Rattle.std.specs.Prelude.{◌≡◌, ◌⊎◌, ℕ, ◌*◌, ◌^◌, ◌≤◌, ◌<◌, Option, Some, None, option_map}
-use Rattle.sd_topo.specs.Network.{IsRates}
+use Rattle.sd_topo.specs.Limits.{IsRates}
 use Rattle.sd_plan.specs.declared.Duty.{Duty}
 use Rattle.sd_plan.specs.declared.Role.TheVariants as role
 use Rattle.sd_msg.specs.Clock.declared.Report.{Report}

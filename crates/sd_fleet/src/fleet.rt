@@ -2,7 +2,7 @@
 ghost use Rattle.std.specs.Prelude.{◌≡◌, ◌≤◌, ◌<◌, ◌^◌, ℕ, List, [], length, replicate, IsTrue, Some, None, Err, IfOk, IfErr, IfSome, OnOk};
 ghost use Rattle.sd_topo.specs.Topologies.{network};
 ghost use Rattle.sd_sched.specs.Events.{device_of};
-ghost use Rattle.sd_sched.specs.Lines.{is_within};
+ghost use Rattle.sd_sched.specs.Spelled.{is_within};
 ghost use Rattle.sd_fleet_fabric.specs.History.World.{Setting, is_up as is_up_seen, is_counted as is_counted_seen};
 ghost use Rattle.sd_fleet_fabric.specs.History.Steps.{seen_of, parent_in, acts_in};
 ghost use Rattle.sd_fleet_fabric.specs.History.Nodes.{NodeStep, steps_of};

@@ -3,7 +3,9 @@ use Rattle.std.specs.Prelude.{◌≡◌, ℕ, zero, suc, ◌+◌, ◌<◌, ◌�
 use Rattle.std.proofs.Common.{arith, sym, ◌∙◌, ap, add-one, inl, inr}
 use Rattle.std.proofs.lemmas.Bool.{or_cases, eqb-true, ne_eqb}
 use Rattle.std.proofs.lemmas.List.{length-take-le}
-use Rattle.sd_topo.specs.Network.{Network, IsNetwork, link_of, is_end}
+use Rattle.sd_topo.specs.Network.{Network, link_of}
+use Rattle.sd_topo.specs.Limits.{IsNetwork}
+use Rattle.sd_topo.specs.Places.{is_end}
 use Rattle.sd_topo.specs.declared.LinkEntry.{LinkEntry}
 use Rattle.sd_topo.proofs.Laws.{link_law}
 use Rattle.sd_plan.specs.declared.End.{End}

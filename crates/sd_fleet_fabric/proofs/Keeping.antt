@@ -3,7 +3,8 @@ use Rattle.std.specs.Prelude.{◌≡◌, ℕ, ◌+◌, ◌^◌, ◌<◌, ◌≤�
 use Rattle.std.proofs.Common.{arith, sym, ◌∙◌, ap, subst, inl, inr}
 use Rattle.std.proofs.lemmas.Bool.{and_parts, or_cases, eqb-true, eq-eqb, ne_eqb, leb-true, ltb-false, le-leb, lt-ltb, not-false}
 use Rattle.sd_num.specs.Lists.{of_some}
-use Rattle.sd_topo.specs.Network.{Network, Each, IsNetwork}
+use Rattle.sd_topo.specs.Network.{Network, Each}
+use Rattle.sd_topo.specs.Limits.{IsNetwork}
 use Rattle.sd_plan.specs.declared.End.{End}
 use Rattle.sd_plan.specs.Tables.{TableRow}
 use Rattle.sd_msg.specs.declared.Flight.{Flight}
@@ -15,7 +16,7 @@ use Rattle.sd_core.specs.declared.Effect.TheVariants.{Quiet, Send}
 use Rattle.sd_sched.specs.declared.Event.{Event}
 use Rattle.sd_sched.specs.declared.Event.TheVariants as event
 use Rattle.sd_sched.specs.Events.{reference_of, device_of, link_of}
-use Rattle.sd_sched.specs.Lines.{is_within}
+use Rattle.sd_sched.specs.Spelled.{is_within}
 use Rattle.sd_history.specs.World.{Setting}
 use Rattle.sd_fleet_state.specs.membership.Standing as standing
 use Rattle.sd_history.specs.flights.Flights.{says_unknown, says_spent}

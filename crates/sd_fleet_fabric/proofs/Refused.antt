@@ -14,7 +14,8 @@ use Rattle.sd_sched.specs.Events.{reference_of, device_of, counter_of, link_of, 
 use Rattle.sd_history.specs.Things.{failure_of, mended}
 use Rattle.sd_history.specs.World.{Setting, Seen, is_counted, in_force, staged, staged_epoch, is_staged_member, window_is_open, has_commit, has_failed, is_up, was_made, latest_reading}
 use Rattle.sd_history.specs.Steps.{Step, seen_of, flight_count, flight_numbered, epoch_in, given_in}
-use Rattle.sd_history.specs.Refusals.{makes_some, is_spent, unspent, causes, refusal, unknown_device, unknown_link, unknown_message, spent_message, wrong_device, counter_falls, not_started, started_twice, no_plan_left, past_preparing, window_order, window_order_within, not_failed, not_member}
+use Rattle.sd_history.specs.Refusals.{makes_some, is_spent, causes, refusal, unknown_device, unknown_link, unknown_message, spent_message, wrong_device, counter_falls, not_started, started_twice, no_plan_left, past_preparing, window_order, window_order_within, not_failed, not_member}
+use Rattle.sd_history.specs.Open.{unspent}
 use Rattle.sd_history.specs.flights.Flights.{says_unknown, says_spent}
 use Rattle.sd_history.proofs.flights.Looks.{look_is, unknown_is, spent_is, spent_at}
 use Rattle.sd_fleet_state.specs.world.Registers.{failed_at, up_at, reading_at, made_at, is_open, is_committed}

@@ -10,7 +10,8 @@ use Rattle.sd_sched.specs.Events.{reference_of, device_of, message_of, is_stage}
 use Rattle.sd_history.specs.Things.{failure_of}
 use Rattle.sd_history.specs.World.{Setting, window_is_open, epoch_in_force}
 use Rattle.sd_history.specs.Steps.{Answers, Told, Step, seen_of, changed, act_by, flight_count, first_step, can_close, step_of}
-use Rattle.sd_history.specs.Refusals.{causes, no_plan_left, window_order, unspent}
+use Rattle.sd_history.specs.Refusals.{causes, no_plan_left, window_order}
+use Rattle.sd_history.specs.Open.{unspent}
 use Rattle.sd_history.specs.Accepted.{AreSteps}
 use Rattle.sd_history.proofs.Among.{first, later}
 use Rattle.sd_history.proofs.Contained.{none_holds}

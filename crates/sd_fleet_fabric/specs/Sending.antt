@@ -1,7 +1,8 @@
 -- The flights of a message over the ends below its sender, by what a fabric keeps.
 use Rattle.std.specs.Prelude.{◌≡◌, ℕ, ◌+◌, ◌*◌, List, [], ◌∷◌, length, not, ◌&&◌}
 use Rattle.sd_num.specs.Lists.{of_some}
-use Rattle.sd_topo.specs.Network.{Network, IsNetwork, delay_of}
+use Rattle.sd_topo.specs.Network.{Network, delay_of}
+use Rattle.sd_topo.specs.Limits.{IsNetwork}
 use Rattle.sd_topo.specs.declared.Thing.TheVariants as thing
 use Rattle.sd_plan.specs.declared.End.{End}
 use Rattle.sd_msg.specs.declared.Flight.{Flight}

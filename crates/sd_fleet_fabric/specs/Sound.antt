@@ -1,6 +1,6 @@
 -- What is always true of what a fabric keeps, whatever happened.
 use Rattle.std.specs.Prelude.{◌≡◌, ◌*◌, ◌^◌, ◌≤◌, length}
-use Rattle.sd_topo.specs.Network.{IsNetwork}
+use Rattle.sd_topo.specs.Limits.{IsNetwork}
 use Rattle.sd_msg.specs.Books.{AreGiven}
 use Rattle.sd_fleet_state.specs.membership.Plans.{AreTables}
 use Rattle.sd_fleet_state.specs.membership.Memberships as memberships

@@ -2,7 +2,7 @@
 use Rattle.std.specs.Prelude.{◌≡◌, List}
 use Rattle.sd_history.specs.World.{Setting}
 use Rattle.sd_history.specs.Steps.{Step, flight_count}
-use Rattle.sd_history.specs.Refusals.{unspent}
+use Rattle.sd_history.specs.Open.{unspent}
 use Rattle.sd_history.specs.Accepted.{AreSteps}
 use Rattle.sd_fleet_state.specs.membership.Standing as membership
 use Rattle.sd_fleet_fabric.specs.Registers.{Registers}

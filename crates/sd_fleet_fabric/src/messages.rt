@@ -1,7 +1,8 @@
 //! Messages over the ends below their sender.
 ghost use Rattle.std.specs.Prelude.{◌≡◌, ◌≤◌, ◌<◌, ◌+◌, ◌-◌, ◌^◌, ◌++◌, nat_eq, length, filter, IfSome, if◌then◌else◌};
 ghost use Rattle.sd_topo.specs.Topologies.{network};
-ghost use Rattle.sd_topo.specs.Network.{Each, IsNetwork};
+ghost use Rattle.sd_topo.specs.Network.{Each};
+ghost use Rattle.sd_topo.specs.Limits.{IsNetwork};
 ghost use Rattle.sd_msg.specs.Books.{AreGiven, with_sent};
 ghost use Rattle.sd_sched.specs.Events.{reference_of, device_of};
 ghost use Rattle.sd_fleet_state.specs.membership.Plans.{IsEnd};

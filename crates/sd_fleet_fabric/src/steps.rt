@@ -1,7 +1,7 @@
 //! One step: what an accepted event makes of a fabric, once its device has told its part.
 ghost use Rattle.std.specs.Prelude.{◌≡◌, ◌≢◌, ◌≤◌, ◌<◌, ◌+◌, ◌&&◌, not, ℕ, List, ◌∷◌, None, IsTrue, length, OnOk, OnErr, if◌then◌else◌};
 ghost use Rattle.sd_sched.specs.Events.{is_end};
-ghost use Rattle.sd_sched.specs.Lines.{is_within};
+ghost use Rattle.sd_sched.specs.Spelled.{is_within};
 ghost use Rattle.sd_history.specs.World.{Setting};
 ghost use Rattle.sd_history.specs.Steps.{Step, Told, step_of};
 ghost use Rattle.sd_fleet_state.specs.membership.Memberships.{ends_below};

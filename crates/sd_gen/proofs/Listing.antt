@@ -3,7 +3,7 @@ use Rattle.std.specs.Prelude.{◌≡◌, zero, suc, List, [], ◌∷◌, ◌++�
 use Rattle.std.proofs.Common.{sym, subst, arith}
 use Rattle.std.proofs.lemmas.List.Elements.{All-append}
 use Rattle.sd_sched.specs.declared.Event.{Event}
-use Rattle.sd_sched.specs.Lines.{is_within}
+use Rattle.sd_sched.specs.Spelled.{is_within}
 use Rattle.sd_gen.specs.Listed.{AreWithin}
 
 alone : (e : Event) → IsTrue (is_within e) → AreWithin (e ∷ [])

@@ -5,7 +5,7 @@ use Rattle.std.proofs.lemmas.List.{reverse-reverse}
 use Rattle.rand_core.specs.Steps.{first_words}
 use Rattle.rand_pcg.specs.Lcg.{Lcg, advance}
 use Rattle.rand_pcg.specs.Pcg.{multiplier_64, pcg32}
-use Rattle.sd_topo.specs.Network.{IsNetwork}
+use Rattle.sd_topo.specs.Limits.{IsNetwork}
 use Rattle.sd_sched.specs.declared.Event.{Event}
 use Rattle.sd_fleet.specs.History.World.{Setting}
 use Rattle.sd_fleet.specs.History.Steps.{events_of}

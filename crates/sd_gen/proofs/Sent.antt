@@ -14,7 +14,7 @@ use Rattle.sd_sched.specs.Events.{reference_of, message_of}
 use Rattle.sd_fleet.specs.History.Things.{failure_of}
 use Rattle.sd_fleet.specs.History.World.{Setting}
 use Rattle.sd_fleet.specs.History.Steps.{Step, flight_count}
-use Rattle.sd_fleet.specs.History.Refusals.{unspent}
+use Rattle.sd_fleet.specs.History.Open.{unspent}
 use Rattle.sd_fleet.specs.History.Accepted.{AreSteps}
 use Rattle.sd_fleet.proofs.History.Among.{Among, first, later}
 use Rattle.sd_fleet.specs.History.flights.Flights.{AreNumberedOn, left_by, without_taken, without_swept, look_in}

@@ -1,6 +1,6 @@
 -- For which draft of a schedule a driver stands.
 use Rattle.std.specs.Prelude.{◌≡◌, ℕ, length}
-use Rattle.sd_topo.specs.Network.{IsNetwork}
+use Rattle.sd_topo.specs.Limits.{IsNetwork}
 use Rattle.sd_core.specs.contracts.device.DeviceNode.TheImpl.{ghosts as device}
 use Rattle.sd_fleet.specs.History.World.{Setting}
 use Rattle.sd_fleet.specs.History.Steps.{flight_count}

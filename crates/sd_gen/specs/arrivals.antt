@@ -1,4 +1,5 @@
 -- Messages that wait for their receipt.
 pub mod Waiting
+pub mod Left
 pub mod Order
 pub mod Standing

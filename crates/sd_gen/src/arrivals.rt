@@ -2,7 +2,8 @@
 ghost use Rattle.std.specs.Prelude.{◌≡◌, ◌<◌, ◌≤◌, ℕ, List, [], ◌∷◌, ◌++◌, OnOk, IsSome, IfSome};
 ghost use Rattle.std.specs.BinaryHeap.{heap_items, heap_len, IsHeap, IsHeap-prop};
 ghost use Rattle.sd_gen.specs.declared.arrivals.Arrival.{Arrival};
-ghost use Rattle.sd_gen.specs.arrivals.Waiting.{soonest, next_by, left_by};
+ghost use Rattle.sd_gen.specs.arrivals.Waiting.{soonest, next_by};
+ghost use Rattle.sd_gen.specs.arrivals.Left.{left_by};
 ghost use Rattle.sd_gen.specs.arrivals.Order.{by_receipt};
 
 use sd_num::NoMemory;

@@ -2,7 +2,7 @@
 ghost use Rattle.std.specs.Prelude.{List, IsTrue, IfOk};
 ghost use Rattle.sd_core.specs.contracts.device.DeviceNode.TheImpl.{ghosts as device};
 ghost use Rattle.sd_core.specs.declared.registers.Registers.{Registers};
-ghost use Rattle.sd_sched.specs.Lines.{is_within};
+ghost use Rattle.sd_sched.specs.Spelled.{is_within};
 ghost use Rattle.sd_fleet.specs.History.World.{Setting};
 ghost use Rattle.sd_fleet.specs.History.Nodes.{NodeStep};
 ghost use Rattle.sd_fleet.specs.Standing as fleets;

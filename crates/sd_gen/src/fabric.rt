@@ -2,7 +2,7 @@
 ghost use Rattle.std.specs.Prelude.{◌≡◌, ◌≤◌, false, Some, IfOk};
 ghost use Rattle.toml.specs.Text.{IsDocumentText};
 ghost use Rattle.sd_topotext.specs.Reading.{tree_of};
-ghost use Rattle.sd_gen.specs.fabric.Fabrics.{IsFabricText};
+ghost use Rattle.sd_gen.specs.fabric.Texts.{IsFabricText};
 ghost use Rattle.sd_gen.specs.fabric.Trees.{fabric_tree};
 
 mod arrays;

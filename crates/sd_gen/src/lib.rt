@@ -2,7 +2,7 @@
 #![tactic(auto)]
 
 ghost use Rattle.std.specs.Prelude.{◌≡◌, ◌≤◌, ◌<◌, ◌^◌, [], length, reverse, IfOk};
-ghost use Rattle.sd_topo.specs.Network.{IsNetwork};
+ghost use Rattle.sd_topo.specs.Limits.{IsNetwork};
 ghost use Rattle.sd_topo.specs.Topologies.{network};
 ghost use Rattle.sd_fleet.specs.FleetState.membership.Plans.{AreSound};
 ghost use Rattle.sd_fleet.specs.History.World.{Setting};

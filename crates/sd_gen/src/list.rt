@@ -1,6 +1,6 @@
 //! Events that are kept one by one.
 ghost use Rattle.std.specs.Prelude.{◌≡◌, ◌++◌, [], ◌∷◌, IsTrue, OnOk, OnErr};
-ghost use Rattle.sd_sched.specs.Lines.{is_within};
+ghost use Rattle.sd_sched.specs.Spelled.{is_within};
 ghost use Rattle.sd_gen.specs.Listed.{AreWithin};
 
 use sd_num::NoMemory;

@@ -1,7 +1,7 @@
 //! What each device that is up does in turn.
 ghost use Rattle.std.specs.Prelude.{◌≡◌, ◌≤◌, ◌<◌, ◌^◌, IsTrue, length, nat_eq, OnOk, if◌then◌else◌};
 ghost use Rattle.sd_sched.specs.Events.{reference_of};
-ghost use Rattle.sd_sched.specs.Lines.{is_within};
+ghost use Rattle.sd_sched.specs.Spelled.{is_within};
 ghost use Rattle.sd_fleet.specs.History.World.{Setting};
 ghost use Rattle.sd_gen.specs.Drafts.{Draft, try_if_up as try_if_up_in, try_each_up, with_starts};
 ghost use Rattle.sd_gen.specs.Turns.{event_by};

@@ -11,7 +11,8 @@ use Rattle.sd_core.specs.Msg.declared.Flight.{Flight}
 use Rattle.sd_core.specs.declared.Effect.TheVariants.{Quiet}
 use Rattle.sd_core.specs.declared.registers.Registers.{Registers}
 use Rattle.sd_core.specs.Calls as calls
-use Rattle.sd_core.specs.Calls.{Making, Call, Past, Life}
+use Rattle.sd_core.specs.Calls.{Making, Call, Past}
+use Rattle.sd_core.specs.Living.{Life}
 use Rattle.sd_core.specs.Words as words
 use Rattle.sd_core.specs.Words.{after, effect_of, report_at}
 use Rattle.sd_core.specs.Lives.{past_of}

@@ -10,7 +10,8 @@ use Rattle.sd_core.specs.declared.Effect.{Effect}
 use Rattle.sd_core.specs.declared.node.Node.{Ghosts}
 use Rattle.sd_core.specs.Calls.{Making, Call}
 use Rattle.sd_history.specs.World.{Setting}
-use Rattle.sd_history.specs.Steps.{Act, Makes, Calls, Asks, Passes, Answers, Told, tells_nothing, tells_made, tells_called, tells_report, Step, changed, step_of}
+use Rattle.sd_history.specs.Steps.{Act, Makes, Calls, Asks, Passes, Answers, Told, tells_nothing, tells_made, tells_called, Step, changed, step_of}
+use Rattle.sd_history.specs.Lives.{tells_report}
 use Rattle.sd_history.specs.Chronicle.{told_by}
 use Rattle.sd_history.specs.Refusals.{refusal}
 

@@ -1,5 +1,5 @@
 -- Why an event is refused after a history.
-use Rattle.std.specs.Prelude.{ℕ, ◌^◌, Bool, false, ◌&&◌, ◌||◌, not, List, [], ◌∷◌, length, find, filter, flat_map, reverse, max, nat_eq, nat_le, nat_lt, Option, is_some, option_map}
+use Rattle.std.specs.Prelude.{ℕ, ◌^◌, Bool, false, ◌&&◌, not, List, ◌∷◌, length, find, max, nat_eq, nat_le, nat_lt, Option, is_some, option_map}
 use Rattle.std.specs.List.{list_any}
 use Rattle.sd_sched.specs.Num.Lists.{of_some, same_number, leading}
 use Rattle.sd_core.specs.Topo.declared.Thing.TheVariants as thing
@@ -140,15 +140,3 @@ causes setting steps e =
 -- the first cause for which the event is refused after these steps
 abbrev pub refusal : Setting → List Step → Event → Option ApplyFault
 refusal setting steps e = option_map (λ cause. cause.0) (find (λ cause. cause.1) (causes setting steps e))
-
--- the event can be seen after what was seen: none of the causes that show from outside holds
-abbrev pub may_be_seen : Setting → List Seen → Event → Bool
-may_be_seen setting seen e =
-    not (unknown_device setting e || unknown_link setting e || dead_device seen e || dead_link seen e
-    || time_falls seen e || counter_falls seen e || not_started seen e || started_twice setting seen e
-    || no_plan_left setting seen e || window_order_seen setting seen e || after_end seen || not_failed seen e
-    || not_member setting seen e || too_many seen)
-
--- the flights that are not spent, as an event at this reference sees them, by ascending number
-abbrev pub unspent : List Step → ℕ → List Flight
-unspent steps reference = filter (λ f. not (is_spent steps reference f)) (reverse (flat_map (λ s. reverse s.sent) steps))

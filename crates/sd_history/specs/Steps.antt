@@ -1,6 +1,6 @@
 -- The steps of a history: each accepted event with what it did to its device, what that device told, and all flights that it sent. The
 -- newest comes first. Nothing here says what kind of device it is: its words are what the devices told.
-use Rattle.std.specs.Prelude.{ℕ, ◌+◌, ◌*◌, Bool, false, ◌&&◌, not, List, [], ◌∷◌, length, find, filter, flat_map, map, sum_by, nat_eq, nat_le, Option, Some, None, option_map, option_and_then, if◌then◌else◌}
+use Rattle.std.specs.Prelude.{ℕ, ◌+◌, ◌*◌, Bool, false, ◌&&◌, not, List, ◌∷◌, length, find, filter, flat_map, map, sum_by, nat_eq, nat_le, Option, Some, None, option_map, option_and_then, if◌then◌else◌}
 use Rattle.std.specs.List.{list_all}
 use Rattle.sd_sched.specs.Num.Lists.{of_some, same_number, latest}
 use Rattle.sd_core.specs.Topo.Network.{delay_of, rates_of}
@@ -14,7 +14,7 @@ use Rattle.sd_core.specs.Msg.declared.Flight.{Flight}
 use Rattle.sd_core.specs.declared.Effect.{Effect}
 use Rattle.sd_core.specs.declared.Effect.TheVariants.{Quiet, Send}
 use Rattle.sd_core.specs.Calls as calls
-use Rattle.sd_core.specs.Calls.{Making, Call, Life}
+use Rattle.sd_core.specs.Calls.{Making, Call}
 use Rattle.sd_sched.specs.declared.Event.{Event}
 use Rattle.sd_sched.specs.declared.Event.TheVariants as event
 use Rattle.sd_sched.specs.Events.{reference_of, device_of, received}
@@ -52,9 +52,6 @@ tells_made answers = record { effect = Quiet; answers = Some answers; report = N
 abbrev pub tells_called : Effect → Answers → Told
 tells_called effect answers = record { effect = effect; answers = Some answers; report = None }
 
-abbrev pub tells_report : Report → Told
-tells_report report = record { effect = Quiet; answers = None; report = Some report }
-
 -- an accepted event with what is seen of it, what it did, what its device told, and all flights that it sent, by ascending number
 pub record Step : Type 0 where
   pub seen : Seen
@@ -78,17 +75,6 @@ changed (Makes d making) = Some d
 changed (Calls d call) = Some d
 changed (Asks d counter) = None
 changed Passes = None
-
-abbrev pub life_after : Act → ℕ → Option Life → Option Life
-life_after (Makes e making) d before = if nat_eq e d then Some (record { making = making; calls = [] }) else before
-life_after (Calls e call) d before = if nat_eq e d then option_map (λ life. record { making = life.making; calls = call ∷ life.calls }) before else before
-life_after (Asks e counter) d before = before
-life_after Passes d before = before
-
--- the present life of a device: its latest making, and its calls since then
-abbrev pub life_in : List Step → ℕ → Option Life
-life_in [] d = None
-life_in (s ∷ earlier) d = life_after s.act d (life_in earlier d)
 
 -- what a device answers since it was last made or called
 abbrev pub answers_in : List Step → ℕ → Option Answers

@@ -6,7 +6,8 @@ use Rattle.std.proofs.lemmas.List.{drop_all, take_more, length_push}
 use Rattle.std.proofs.lemmas.List.Folds.{list_all-append}
 use Rattle.std.specs.Prelude.{nat_lt, nat_le}
 use Rattle.std.specs.List.{position, position_or_len, list_all}
-use Rattle.sd_num.specs.Decimals.{is_digit, leading_digits, value, number, number_of_digits}
+use Rattle.sd_num.specs.Decimals.{is_digit, value, number, number_of_digits}
+use Rattle.sd_num.specs.Digits.{leading_digits}
 use Rattle.sd_num.specs.declared.NumFault.TheVariants.{NotDigit}
 
 digit_first : (t : Bool) (i n : ℕ) → t ≡ true → i + cond (not (not t)) (1 + n) 0 ≡ suc i + n

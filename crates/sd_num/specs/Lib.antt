@@ -1,4 +1,5 @@
 pub mod Numbers
 pub mod Decimals
+pub mod Digits
 pub mod Lists
 pub mod Texts

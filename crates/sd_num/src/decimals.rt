@@ -1,7 +1,8 @@
 //! Decimal numbers: the digits at the front of bytes, and bytes that are a number.
 ghost use Rattle.std.specs.Prelude.{not, position, ◌≡◌, ◌≤◌, ◌<◌, ◌^◌, length, min, take, IsTrue, Some, None, nat_lt, if◌then◌else◌};
 ghost use Rattle.std.specs.List.{list_all};
-ghost use Rattle.sd_num.specs.Decimals.{number, number_of_digits, is_digit, leading_digits, value};
+ghost use Rattle.sd_num.specs.Decimals.{number, number_of_digits, is_digit, value};
+ghost use Rattle.sd_num.specs.Digits.{leading_digits};
 
 use crate::NumFault;
 

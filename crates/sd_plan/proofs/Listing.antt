@@ -6,7 +6,9 @@ use Rattle.std.proofs.lemmas.List.{get_or-replicate, length-replicate, take_all,
 use Rattle.std.proofs.lemmas.List.Elements.{filter-append}
 use Rattle.std.proofs.lemmas.List.Folds.{find-append}
 use Rattle.sd_num.specs.Lists.{below, has}
-use Rattle.sd_topo.specs.Network.{Network, IsNetwork, device_numbers, link_numbers, link_of, is_end}
+use Rattle.sd_topo.specs.Network.{Network, device_numbers, link_numbers, link_of}
+use Rattle.sd_topo.specs.Limits.{IsNetwork}
+use Rattle.sd_topo.specs.Places.{is_end}
 use Rattle.sd_topo.specs.declared.LinkEntry.{LinkEntry}
 use Rattle.sd_topo.proofs.Laws.{link_law}
 use Rattle.sd_plan.specs.Plans.{Fits, IsHop, is_member, is_present, primary_of}

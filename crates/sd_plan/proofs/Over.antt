@@ -2,7 +2,8 @@
 use Rattle.std.proofs.Common.{◌≡◌, ◌≢◌, ℕ, ◌+◌, ◌<◌, Bool, true, false, ◌&&◌, ◌||◌, ◌⊎◌, cond, List, [], ◌∷◌, ◌++◌, length, map, filter_map, get_or, Option, Some, None, option_map, Result, Ok, Err, OnOk, refl, sym, ap, ◌∙◌, inl, inr, arith, append_assoc, nat_eq, replicate}
 use Rattle.std.proofs.lemmas.List.{get_or-replicate, length-replicate}
 use Rattle.std.proofs.lemmas.Bool.{and_parts, or_cases, eqb-true, eq-eqb, ne_eqb, cases_eq, false_from_ne_true}
-use Rattle.sd_topo.specs.Network.{Network, IsNetwork, joins, link_of, device_numbers}
+use Rattle.sd_topo.specs.Network.{Network, joins, link_of, device_numbers}
+use Rattle.sd_topo.specs.Limits.{IsNetwork}
 use Rattle.sd_topo.proofs.Laws.{link_law}
 use Rattle.sd_plan.specs.Plans.{primary_of, backup_of}
 use Rattle.sd_plan.specs.Duties.{leads_to, follows_over}

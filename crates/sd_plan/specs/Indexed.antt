@@ -2,7 +2,8 @@
 use Rattle.std.specs.Prelude.{◌≡◌, ℕ, ◌<◌, ◌≤◌, Bool, ◌&&◌, not, List, length, map, filter_map, find, nat_eq, nat_le, nat_lt, slice_get, slice_index_or, Option, Some, None, IsTrue, if◌then◌else◌}
 use Rattle.std.specs.List.{list_any}
 use Rattle.sd_num.specs.Lists.{of_some}
-use Rattle.sd_topo.specs.Network.{Network, device_numbers, link_numbers, link_of, is_end}
+use Rattle.sd_topo.specs.Network.{Network, device_numbers, link_numbers, link_of}
+use Rattle.sd_topo.specs.Places.{is_end}
 use Rattle.sd_topo.specs.declared.LinkEntry.{LinkEntry}
 use Rattle.sd_topo.specs.declared.Thing.{Thing}
 use Rattle.sd_topo.specs.declared.Thing.TheVariants as thing

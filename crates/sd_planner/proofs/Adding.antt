@@ -7,13 +7,14 @@ use Rattle.std.proofs.lemmas.List.{length-replicate, get_or-replicate, get_or_pa
 use Rattle.std.proofs.lemmas.List.Folds.{list_any-append}
 use Rattle.std.proofs.lemmas.Option.{same_Some}
 use Rattle.sd_num.specs.Lists.{below, has}
-use Rattle.sd_topo.specs.Network.{Network, domain_of}
+use Rattle.sd_topo.specs.Network.{Network}
+use Rattle.sd_topo.specs.Places.{domain_of}
 use Rattle.sd_plan.specs.declared.Absent.{Absent}
 use Rattle.sd_plan.specs.declared.Hop.{Hop}
 use Rattle.sd_plan.specs.Walks.{links_of}
 use Rattle.sd_planner_place.specs.declared.placement.Placed.{Placed}
 use Rattle.sd_planner_place.specs.Spreading.{placed_at}
-use Rattle.sd_planner_place.specs.Placing.{Grows}
+use Rattle.sd_planner_place.specs.Trees.{Grows}
 use Rattle.sd_planner.specs.Climbs.{way_up}
 use Rattle.sd_planner.specs.Flags.{is_set, AreSet}
 use Rattle.sd_planner.specs.Things.{AddsAll, meets, met_device, met_link, parents_of}

@@ -3,7 +3,8 @@ use Rattle.std.proofs.Common.{◌≡◌, ℕ, suc, ◌+◌, ◌*◌, ◌^◌, �
 use Rattle.std.proofs.Math.Nat.{mul-le-mul_right}
 use Rattle.sd_num.specs.Lists.{greatest}
 use Rattle.sd_num.specs.Numbers.{up, grow}
-use Rattle.sd_topo.specs.Network.{Network, Device, Link, IsNetwork, IsRates, IsLink, greatest_up, greatest_delay}
+use Rattle.sd_topo.specs.Network.{Network, Device, Link, greatest_up, greatest_delay}
+use Rattle.sd_topo.specs.Limits.{IsNetwork, IsRates, IsLink}
 use Rattle.sd_check_root.specs.Timing.{round_gap, silence}
 
 grown : (ppm x : ℕ) → ppm * x ≤ 1000000 * x → grow ppm x ≤ x + 1

@@ -4,7 +4,8 @@ use Rattle.std.specs.List.{list_any}
 use Rattle.std.proofs.lemmas.Bool.{and_parts, ltb-true, lt-ltb, cases_lt}
 use Rattle.std.proofs.lemmas.List.{get_or_past}
 use Rattle.sd_num.specs.Lists.{below, has, of_some}
-use Rattle.sd_topo.specs.Network.{Network, Domain, domain_of, no_domain}
+use Rattle.sd_topo.specs.Network.{Network, Domain}
+use Rattle.sd_topo.specs.Places.{domain_of, no_domain}
 use Rattle.sd_plan.specs.Domain.Domains.{holds_device, holds_link}
 use Rattle.sd_plan.specs.Domain.declared.DomainId.TheVariants.{Listed}
 use Rattle.sd_plan.specs.declared.Hop.{Hop}

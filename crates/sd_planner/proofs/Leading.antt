@@ -7,7 +7,7 @@ use Rattle.sd_num.specs.Lists.{of_some}
 use Rattle.sd_topo.specs.Network.{Network}
 use Rattle.sd_plan.specs.declared.Absent.{Absent}
 use Rattle.sd_planner_place.specs.declared.placement.Placed.{Placed}
-use Rattle.sd_planner_place.specs.Placing.{Grows}
+use Rattle.sd_planner_place.specs.Trees.{Grows}
 use Rattle.sd_planner.specs.Climbs.{leads_over}
 use Rattle.sd_planner.specs.Flags.{is_set, AreOver}
 use Rattle.sd_planner.proofs.Trees.{behind, over_step, over_first}

@@ -7,7 +7,9 @@ use Rattle.std.proofs.Math.Nat.{mul-le-mul_right, mul-le-mul_left}
 use Rattle.sd_num.specs.Lists.{least, of_some}
 use Rattle.sd_num.specs.Numbers.{low, grow}
 use Rattle.sd_num.specs.declared.Rates.{Rates}
-use Rattle.sd_topo.specs.Network.{Network, Device, IsNetwork, IsRates, rates_of, no_rates, no_device}
+use Rattle.sd_topo.specs.Network.{Network, Device, rates_of, no_rates}
+use Rattle.sd_topo.specs.Limits.{IsNetwork, IsRates}
+use Rattle.sd_topo.specs.Places.{no_device}
 use Rattle.sd_planner.specs.Greedy.{IsLeastWait}
 
 -- a number divided and rounded up

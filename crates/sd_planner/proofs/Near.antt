@@ -6,7 +6,8 @@ use Rattle.std.proofs.lemmas.List.{length-replicate}
 use Rattle.std.proofs.lemmas.Option.{slice_get_within}
 use Rattle.std.proofs.lemmas.List.Folds.{list_any-append}
 use Rattle.sd_num.specs.Lists.{below, has}
-use Rattle.sd_topo.specs.Network.{Network, domain_of, device_numbers, link_numbers}
+use Rattle.sd_topo.specs.Network.{Network, device_numbers, link_numbers}
+use Rattle.sd_topo.specs.Places.{domain_of}
 use Rattle.sd_plan.specs.Domain.Domains.{domains, holds_device, holds_link, hits}
 use Rattle.sd_plan.specs.Domain.declared.DomainId.{DomainId}
 use Rattle.sd_plan.specs.Domain.declared.DomainId.TheVariants as domain

@@ -6,13 +6,15 @@ use Rattle.std.proofs.lemmas.Bool.{cases_lt, cases_eq, eq-eqb, ne_eqb}
 use Rattle.std.proofs.lemmas.List.{length-replicate, get_or-set_same, get_or-set_other, get_or-replicate, get_or_past}
 use Rattle.std.proofs.lemmas.Option.{slice_get_within}
 use Rattle.sd_num.specs.Lists.{has, of_some}
-use Rattle.sd_topo.specs.Network.{Network, IsNetwork, Each}
+use Rattle.sd_topo.specs.Network.{Network, Each}
+use Rattle.sd_topo.specs.Limits.{IsNetwork}
 use Rattle.sd_plan.specs.declared.Absent.{Absent}
 use Rattle.sd_plan.specs.Walks.{devices_of, links_of}
 use Rattle.sd_planner_place.specs.Usable.{takes_part}
 use Rattle.sd_planner_place.specs.declared.placement.Placed.{Placed}
 use Rattle.sd_planner_place.specs.Spreading.{placed_at, is_placed}
-use Rattle.sd_planner_place.specs.Placing.{backup_root_of, Grows}
+use Rattle.sd_planner_place.specs.Placing.{backup_root_of}
+use Rattle.sd_planner_place.specs.Trees.{Grows}
 use Rattle.sd_planner_place.proofs.Elements.{any_found}
 use Rattle.sd_planner_place.proofs.Growing.{placed_grows}
 use Rattle.sd_planner.specs.Climbs.{way_up}

@@ -13,7 +13,8 @@ use Rattle.sd_planner_place.specs.Usable.{hops_from, neighbours_of, hop_to}
 use Rattle.sd_planner_place.specs.declared.present.Neighbour.{Neighbour}
 use Rattle.sd_planner_place.proofs.Elements.{all_at}
 use Rattle.sd_planner_place.proofs.Adjacency.{IsNeighbourOf, neighbours_are}
-use Rattle.sd_planner_place.specs.Placing.{backup_root_of, placed, Grows}
+use Rattle.sd_planner_place.specs.Placing.{backup_root_of, placed}
+use Rattle.sd_planner_place.specs.Trees.{Grows}
 use Rattle.sd_planner.specs.Serving.{primaries, backup_for, greedy_row, greedy_rows, serves, serves_backup_root}
 use Rattle.sd_planner.proofs.Walking.{primary_is}
 use Rattle.sd_planner.proofs.Within.{hop_within}

@@ -10,8 +10,9 @@ use Rattle.sd_plan.specs.declared.Absent.{Absent}
 use Rattle.sd_plan.specs.declared.Hop.{Hop}
 use Rattle.sd_plan.specs.Walks.{devices_of, links_of}
 use Rattle.sd_planner_place.specs.declared.placement.Placed.{Placed}
-use Rattle.sd_planner_place.specs.Spreading.{placed_at, IsBelow}
-use Rattle.sd_planner_place.specs.Placing.{Grows}
+use Rattle.sd_planner_place.specs.Spreading.{placed_at}
+use Rattle.sd_planner_place.specs.Grown.{IsBelow}
+use Rattle.sd_planner_place.specs.Trees.{Grows}
 use Rattle.sd_planner_place.proofs.Growing.{at_taken, found_own}
 use Rattle.sd_planner.specs.Climbs.{hop_up, climb, way_up, leads_over}
 

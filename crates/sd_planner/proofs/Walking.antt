@@ -13,7 +13,8 @@ use Rattle.sd_plan.specs.Walks.{hops}
 use Rattle.sd_plan.proofs.Numbered.{at-numbered, length-numbered}
 use Rattle.sd_planner_place.specs.declared.placement.Placed.{Placed}
 use Rattle.sd_planner_place.specs.Spreading.{placed_at}
-use Rattle.sd_planner_place.specs.Placing.{placed, Grows}
+use Rattle.sd_planner_place.specs.Placing.{placed}
+use Rattle.sd_planner_place.specs.Trees.{Grows}
 use Rattle.sd_planner.specs.Climbs.{hop_up, climb, way_up}
 use Rattle.sd_planner.specs.Serving.{primary_row, primaries, walk_up}
 use Rattle.sd_planner.proofs.Trees.{stands, Stands}

@@ -9,7 +9,7 @@ use Rattle.sd_plan.specs.declared.Hop.{Hop}
 use Rattle.sd_plan.specs.Walks.{links_of}
 use Rattle.sd_planner_place.specs.declared.placement.Placed.{Placed}
 use Rattle.sd_planner_place.specs.Spreading.{placed_at}
-use Rattle.sd_planner_place.specs.Placing.{Grows}
+use Rattle.sd_planner_place.specs.Trees.{Grows}
 use Rattle.sd_planner.specs.Climbs.{hop_up, climb, way_up}
 use Rattle.sd_planner.specs.Things.{parents_of}
 use Rattle.sd_planner_place.proofs.Growing.{found_own}

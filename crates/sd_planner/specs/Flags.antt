@@ -4,7 +4,7 @@ use Rattle.sd_num.specs.Lists.{has}
 use Rattle.sd_topo.specs.Network.{Network}
 use Rattle.sd_plan.specs.declared.Absent.{Absent}
 use Rattle.sd_planner_place.specs.declared.placement.Placed.{Placed}
-use Rattle.sd_planner_place.specs.Placing.{Grows}
+use Rattle.sd_planner_place.specs.Trees.{Grows}
 use Rattle.sd_planner.specs.Climbs.{leads_over}
 
 -- the flag of a number, false where there is none

@@ -1,7 +1,8 @@
 -- Which listed domains have a thing.
 use Rattle.std.specs.Prelude.{◌≡◌, ℕ, ◌&&◌, List, [], nat_lt, slice_index_or}
 use Rattle.sd_num.specs.Lists.{has}
-use Rattle.sd_topo.specs.Network.{Network, domain_of}
+use Rattle.sd_topo.specs.Network.{Network}
+use Rattle.sd_topo.specs.Places.{domain_of}
 
 -- the lists of domains of each device and of each link
 pub record Lists : Type 0 where

@@ -2,7 +2,8 @@
 use Rattle.std.specs.Prelude.{◌≡◌, ℕ, Bool, false, ◌&&◌, ◌||◌, not, List, length, map, nat_eq, replicate, Some}
 use Rattle.std.specs.List.{list_any}
 use Rattle.sd_num.specs.Lists.{below, has}
-use Rattle.sd_topo.specs.Network.{Network, domain_of}
+use Rattle.sd_topo.specs.Network.{Network}
+use Rattle.sd_topo.specs.Places.{domain_of}
 use Rattle.sd_plan.specs.Domain.Domains.{domains, holds_device, holds_link, hits}
 use Rattle.sd_plan.specs.Walks.{things_of, devices_of, links_of}
 use Rattle.sd_plan.specs.declared.Hop.{Hop}

@@ -2,7 +2,7 @@
 ghost use Rattle.std.specs.Prelude.{◌≡◌, ◌<◌, length, IfOk};
 ghost use Rattle.sd_topo.specs.Topologies.{network};
 ghost use Rattle.sd_plan.specs.Plans.{Fits};
-ghost use Rattle.sd_planner_place.specs.Usable.{IsAbsentOf};
+ghost use Rattle.sd_planner_place.specs.Absences.{IsAbsentOf};
 ghost use Rattle.sd_planner.specs.Greedy.{IsGreedy};
 ghost use Rattle.sd_planner.specs.Planning.{IsPlanned};
 

@@ -1,7 +1,8 @@
 //! The least waits that meet the timing rules.
 ghost use Rattle.std.specs.Prelude.{◌≡◌, ℕ, ◌≤◌, ◌<◌, ◌+◌, ◌*◌, ◌^◌, max};
 ghost use Rattle.sd_num.specs.Numbers.{low};
-ghost use Rattle.sd_topo.specs.Network.{IsRates, greatest_up};
+ghost use Rattle.sd_topo.specs.Network.{greatest_up};
+ghost use Rattle.sd_topo.specs.Limits.{IsRates};
 ghost use Rattle.sd_topo.specs.Topologies.{network};
 ghost use Rattle.sd_check_root.specs.Timing.{silence};
 ghost use Rattle.sd_planner.specs.Greedy.{IsLeastWait};

@@ -1,7 +1,8 @@
 -- The flags of members and of links.
 use Rattle.std.proofs.Common.{◌≡◌, ℕ, ◌<◌, Bool, false, ◌&&◌, not, List, length, map, get_or, Result, Ok, Err, OnOk, refl, ap, ◌∙◌}
 use Rattle.sd_num.specs.Lists.{below, has}
-use Rattle.sd_topo.specs.Network.{Network, IsNetwork, device_numbers, link_numbers, link_of}
+use Rattle.sd_topo.specs.Network.{Network, device_numbers, link_numbers, link_of}
+use Rattle.sd_topo.specs.Limits.{IsNetwork}
 use Rattle.sd_topo.proofs.Laws.{link_law}
 use Rattle.sd_plan.specs.declared.Absent.{Absent}
 use Rattle.sd_plan.proofs.Numbered.{get_or-numbered}

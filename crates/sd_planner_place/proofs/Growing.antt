@@ -7,15 +7,18 @@ use Rattle.std.proofs.lemmas.List.{take-append-le, length-append, length-map, ap
 use Rattle.std.proofs.lemmas.Option.{slice_get_within, same_Some}
 use Rattle.std.proofs.lemmas.Map.Steps.{length-le_from_distinct_below}
 use Rattle.sd_num.specs.Lists.{below, of_some}
-use Rattle.sd_topo.specs.Network.{Network, IsNetwork, joins}
+use Rattle.sd_topo.specs.Network.{Network, joins}
+use Rattle.sd_topo.specs.Limits.{IsNetwork}
 use Rattle.sd_plan.specs.declared.Hop.{Hop}
 use Rattle.sd_plan.specs.declared.Absent.{Absent}
 use Rattle.sd_plan.proofs.Numbered.{found_passes}
 use Rattle.sd_planner_place.specs.Usable.{takes_part, is_usable, are_neighbours, link_between}
 use Rattle.sd_planner_place.specs.declared.placement.Placed.{Placed}
-use Rattle.sd_planner_place.specs.Spreading.{placed_at, is_placed, depth_of, below_device, spread, IsBelow, SpreadGrows}
+use Rattle.sd_planner_place.specs.Spreading.{placed_at, is_placed, depth_of, below_device, spread}
+use Rattle.sd_planner_place.specs.Grown.{IsBelow, SpreadGrows}
 use Rattle.sd_planner_place.proofs.SpreadGrowing.{spread_grows}
-use Rattle.sd_planner_place.specs.Placing.{no_later, nearest, with_device, next_left, with_left, backup_root_of, through_root, through_backup, root_part, with_backup_root, both_parts, placed, is_on_backup_side, Grows, IsTree}
+use Rattle.sd_planner_place.specs.Placing.{no_later, nearest, with_device, next_left, with_left, backup_root_of, through_root, through_backup, root_part, with_backup_root, both_parts, placed, is_on_backup_side}
+use Rattle.sd_planner_place.specs.Trees.{Grows, IsTree}
 use Rattle.sd_planner_place.specs.Nearing.{AreKnown}
 use Rattle.sd_planner_place.proofs.Elements.{found_at_place, find_alone, any_at, at_any, any_found}
 use Rattle.sd_planner_place.proofs.Turning.{nat_swap}

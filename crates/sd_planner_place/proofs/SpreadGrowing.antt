@@ -11,7 +11,8 @@ use Rattle.sd_plan.specs.declared.Hop.{Hop}
 use Rattle.sd_plan.specs.declared.Absent.{Absent}
 use Rattle.sd_planner_place.specs.Usable.{is_usable, link_between, are_neighbours}
 use Rattle.sd_planner_place.specs.declared.placement.Placed.{Placed}
-use Rattle.sd_planner_place.specs.Spreading.{below_device, ring, placed_ring, spread, IsBelow, SpreadGrows}
+use Rattle.sd_planner_place.specs.Spreading.{below_device, ring, placed_ring, spread}
+use Rattle.sd_planner_place.specs.Grown.{IsBelow, SpreadGrows}
 use Rattle.sd_planner_place.proofs.Lists.{has_flat, found_has, AreApart, apart_flat, apart_below, apart_places}
 use Rattle.sd_planner_place.proofs.Places.{at_before}
 use Rattle.sd_planner_place.proofs.Walks.{steps}

@@ -1,10 +1,13 @@
 pub mod Usable
+pub mod Absences
 pub mod Views
 pub mod Gathered
 pub mod Spreading
+pub mod Grown
 pub mod Placements
 pub mod PlacementView
 pub mod Sweeps
 pub mod Placing
+pub mod Trees
 pub mod Nearing
 pub mod Waits

@@ -1,14 +1,13 @@
 -- How the greedy plan places devices: each below its primary parent, in an order.
-use Rattle.std.specs.Prelude.{◌≡◌, ◌≢◌, ℕ, zero, suc, ◌+◌, ◌<◌, Bool, false, true, ◌&&◌, ◌||◌, not, List, [], ◌∷◌, ◌++◌, length, find, nat_eq, nat_le, nat_lt, Option, Some, None, is_some, option_map, slice_get, take, IsTrue, if◌then◌else◌}
+use Rattle.std.specs.Prelude.{ℕ, zero, suc, Bool, false, true, ◌&&◌, not, List, ◌∷◌, ◌++◌, length, find, nat_eq, nat_le, nat_lt, Option, None, is_some, option_map, if◌then◌else◌}
 use Rattle.std.specs.List.{list_all}
 use Rattle.sd_num.specs.Lists.{of_some, at_place}
-use Rattle.sd_topo.specs.Network.{Network, Each, joins}
+use Rattle.sd_topo.specs.Network.{Network}
 use Rattle.sd_topo.specs.declared.Side.TheVariants as side
-use Rattle.sd_plan.specs.declared.Hop.{Hop}
 use Rattle.sd_plan.specs.declared.Absent.{Absent}
-use Rattle.sd_planner_place.specs.Usable.{takes_part, all_members, is_usable, are_neighbours}
+use Rattle.sd_planner_place.specs.Usable.{takes_part, all_members, are_neighbours}
 use Rattle.sd_planner_place.specs.declared.placement.Placed.{Placed}
-use Rattle.sd_planner_place.specs.Spreading.{is_placed, depth_of, below_device, spread, IsBelow}
+use Rattle.sd_planner_place.specs.Spreading.{is_placed, depth_of, below_device, spread}
 
 -- p comes before q, or is q, by depth and then by number
 abbrev pub no_later : Placed → Placed → Bool
@@ -78,19 +77,3 @@ module _ (net : Network) (root : ℕ) (absent : Absent) where
   -- the placed devices, in their order: none where the root is absent
   unfoldable pub placed : List Placed
   placed = if takes_part net absent root then placed_all else []
-
--- the placed devices make a tree that grew one by one from the root: members, none twice, each below one that was placed before it
-pub record Grows (net : Network) (root : ℕ) (absent : Absent) (list : List Placed) : Type 0 where
-  pub first : (p : Placed) → slice_get list 0 ≡ Some p → p ≡ record { device = root; depth = 0; hop = None }
-  pub members : Each (λ p. (p.device < length net.devices) × IsTrue (takes_part net absent p.device)) list
-  pub distinct : (i j : ℕ) (p q : Placed) → i < j → slice_get list i ≡ Some p → slice_get list j ≡ Some q → p.device ≢ q.device
-  pub parents : (i : ℕ) (p : Placed) → slice_get list (i + 1) ≡ Some p → IsBelow net absent (take (i + 1) list) p
-
--- the same, with something in it
-pub record IsTree (net : Network) (root : ℕ) (absent : Absent) (list : List Placed) : Type 0 where
-  pub grown : Grows net root absent list
-  pub some : 0 < length list
-
--- from some root
-abbrev pub HasGrown : Network → Absent → List Placed → Type 0
-HasGrown net absent list = (root : ℕ) × IsTree net root absent list

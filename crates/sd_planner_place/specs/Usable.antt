@@ -1,15 +1,10 @@
 -- The neighbours of devices over what is left where devices and links are absent.
-use Rattle.std.specs.Prelude.{ℕ, Bool, ◌&&◌, not, List, length, map, find, filter, flat_map, Option, is_some, IsTrue}
-use Rattle.sd_num.specs.Lists.{has, ascends, all_below}
+use Rattle.std.specs.Prelude.{ℕ, Bool, ◌&&◌, not, List, map, find, filter, flat_map, Option, is_some}
+use Rattle.sd_num.specs.Lists.{has}
 use Rattle.sd_topo.specs.Network.{Network, device_numbers, link_numbers, joins, link_of}
 use Rattle.sd_plan.specs.declared.Absent.{Absent}
 use Rattle.sd_plan.specs.declared.Hop.{Hop}
 use Rattle.sd_planner_place.specs.declared.present.Neighbour.{Neighbour}
-
--- what is absent is part of the network, each list ascending
-pub record IsAbsentOf (net : Network) (absent : Absent) : Type 0 where
-  pub devices : IsTrue (ascends absent.devices && all_below (length net.devices) absent.devices)
-  pub links : IsTrue (ascends absent.links && all_below (length net.links) absent.links)
 
 -- the hop that leads to a neighbour
 abbrev pub hop_to : Neighbour → Hop

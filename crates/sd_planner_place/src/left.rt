@@ -3,7 +3,7 @@ ghost use Rattle.std.specs.Prelude.{◌≡◌, ◌<◌, length, OnOk, IfOk};
 ghost use Rattle.sd_planner_place.specs.Usable.{neighbours_of};
 ghost use Rattle.sd_planner_place.specs.Views.{net_of, left_out};
 ghost use Rattle.sd_planner_place.specs.Placing as placing;
-ghost use Rattle.sd_planner_place.specs.Placing.{HasGrown};
+ghost use Rattle.sd_planner_place.specs.Trees.{HasGrown};
 ghost use Rattle.sd_planner_place.specs.Waits.{AreWaiting, IsNextStep};
 
 use crate::nearest::place_nearest;

@@ -3,7 +3,7 @@ ghost use Rattle.std.specs.Prelude.{◌≡◌, ◌<◌, true, false, nat_eq, len
 ghost use Rattle.sd_planner_place.specs.Usable.{takes_part};
 ghost use Rattle.sd_planner_place.specs.Views.{net_of, left_out};
 ghost use Rattle.sd_planner_place.specs.Placing as placing;
-ghost use Rattle.sd_planner_place.specs.Placing.{Grows};
+ghost use Rattle.sd_planner_place.specs.Trees.{Grows};
 
 use crate::left::place_left;
 use crate::nearest::place_nearest;

@@ -8,7 +8,8 @@ use Rattle.json.specs.Print.{escape}
 use Rattle.json.proofs.Printed.Strings.{escape_byte_plain}
 use Rattle.serde_json.specs.Written.{compact_text}
 use Rattle.sd_num.specs.Lists.{of_some, at_place}
-use Rattle.sd_topo.specs.Network.{Network, Device, Link, IsNetwork, Each, is_name, is_name_byte, name_at, device_names, link_names}
+use Rattle.sd_topo.specs.Network.{Network, Device, Link, Each, is_name, is_name_byte, name_at, device_names, link_names}
+use Rattle.sd_topo.specs.Limits.{IsNetwork}
 use Rattle.sd_plantext.specs.Printed.{quoted, device_name, link_name}
 use Rattle.sd_plantext.specs.PrintedTree.{device_data, link_data}
 

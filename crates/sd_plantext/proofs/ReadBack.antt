@@ -6,7 +6,8 @@ use Rattle.std.proofs.lemmas.List.{append-nil}
 use Rattle.serde_json.specs.Data.{Data, Items, array as array_data, string}
 use Rattle.serde_json.specs.View.{items_of}
 use Rattle.sd_num.specs.Lists.{has, ascends, all_below, of_some, at_place}
-use Rattle.sd_topo.specs.Network.{Network, Device, Link, IsNetwork, AreDistinct, Each, name_at, device_names, link_names, device_numbers}
+use Rattle.sd_topo.specs.Network.{Network, Device, Link, Each, name_at, device_names, link_names, device_numbers}
+use Rattle.sd_topo.specs.Limits.{IsNetwork, AreDistinct}
 use Rattle.sd_topo.proofs.Ascending.{ascending-itself}
 use Rattle.sd_topo.proofs.Laws.{within_all}
 use Rattle.sd_topo.proofs.Lists.{names_count, each_of}

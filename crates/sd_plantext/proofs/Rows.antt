@@ -8,7 +8,8 @@ use Rattle.sd_plan.specs.declared.PlanRow.{PlanRow}
 use Rattle.sd_plantext.specs.Counted.{filled}
 use Rattle.serde_json.specs.View.{view, items_view}
 use Rattle.serde_json.specs.declared.value.Value.{Value}
-use Rattle.sd_plantext.specs.Gives.{◌>>=◌, Fails}
+use Rattle.sd_plantext.specs.Gives.{Fails}
+use Rattle.sd_plantext.specs.Then.{◌>>=◌}
 use Rattle.sd_plantext.specs.Meaning.{is_free, one_more_row, rows_from}
 use Rattle.sd_plantext.specs.declared.fault.PlanFault.{PlanFault}
 use Rattle.sd_plantext.specs.declared.fault.PlanFault.TheVariants as faults

@@ -6,7 +6,8 @@ use Rattle.json.specs.Print as json
 use Rattle.serde_json.specs.Data.{Data, array, object as object_data, Members, no_members, member}
 use Rattle.serde_json.specs.View.{items_of}
 use Rattle.serde_json.specs.Written.{compact_text, items_text, members_text}
-use Rattle.sd_topo.specs.Network.{Network, IsNetwork, device_numbers}
+use Rattle.sd_topo.specs.Network.{Network, device_numbers}
+use Rattle.sd_topo.specs.Limits.{IsNetwork}
 use Rattle.sd_plan.specs.declared.Hop.{Hop}
 use Rattle.sd_plan.specs.declared.PlanRow.{PlanRow}
 use Rattle.sd_plan.specs.declared.Plan.{Plan as PlanShown}

@@ -21,7 +21,7 @@ use Rattle.sd_plantext.specs.declared.fault.PlanKey.{PlanKey}
 use Rattle.sd_plantext.specs.declared.fault.PlanKey.TheVariants as keys
 use Rattle.sd_plantext.specs.declared.fault.PlanFault.{PlanFault}
 use Rattle.sd_plantext.specs.declared.fault.PlanFault.TheVariants.{Range, TwiceNamed}
-use Rattle.sd_plantext.specs.Gives.{◌>>=◌}
+use Rattle.sd_plantext.specs.Then.{◌>>=◌}
 use Rattle.sd_plantext.specs.Meaning.{place, value, allowed, there, of_kind, an_object, number, version_in, wait_in, known, referred, named, array, one_more_name, names_from, names_in, absent_in, hop_in, backup_in, row_in, is_free, device_in, one_more_row, rows_from, no_rows, rows_in, plan_in}
 
 -- what goes on without a fault had none before

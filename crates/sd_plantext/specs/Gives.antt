@@ -3,12 +3,6 @@ use Rattle.std.specs.Prelude.{◌≡◌, Result, Ok, Err}
 use Rattle.sd_plantext.specs.declared.fault.PlanFault.{PlanFault}
 use Rattle.sd_plantext.specs.declared.fault.PlanFault.TheVariants as faults
 
-infixl 10 ◌>>=◌
--- go on where there is no fault
-abbrev pub ◌>>=◌ : {A B : Type 0} → Result A PlanFault → (A → Result B PlanFault) → Result B PlanFault
-(Ok x) >>= f = f x
-(Err e) >>= f = Err e
-
 -- out of memory is free, and each other fault is the first one
 abbrev pub Fails : {Y : Type 0} → PlanFault → Result Y PlanFault → Type 0
 Fails faults.NotJson read = read ≡ Err faults.NotJson

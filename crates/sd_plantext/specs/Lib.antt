@@ -1,5 +1,6 @@
 pub mod Keys
 pub mod Gives
+pub mod Then
 pub mod Meaning
 pub mod Reading
 pub mod Counted

@@ -8,7 +8,7 @@ use Rattle.sd_plan.specs.declared.Hop.{Hop}
 use Rattle.sd_plan.specs.declared.PlanRow.{PlanRow}
 use Rattle.sd_plan.specs.declared.Absent.{Absent as Left}
 use Rattle.sd_plan.specs.declared.Plan.{Plan as PlanMeant}
-use Rattle.sd_plantext.specs.Gives.{◌>>=◌}
+use Rattle.sd_plantext.specs.Then.{◌>>=◌}
 use Rattle.sd_plantext.specs.Keys.{word_of}
 use Rattle.sd_plantext.specs.declared.fault.PlanPlace.{PlanPlace}
 use Rattle.sd_plantext.specs.declared.fault.PlanKey.{PlanKey}

@@ -14,7 +14,8 @@ use Rattle.sd_sched.specs.declared.Event.TheVariants as event
 use Rattle.sd_sched.specs.Events.{reference_of, device_of, message_of, received, is_stage, is_commit}
 use Rattle.sd_history.specs.World.{Setting, Seen, window, has_commit, latest_reference}
 use Rattle.sd_history.specs.Steps.{Step, seen_of, flights, flight_numbered, flight_count, first_step, taken_by, has_turned}
-use Rattle.sd_history.specs.Refusals.{may_be_seen, refusal, causes, unknown_device, unknown_link, dead_device, dead_link, time_falls, counter_falls, not_started, started_twice, no_plan_left, window_order_seen, window_order_within, after_end, not_failed, not_member, too_many, was_used, was_swept, is_spent}
+use Rattle.sd_history.specs.Refusals.{refusal, causes, unknown_device, unknown_link, dead_device, dead_link, time_falls, counter_falls, not_started, started_twice, no_plan_left, window_order_seen, window_order_within, after_end, not_failed, not_member, too_many, was_used, was_swept, is_spent}
+use Rattle.sd_history.specs.Open.{may_be_seen}
 use Rattle.sd_history.specs.Accepted.{AreSteps}
 use Rattle.sd_history.specs.Premises as premises
 use Rattle.sd_history.proofs.Among.{Among, first, later, found, either_side}

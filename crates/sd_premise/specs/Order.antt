@@ -6,7 +6,7 @@ use Rattle.sd_topo.specs.Network.{delay_of}
 use Rattle.sd_msg.specs.declared.Flight.{Flight}
 use Rattle.sd_sched.specs.Events.{reference_of, is_commit}
 use Rattle.sd_history.specs.World.{Setting, Seen, has_commit}
-use Rattle.sd_history.specs.Refusals.{may_be_seen}
+use Rattle.sd_history.specs.Open.{may_be_seen}
 use Rattle.sd_history.specs.Premises.{flights, was_received}
 use Rattle.sd_premise_loss.specs.rounds.Order.{last_sent}
 

@@ -10,7 +10,8 @@ use Rattle.sd_topo.specs.Network.{rates_of}
 use Rattle.sd_sched.specs.Events.{reference_of}
 use Rattle.sd_fleet_state.specs.History.World.{Setting, Seen, latest_reference, latest_reading}
 use Rattle.sd_fleet_state.specs.History.Premises.{readings, reads_honestly, drift_holds}
-use Rattle.sd_fleet_state.specs.History.Refusals.{makes_some, may_be_seen}
+use Rattle.sd_fleet_state.specs.History.Refusals.{makes_some}
+use Rattle.sd_fleet_state.specs.History.Open.{may_be_seen}
 use Rattle.sd_premise_clocks.specs.declared.offsets.Reading.{Reading}
 use Rattle.sd_premise_clocks.specs.declared.offsets.Offsets.{Offsets}
 use Rattle.sd_premise_clocks.specs.Readings.{pair_of, keeps_rates_with, is_after_each, no_offsets, offsets_at, lesser, are_within, least_offsets}

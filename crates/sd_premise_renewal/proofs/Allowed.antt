@@ -7,7 +7,8 @@ use Rattle.sd_sched.specs.declared.Event.{Event}
 use Rattle.sd_sched.specs.Events.{device_of, joined, given, is_stage, is_commit, is_seal}
 use Rattle.sd_fleet_state.specs.History.Things.{mended}
 use Rattle.sd_fleet_state.specs.History.World.{Setting, Seen, window, window_is_open, has_commit, epoch_in_force, staged}
-use Rattle.sd_fleet_state.specs.History.Refusals.{may_be_seen, unknown_device, unknown_link, dead_device, dead_link, time_falls, counter_falls, not_started, started_twice, no_plan_left, past_preparing, window_order_seen, after_end, not_failed, not_member, too_many}
+use Rattle.sd_fleet_state.specs.History.Refusals.{unknown_device, unknown_link, dead_device, dead_link, time_falls, counter_falls, not_started, started_twice, no_plan_left, past_preparing, window_order_seen, after_end, not_failed, not_member, too_many}
+use Rattle.sd_fleet_state.specs.History.Open.{may_be_seen}
 use Rattle.sd_premise_clocks.proofs.Ticking.{epoch_kept, window_kept}
 use Rattle.sd_premise_renewal.specs.Renewals.{IsPlanned}
 

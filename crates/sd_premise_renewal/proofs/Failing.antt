@@ -9,7 +9,8 @@ use Rattle.sd_topo.specs.declared.Thing.{Thing}
 use Rattle.sd_topo.specs.declared.Thing.TheVariants as thing
 use Rattle.sd_domain.specs.Domains.{within_one}
 use Rattle.sd_domain.specs.Failing.{HasRoomFor}
-use Rattle.sd_domain.specs.Failures.{FailedThings, nothing_of, with_thing, things_of, has_thing, same_thing}
+use Rattle.sd_domain.specs.Failures.{FailedThings, nothing_of, with_thing, things_of, has_thing}
+use Rattle.sd_domain.specs.Things.{same_thing}
 use Rattle.sd_domain.specs.declared.DomainId.TheVariants as domain
 use Rattle.sd_domain.proofs.Within.{has_thing-nothing_of, has_thing-with_thing, within_one-listed}
 use Rattle.sd_fleet_state.specs.History.Things.{failure_of}

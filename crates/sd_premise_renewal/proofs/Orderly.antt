@@ -8,7 +8,7 @@ use Rattle.sd_plan.specs.Plans.{is_member, members}
 use Rattle.sd_sched.specs.Events.{is_commit, is_seal}
 use Rattle.sd_fleet_state.specs.History.World.{Setting, Seen, window, window_is_open, is_up, has_entered, joined_in_window, in_force, staged, staged_epoch, plan_numbered}
 use Rattle.sd_fleet_state.specs.History.Premises.{was_given, is_prepared, leaves_out_failed, leaves_out_cleanly, commits_orderly, has_seal, seals_orderly}
-use Rattle.sd_fleet_state.specs.History.Refusals.{may_be_seen}
+use Rattle.sd_fleet_state.specs.History.Open.{may_be_seen}
 use Rattle.sd_premise_renewal.specs.Moments.{staged_plan, IsReady}
 use Rattle.sd_premise_renewal.specs.Progressing.{ProgressKept, HasDevices, progress_after, ProgressStands}
 use Rattle.sd_premise_renewal.specs.Renewals.{RenewalKept, IsPlanned, RenewalStands}

@@ -4,7 +4,8 @@ use Rattle.std.specs.Prelude.{slice_get}
 use Rattle.std.proofs.lemmas.Bool.{and_parts, or_cases, both_ways, not-true, not_from_true, not_from_false}
 use Rattle.std.proofs.lemmas.Option.{slice_get-get_or}
 use Rattle.sd_num.specs.Lists.{has, of_some}
-use Rattle.sd_topo.specs.Network.{IsNetwork, IsLink, joins, link_of}
+use Rattle.sd_topo.specs.Network.{joins, link_of}
+use Rattle.sd_topo.specs.Limits.{IsNetwork, IsLink}
 use Rattle.sd_topo.proofs.Laws.{link_law}
 use Rattle.sd_plan.specs.declared.Hop.{Hop}
 use Rattle.sd_plan.specs.declared.Plan.{Plan}

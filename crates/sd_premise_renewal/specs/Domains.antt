@@ -6,7 +6,8 @@ use Rattle.sd_topo.specs.Network.{Network}
 use Rattle.sd_topo.specs.declared.Thing.{Thing}
 use Rattle.sd_domain.specs.Failing.{HasRoomFor}
 use Rattle.sd_domain.specs.Domains.{within_one}
-use Rattle.sd_domain.specs.Failures.{FailedThings, failed_code, nothing_of, with_thing, things_of, has_thing, same_thing}
+use Rattle.sd_domain.specs.Failures.{FailedThings, failed_code, nothing_of, with_thing, things_of, has_thing}
+use Rattle.sd_domain.specs.Things.{same_thing}
 use Rattle.sd_fleet_state.specs.History.Things.{failure_of}
 use Rattle.sd_fleet_state.specs.History.World.{Setting, Seen}
 use Rattle.sd_fleet_state.specs.History.Premises.{failures_since_closing, domain_holds}

@@ -5,7 +5,7 @@ ghost use Rattle.sd_topo.specs.Topologies.{network};
 ghost use Rattle.sd_plan.specs.Plans.{members};
 ghost use Rattle.sd_sched.specs.Events.{device_of};
 ghost use Rattle.sd_fleet_state.specs.History.Premises.{is_prepared, commits_orderly, seals_orderly, fails_orderly, begins_orderly};
-ghost use Rattle.sd_fleet_state.specs.History.Refusals.{may_be_seen};
+ghost use Rattle.sd_fleet_state.specs.History.Open.{may_be_seen};
 ghost use Rattle.sd_fleet_state.specs.History.World.{Setting, Seen as Sight, is_up, has_entered, is_untouched, window_is_open};
 ghost use Rattle.sd_premise_clocks.specs.Sights.{sight_of};
 ghost use Rattle.sd_premise_renewal.specs.Moments.{staged_plan};

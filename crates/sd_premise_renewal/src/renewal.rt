@@ -5,7 +5,7 @@ ghost use Rattle.sd_topo.specs.Topologies.{network};
 ghost use Rattle.sd_sched.specs.Events.{device_of};
 ghost use Rattle.sd_fleet_state.specs.History.World.{Setting, Seen as Sight};
 ghost use Rattle.sd_fleet_state.specs.History.Premises.{renew_holds};
-ghost use Rattle.sd_fleet_state.specs.History.Refusals.{may_be_seen};
+ghost use Rattle.sd_fleet_state.specs.History.Open.{may_be_seen};
 ghost use Rattle.sd_premise_clocks.specs.Sights.{sight_of};
 ghost use Rattle.sd_premise_renewal.specs.Moments.{IsMomentOf};
 ghost use Rattle.sd_premise_renewal.specs.Progressing.{HasDevices};

@@ -3,7 +3,8 @@ use Rattle.sd_drill.specs.Topo.Network.{Network}
 use Rattle.sd_drill.specs.Domain.declared.DomainId.{DomainId}
 use Rattle.sd_drill.specs.Plan.declared.Plan.{Plan}
 use Rattle.sd_drill.specs.declared.Budget.{Budget}
-use Rattle.sd_proof_bound.specs.Bound.{alone, BoundHolds}
+use Rattle.sd_proof_bound.specs.Bound.{alone}
+use Rattle.sd_proof_bound.specs.Holding.{BoundHolds}
 use Rattle.sd_proof_bound.proofs.Composing as composing
 use Rattle.sd_proof_bound.proofs.bases.Concluding.{bases_hold}
 use Rattle.sd_proof_bound.proofs.ages.Ages.{ages_hold}

@@ -29,7 +29,8 @@ use Rattle.sd_drill.specs.Drill.{IsWorst}
 use Rattle.sd_proof_safety.specs.messages.Moments.{Tail, whole, behind}
 use Rattle.sd_proof_safety.proofs.messages.Tails.{rest_of}
 use Rattle.sd_proof_safety.proofs.messages.Prefixes.{all_hold_before}
-use Rattle.sd_proof_bound.specs.Bound.{alone, no_stage, within_base, within_hold, held_briefly, FailsSo, BoundHolds}
+use Rattle.sd_proof_bound.specs.Bound.{alone, no_stage, within_base, within_hold, held_briefly, FailsSo}
+use Rattle.sd_proof_bound.specs.Holding.{BoundHolds}
 use Rattle.sd_proof_bound.specs.Recovering.{steps_under, Recovers}
 use Rattle.sd_proof_bound.specs.Halves.{IsBased, BasesHold, AgesHold}
 

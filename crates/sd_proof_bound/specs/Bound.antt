@@ -1,17 +1,14 @@
 -- What the drill promises of every history: no report of a live device is above its bound.
-use Rattle.std.specs.Prelude.{◌≡◌, ℕ, ◌-◌, ◌≤◌, Bool, true, ◌&&◌, ◌||◌, not, List, [], ◌∷◌, ◌++◌, filter_map, nat_eq, nat_le, IsTrue, Some, None, ◌⊎◌}
+use Rattle.std.specs.Prelude.{◌≡◌, ℕ, ◌-◌, ◌≤◌, Bool, true, ◌&&◌, not, List, ◌∷◌, ◌++◌, filter_map, nat_eq, nat_le, IsTrue, Some, None, ◌⊎◌}
 use Rattle.std.specs.List.{list_all, list_any}
 use Rattle.sd_drill.specs.Num.Lists.{of_some}
-use Rattle.sd_drill.specs.Topo.Network.{IsNetwork}
 use Rattle.sd_drill.specs.Topo.declared.Thing.{Thing}
 use Rattle.sd_drill.specs.Domain.Domains.{holds}
-use Rattle.sd_drill.specs.Domain.Failures.{same_thing}
+use Rattle.sd_drill.specs.Domain.Things.{same_thing}
 use Rattle.sd_drill.specs.Domain.declared.DomainId.{DomainId}
 use Rattle.sd_drill.specs.Plan.declared.Plan.{Plan}
-use Rattle.sd_drill.specs.Plan.Plans.{Fits}
 use Rattle.sd_drill.specs.Topo.Network.{Network}
 use Rattle.sd_proof_safety.specs.Clock.declared.Report.{Report}
-use Rattle.sd_drill.specs.Checker.Verdicts.{IsAccepted}
 use Rattle.sd_proof_safety.specs.Core.Words.{estimate_now}
 use Rattle.sd_proof_safety.specs.Sched.declared.Event.{Event}
 use Rattle.sd_proof_safety.specs.Sched.Events.{reference_of, device_of, counter_of, is_stage}
@@ -21,7 +18,6 @@ use Rattle.sd_proof_safety.specs.History.Steps.{Step, seen_of, acts_in}
 use Rattle.sd_proof_safety.specs.History.Chronicle.{chronicle, past_in, IsHistory}
 use Rattle.sd_proof_safety.specs.History.Premises.{all_hold, clock_set}
 use Rattle.sd_proof_safety.specs.History.Lines.{report_of}
-use Rattle.sd_drill.specs.Drill.{IsWorst}
 use Rattle.sd_drill.specs.declared.Budget.{Budget}
 
 abbrev pub no_stage : List Seen → Bool
@@ -72,8 +68,3 @@ StaysBelow net plan budget f d w =
     → FailsSo net f (seen_of (later ++ s ∷ earlier))
     → report_of s ≡ Some (d, report) → IsTrue (is_counted (alone net plan) (seen_of earlier) d)
     → report.eps ≤ w
-
--- the bound of each device, of an accepted plan, is one that its reports stay below
-abbrev pub BoundHolds : Network → Plan → Budget → DomainId → Type 0
-BoundHolds net plan budget f =
-    IsNetwork net → Fits net plan → IsAccepted net plan → (d w : ℕ) → IsWorst net plan budget f d w → StaysBelow net plan budget f d w

@@ -1,4 +1,5 @@
 pub mod Bound
+pub mod Holding
 pub mod Recovering
 pub mod Halves
 pub mod ages

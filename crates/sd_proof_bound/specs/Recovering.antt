@@ -1,6 +1,7 @@
 -- A run that recovers: all that the bound of the drill is given of a history.
 use Rattle.std.specs.Prelude.{List, IsTrue}
-use Rattle.sd_drill.specs.Topo.Network.{Network, IsNetwork}
+use Rattle.sd_drill.specs.Topo.Network.{Network}
+use Rattle.sd_drill.specs.Topo.Limits.{IsNetwork}
 use Rattle.sd_drill.specs.Domain.declared.DomainId.{DomainId}
 use Rattle.sd_drill.specs.Plan.declared.Plan.{Plan}
 use Rattle.sd_drill.specs.Plan.Plans.{Fits}

@@ -6,7 +6,8 @@ use Rattle.std.specs.Str.{bytes_eq}
 use Rattle.std.proofs.Common.{arith, sym, ap, ◌∙◌}
 use Rattle.sd_wait.specs.Num.Lists.{at_place}
 use Rattle.sd_wait.specs.Num.Texts.{text_of}
-use Rattle.sd_replay.specs.Topo.Network.{Network, IsNetwork}
+use Rattle.sd_replay.specs.Topo.Network.{Network}
+use Rattle.sd_replay.specs.Topo.Limits.{IsNetwork}
 use Rattle.sd_replay.proofs.Topo.Places.{same_bytes}
 use Rattle.sd_cmd_files.specs.Checker.Text.{breach_words, refused_line}
 use Rattle.sd_cmd_files.specs.Checker.declared.Breach.{Breach}

@@ -4,7 +4,8 @@ use Rattle.std.specs.List.{list_all, join_with_byte}
 use Rattle.std.specs.Str.{bytes_eq}
 use Rattle.std.proofs.Common.{ap, ◌∙◌}
 use Rattle.sd_wait.specs.Num.Lists.{at_place}
-use Rattle.sd_replay.specs.Topo.Network.{Network, IsNetwork, device_names}
+use Rattle.sd_replay.specs.Topo.Network.{Network, device_names}
+use Rattle.sd_replay.specs.Topo.Limits.{IsNetwork}
 use Rattle.sd_replay.specs.Sched.Lines.{fields}
 use Rattle.sd_replay.specs.History.World.{Setting}
 use Rattle.sd_replay.specs.History.Steps.{Step}

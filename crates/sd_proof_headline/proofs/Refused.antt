@@ -6,7 +6,8 @@ use Rattle.std.proofs.lemmas.Bool.{and_from}
 use Rattle.std.proofs.lemmas.List.Folds.{list_all-append}
 use Rattle.std.proofs.lemmas.Option.{slice_get-map}
 use Rattle.sd_wait.specs.Num.Lists.{of_some, at_place}
-use Rattle.sd_replay.specs.Topo.Network.{Network, IsNetwork, Each, is_name}
+use Rattle.sd_replay.specs.Topo.Network.{Network, Each, is_name}
+use Rattle.sd_replay.specs.Topo.Limits.{IsNetwork}
 use Rattle.sd_replay.specs.Topo.declared.Thing.{Thing}
 use Rattle.sd_replay.specs.Topo.declared.Thing.TheVariants as thing
 use Rattle.sd_replay.specs.Domain.declared.DomainId.{DomainId}

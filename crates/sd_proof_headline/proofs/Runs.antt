@@ -1,7 +1,8 @@
 -- The sentences of the headline hold of all that `replay` and `order` may write, whatever their files say.
 use Rattle.std.specs.Prelude.{◌≡◌, ℕ, ◌+◌, ◌^◌, ◌≤◌, Bool, true, false, List, [], ◌∷◌, ◌++◌, length, count_by, nat_lt, Option, None, Some, Result, Ok, Err, refl, if◌then◌else◌}
 use Rattle.std.proofs.Common.{arith, sym, ap, ◌∙◌, subst, length-append}
-use Rattle.sd_replay.specs.Topo.Network.{Network, IsNetwork, Each}
+use Rattle.sd_replay.specs.Topo.Network.{Network, Each}
+use Rattle.sd_replay.specs.Topo.Limits.{IsNetwork}
 use Rattle.sd_cmd_files.specs.Topotext.Meaning.{network_of}
 use Rattle.sd_cmd_files.specs.Topotext.Reading.{tree_of as toml_of}
 use Rattle.sd_cmd_files.proofs.Topotext.Meant.{meant_is_network}

@@ -3,7 +3,7 @@ use Rattle.std.specs.Prelude.{◌≡◌, ℕ, ◌+◌, ◌<◌, Bool, true, fals
 use Rattle.std.proofs.Common.{arith, sym, ◌∙◌, subst}
 use Rattle.std.proofs.lemmas.List.{length_push}
 use Rattle.sd_wait.specs.Num.Lists.{of_some}
-use Rattle.sd_replay.specs.Topo.Network.{IsNetwork}
+use Rattle.sd_replay.specs.Topo.Limits.{IsNetwork}
 use Rattle.sd_wait.specs.Clock.declared.Report.{Report}
 use Rattle.sd_wait.specs.Msg.Observed.{ReportAt}
 use Rattle.sd_replay.specs.Sched.declared.Event.{Event}

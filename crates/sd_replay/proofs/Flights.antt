@@ -17,7 +17,7 @@ use Rattle.sd_sched.specs.Events.{reference_of, message_of}
 use Rattle.sd_history.specs.Things.{failure_of}
 use Rattle.sd_history.specs.World.{Setting}
 use Rattle.sd_history.specs.Steps.{Step, flight_count}
-use Rattle.sd_history.specs.Refusals.{unspent}
+use Rattle.sd_history.specs.Open.{unspent}
 use Rattle.sd_history.specs.Accepted.{AreSteps}
 use Rattle.sd_history.specs.flights.Flights.{without_taken, without_swept, left_by, look_in, AreNumberedOn}
 use Rattle.sd_history.proofs.flights.Finds.{past_all, find_passing}

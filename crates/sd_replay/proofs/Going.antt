@@ -1,7 +1,8 @@
 -- For which runs a replay stands at first, and how it goes on.
 use Rattle.std.specs.Prelude.{◌≡◌, ◌≤◌, false, List, [], length, slice_get, Some}
 use Rattle.std.proofs.Common.{sym, ◌∙◌, subst}
-use Rattle.sd_topo.specs.Network.{Network, IsNetwork, Each}
+use Rattle.sd_topo.specs.Network.{Network, Each}
+use Rattle.sd_topo.specs.Limits.{IsNetwork}
 use Rattle.sd_topo.specs.Topologies.{network}
 use Rattle.sd_topo.specs.declared.topology.Topology.{Topology}
 use Rattle.sd_plan.specs.declared.Plan.{Plan}

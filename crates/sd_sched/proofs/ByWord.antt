@@ -5,7 +5,8 @@ use Rattle.std.specs.List.{list_any}
 use Rattle.std.proofs.Math.Dec.{eqb-suc-suc, eqb-suc-zero, eqb-zero-suc}
 use Rattle.std.proofs.lemmas.Bool.{or_parts}
 use Rattle.sd_num.specs.Lists.{of_some}
-use Rattle.sd_sched.specs.Lines.{Word as Row, words, is_word, same_bytes, field_number, field_numbers, has_unknown_kind, then_numbers, event_of_word, event_or_number, event_of_fields}
+use Rattle.sd_sched.specs.Lines.{Word as Row, words, same_bytes, field_number, field_numbers, has_unknown_kind, then_numbers, event_of_word, event_or_number, event_of_fields}
+use Rattle.sd_sched.specs.Spelled.{is_word}
 use Rattle.sd_sched.specs.Reading.{row_of, ◌then◌, read_of, numbers_from}
 use Rattle.sd_sched.specs.declared.Event.{Event}
 use Rattle.sd_sched.specs.declared.LineFault.{LineFault}

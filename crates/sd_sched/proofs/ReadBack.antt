@@ -6,7 +6,8 @@ use Rattle.std.specs.List.{list_all, join_with_byte}
 use Rattle.std.proofs.lemmas.Bool.{and_parts, and_from}
 use Rattle.std.proofs.lemmas.List.{length-map}
 use Rattle.sd_num.specs.Decimals.{number}
-use Rattle.sd_sched.specs.Lines.{Word, word, start_word, tick_word, recv_word, lose_word, fail_word, fix_word, ask_word, stage_word, give_word, commit_word, seal_word, join_word, mend_word, end_word, is_kind, limit, field_number, field_numbers, has_unknown_kind, event_of_word, event_of_fields, event_of_line, line_of_event, is_within}
+use Rattle.sd_sched.specs.Lines.{Word, word, start_word, tick_word, recv_word, lose_word, fail_word, fix_word, ask_word, stage_word, give_word, commit_word, seal_word, join_word, mend_word, end_word, is_kind, limit, field_number, field_numbers, has_unknown_kind, event_of_word, event_of_fields, event_of_line}
+use Rattle.sd_sched.specs.Spelled.{line_of_event, is_within}
 use Rattle.sd_sched.specs.declared.words.Field.{Field}
 use Rattle.sd_sched.specs.declared.words.Field.TheVariants.{Amount, Which, Kind}
 use Rattle.sd_sched.specs.Printing.{terminated}

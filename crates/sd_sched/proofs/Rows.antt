@@ -1,7 +1,8 @@
 -- Lines that were worked out by hand.
 use Rattle.std.specs.Prelude.{◌≡◌, [], Ok, Err, codes, refl}
 use Rattle.std.specs.Fmt.{digits}
-use Rattle.sd_sched.specs.Lines.{event_of_line, line_of_event}
+use Rattle.sd_sched.specs.Lines.{event_of_line}
+use Rattle.sd_sched.specs.Spelled.{line_of_event}
 use Rattle.sd_sched.specs.declared.Event.TheVariants.{Start, Recv, FailLink, MendDevice}
 use Rattle.sd_sched.specs.declared.LineFault.TheVariants.{UnknownWord, FieldCount, Number}
 

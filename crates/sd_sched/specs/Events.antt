@@ -48,13 +48,6 @@ counter_of (Commit reference device counter) = Some counter
 counter_of (Join reference device counter clock eps) = Some counter
 counter_of _ = None
 
--- the clock to which the event sets the estimate of its device
-abbrev pub clock_of : Event → Option ℕ
-clock_of (Start reference device counter clock eps) = Some clock
-clock_of (Fix reference device counter clock eps) = Some clock
-clock_of (Join reference device counter clock eps) = Some clock
-clock_of _ = None
-
 -- the link that the event names
 abbrev pub link_of : Event → Option ℕ
 link_of (FailLink reference link) = Some link

@@ -3,7 +3,8 @@
 ghost use Rattle.std.specs.Prelude.{◌≡◌, ◌≤◌, length, take, drop, [], position, nat_eq, nat_lt, not, ◌&&◌, slice_get, true, false, Err, Ok, Some, IfOk, IfErr, IfSome, IfNone};
 ghost use Rattle.sd_num.specs.Lists.{of_some};
 ghost use Rattle.sd_num.specs.Decimals.{number as number_of, leads_with_zero};
-ghost use Rattle.sd_sched.specs.Lines.{fields, first_field as first_of, is_word, event_of_line, field_number, limit, number_within};
+ghost use Rattle.sd_sched.specs.Lines.{fields, first_field as first_of, event_of_line, field_number, limit, number_within};
+ghost use Rattle.sd_sched.specs.Spelled.{is_word};
 ghost use Rattle.sd_sched.specs.Reading.{WithinFrom, fault_of as fault_at, fields_behind, graver as graver_of, numbers_from};
 ghost use Rattle.sd_sched.specs.declared.LineFault.TheVariants.{UnknownWord};
 

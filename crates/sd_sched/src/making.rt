@@ -1,6 +1,6 @@
 //! The event of a word and the numbers of its fields.
 ghost use Rattle.std.specs.Prelude.{◌≡◌, IsTrue};
-ghost use Rattle.sd_sched.specs.Lines.{is_within};
+ghost use Rattle.sd_sched.specs.Spelled.{is_within};
 ghost use Rattle.sd_sched.specs.Reading.{row_of, WithinFrom, sets_estimate, only_reads};
 
 use crate::Event;

@@ -1,8 +1,10 @@
 //! An event's line.
 ghost use Rattle.std.specs.Prelude.{◌≡◌, ◌∷◌, ◌++◌, [], IfOk, IsNone, IsSome, IsTrue};
 ghost use Rattle.std.specs.String.{string_bytes};
-ghost use Rattle.sd_sched.specs.Events.{counter_of, clock_of};
-ghost use Rattle.sd_sched.specs.Lines.{event_of_line, line_of_event, spelled_fields, is_within};
+ghost use Rattle.sd_sched.specs.Events.{counter_of};
+ghost use Rattle.sd_sched.specs.Clocks.{clock_of};
+ghost use Rattle.sd_sched.specs.Lines.{event_of_line};
+ghost use Rattle.sd_sched.specs.Spelled.{line_of_event, spelled_fields, is_within};
 ghost use Rattle.sd_sched.specs.Printing.{terminated};
 
 use crate::Event;

@@ -1,6 +1,7 @@
 //! A line's event: its word, the numbers of its fields, and the event of these.
 ghost use Rattle.std.specs.Prelude.{◌≡◌, IfOk, IsTrue};
-ghost use Rattle.sd_sched.specs.Lines.{event_of_line, is_within};
+ghost use Rattle.sd_sched.specs.Lines.{event_of_line};
+ghost use Rattle.sd_sched.specs.Spelled.{is_within};
 
 use crate::fields::{first_field, read_fields};
 use crate::usual::read_usual;

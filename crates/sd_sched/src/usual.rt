@@ -1,6 +1,7 @@
 //! The two kinds of line that nearly all are, a tick and a receipt, each read in one go.
 ghost use Rattle.std.specs.Prelude.{◌≡◌, ◌≤◌, ◌++◌, [], ◌∷◌, Ok, IfSome, IsTrue};
-ghost use Rattle.sd_sched.specs.Lines.{event_of_line, fields as fields_of, is_within, limit};
+ghost use Rattle.sd_sched.specs.Lines.{event_of_line, fields as fields_of, limit};
+ghost use Rattle.sd_sched.specs.Spelled.{is_within};
 ghost use Rattle.sd_sched.specs.Reading.{Begins, BeginsThree, fields_behind, row_of};
 ghost use Rattle.sd_sched.specs.declared.words.Field.TheVariants.{Amount, Which};
 

@@ -1,6 +1,6 @@
 //! The words of the schedule, and the fields that each has.
 ghost use Rattle.std.specs.Prelude.{◌≡◌, ◌≤◌, length, IfSome, IfNone, false};
-ghost use Rattle.sd_sched.specs.Lines.{is_word};
+ghost use Rattle.sd_sched.specs.Spelled.{is_word};
 ghost use Rattle.sd_sched.specs.Reading.{row_of};
 
 /// The words that a line may begin with.

@@ -4,7 +4,8 @@ use Rattle.std.specs.Fmt.{digits}
 use Rattle.sd_sched.specs.declared.Event.{Event}
 use Rattle.sd_sched.specs.declared.Event.TheVariants.{Start, Fix, Ask, End}
 use Rattle.sd_solo.specs.declared.SoloFault.TheVariants as fault
-use Rattle.sd_solo.specs.Histories.{all_bytes, done_text, refusal, refusal_in}
+use Rattle.sd_solo.specs.Histories.{done_text, refusal, refusal_in}
+use Rattle.sd_solo.specs.Printed.{all_bytes}
 
 abbrev start : Event
 start = Start 1000000 0 0 1000000 500

@@ -1,5 +1,5 @@
 -- One device alone, with the number 0 and rates of its own: its starts, fixes, asks and an end. A history has its newest event first.
-use Rattle.std.specs.Prelude.{◌≡◌, ℕ, ◌+◌, ◌^◌, Bool, true, false, ◌&&◌, not, List, [], ◌∷◌, ◌++◌, length, count_by, nat_eq, nat_le, nat_lt, Option, Some, None, is_some, codes, decimal, IsTrue, if◌then◌else◌}
+use Rattle.std.specs.Prelude.{◌≡◌, ℕ, ◌+◌, ◌^◌, Bool, true, false, ◌&&◌, not, List, ◌∷◌, length, count_by, nat_eq, nat_le, nat_lt, Option, Some, None, is_some, codes, decimal, IsTrue, if◌then◌else◌}
 use Rattle.std.specs.List.{list_any}
 use Rattle.sd_num.specs.Lists.{of_some, latest}
 use Rattle.sd_num.specs.Texts.{text_of}
@@ -104,11 +104,6 @@ report_text n report = text_of (codes "report" ∷ decimal n ∷ codes "0" ∷ d
 -- what the latest event prints: an ask prints its report, with the number of the event
 abbrev pub bytes_of : List Event → Event → List ℕ
 bytes_of earlier e = of_some (report_by earlier e) [] (report_text (length earlier + 1))
-
--- what is printed for all events
-unfoldable pub all_bytes : List Event → List ℕ
-all_bytes [] = []
-all_bytes (e ∷ earlier) = all_bytes earlier ++ bytes_of earlier e
 
 -- the last line of a history that has ended: how many events and how many reports there were
 abbrev pub done_text : List Event → List ℕ

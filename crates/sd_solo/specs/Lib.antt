@@ -1,4 +1,5 @@
 pub mod Histories
+pub mod Printed
 pub mod Registers
 pub mod Faults
 pub mod Lines

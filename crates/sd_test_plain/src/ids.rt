@@ -1,6 +1,6 @@
 //! Domains by their numbers.
 ghost use Rattle.std.specs.Prelude.{IsTrue};
-ghost use Rattle.sd_domain.specs.Domains.{IsDomain};
+ghost use Rattle.sd_domain.specs.Lone.{IsDomain};
 ghost use Rattle.sd_topo.specs.Topologies.{network};
 
 use sd_domain::DomainId;

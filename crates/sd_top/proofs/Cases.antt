@@ -1,7 +1,8 @@
 -- The line of a case has no alarm where it has no broken line.
 use Rattle.std.specs.Prelude.{◌≡◌, ℕ, zero, suc, true, List, [], ◌∷◌}
 use Rattle.std.proofs.Common.{ap, ◌∙◌, arith, subst}
-use Rattle.sd_topo.specs.Network.{Network, Each, IsNetwork}
+use Rattle.sd_topo.specs.Network.{Network, Each}
+use Rattle.sd_topo.specs.Limits.{IsNetwork}
 use Rattle.sd_plan.specs.Plans.{Fits}
 use Rattle.sd_plan.specs.declared.Absent.{Absent}
 use Rattle.sd_plan.specs.declared.Plan.{Plan}

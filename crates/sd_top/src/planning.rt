@@ -6,7 +6,7 @@ ghost use Rattle.sd_cmd_files.specs.Writes.{Makes};
 ghost use Rattle.sd_top.specs.Gives.{GivesAmong};
 ghost use Rattle.sd_top.specs.Plannings.{IsPlanning};
 ghost use Rattle.sd_top.specs.PlannedAnswers.{IfPlan, text_of_planned, status_of_planned};
-ghost use Rattle.sd_planner.specs.PlannerPlace.Usable.{IsAbsentOf};
+ghost use Rattle.sd_planner.specs.PlannerPlace.Absences.{IsAbsentOf};
 
 use sd_cmd_files::{Answer, CommandError, Status, refused_plan};
 use sd_plan::Absent;

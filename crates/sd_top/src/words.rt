@@ -1,7 +1,7 @@
 //! What the words of the command mean.
 ghost use Rattle.std.specs.Prelude.{◌≡◌, ◌≤◌, ◌&&◌, ◌^◌, map, option_map, string_bytes, IfSome};
 ghost use Rattle.sd_cmd_case.specs.Sizes.{IsWithin};
-ghost use Rattle.sd_drill.specs.Bounds.{IsBudget};
+ghost use Rattle.sd_drill.specs.Budgets.{IsBudget};
 ghost use Rattle.sd_top.specs.Parsed.{IsGranted, named};
 ghost use Rattle.sd_top.specs.Words as meaning;
 

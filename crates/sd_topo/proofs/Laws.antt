@@ -4,7 +4,9 @@ use Rattle.std.proofs.lemmas.Bool.{and_parts, ltb-true, or_cases, or_left, or_ri
 use Rattle.std.proofs.lemmas.List.Elements.{All-cons, All-nil}
 use Rattle.std.proofs.lemmas.Option.{slice_get-get_or}
 use Rattle.sd_num.specs.Lists.{ascends, all_below, of_some, at_place}
-use Rattle.sd_topo.specs.Network.{Network, Domain, IsNetwork, IsRates, IsLink, no_device, no_named_link, no_domain, no_link, no_rates, rates_of, link_of, domain_of, is_end, joins}
+use Rattle.sd_topo.specs.Network.{Network, Domain, no_link, no_rates, rates_of, link_of, joins}
+use Rattle.sd_topo.specs.Limits.{IsNetwork, IsRates, IsLink}
+use Rattle.sd_topo.specs.Places.{no_device, no_named_link, no_domain, domain_of, is_end}
 
 -- an element that there is, at a place
 pub found_at : {A B : Type 0} (xs : List A) (i : ℕ) (d : A) (e : B) (f : A → B) → i < length xs → at_place xs i e f ≡ f (get_or xs i d)

@@ -10,7 +10,8 @@ use Rattle.std.proofs.lemmas.List.Elements.{All-push, All-nil}
 use Rattle.std.proofs.lemmas.Map.Keys.{IsDistinct-push, apart_from_distinct}
 use Rattle.std.proofs.lemmas.Option.{slice_get_within, get_or_from_slice_get, slice_get-get_or}
 use Rattle.sd_num.specs.Lists.{has, ascends, all_below, ascending}
-use Rattle.sd_topo.specs.Network.{Each, AreDistinct, AreNumbers, is_name}
+use Rattle.sd_topo.specs.Network.{Each, is_name}
+use Rattle.sd_topo.specs.Limits.{AreDistinct, AreNumbers}
 use Rattle.sd_topo.proofs.Ascending.{Rises, rising}
 
 -- equal bytes are the same name

@@ -6,7 +6,8 @@ use Rattle.std.proofs.lemmas.Bool.{false_from_ne_true, leb-true, lt-ltb, and_par
 use Rattle.std.proofs.lemmas.Slice.Eq.{bytes_eq-Decides}
 use Rattle.std.proofs.lemmas.Option.{slice_get-get_or, slice_get_within}
 use Rattle.sd_num.specs.Lists.{has, ascends, of_some}
-use Rattle.sd_topo.specs.Network.{AreDistinct, name_at, number_in}
+use Rattle.sd_topo.specs.Network.{name_at, number_in}
+use Rattle.sd_topo.specs.Limits.{AreDistinct}
 use Rattle.sd_topo.proofs.Ascending.{Rises}
 use Rattle.sd_topo.proofs.Lists.{names_equal}
 

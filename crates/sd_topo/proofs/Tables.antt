@@ -5,7 +5,8 @@ use Rattle.std.specs.List.{slice_get, prefix_len}
 use Rattle.std.specs.Map.{keys_of}
 use Rattle.std.proofs.lemmas.Option.{slice_get-map}
 use Rattle.sd_num.specs.Lists.{at_place}
-use Rattle.sd_topo.specs.Network.{name_at, no_domain, number_in}
+use Rattle.sd_topo.specs.Network.{name_at, number_in}
+use Rattle.sd_topo.specs.Places.{no_domain}
 use Rattle.sd_topo.specs.Seen.{domain_seen}
 use Rattle.sd_topo.specs.declared.parts.Group.{Group}
 

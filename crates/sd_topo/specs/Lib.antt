@@ -1,4 +1,6 @@
 pub mod Network
+pub mod Limits
+pub mod Places
 pub mod Joined
 pub mod Seen
 pub mod TablesView

@@ -1,5 +1,5 @@
 //! A topology, and what it answers of its devices, links and domains.
-ghost use Rattle.sd_topo.specs.Network.{IsNetwork};
+ghost use Rattle.sd_topo.specs.Limits.{IsNetwork};
 
 use crate::copy::{copy_numbers, copy_table};
 use crate::parts::longest_delay;
@@ -38,7 +38,8 @@ pub struct Topology {
 impl Topology {
     ghost use Rattle.std.specs.Prelude.{◌≡◌, ◌<◌, length, IsTrue, IfOk};
     ghost use Rattle.sd_topo.specs.Seen.{network_seen};
-    ghost use Rattle.sd_topo.specs.Network.{rates_of, link_of, delay_of, bounds_of, is_end, greatest_delay, side_of, device_names, link_names, domain_names, name_at, domain_of, number_in};
+    ghost use Rattle.sd_topo.specs.Network.{rates_of, link_of, delay_of, bounds_of, greatest_delay, device_names, link_names, name_at, number_in};
+    ghost use Rattle.sd_topo.specs.Places.{is_end, side_of, domain_names, domain_of};
     ghost use Rattle.sd_topo.specs.Topologies.{network};
 
     /// The topology of some parts.

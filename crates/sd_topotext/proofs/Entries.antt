@@ -9,7 +9,7 @@ use Rattle.sd_topo.specs.declared.parts.Station.{Station}
 use Rattle.sd_topo.specs.declared.parts.Group.{Group}
 use Rattle.sd_topo.specs.Network.{Device, Link, Domain}
 use Rattle.sd_topo.specs.Seen.{names_seen, device_seen, devices_seen, link_seen, links_seen, domain_seen, domains_seen, Adds}
-use Rattle.sd_topotext.specs.Gives.{◌>>=◌}
+use Rattle.sd_topotext.specs.Then.{◌>>=◌}
 use Rattle.sd_topotext.specs.Meaning.{count_of, two, allowed, things_listed, device_in, one_more_device, link_in, one_more_link, domain_in, one_more_domain}
 use Rattle.sd_topo.specs.declared.LinkEntry.{LinkEntry}
 use Rattle.sd_topotext.specs.declared.fault.Kind.TheVariants.{Item}

@@ -16,8 +16,9 @@ use Rattle.sd_topotext.specs.declared.fault.Kind.TheVariants as kinds
 use Rattle.sd_topotext.specs.declared.fault.Place.{Place}
 use Rattle.sd_topotext.specs.declared.fault.Key.{Key}
 use Rattle.sd_topotext.specs.declared.fault.Key.TheVariants as keys
-use Rattle.sd_topotext.specs.Gives.{◌>>=◌}
-use Rattle.sd_topo.specs.Network.{Network, Device, Link, Domain, IsNetwork, IsLink, IsRates, AreNumbers, is_name}
+use Rattle.sd_topotext.specs.Then.{◌>>=◌}
+use Rattle.sd_topo.specs.Network.{Network, Device, Link, Domain, is_name}
+use Rattle.sd_topo.specs.Limits.{IsNetwork, IsLink, IsRates, AreNumbers}
 use Rattle.sd_topotext.specs.Meaning.{place, value, allowed, of_kind, count_of, each_from, number, number_or, array, array_or_none, own_name, referred, one_more, two, params_in, top_rates, side_in, rates_in, device_in, one_more_device, devices_in, ends_in, delay_in, back_in, link_in, one_more_link, links_in, members_in, domain_in, things_listed, one_more_domain, domains_in, roots_in, network_in, network_of}
 use Rattle.sd_topotext.proofs.Sound.{bind_ok, allowed_ok, one_of, ok_inside, number_ok, number_or_ok, own_name_ok, referred_ok, one_more_ok, each_ok, each_len, listed_ok}
 use Rattle.sd_topo.proofs.Lists.{each_of, names_differ, numbers_differ, AreNames, no_names, names_more, names_count, ascending_ok}

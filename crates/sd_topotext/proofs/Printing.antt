@@ -15,7 +15,8 @@ use Rattle.sd_topo.specs.declared.Side.TheVariants.{Root}
 use Rattle.sd_topo.specs.declared.Params.{Params}
 use Rattle.sd_topo.specs.declared.LinkEntry.{LinkEntry}
 use Rattle.sd_topotext.specs.declared.fault.Key.TheVariants as keys
-use Rattle.sd_topo.specs.Network.{Network, Device, Link, Domain, no_rates, no_link, no_device, no_named_link, no_domain, device_names, link_names, domain_names, name_at, side_of, rates_of, link_of, domain_of}
+use Rattle.sd_topo.specs.Network.{Network, Device, Link, Domain, no_rates, no_link, device_names, link_names, name_at, rates_of, link_of}
+use Rattle.sd_topo.specs.Places.{no_device, no_named_link, no_domain, domain_names, side_of, domain_of}
 use Rattle.sd_topotext.specs.Printed.{put_word, put, whole, side_word, names_data, device_tree, link_tree, domain_tree, params_tree, network_tree}
 
 -- an entry goes to the place of its key

@@ -16,7 +16,8 @@ use Rattle.sd_topotext.specs.declared.fault.TopoFault.{TopoFault}
 use Rattle.sd_topotext.specs.declared.fault.Place.{Place}
 use Rattle.sd_topotext.specs.declared.fault.Key.{Key}
 use Rattle.sd_topotext.specs.declared.fault.Key.TheVariants as keys
-use Rattle.sd_topo.specs.Network.{Network, Device, Link, Domain, IsNetwork, IsRates, IsLink, AreDistinct, Each, is_name, name_at, device_names, link_names}
+use Rattle.sd_topo.specs.Network.{Network, Device, Link, Domain, Each, is_name, name_at, device_names, link_names}
+use Rattle.sd_topo.specs.Limits.{IsNetwork, IsRates, IsLink, AreDistinct}
 use Rattle.sd_topotext.specs.Printed.{whole, side_word, names_data, device_tree, link_tree, domain_tree, params_tree, network_tree}
 use Rattle.sd_topotext.specs.Meaning.{place, value, count_of, each_from, number, number_or, text, array as array_at, array_or_none, own_name, referred, one_more, params_in, top_rates, side_in, rates_in, device_in, one_more_device, devices_in, ends_in, delay_in, back_in, link_in, one_more_link, links_in, members_in, domain_in, things_listed, one_more_domain, domains_in, roots_in, network_in}
 use Rattle.sd_topo.proofs.Ascending.{ascending-itself}

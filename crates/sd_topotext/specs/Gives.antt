@@ -3,12 +3,6 @@ use Rattle.std.specs.Prelude.{◌≡◌, Result, Ok, Err}
 use Rattle.sd_topotext.specs.declared.fault.TopoFault.{TopoFault}
 use Rattle.sd_topotext.specs.declared.fault.TopoFault.TheVariants as faults
 
-infixl 10 ◌>>=◌
--- go on where there is no fault
-abbrev pub ◌>>=◌ : {A B : Type 0} → Result A TopoFault → (A → Result B TopoFault) → Result B TopoFault
-(Ok x) >>= f = f x
-(Err e) >>= f = Err e
-
 -- out of memory is free, and each other fault is the first one
 abbrev pub Fails : {Y : Type 0} → TopoFault → Result Y TopoFault → Type 0
 Fails faults.NotToml read = read ≡ Err faults.NotToml

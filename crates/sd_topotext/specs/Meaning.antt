@@ -5,7 +5,7 @@ use Rattle.std.specs.Str.{bytes_eq}
 use Rattle.toml.specs.Data.{Data, Items, no_items, item, Members, get_member, as_integer, as_table, as_array, as_str}
 use Rattle.sd_num.specs.declared.Rates.{Rates}
 use Rattle.sd_num.specs.Lists.{has, ascending}
-use Rattle.sd_topotext.specs.Gives.{◌>>=◌}
+use Rattle.sd_topotext.specs.Then.{◌>>=◌}
 use Rattle.sd_topotext.specs.Keys.{word_of}
 use Rattle.sd_topo.specs.Network.{Network, Device as DeviceMeant, Link as LinkMeant, Domain as DomainMeant, is_name, number_in}
 use Rattle.sd_topo.specs.declared.Side.{Side}

@@ -2,7 +2,7 @@
 ghost use Rattle.std.specs.Prelude.{◌≡◌, ◌≢◌, ◌≤◌, ◌^◌, Some, None, IfOk, IfErr};
 ghost use Rattle.toml.specs.View.{table_view};
 ghost use Rattle.sd_topotext.specs.Gives.{Gives};
-ghost use Rattle.sd_topo.specs.Network.{IsRates};
+ghost use Rattle.sd_topo.specs.Limits.{IsRates};
 ghost use Rattle.sd_topo.specs.Seen.{network_seen};
 ghost use Rattle.sd_topotext.specs.Meaning.{params_in, top_rates, network_in, network_of};
 ghost use Rattle.sd_topo.specs.Topologies.{network};

@@ -9,7 +9,8 @@ use Rattle.sd_num.specs.Decimals.{number}
 use Rattle.sd_sched.specs.Lines.{fields, first_field, number_within, same_bytes, then_numbers}
 use Rattle.sd_sched.specs.Reading.{fields_behind}
 use Rattle.sd_sched.proofs.Cuts.{fields_step}
-use Rattle.sd_twoway.specs.Lines.{AreWithin, exchange_or_fault, is_word, limits, line_of_fields, line_of_word, exchange_line, numbers_within, numbers_or_fault, seven_numbers}
+use Rattle.sd_twoway.specs.Lines.{exchange_or_fault, limits, line_of_fields, line_of_word, exchange_line, numbers_within, numbers_or_fault, seven_numbers}
+use Rattle.sd_twoway.specs.Limits.{AreWithin, is_word}
 use Rattle.sd_twoway.specs.declared.ExchangeLineFault.{ExchangeLineFault}
 use Rattle.sd_twoway.specs.declared.ExchangeLineFault.TheVariants.{FieldCount, UnknownWord}
 

@@ -1,5 +1,7 @@
 pub mod Spans
+pub mod Laws
 pub mod Lines
+pub mod Limits
 pub mod Printed
 pub mod Joints
 pub mod Spelled

@@ -1,5 +1,5 @@
 -- Lines of an exchanges text, and what they say of a network's links.
-use Rattle.std.specs.Prelude.{ℕ, ◌+◌, ◌-◌, ◌^◌, ◌<◌, ◌≤◌, Bool, true, false, ◌||◌, List, [], ◌∷◌, length, filter_map, nat_eq, slice_index, Option, Some, None, Result, Ok, Err, codes, if◌then◌else◌}
+use Rattle.std.specs.Prelude.{ℕ, ◌+◌, ◌-◌, ◌^◌, Bool, true, false, List, ◌∷◌, length, filter_map, nat_eq, slice_index, Option, Some, None, Result, Ok, Err, codes, if◌then◌else◌}
 use Rattle.sd_num.specs.Lists.{of_some}
 use Rattle.sd_num.specs.Decimals.{number}
 use Rattle.sd_num.specs.declared.Rates.{Rates}
@@ -44,10 +44,6 @@ abbrev pub exchange_or_fault : Result (List ℕ) ExchangeLineFault → Result Ex
 exchange_or_fault (Ok v) = Ok (exchange_of v)
 exchange_or_fault (Err why) = Err why
 
--- the bytes spell one of the two words
-unfoldable pub is_word : List ℕ → Bool
-is_word bytes = same_bytes (codes "exchange") bytes || same_bytes (codes "end") bytes
-
 -- a line with this word and these fields
 abbrev pub line_of_word : List ℕ → List (List ℕ) → Result ExchangeLine ExchangeLineFault
 line_of_word word texts =
@@ -62,15 +58,6 @@ line_of_fields (word ∷ texts) = line_of_word word texts
 -- what a line says, or its fault
 unfoldable pub exchange_line : List ℕ → Result ExchangeLine ExchangeLineFault
 exchange_line bytes = line_of_fields (fields bytes)
-
--- seven numbers are within their limits
-abbrev pub AreWithin : List ℕ → Type 0
-AreWithin v = (k : ℕ) → k < 7 → slice_index v k ≤ slice_index limits k
-
--- the numbers of a line are
-abbrev pub IsWithin : ExchangeLine → Type 0
-IsWithin (Exchanged link side x) = (side ≤ 1) × (x.asym ≤ 10 ^ 12) × (x.t1 ≤ 2 ^ 60) × (x.t2 ≤ 2 ^ 60) × (x.t3 ≤ 2 ^ 60) × (x.t4 ≤ 2 ^ 60)
-IsWithin End = Unit {0}
 
 -- Lines over a network
 

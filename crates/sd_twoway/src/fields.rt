@@ -1,7 +1,8 @@
 //! The seven numbers behind the word of an exchange, each read as it is found.
 ghost use Rattle.std.specs.Prelude.{◌≡◌, ◌≤◌, ◌-◌, ◌^◌, Err, IfErr, IfOk, Ok, slice_index};
 ghost use Rattle.sd_sched.specs.Reading.{fields_behind};
-ghost use Rattle.sd_twoway.specs.Lines.{AreWithin, seven_numbers};
+ghost use Rattle.sd_twoway.specs.Lines.{seven_numbers};
+ghost use Rattle.sd_twoway.specs.Limits.{AreWithin};
 
 use crate::ExchangeLineFault;
 use sd_sched::{behind_space, read_number};

@@ -1,7 +1,8 @@
 //! A line of an exchanges text: its word and the numbers of its fields.
 ghost use Rattle.std.specs.Prelude.{◌≡◌, false, codes, IfOk, IfSome, IfNone};
 ghost use Rattle.sd_sched.specs.Reading.{fields_behind};
-ghost use Rattle.sd_twoway.specs.Lines.{AreWithin, IsWithin, exchange_line, exchange_of as line_of, is_word, line_of_word};
+ghost use Rattle.sd_twoway.specs.Lines.{exchange_line, exchange_of as line_of, line_of_word};
+ghost use Rattle.sd_twoway.specs.Limits.{AreWithin, IsWithin, is_word};
 ghost use Rattle.sd_twoway.specs.Spelled.{spelled};
 
 use crate::fields::{FIELDS, read_numbers};

@@ -3,7 +3,7 @@ use Rattle.std.proofs.lemmas.Bool.{eqb-true}
 use Rattle.std.proofs.lemmas.List.{nil_from_length}
 use Rattle.std.proofs.lemmas.Result.{IfOk-weaker}
 use Rattle.sd_check_hit.specs.Outages.{net_of, plan_of}
-use Rattle.sd_check_loop.specs.Loops.{LoopShown}
+use Rattle.sd_check_loop.specs.Answered.{LoopShown}
 use Rattle.sd_check_loop.specs.Shown.{AnswersFor}
 use Rattle.sd_check_loop.proofs.Answering.{answered, none_hit}
 use Rattle.sd_check_loop.proofs.Listed.{hit_ascends}

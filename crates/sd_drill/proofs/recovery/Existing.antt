@@ -7,7 +7,8 @@ use Rattle.std.proofs.lemmas.Bool.{and_parts, and_from, or_cases, or_parts, eqb-
 use Rattle.std.proofs.lemmas.List.Folds.{list_any-append}
 use Rattle.std.proofs.lemmas.Map.Steps.{length-le_from_distinct_below}
 use Rattle.sd_num.specs.Lists.{has}
-use Rattle.sd_topo.specs.Network.{Network, IsNetwork, bounds_of}
+use Rattle.sd_topo.specs.Network.{Network, bounds_of}
+use Rattle.sd_topo.specs.Limits.{IsNetwork}
 use Rattle.sd_domain.specs.Domains.{holds_device, holds_link}
 use Rattle.sd_domain.specs.declared.DomainId.{DomainId}
 use Rattle.sd_plan.specs.declared.Hop.{Hop}

@@ -4,7 +4,8 @@ use Rattle.std.specs.List.{list_any}
 use Rattle.std.proofs.Common.{arith, refl, sym, ap, ap₂, ◌∙◌, subst, ◌⊎◌, inl, inr}
 use Rattle.std.proofs.lemmas.Bool.{and_parts, and_from, or_cases, or_left, or_right, eqb-true, eq-eqb, cases_lt}
 use Rattle.std.proofs.lemmas.List.Folds.{list_any-append}
-use Rattle.sd_topo.specs.Network.{Network, IsNetwork, IsLink, bounds_of, link_of, delay_towards}
+use Rattle.sd_topo.specs.Network.{Network, bounds_of, link_of, delay_towards}
+use Rattle.sd_topo.specs.Limits.{IsNetwork, IsLink}
 use Rattle.sd_topo.specs.declared.Delay.{Delay}
 use Rattle.sd_topo.specs.declared.LinkEntry.{LinkEntry}
 use Rattle.sd_topo.proofs.Laws.{link_law}

@@ -1,6 +1,6 @@
 //! Ages beside a search over all advances.
 
-ghost use Rattle.sd_topo.specs.Network.{IsRates};
+ghost use Rattle.sd_topo.specs.Limits.{IsRates};
 
 use super::*;
 use sd_num::low;

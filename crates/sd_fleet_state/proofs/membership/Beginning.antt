@@ -3,7 +3,8 @@ use Rattle.std.specs.Prelude.{◌≡◌, ℕ, zero, suc, ◌<◌, ◌≤◌, ◌
 use Rattle.std.proofs.Common.{ap, ◌∙◌, sym, subst, arith}
 use Rattle.std.proofs.lemmas.List.{length-replicate}
 use Rattle.sd_num.specs.Lists.{at_place}
-use Rattle.sd_topo.specs.Network.{Network, IsNetwork}
+use Rattle.sd_topo.specs.Network.{Network}
+use Rattle.sd_topo.specs.Limits.{IsNetwork}
 use Rattle.sd_plan.specs.declared.Plan.{Plan}
 use Rattle.sd_history.specs.World.{Setting}
 use Rattle.sd_fleet_state.specs.world.Registers.{first_registers}

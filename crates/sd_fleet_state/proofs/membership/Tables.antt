@@ -8,7 +8,8 @@ use Rattle.std.proofs.lemmas.List.Elements.{filter_map-append}
 use Rattle.std.proofs.lemmas.Option.{slice_get-get_or, slice_get_past, same_Some}
 use Rattle.sd_num.specs.Lists.{below, of_some}
 use Rattle.sd_num.proofs.Places.{at_cases}
-use Rattle.sd_topo.specs.Network.{Network, IsNetwork, IsLink, Each, device_numbers, link_of}
+use Rattle.sd_topo.specs.Network.{Network, Each, device_numbers, link_of}
+use Rattle.sd_topo.specs.Limits.{IsNetwork, IsLink}
 use Rattle.sd_topo.proofs.Laws.{found_at, rates_law, link_law, joined_end}
 use Rattle.sd_plan.specs.declared.Plan.{Plan}
 use Rattle.sd_plan.specs.declared.Hop.{Hop}

@@ -1,7 +1,8 @@
 -- The plans of a command, numbered from 1, each as its root and its table.
 use Rattle.std.specs.Prelude.{◌≡◌, ℕ, ◌+◌, ◌-◌, ◌<◌, ◌≤◌, Bool, List, [], length, map, Option, Some, None, IsTrue}
 use Rattle.sd_num.specs.Lists.{below, at_place}
-use Rattle.sd_topo.specs.Network.{Network, link_of, is_end, Each}
+use Rattle.sd_topo.specs.Network.{Network, link_of, Each}
+use Rattle.sd_topo.specs.Places.{is_end}
 use Rattle.sd_plan.specs.declared.Plan.{Plan}
 use Rattle.sd_plan.specs.declared.End.{End}
 use Rattle.sd_plan.specs.declared.Role.TheVariants.{Root}

@@ -10,7 +10,8 @@ use Rattle.std.proofs.lemmas.Bool.{eq-eqb, ne_eqb, eqb-true, ltb-false, and_part
 use Rattle.std.proofs.lemmas.List.Sums.{sum_by-cons, sum_by_push, get_or-le-sum_by}
 use Rattle.std.proofs.lemmas.List.Sorted.{sum_by_pushed, sum_by_popped}
 use Rattle.sd_gen.specs.declared.arrivals.Arrival.{Arrival}
-use Rattle.sd_gen.specs.arrivals.Waiting.{comes_before, soonest_of, soonest, without, left_by, AreNumbered}
+use Rattle.sd_gen.specs.arrivals.Waiting.{comes_before, soonest_of, soonest, without}
+use Rattle.sd_gen.specs.arrivals.Left.{left_by, AreNumbered}
 use Rattle.sd_gen.specs.declared.arrivals.Arrivals.{Arrivals}
 use Rattle.sd_gen.specs.arrivals.Order.{by_receipt}
 use Rattle.sd_gen.specs.arrivals.Standing.{StandsFor}

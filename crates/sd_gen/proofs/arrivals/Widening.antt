@@ -4,7 +4,8 @@ use Rattle.std.proofs.Common.{arith, subst}
 use Rattle.std.proofs.lemmas.Option.{same_Some}
 use Rattle.sd_gen.specs.declared.arrivals.Arrival.{Arrival}
 use Rattle.sd_gen.specs.declared.arrivals.Arrivals.{Arrivals}
-use Rattle.sd_gen.specs.arrivals.Waiting.{comes_before, soonest_of, next_by, AreNumbered}
+use Rattle.sd_gen.specs.arrivals.Waiting.{comes_before, soonest_of, next_by}
+use Rattle.sd_gen.specs.arrivals.Left.{AreNumbered}
 use Rattle.sd_gen.specs.arrivals.Standing.{StandsFor}
 
 numbered_wider : (floor top wider : ℕ) (ws : List Arrival) → top ≤ wider → AreNumbered floor top ws → AreNumbered floor wider ws

@@ -1,5 +1,5 @@
 use Rattle.std.proofs.Common.{[]}
-use Rattle.sd_topo.specs.Network.{IsNetwork}
+use Rattle.sd_topo.specs.Limits.{IsNetwork}
 use Rattle.sd_fleet.specs.History.World.{Setting}
 use Rattle.sd_gen.specs.Drafts.{draft_after}
 use Rattle.sd_gen.specs.Standing.{StandsFor}

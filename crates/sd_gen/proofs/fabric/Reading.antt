@@ -15,7 +15,8 @@ use Rattle.toml.specs.Text.{IsDocumentText}
 use Rattle.toml.proofs.ReadBack.{parse_document-printed}
 use Rattle.sd_num.specs.Lists.{below, has, ascending}
 use Rattle.sd_num.specs.declared.Rates.{Rates}
-use Rattle.sd_topo.specs.Network.{Network, Device, Link, Domain, AreDistinct, is_name, number_in, name_at}
+use Rattle.sd_topo.specs.Network.{Network, Device, Link, Domain, is_name, number_in, name_at}
+use Rattle.sd_topo.specs.Limits.{AreDistinct}
 use Rattle.sd_topo.proofs.Ascending.{Rises, ascending-itself}
 use Rattle.sd_topo.proofs.Places.{number_back}
 use Rattle.sd_plan.proofs.Numbered.{length-numbered, at-numbered, get_or-numbered, length-below}
@@ -23,10 +24,11 @@ use Rattle.sd_topotext.specs.declared.fault.TopoFault.{TopoFault}
 use Rattle.sd_topotext.specs.declared.fault.Place.{Place}
 use Rattle.sd_topotext.specs.declared.fault.Key.TheVariants as keys
 use Rattle.sd_topotext.specs.Meaning.{place, value, count_of, each_from, number, text, array as array_at, array_or_none, own_name, referred, one_more as one_more_listed, params_in, side_in, rates_in, device_in, one_more_device, devices_in, ends_in, delay_in, back_in, link_in, one_more_link, links_in, members_in, domain_in, things_listed, one_more_domain, domains_in, roots_in, network_in, network_of}
-use Rattle.sd_topotext.specs.Gives.{◌>>=◌}
+use Rattle.sd_topotext.specs.Then.{◌>>=◌}
 use Rattle.sd_topotext.specs.Reading.{tree_of}
 use Rattle.sd_topotext.proofs.Trees.{tree_known}
-use Rattle.sd_gen.specs.fabric.Fabrics.{params, spine_name, leaf_name, link_name, device_named, link_between, rack, fabric, IsFabricText}
+use Rattle.sd_gen.specs.fabric.Fabrics.{params, spine_name, leaf_name, link_name, device_named, link_between, rack, fabric}
+use Rattle.sd_gen.specs.fabric.Texts.{IsFabricText}
 use Rattle.sd_gen.specs.fabric.Numbered.{device_name}
 use Rattle.sd_gen.specs.fabric.Trees.{device_tree, link_tree, rack_tree, fabric_tree}
 use Rattle.sd_gen.proofs.fabric.Numbering.{numbered, one_more, alike, both, grid, none_below, sum_alike}

@@ -3,7 +3,7 @@ use Rattle.std.specs.Prelude.{◌≡◌, ℕ, List, sum_by}
 use Rattle.std.specs.BinaryHeap.{heap_items}
 use Rattle.sd_gen.specs.declared.arrivals.Arrival.{Arrival}
 use Rattle.sd_gen.specs.declared.arrivals.Arrivals.{Arrivals}
-use Rattle.sd_gen.specs.arrivals.Waiting.{AreNumbered}
+use Rattle.sd_gen.specs.arrivals.Left.{AreNumbered}
 
 -- The heap has these messages and no others, in another order: whatever is counted of each comes to the same sum. Their numbers ascend up to
 -- the top.

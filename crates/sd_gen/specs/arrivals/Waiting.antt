@@ -1,5 +1,5 @@
 -- Messages that wait, in the order in which they were sent, and which of them is received first.
-use Rattle.std.specs.Prelude.{ℕ, ◌<◌, ◌≤◌, Bool, ◌&&◌, ◌||◌, not, List, [], ◌∷◌, filter, nat_eq, nat_le, nat_lt, Option, Some, None, if◌then◌else◌}
+use Rattle.std.specs.Prelude.{ℕ, Bool, ◌&&◌, not, List, ◌∷◌, filter, nat_eq, nat_le, nat_lt, Option, Some, None, if◌then◌else◌}
 use Rattle.sd_gen.specs.declared.arrivals.Arrival.{Arrival}
 
 -- a is received before b: the least by moment, then by number, comes first
@@ -29,13 +29,3 @@ next_by moment waiting = if_by moment (soonest waiting)
 -- those that wait on where the message with a number waits no longer
 abbrev pub without : ℕ → List Arrival → List Arrival
 without n waiting = filter (λ w. not (nat_eq w.number n)) waiting
-
--- those that wait on where this one, if any, is taken
-abbrev pub left_by : Option Arrival → List Arrival → List Arrival
-left_by None waiting = waiting
-left_by (Some w) waiting = without w.number waiting
-
--- the numbers ascend from above the floor up to the top
-abbrev pub AreNumbered : ℕ → ℕ → List Arrival → Type 0
-AreNumbered floor top [] = floor ≤ top
-AreNumbered floor top (w ∷ ws) = (floor < w.number) × AreNumbered w.number top ws

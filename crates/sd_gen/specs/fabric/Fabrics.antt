@@ -1,9 +1,7 @@
 -- The network of leaves and spines of `case`.
-use Rattle.std.specs.Prelude.{◌≡◌, ℕ, ◌+◌, ◌*◌, List, [], ◌∷◌, ◌++◌, map, flat_map, Ok, codes, decimal}
+use Rattle.std.specs.Prelude.{ℕ, ◌+◌, ◌*◌, List, ◌∷◌, ◌++◌, map, flat_map, codes, decimal}
 use Rattle.sd_num.specs.Lists.{below}
 use Rattle.sd_topo.specs.Network.{Network, Device, Link, Domain}
-use Rattle.sd_topotext.specs.Meaning.{network_of}
-use Rattle.sd_topotext.specs.Reading.{tree_of}
 use Rattle.sd_topo.specs.declared.Params.{Params}
 use Rattle.sd_topo.specs.declared.Side.TheVariants as side
 use Rattle.sd_plan.specs.declared.Absent.{Absent}
@@ -48,10 +46,6 @@ fabric leaves spines =
       domains = map (rack spines) (below leaves);
       roots = below spines;
     }
-
--- a text that is read as the network: of a printed text only what is read from it counts
-abbrev pub IsFabricText : (leaves spines : ℕ) → List ℕ → Type 0
-IsFabricText leaves spines text = network_of (tree_of text) ≡ Ok (fabric leaves spines)
 
 -- the roots of the two plans are the first two spines; the first plan leaves out nothing, the second the first spine
 abbrev pub first_absent : Absent

@@ -17,7 +17,8 @@ use Rattle.sd_sched.specs.Events.{reference_of, device_of, message_of, received}
 use Rattle.sd_history.specs.Things.{failure_of}
 use Rattle.sd_history.specs.World.{Setting}
 use Rattle.sd_history.specs.Steps.{Passes, Told, Step, flight_count, flight_numbered, flights_of, act_by}
-use Rattle.sd_history.specs.Refusals.{causes, refusal, is_spent, unspent, unknown_message, spent_message}
+use Rattle.sd_history.specs.Refusals.{causes, refusal, is_spent, unknown_message, spent_message}
+use Rattle.sd_history.specs.Open.{unspent}
 use Rattle.sd_history.specs.Accepted.{AreSteps}
 use Rattle.sd_history.proofs.Among.{first, later}
 use Rattle.sd_history.proofs.Contained.{none_holds}

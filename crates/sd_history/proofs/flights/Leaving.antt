@@ -15,7 +15,8 @@ use Rattle.sd_sched.specs.Events.{reference_of, message_of}
 use Rattle.sd_history.specs.Things.{failure_of}
 use Rattle.sd_history.specs.World.{Setting, is_thing, fails, latest_reference}
 use Rattle.sd_history.specs.Steps.{Step, seen_of, flight_count}
-use Rattle.sd_history.specs.Refusals.{causes, refusal, since_sending, was_used, was_swept, is_spent, unspent}
+use Rattle.sd_history.specs.Refusals.{causes, refusal, since_sending, was_used, was_swept, is_spent}
+use Rattle.sd_history.specs.Open.{unspent}
 use Rattle.sd_history.specs.Accepted.{AreSteps}
 use Rattle.sd_history.proofs.Among.{Among, first, later}
 use Rattle.sd_history.proofs.Filters.{kept_alike, both_tests, all_pass_kept}

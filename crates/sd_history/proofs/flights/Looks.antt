@@ -11,7 +11,8 @@ use Rattle.sd_sched.specs.declared.Event.{Event}
 use Rattle.sd_sched.specs.Events.{reference_of, device_of, message_of, received}
 use Rattle.sd_history.specs.World.{Setting, latest_reference}
 use Rattle.sd_history.specs.Steps.{Step, seen_of, flight_count, flight_numbered}
-use Rattle.sd_history.specs.Refusals.{was_used, was_swept, is_spent, unknown_message, spent_message, wrong_device, unspent}
+use Rattle.sd_history.specs.Refusals.{was_used, was_swept, is_spent, unknown_message, spent_message, wrong_device}
+use Rattle.sd_history.specs.Open.{unspent}
 use Rattle.sd_history.specs.Accepted.{AreSteps}
 use Rattle.sd_history.specs.flights.Flights.{sent_in_order, look_in, says_unknown, says_spent}
 use Rattle.sd_history.proofs.flights.Finds.{find_passing}

@@ -12,7 +12,8 @@ use Rattle.sd_core.proofs.Msg.Numbered.{numbered_filter}
 use Rattle.sd_core.proofs.Msg.Finding.{beyond}
 use Rattle.sd_history.specs.World.{Setting}
 use Rattle.sd_history.specs.Steps.{Step, flights, flight_count, flight_numbered}
-use Rattle.sd_history.specs.Refusals.{is_spent, unspent}
+use Rattle.sd_history.specs.Refusals.{is_spent}
+use Rattle.sd_history.specs.Open.{unspent}
 use Rattle.sd_history.specs.Accepted.{AreSteps}
 use Rattle.sd_history.proofs.Among.{Among, either_side}
 use Rattle.sd_history.specs.flights.Flights.{sent_in_order, AreNumberedOn}

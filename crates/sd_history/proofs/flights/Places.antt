@@ -5,7 +5,8 @@ use Rattle.std.specs.List.{cons_option}
 use Rattle.std.proofs.Common.{arith, sym, ap, subst, inl, inr}
 use Rattle.std.proofs.lemmas.Bool.{or_cases}
 use Rattle.sd_sched.specs.Num.Lists.{of_some, below}
-use Rattle.sd_core.specs.Topo.Network.{Network, Each, device_numbers, link_numbers, link_of, is_end, joins}
+use Rattle.sd_core.specs.Topo.Network.{Network, Each, device_numbers, link_numbers, link_of, joins}
+use Rattle.sd_core.specs.Topo.Places.{is_end}
 use Rattle.sd_core.proofs.Topo.Laws.{joined_end}
 use Rattle.sd_core.specs.Plan.declared.Plan.{Plan}
 use Rattle.sd_core.specs.Plan.declared.End.{End}

@@ -1,7 +1,7 @@
 //! Flags on devices and links.
 ghost use Rattle.std.specs.Prelude.{◌≡◌, ◌<◌, ℕ, true, false, [], ◌∷◌, length, nat_eq, IfOk};
 ghost use Rattle.sd_num.specs.Lists.{has};
-ghost use Rattle.sd_topo.specs.Network.{domain_of};
+ghost use Rattle.sd_topo.specs.Places.{domain_of};
 ghost use Rattle.sd_topo.specs.Topologies.{network};
 ghost use Rattle.sd_planner.specs.Flags.{AreSet};
 ghost use Rattle.sd_planner.specs.Things as words;

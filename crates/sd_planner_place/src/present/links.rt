@@ -2,7 +2,8 @@
 ghost use Rattle.std.specs.Prelude.{◌≡◌, ◌<◌, ◌&&◌, map, false, length, slice_index_or, IfOk};
 ghost use Rattle.sd_topo.specs.Network.{device_numbers, link_numbers, link_of};
 ghost use Rattle.sd_topo.specs.Topologies.{network};
-ghost use Rattle.sd_planner_place.specs.Usable.{IsAbsentOf, takes_part, is_usable};
+ghost use Rattle.sd_planner_place.specs.Usable.{takes_part, is_usable};
+ghost use Rattle.sd_planner_place.specs.Absences.{IsAbsentOf};
 
 use sd_num::NoMemory;
 use sd_plan::{Absent, present};

@@ -8,7 +8,8 @@ use Rattle.sd_msg.specs.declared.Flight.{Flight}
 use Rattle.sd_sched.specs.declared.Event.{Event}
 use Rattle.sd_sched.specs.Events.{reference_of}
 use Rattle.sd_history.specs.World.{Setting, Seen, latest_reference}
-use Rattle.sd_history.specs.Refusals.{may_be_seen, unknown_device, unknown_link, time_falls}
+use Rattle.sd_history.specs.Refusals.{unknown_device, unknown_link, time_falls}
+use Rattle.sd_history.specs.Open.{may_be_seen}
 use Rattle.sd_history.specs.Premises.{flights, is_overdue, was_received}
 use Rattle.sd_premise_loss.specs.rounds.Order.{last_sent, IsInOrder}
 use Rattle.sd_premise_loss.proofs.rounds.Sending.{greatest_of}

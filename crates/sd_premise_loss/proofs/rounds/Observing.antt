@@ -4,7 +4,7 @@ use Rattle.std.proofs.lemmas.Bool.{both_ways, true_from_ne_false, leb-false, lt-
 use Rattle.sd_num.specs.Lists.{of_some}
 use Rattle.sd_topo.specs.declared.Thing.{Thing}
 use Rattle.sd_topo.specs.declared.Thing.TheVariants as thing
-use Rattle.sd_history.specs.Domain.Failures.{same_thing}
+use Rattle.sd_history.specs.Domain.Things.{same_thing}
 use Rattle.sd_msg.specs.declared.Flight.{Flight}
 use Rattle.sd_sched.specs.declared.Event.{Event}
 use Rattle.sd_sched.specs.declared.Event.TheVariants.{FailDevice, FailLink}

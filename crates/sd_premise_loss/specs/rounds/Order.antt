@@ -3,7 +3,7 @@ use Rattle.std.specs.Prelude.{◌≡◌, ℕ, ◌≤◌, true, List, [], ◌∷�
 use Rattle.sd_num.specs.Lists.{of_some, greatest, ascends}
 use Rattle.sd_sched.specs.Events.{reference_of}
 use Rattle.sd_history.specs.World.{Setting, Seen}
-use Rattle.sd_history.specs.Refusals.{may_be_seen}
+use Rattle.sd_history.specs.Open.{may_be_seen}
 use Rattle.sd_history.specs.Premises.{flights}
 
 -- the greatest number of a flight, 0 before the first

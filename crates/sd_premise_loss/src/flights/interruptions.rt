@@ -2,7 +2,7 @@
 ghost use Rattle.std.specs.Prelude.{◌≡◌, ℕ, ◌&&◌, nat_eq, nat_lt, max, vec_len, slice_index, false, IfOk, if◌then◌else◌};
 ghost use Rattle.sd_topo.specs.declared.Thing.{Thing as AnyThing};
 ghost use Rattle.sd_num.specs.Lists.{of_some};
-ghost use Rattle.sd_history.specs.Domain.Failures.{same_thing};
+ghost use Rattle.sd_history.specs.Domain.Things.{same_thing};
 ghost use Rattle.sd_premise_loss.specs.flights.Interrupted.{is_interrupted};
 
 use sd_msg::Flight;

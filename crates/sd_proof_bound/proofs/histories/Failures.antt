@@ -8,7 +8,7 @@ use Rattle.sd_drill.specs.Num.Lists.{of_some, leading}
 use Rattle.sd_drill.specs.Topo.Network.{Network}
 use Rattle.sd_drill.specs.Topo.declared.Thing.{Thing}
 use Rattle.sd_drill.specs.Domain.Domains.{holds}
-use Rattle.sd_drill.specs.Domain.Failures.{same_thing}
+use Rattle.sd_drill.specs.Domain.Things.{same_thing}
 use Rattle.sd_drill.specs.Domain.declared.DomainId.{DomainId}
 use Rattle.sd_proof_safety.specs.Sched.Events.{reference_of}
 use Rattle.sd_proof_safety.specs.History.Things.{failure_of}

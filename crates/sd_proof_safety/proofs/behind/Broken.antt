@@ -7,7 +7,7 @@ use Rattle.std.proofs.Common.{arith, ◌∙◌, ap, sym, subst}
 use Rattle.std.proofs.lemmas.Bool.{and_from, or_left, or_parts, lt-ltb, both_ways}
 use Rattle.sd_checker.specs.Num.Lists.{of_some, same_number, leading}
 use Rattle.sd_checker.specs.Topo.declared.Thing.{Thing}
-use Rattle.sd_checker.specs.Domain.Failures.{same_thing}
+use Rattle.sd_checker.specs.Domain.Things.{same_thing}
 use Rattle.sd_checker.specs.Plan.declared.Plan.{Plan}
 use Rattle.sd_checker.specs.Plan.Plans.{is_member, is_root}
 use Rattle.sd_checker.specs.Plan.Walks.{path}

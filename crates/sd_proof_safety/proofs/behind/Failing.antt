@@ -7,7 +7,7 @@ use Rattle.std.proofs.Common.{◌∙◌, sym}
 use Rattle.std.proofs.lemmas.Bool.{or_from, or_right, false_from_ne_true}
 use Rattle.sd_checker.specs.Num.Lists.{of_some}
 use Rattle.sd_checker.specs.Topo.declared.Thing.{Thing}
-use Rattle.sd_checker.specs.Domain.Failures.{same_thing}
+use Rattle.sd_checker.specs.Domain.Things.{same_thing}
 use Rattle.sd_history.specs.Sched.declared.Event.{Event}
 use Rattle.sd_history.specs.Sched.Events.{reference_of}
 use Rattle.sd_history.specs.Things.{failure_of}

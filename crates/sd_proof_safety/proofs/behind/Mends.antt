@@ -7,7 +7,7 @@ use Rattle.std.proofs.Common.{◌∙◌, ap, subst}
 use Rattle.std.proofs.lemmas.Bool.{or_parts}
 use Rattle.sd_checker.specs.Num.Lists.{of_some, leading}
 use Rattle.sd_checker.specs.Topo.declared.Thing.{Thing}
-use Rattle.sd_checker.specs.Domain.Failures.{same_thing}
+use Rattle.sd_checker.specs.Domain.Things.{same_thing}
 use Rattle.sd_history.specs.Sched.declared.Event.{Event}
 use Rattle.sd_history.specs.Sched.Events.{reference_of, given, joined, is_stage, is_commit, is_seal}
 use Rattle.sd_history.specs.Things.{failure_of, mended}

@@ -6,7 +6,7 @@ use Rattle.std.proofs.Math.Nat.{le_antisymm}
 use Rattle.sd_checker.specs.Num.Lists.{of_some, has, same_number}
 use Rattle.sd_checker.specs.Topo.declared.Thing.{Thing}
 use Rattle.sd_checker.specs.Topo.declared.Thing.TheVariants as thing
-use Rattle.sd_checker.specs.Domain.Failures.{same_thing}
+use Rattle.sd_checker.specs.Domain.Things.{same_thing}
 use Rattle.sd_checker.specs.Plan.declared.Hop.{Hop}
 use Rattle.sd_checker.specs.Plan.declared.Plan.{Plan}
 use Rattle.sd_checker.specs.Plan.Plans.{IsHop, is_member, is_present, is_root, is_backup_root, backup_of}

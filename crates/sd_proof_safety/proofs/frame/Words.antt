@@ -3,7 +3,7 @@ use Rattle.std.specs.Prelude.{◌≡◌, ℕ, ◌+◌, false, not, List, filter,
 use Rattle.std.proofs.Common.{◌∙◌, ap}
 use Rattle.sd_checker.specs.Num.Lists.{of_some, same_number}
 use Rattle.sd_checker.specs.Topo.declared.Thing.TheVariants as thing
-use Rattle.sd_checker.specs.Domain.Failures.{same_thing}
+use Rattle.sd_checker.specs.Domain.Things.{same_thing}
 use Rattle.sd_checker.specs.Plan.declared.Plan.{Plan}
 use Rattle.sd_checker.specs.Plan.Walks.{path, epath}
 use Rattle.sd_history.specs.World.{Setting, staged_epoch, plan_numbered}

@@ -7,7 +7,7 @@ use Rattle.std.proofs.lemmas.Bool.{and_parts, and_from, or_left, or_right, eqb-t
 use Rattle.sd_checker.specs.Num.Lists.{has}
 use Rattle.sd_checker.specs.Topo.declared.Thing.{Thing}
 use Rattle.sd_checker.specs.Topo.declared.Thing.TheVariants as thing
-use Rattle.sd_checker.specs.Domain.Failures.{same_thing}
+use Rattle.sd_checker.specs.Domain.Things.{same_thing}
 use Rattle.sd_checker.specs.Plan.Plans.{is_member, is_root, is_backup_root}
 use Rattle.sd_checker.specs.Plan.Walks.{path, epath, on_walk}
 use Rattle.sd_checker.proofs.Plan.Rules.{KeepsRules}

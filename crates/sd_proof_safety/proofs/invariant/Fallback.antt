@@ -8,7 +8,7 @@ use Rattle.sd_checker.specs.Num.Lists.{has, leading}
 use Rattle.sd_checker.specs.Topo.Network.{Network, device_numbers, link_numbers}
 use Rattle.sd_checker.specs.Topo.declared.Thing.{Thing}
 use Rattle.sd_checker.specs.Topo.declared.Thing.TheVariants as thing
-use Rattle.sd_checker.specs.Domain.Failures.{same_thing}
+use Rattle.sd_checker.specs.Domain.Things.{same_thing}
 use Rattle.sd_checker.specs.Domain.Domains.{holds_device, holds_link, hits, domains}
 use Rattle.sd_checker.specs.Plan.declared.Plan.{Plan}
 use Rattle.sd_checker.specs.Plan.Walks.{path}

@@ -7,7 +7,7 @@ use Rattle.std.proofs.lemmas.Bool.{and_parts, and_from, eq-eqb}
 use Rattle.sd_checker.specs.Num.Lists.{has, leading}
 use Rattle.sd_checker.specs.Topo.declared.Thing.{Thing}
 use Rattle.sd_checker.specs.Topo.declared.Thing.TheVariants as thing
-use Rattle.sd_checker.specs.Domain.Failures.{same_thing}
+use Rattle.sd_checker.specs.Domain.Things.{same_thing}
 use Rattle.sd_checker.specs.CheckRoot.Timing.{silence}
 use Rattle.sd_history.specs.Things.{failure_of}
 use Rattle.sd_checker.specs.Plan.Plans.{is_member, is_root, is_backup_root}

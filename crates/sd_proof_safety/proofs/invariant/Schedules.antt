@@ -9,7 +9,7 @@ use Rattle.sd_history.specs.Sched.declared.Event.{Event}
 use Rattle.sd_history.specs.Sched.declared.Event.TheVariants.{Start, Tick, Recv, FailDevice, FailLink, Ask, Stage, Give, Commit, Seal, Join, MendDevice, End}
 use Rattle.sd_history.specs.World.{Setting, is_up}
 use Rattle.sd_history.specs.Steps.{Step, seen_of}
-use Rattle.sd_history.specs.Refusals.{unspent}
+use Rattle.sd_history.specs.Open.{unspent}
 use Rattle.sd_history.specs.Chronicle.{chronicle}
 
 abbrev pub one_plan : Setting

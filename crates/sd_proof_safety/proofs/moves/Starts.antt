@@ -6,7 +6,7 @@ use Rattle.std.proofs.Common.{◌∙◌, ap}
 use Rattle.std.proofs.lemmas.Bool.{and_left, or_parts, or_from, both_ways}
 use Rattle.sd_checker.specs.Num.Lists.{of_some, leading}
 use Rattle.sd_checker.specs.Topo.declared.Thing.{Thing}
-use Rattle.sd_checker.specs.Domain.Failures.{same_thing}
+use Rattle.sd_checker.specs.Domain.Things.{same_thing}
 use Rattle.sd_history.specs.Sched.declared.Event.{Event}
 use Rattle.sd_history.specs.Sched.Events.{given, joined, is_stage, is_commit}
 use Rattle.sd_history.specs.Things.{failure_of, mended}

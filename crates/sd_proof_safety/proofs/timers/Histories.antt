@@ -4,7 +4,8 @@ use Rattle.std.specs.Prelude.{◌≡◌, ℕ, ◌+◌, ◌-◌, ◌<◌, ◌≤�
 use Rattle.std.proofs.Common.{arith, sym, ◌∙◌, ap, subst}
 use Rattle.std.proofs.lemmas.Bool.{and_parts, false_from_ne_true}
 use Rattle.sd_checker.specs.Num.Numbers.{low, up}
-use Rattle.sd_checker.specs.Topo.Network.{IsNetwork, rates_of, least_low, greatest_up}
+use Rattle.sd_checker.specs.Topo.Network.{rates_of, least_low, greatest_up}
+use Rattle.sd_checker.specs.Topo.Limits.{IsNetwork}
 use Rattle.sd_checker.specs.Plan.declared.Duty.{Duty}
 use Rattle.sd_checker.specs.CheckRoot.Timing.{round_gap}
 use Rattle.sd_history.specs.Core.Calls.{Past}

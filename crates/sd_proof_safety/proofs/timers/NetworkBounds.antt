@@ -4,7 +4,8 @@ use Rattle.std.specs.Prelude.{◌≡◌, ℕ, zero, suc, ◌<◌, ◌≤◌, Lis
 use Rattle.std.proofs.Common.{arith, sym, ap, subst}
 use Rattle.sd_checker.specs.Num.Lists.{of_some, at_place, least, greatest}
 use Rattle.sd_checker.specs.Num.Numbers.{low, up}
-use Rattle.sd_checker.specs.Topo.Network.{Network, Device, IsNetwork, rates_of, no_rates, least_low, greatest_up}
+use Rattle.sd_checker.specs.Topo.Network.{Network, Device, rates_of, no_rates, least_low, greatest_up}
+use Rattle.sd_checker.specs.Topo.Limits.{IsNetwork}
 use Rattle.sd_history.proofs.Given.{some_is}
 
 least_below : {A : Type 0} (f : A → ℕ) (xs : List A) (i : ℕ) (x : A) → slice_get xs i ≡ Some x → least (map f xs) ≤ f x

@@ -8,11 +8,13 @@ use Rattle.sd_checker.specs.Num.Lists.{of_some, latest, leading}
 use Rattle.sd_checker.specs.Plan.declared.Duty.{Duty}
 use Rattle.sd_checker.specs.Plan.declared.Role.{Role}
 use Rattle.sd_checker.specs.Plan.declared.Role.TheVariants as role
-use Rattle.sd_history.specs.Core.Calls.{Making, Started, Joined, Call, Transition, Entered, Committed, Recommitted, Accepted, Moved, TookOver, Emitted, Nothing, Did, Past, Life}
+use Rattle.sd_history.specs.Core.Calls.{Making, Started, Joined, Call, Transition, Entered, Committed, Recommitted, Accepted, Moved, TookOver, Emitted, Nothing, Did, Past}
+use Rattle.sd_history.specs.Core.Living.{Life}
 use Rattle.sd_history.specs.Core.Words.{transition_of, after, taken_up, takes_up, later_entry, duty_now, is_sealed, has_moved, is_acting, is_move, is_commit, moved_at, may_move, wait_to_move, first_duty, starts_as_root, heard, takes_over_at, moves_at, is_backup_root_now, making_counter, counter_of}
 use Rattle.sd_history.specs.Core.Lives.{past_by, past_of}
 use Rattle.sd_history.proofs.Core.Reached.{Reached, reached, added, has_taken_over}
-use Rattle.sd_history.specs.Steps.{Step, life_in}
+use Rattle.sd_history.specs.Steps.{Step}
+use Rattle.sd_history.specs.Lives.{life_in}
 use Rattle.sd_history.specs.Chronicle.{past_in}
 use Rattle.sd_history.proofs.Bridges.{past_of_life}
 use Rattle.sd_proof_safety.specs.timers.Times.{moves}

@@ -5,7 +5,8 @@ use Rattle.std.proofs.Common.{arith, sym, ◌∙◌, ap, subst}
 use Rattle.std.proofs.lemmas.Bool.{and_parts, leb-true, leb-false}
 use Rattle.std.proofs.lemmas.List.Sums.{sum_by-cons}
 use Rattle.sd_checker.specs.Num.Lists.{of_some, below}
-use Rattle.sd_checker.specs.Topo.Network.{Network, IsNetwork, Each, least_low}
+use Rattle.sd_checker.specs.Topo.Network.{Network, Each, least_low}
+use Rattle.sd_checker.specs.Topo.Limits.{IsNetwork}
 use Rattle.sd_checker.specs.Plan.declared.Plan.{Plan}
 use Rattle.sd_checker.specs.Plan.declared.Duty.{Duty}
 use Rattle.sd_checker.specs.Plan.declared.Role.{Role}

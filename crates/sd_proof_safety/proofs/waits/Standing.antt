@@ -7,7 +7,7 @@ use Rattle.std.proofs.lemmas.Bool.{and_parts, and_from, or_left, or_parts, or_fr
 use Rattle.std.proofs.lemmas.List.Sums.{sum_by-cons}
 use Rattle.sd_checker.specs.Num.Lists.{of_some, leading}
 use Rattle.std.specs.List.{cons_option}
-use Rattle.sd_checker.specs.Domain.Failures.{same_thing}
+use Rattle.sd_checker.specs.Domain.Things.{same_thing}
 use Rattle.sd_checker.specs.Topo.declared.Thing.{Thing}
 use Rattle.sd_checker.specs.Topo.declared.Thing.TheVariants as thing
 use Rattle.sd_checker.specs.Plan.Plans.{is_member}

@@ -1,7 +1,8 @@
 -- What each step of the proof is given: a history over accepted plans, with an event more, in which no premise is broken, and the invariant
 -- after each event before that one.
 use Rattle.std.specs.Prelude.{◌≤◌, List, ◌∷◌, length, IsTrue, ℕ}
-use Rattle.sd_checker.specs.Topo.Network.{IsNetwork, Each}
+use Rattle.sd_checker.specs.Topo.Network.{Each}
+use Rattle.sd_checker.specs.Topo.Limits.{IsNetwork}
 use Rattle.sd_checker.specs.Plan.Plans.{Fits}
 use Rattle.sd_checker.specs.Verdicts.{IsAccepted}
 use Rattle.sd_history.specs.Sched.declared.Event.{Event}

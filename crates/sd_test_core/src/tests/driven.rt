@@ -1,7 +1,7 @@
 //! A node that is given only calls that it may be given.
 
 ghost use Rattle.std.specs.Prelude.{◌≡◌, ◌≤◌, ◌<◌, ◌+◌, ◌*◌, ◌^◌, true, IfSome, is_some, option_map, Some};
-ghost use Rattle.sd_plan.specs.Topo.Network.{IsRates};
+ghost use Rattle.sd_plan.specs.Topo.Limits.{IsRates};
 ghost use Rattle.sd_plan.specs.declared.Role.TheVariants as role;
 ghost use Rattle.sd_core.specs.Limits.{IsDuty, IsEdge};
 

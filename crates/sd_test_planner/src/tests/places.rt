@@ -1,7 +1,7 @@
 //! Placing over topologies that are read.
 ghost use Rattle.std.specs.Prelude.{IfOk};
 ghost use Rattle.sd_test_examples.specs.Topo.Topologies.{network};
-ghost use Rattle.sd_planner_place.specs.Usable.{IsAbsentOf};
+ghost use Rattle.sd_planner_place.specs.Absences.{IsAbsentOf};
 
 use sd_planner_place::{Neighbour, Placed, Present, backup_root_of, place};
 use sd_test_examples::plan::{Absent, DeviceList};

@@ -5,7 +5,7 @@ ghost use Rattle.std.specs.Str.{bytes_eq};
 ghost use Rattle.indexmap.specs.IndexMap.{index_map_len};
 ghost use Rattle.toml.specs.View.{view, table_view, items_view};
 ghost use Rattle.sd_topotext.specs.Gives.{Gives, Fails};
-ghost use Rattle.sd_topo.specs.Network.{IsRates};
+ghost use Rattle.sd_topo.specs.Limits.{IsRates};
 ghost use Rattle.sd_topo.specs.Seen.{devices_seen, names_seen};
 ghost use Rattle.sd_topotext.specs.Meaning.{side_in, rates_in, device_in, one_more_device, each_from, devices_in};
 

@@ -1,6 +1,6 @@
 use Rattle.std.proofs.Common.{◌≡◌, ◌++◌, take, string_bytes}
 use Rattle.sd_topo.specs.Topologies.{network}
-use Rattle.sd_checker.specs.Text.{named}
+use Rattle.sd_checker.specs.Named.{named}
 use Rattle.sd_checker.proofs.text.add_names.Given as goal
 
 -- the names so far were added

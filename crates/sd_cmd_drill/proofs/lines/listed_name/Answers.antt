@@ -1,6 +1,6 @@
 use Rattle.std.proofs.Common.{arith}
 use Rattle.std.proofs.lemmas.List.{length-map}
-use Rattle.sd_topo.specs.Network.{domain_names}
+use Rattle.sd_topo.specs.Places.{domain_names}
 use Rattle.sd_topo.specs.Topologies.{network}
 use Rattle.sd_cmd_drill.proofs.Names.{name_short}
 use Rattle.sd_cmd_drill.proofs.lines.listed_name.Goals as goal

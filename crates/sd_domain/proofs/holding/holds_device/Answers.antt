@@ -1,6 +1,6 @@
 use Rattle.std.proofs.Common.{subst}
 use Rattle.sd_topo.specs.Topologies.{network}
-use Rattle.sd_domain.specs.Domains.{IsDomain}
+use Rattle.sd_domain.specs.Lone.{IsDomain}
 use Rattle.sd_domain.specs.declared.DomainId.TheVariants as domain
 use Rattle.sd_domain.proofs.Things.{listed_ascend}
 use Rattle.sd_domain.proofs.holding.holds_device.Goals as goal

@@ -4,7 +4,8 @@ use Rattle.std.specs.declared.alloc.Global.{Global}
 use Rattle.toml.specs.Text.{IsDocumentText}
 use Rattle.sd_num.specs.Lists.{below}
 use Rattle.sd_topotext.specs.Reading.{tree_of}
-use Rattle.sd_gen.specs.fabric.Fabrics.{IsFabricText, leaf_name, spine_name}
+use Rattle.sd_gen.specs.fabric.Fabrics.{leaf_name, spine_name}
+use Rattle.sd_gen.specs.fabric.Texts.{IsFabricText}
 use Rattle.sd_gen.specs.fabric.Trees.{device_tree, fabric_tree}
 use Rattle.sd_gen.proofs.fabric.Paging.{some_devices, whole_document}
 use Rattle.sd_gen.proofs.fabric.Reading.{written}

@@ -1,6 +1,7 @@
 use Rattle.std.proofs.Common.{◌≡◌, ◌+◌, ◌^◌, ◌<◌, take, drop, true}
 use Rattle.std.specs.List.{list_all}
-use Rattle.sd_num.specs.Decimals.{value, is_digit, leading_digits}
+use Rattle.sd_num.specs.Decimals.{value, is_digit}
+use Rattle.sd_num.specs.Digits.{leading_digits}
 use Rattle.sd_num.proofs.decimals.leading_number.Given as goal
 
 -- all bytes so far are digits, and the number so far is theirs

@@ -2,7 +2,7 @@ use Rattle.std.proofs.Common.{◌≡◌, ◌<◌, length, refl, ap, ◌∙◌, s
 use Rattle.sd_topo.specs.Network.{Network}
 use Rattle.sd_topo.specs.Topologies.{network}
 use Rattle.sd_plan.specs.declared.Absent.{Absent}
-use Rattle.sd_planner_place.specs.Usable.{IsAbsentOf}
+use Rattle.sd_planner_place.specs.Absences.{IsAbsentOf}
 use Rattle.sd_planner_place.specs.Views.{net_of, left_out}
 use Rattle.sd_planner_place.specs.Placing.{backup_root_of}
 use Rattle.sd_plan.specs.Plans.{IsRow}

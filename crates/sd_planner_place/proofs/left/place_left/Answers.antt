@@ -1,6 +1,6 @@
 use Rattle.std.proofs.Common.{length, ◌∙◌, sym, subst, arith}
 use Rattle.sd_planner_place.specs.Views.{net_of, left_out}
-use Rattle.sd_planner_place.specs.Placing.{IsTree}
+use Rattle.sd_planner_place.specs.Trees.{IsTree}
 use Rattle.sd_planner_place.specs.Waits.{IsPlacedNext, IsNextStep}
 use Rattle.sd_planner_place.proofs.Growing.{with_next_tree}
 use Rattle.sd_planner_place.proofs.Waiters.{left_turn}

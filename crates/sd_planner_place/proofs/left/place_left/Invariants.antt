@@ -1,7 +1,8 @@
 use Rattle.std.proofs.Common.{◌≡◌, ◌-◌, length}
 use Rattle.sd_planner_place.specs.Usable.{neighbours_of}
 use Rattle.sd_planner_place.specs.Views.{net_of, left_out}
-use Rattle.sd_planner_place.specs.Placing.{HasGrown, with_left}
+use Rattle.sd_planner_place.specs.Placing.{with_left}
+use Rattle.sd_planner_place.specs.Trees.{HasGrown}
 use Rattle.sd_planner_place.specs.Waits.{AreWaiting}
 use Rattle.sd_planner_place.proofs.left.place_left.Given as goal
 

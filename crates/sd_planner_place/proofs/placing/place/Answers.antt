@@ -3,7 +3,8 @@ use Rattle.sd_planner_place.specs.declared.placement.Placed.{Placed}
 use Rattle.sd_planner_place.specs.Placements.{Placements}
 use Rattle.sd_planner_place.specs.Usable.{takes_part}
 use Rattle.sd_planner_place.specs.Views.{net_of, left_out}
-use Rattle.sd_planner_place.specs.Placing.{placed, placed_all, with_left, Grows, IsTree}
+use Rattle.sd_planner_place.specs.Placing.{placed, placed_all, with_left}
+use Rattle.sd_planner_place.specs.Trees.{Grows, IsTree}
 use Rattle.sd_planner_place.proofs.Growing.{both_parts_tree, placed_grows}
 use Rattle.sd_planner_place.proofs.placing.place.Goals as goal
 

@@ -1,6 +1,6 @@
 //! Loops over a square with one diagonal, which is read.
 ghost use Rattle.std.specs.Prelude.{◌≡◌};
-ghost use Rattle.sd_check_loop.specs.Domain.Domains.{IsDomain};
+ghost use Rattle.sd_check_loop.specs.Domain.Lone.{IsDomain};
 ghost use Rattle.sd_test_examples.specs.Plan.Examples as examples;
 ghost use Rattle.sd_test_examples.specs.Plan.Examples.{IsSquare};
 ghost use Rattle.sd_test_examples.specs.Topo.Topologies.{network};

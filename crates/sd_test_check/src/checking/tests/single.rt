@@ -1,6 +1,6 @@
 //! The four conditions on domains, each asked of one domain by itself: a call makes its own index.
 ghost use Rattle.std.specs.Prelude.{◌≡◌, None, IsTrue};
-ghost use Rattle.sd_check_loop.specs.Domain.Domains.{IsDomain};
+ghost use Rattle.sd_check_loop.specs.Domain.Lone.{IsDomain};
 ghost use Rattle.sd_test_examples.specs.Plan.Plans.{Fits};
 ghost use Rattle.sd_test_examples.specs.Plan.Structure as structure;
 ghost use Rattle.sd_test_examples.specs.Topo.Topologies.{network};

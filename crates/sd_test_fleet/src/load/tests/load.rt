@@ -1,6 +1,6 @@
 //! The events of rounds.
 ghost use Rattle.std.specs.Prelude.{◌≤◌, ◌^◌, IsTrue};
-ghost use Rattle.sd_test_fleet_kit.specs.Sched.Lines.{is_within};
+ghost use Rattle.sd_test_fleet_kit.specs.Sched.Spelled.{is_within};
 
 use super::network::{DELAY, DEVICES, PERIOD};
 use sd_test_fleet_kit::device::Device;

@@ -2,7 +2,8 @@ use Rattle.std.proofs.Common.{ap, sym, ◌∙◌, ◌<◌, subst, All, length, g
 use Rattle.toml.specs.Data.{table}
 use Rattle.toml.specs.View.{table_view, view, members_view}
 use Rattle.sd_topo.specs.Topologies.{network}
-use Rattle.sd_topo.specs.Network.{Domain, device_names, link_names, no_domain}
+use Rattle.sd_topo.specs.Network.{Domain, device_names, link_names}
+use Rattle.sd_topo.specs.Places.{no_domain}
 use Rattle.sd_topotext.specs.Printed.{names_data}
 use Rattle.sd_topo.proofs.Laws.{domain_law}
 use Rattle.sd_topotext.proofs.Printing.{domain_told, domain_made}

@@ -2,7 +2,7 @@ use Rattle.std.proofs.Common.{IfOk, sym, subst}
 use Rattle.sd_check_hit.specs.Outages.{net_of, plan_of}
 use Rattle.sd_check_hit.specs.declared.outage.Outage.{Outage}
 use Rattle.sd_plan.proofs.Rules.{keeps_rules}
-use Rattle.sd_check_reach.specs.Reach.{ReachShown}
+use Rattle.sd_check_reach.specs.Answered.{ReachShown}
 use Rattle.sd_check_reach.specs.Searches.{HasRoom, IsSearchOf}
 use Rattle.sd_check_reach.proofs.Chosen.{harmless_reach}
 use Rattle.sd_check_reach.proofs.search.Search.reach_breach.Goals as goal

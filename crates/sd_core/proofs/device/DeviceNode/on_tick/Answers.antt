@@ -1,5 +1,6 @@
 use Rattle.std.proofs.Common.{arith}
-use Rattle.sd_core.specs.Calls.{Tick, Life}
+use Rattle.sd_core.specs.Calls.{Tick}
+use Rattle.sd_core.specs.Living.{Life}
 use Rattle.sd_core.specs.Standing.{StandsFor}
 use Rattle.sd_core.proofs.Keeping.{TickKeeps, tick_keeps}
 use Rattle.sd_core.proofs.Stands.{Stood, stood}

@@ -3,7 +3,7 @@ use Rattle.std.specs.FinSet as set
 use Rattle.sd_num.specs.Lists.{has}
 use Rattle.sd_topo.specs.Topologies.{network}
 use Rattle.sd_topo.specs.declared.Thing.TheVariants as thing
-use Rattle.sd_domain.specs.Domains.{IsDomain}
+use Rattle.sd_domain.specs.Lone.{IsDomain}
 use Rattle.sd_domain.specs.Failures.{with_thing}
 use Rattle.sd_domain.proofs.Failed.{listed_failed, device_failed, link_failed, devices_fit, links_fit}
 use Rattle.sd_domain.proofs.failure.Failure.set_to.Goals as goal

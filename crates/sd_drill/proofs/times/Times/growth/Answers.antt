@@ -1,7 +1,7 @@
 use Rattle.std.proofs.Common.{◌≡◌, ◌∙◌, ℕ, ◌+◌, ◌*◌, ◌^◌, ◌≤◌, ap, sym, subst, arith}
 use Rattle.std.proofs.Math.Nat.{mul-le-mul}
 use Rattle.sd_num.specs.declared.Rates.{Rates}
-use Rattle.sd_topo.specs.Network.{IsRates}
+use Rattle.sd_topo.specs.Limits.{IsRates}
 use Rattle.sd_topo.specs.Topologies.{network}
 use Rattle.sd_topo.proofs.Laws.{rates_law}
 use Rattle.sd_checker.specs.CheckRoot.Timing.{silence}

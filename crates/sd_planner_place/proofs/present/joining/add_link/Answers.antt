@@ -1,5 +1,6 @@
 use Rattle.std.proofs.Common.{◌≡◌, ◌<◌, length, ap, ◌∙◌, arith}
-use Rattle.sd_topo.specs.Network.{link_of, IsLink}
+use Rattle.sd_topo.specs.Network.{link_of}
+use Rattle.sd_topo.specs.Limits.{IsLink}
 use Rattle.sd_topo.specs.Topologies.{network}
 use Rattle.sd_topo.proofs.Laws.{link_law}
 use Rattle.sd_planner_place.specs.Gathered.{over_before}

@@ -1,7 +1,7 @@
 use Rattle.std.proofs.Common.{◌≡◌, ℕ, ◌<◌, Bool, true, ◌&&◌, List, ◌∷◌, set, sym, ap, ◌∙◌, subst}
 use Rattle.sd_topo.specs.Network.{Network, rates_of}
 use Rattle.sd_fleet_state.specs.History.World.{Setting, Seen}
-use Rattle.sd_fleet_state.specs.History.Refusals.{may_be_seen}
+use Rattle.sd_fleet_state.specs.History.Open.{may_be_seen}
 use Rattle.sd_topo.specs.Topologies.{network}
 use Rattle.sd_premise_clocks.specs.declared.drift.DriftMonitor.TheInside.{Inside}
 use Rattle.sd_premise_clocks.specs.Sights.{sight_of}

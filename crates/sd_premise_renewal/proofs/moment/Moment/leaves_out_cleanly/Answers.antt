@@ -1,6 +1,7 @@
 use Rattle.std.proofs.Common.{◌≡◌, ℕ, ◌<◌, ◌≤◌, false, length, sym, ◌∙◌, subst, inl, inr, arith}
 use Rattle.std.proofs.lemmas.Bool.{cases_lt}
-use Rattle.sd_topo.specs.Network.{Network, IsNetwork}
+use Rattle.sd_topo.specs.Network.{Network}
+use Rattle.sd_topo.specs.Limits.{IsNetwork}
 use Rattle.sd_topo.specs.Topologies.{network}
 use Rattle.sd_premise_renewal.specs.Moments.{leads_out}
 use Rattle.sd_premise_renewal.proofs.Ready.{cleanly_all, cleanly_some}

@@ -1,5 +1,5 @@
 use Rattle.std.proofs.Common.{sym, subst, ◌∙◌}
-use Rattle.sd_topo.specs.Network.{IsNetwork}
+use Rattle.sd_topo.specs.Limits.{IsNetwork}
 use Rattle.sd_topo.proofs.Copying.{copied_network}
 use Rattle.sd_topo.proofs.topology.Topology.copy.Goals as goal
 

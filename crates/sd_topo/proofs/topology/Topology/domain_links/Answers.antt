@@ -1,5 +1,6 @@
 use Rattle.std.proofs.Common.{◌≡◌, sym, subst, ◌∙◌}
-use Rattle.sd_topo.specs.Network.{Network, domain_of}
+use Rattle.sd_topo.specs.Network.{Network}
+use Rattle.sd_topo.specs.Places.{domain_of}
 use Rattle.sd_topo.proofs.Tables.{at_domain}
 use Rattle.sd_topo.proofs.topology.Topology.domain_links.Goals as goal
 

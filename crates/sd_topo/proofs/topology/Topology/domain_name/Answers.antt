@@ -1,5 +1,6 @@
 use Rattle.std.proofs.Common.{◌≡◌, sym, subst, ◌∙◌, string_bytes}
-use Rattle.sd_topo.specs.Network.{Network, domain_names, name_at}
+use Rattle.sd_topo.specs.Network.{Network, name_at}
+use Rattle.sd_topo.specs.Places.{domain_names}
 use Rattle.sd_topo.specs.Seen.{domain_seen}
 use Rattle.sd_topo.proofs.Tables.{at_name}
 use Rattle.sd_topo.proofs.topology.Topology.domain_name.Goals as goal

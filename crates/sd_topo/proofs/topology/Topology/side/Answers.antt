@@ -1,6 +1,7 @@
 use Rattle.std.proofs.Common.{◌≡◌, sym, subst, refl}
 use Rattle.sd_topo.specs.declared.Side.TheVariants.{Root}
-use Rattle.sd_topo.specs.Network.{Network, side_of}
+use Rattle.sd_topo.specs.Network.{Network}
+use Rattle.sd_topo.specs.Places.{side_of}
 use Rattle.sd_topo.specs.Seen.{device_seen}
 use Rattle.sd_topo.proofs.Tables.{at_value}
 use Rattle.sd_topo.proofs.topology.Topology.side.Goals as goal

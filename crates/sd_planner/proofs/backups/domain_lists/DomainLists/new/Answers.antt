@@ -1,6 +1,6 @@
 use Rattle.std.proofs.Common.{◌≡◌, true, length, arith, ap, subst}
 use Rattle.sd_num.specs.Lists.{has}
-use Rattle.sd_topo.specs.Network.{domain_of}
+use Rattle.sd_topo.specs.Places.{domain_of}
 use Rattle.sd_topo.specs.Topologies.{network}
 use Rattle.sd_topo.proofs.Laws.{domain_law}
 use Rattle.sd_planner.proofs.Members.{had_within}

@@ -1,5 +1,5 @@
 use Rattle.std.proofs.Common.{◌≡◌, length}
-use Rattle.sd_topo.specs.Network.{domain_of}
+use Rattle.sd_topo.specs.Places.{domain_of}
 use Rattle.sd_topo.specs.Topologies.{network}
 use Rattle.sd_planner.specs.Listed.{ListUnder}
 use Rattle.sd_planner.proofs.backups.domain_lists.DomainLists.new.Given as goal

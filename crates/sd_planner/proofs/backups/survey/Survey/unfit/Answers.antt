@@ -1,6 +1,6 @@
 use Rattle.std.proofs.Common.{◌≡◌, length, List, Bool, ap, ◌∙◌, sym, subst}
 use Rattle.sd_planner_place.specs.declared.placement.Placed.{Placed}
-use Rattle.sd_planner_place.specs.Placing.{Grows}
+use Rattle.sd_planner_place.specs.Trees.{Grows}
 use Rattle.sd_planner.specs.Climbs.{way_up}
 use Rattle.sd_planner.specs.Flags.{AreOver}
 use Rattle.sd_planner.specs.Surveys.{net_in, absent_in, order_of}

@@ -1,0 +1,21 @@
+-- The present life of a device in a history, and what a device tells when it is asked.
+use Rattle.std.specs.Prelude.{ℕ, List, ◌∷◌, nat_eq, Option, Some, None, option_map, if◌then◌else◌}
+use Rattle.sd_core.specs.Clock.declared.Report.{Report}
+use Rattle.sd_core.specs.declared.Effect.TheVariants.{Quiet}
+use Rattle.sd_core.specs.Calls as calls
+use Rattle.sd_core.specs.Living.{Life}
+use Rattle.sd_history.specs.Steps.{Act, Told, Step, Makes, Calls, Asks, Passes}
+
+abbrev pub tells_report : Report → Told
+tells_report report = record { effect = Quiet; answers = None; report = Some report }
+
+abbrev pub life_after : Act → ℕ → Option Life → Option Life
+life_after (Makes e making) d before = if nat_eq e d then Some (record { making = making; calls = [] }) else before
+life_after (Calls e call) d before = if nat_eq e d then option_map (λ life. record { making = life.making; calls = call ∷ life.calls }) before else before
+life_after (Asks e counter) d before = before
+life_after Passes d before = before
+
+-- the present life of a device: its latest making, and its calls since then
+abbrev pub life_in : List Step → ℕ → Option Life
+life_in [] d = None
+life_in (s ∷ earlier) d = life_after s.act d (life_in earlier d)
