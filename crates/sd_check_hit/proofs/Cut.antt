@@ -4,7 +4,7 @@ use Rattle.std.proofs.lemmas.Bool.{not_from_false}
 use Rattle.sd_num.specs.Lists.{has, of_some}
 use Rattle.sd_topo.specs.Network.{Network}
 use Rattle.sd_plan.specs.Plans.{is_member, is_root, primary_of}
-use Rattle.sd_plan.specs.Walks.{hops, is_end, epath, on_walk, devices_of, things_of}
+use Rattle.sd_plan.specs.Walks.{hops, ends_walks, epath, on_walk, devices_of, things_of}
 use Rattle.sd_plan.specs.Indexed.{Indexed, IsIndexOf, stands_below, is_cut_before, has_device, has_link}
 use Rattle.sd_plan.specs.declared.Hop.{Hop}
 use Rattle.sd_plan.specs.declared.Plan.{Plan}
@@ -63,12 +63,12 @@ on_root net plan d a root =
 
 -- its path is empty
 pub no_root_path : (net : Network) (plan : Plan) (d : ℕ) → is_root plan d ≡ true → epath net plan d ≡ []
-no_root_path net plan d root = ap (λ (t : Bool). things_of (if t then [] else hops (is_end plan) plan net.params.depth d)) root
+no_root_path net plan d root = ap (λ (t : Bool). things_of (if t then [] else hops (ends_walks plan) plan net.params.depth d)) root
 
 -- so is that of a device that is left out
 pub no_path : (net : Network) (plan : Plan) (index : Indexed) (d : ℕ) → IsIndexOf net plan index → d < length net.devices → is_member plan d ≡ false
     → epath net plan d ≡ []
-no_path net plan index d law within absent = by_hops (is_root plan d) (is_end plan) net.params.depth none
+no_path net plan index d law within absent = by_hops (is_root plan d) (ends_walks plan) net.params.depth none
   where
     none : primary_of plan d ≡ None
     none =

@@ -12,7 +12,7 @@ use Rattle.sd_plan.specs.declared.Hop.{Hop}
 use Rattle.sd_plan.specs.declared.Plan.{Plan}
 use Rattle.sd_plan.specs.declared.PlanRow.{PlanRow}
 use Rattle.sd_plan.specs.Plans.{is_member, row_of, has_row, primary_of, backup_of}
-use Rattle.sd_plan.specs.Walks.{is_end, is_hit}
+use Rattle.sd_plan.specs.Walks.{ends_walks, is_hit}
 use Rattle.sd_check_loop.specs.Loops.{same_hop, LeadsTo}
 
 -- the hop is there, and leads to the device
@@ -107,13 +107,13 @@ by_led member ends hit primary backup e led =
 
 module _ (net : Network) (plan : Plan) (domain : DomainId) where
   abbrev pub IsLed : ℕ → ℕ → Type 0
-  IsLed d e = Led (is_member plan d) (is_end plan d) (is_hit net plan domain d) (primary_of plan d) (backup_of plan d) e
+  IsLed d e = Led (is_member plan d) (ends_walks plan d) (is_hit net plan domain d) (primary_of plan d) (backup_of plan d) e
 
   pub led : (d e : ℕ) → LeadsTo net plan domain d e → IsLed d e
-  led d e some = led_by (is_member plan d) (is_end plan d) (is_hit net plan domain d) (primary_of plan d) (backup_of plan d) e some
+  led d e some = led_by (is_member plan d) (ends_walks plan d) (is_hit net plan domain d) (primary_of plan d) (backup_of plan d) e some
 
   pub leads_to : (d e : ℕ) → IsLed d e → LeadsTo net plan domain d e
-  leads_to d e led = by_led (is_member plan d) (is_end plan d) (is_hit net plan domain d) (primary_of plan d) (backup_of plan d) e led
+  leads_to d e led = by_led (is_member plan d) (ends_walks plan d) (is_hit net plan domain d) (primary_of plan d) (backup_of plan d) e led
 
 -- a hop is there only in a row
 primary_row : (o : Option PlanRow) (hop : Hop) → option_map (λ row. row.primary) o ≡ Some hop → of_some o false (λ row. true) ≡ true

@@ -11,7 +11,7 @@ use Rattle.sd_plan.specs.declared.Hop.{Hop}
 use Rattle.sd_plan.specs.declared.Plan.{Plan}
 use Rattle.sd_plan.specs.Plans.{Fits, is_member, is_root, has_row, primary_of, backup_of}
 use Rattle.sd_plan.specs.Structure.{structure_breach}
-use Rattle.sd_plan.specs.Walks.{is_end, is_hit, short_walk}
+use Rattle.sd_plan.specs.Walks.{ends_walks, is_hit, short_walk}
 use Rattle.sd_plan.proofs.Rules.{keeps_rules, other_member}
 use Rattle.sd_check_hit.specs.Hit.{hit_by}
 use Rattle.sd_check_loop.specs.Graphs.{place_in, parent_place, no_successors, successors_of, graph_of, successors_at, leads, IsGraph, BothAre}
@@ -71,7 +71,7 @@ module _ (net : Network) (plan : Plan) (domain : DomainId) (fits : Fits net plan
   led_within d e known = let within = row_within plan d (led_row net plan domain d e known) in omega (arith, within, fits.entries)
 
   -- a device with a row that ends no walk is a member
-  row_member : (d : ℕ) → has_row plan d ≡ true → is_end plan d ≡ false → is_member plan d ≡ true
+  row_member : (d : ℕ) → has_row plan d ≡ true → ends_walks plan d ≡ false → is_member plan d ≡ true
   row_member d row other =
       let within = row_within plan d row in
       sym (other_member net plan d (keeps_rules net plan structured) (omega (arith, within, fits.entries))
@@ -89,13 +89,13 @@ module _ (net : Network) (plan : Plan) (domain : DomainId) (fits : Fits net plan
     abbrev of_parents : ℕ → Successors
     of_parents d = record { primary = parent_place hit (primary_of plan d); backup = parent_place hit (backup_of plan d) }
 
-    successors_on : (d : ℕ) → is_end plan d ≡ false → successors_of plan hit d ≡ of_parents d
+    successors_on : (d : ℕ) → ends_walks plan d ≡ false → successors_of plan hit d ≡ of_parents d
     unfolding successors_of
-    successors_on d other = cond-false (is_end plan d) no_successors (of_parents d) other
+    successors_on d other = cond-false (ends_walks plan d) no_successors (of_parents d) other
 
-    successors_end : (d : ℕ) → is_end plan d ≡ true → successors_of plan hit d ≡ no_successors
+    successors_end : (d : ℕ) → ends_walks plan d ≡ true → successors_of plan hit d ≡ no_successors
     unfolding successors_of
-    successors_end d ends = cond-true (is_end plan d) no_successors (of_parents d) ends
+    successors_end d ends = cond-true (ends_walks plan d) no_successors (of_parents d) ends
 
     -- where a device leads to another, so do their places
     leads_on : (d e i j : ℕ) → place_in hit d ≡ Some i → place_in hit e ≡ Some j → LeadsTo net plan domain d e → leads graph i j ≡ true
@@ -117,7 +117,7 @@ module _ (net : Network) (plan : Plan) (domain : DomainId) (fits : Fits net plan
     -- where a place leads to another, so do their devices
     led_on : (d i j : ℕ) → place_in hit d ≡ Some i → leads graph i j ≡ true → (e : ℕ) × (place_in hit e ≡ Some j) × LeadsTo net plan domain d e
     led_on d i j at_d leads_j =
-        elim (cases_Bool (is_end plan d)) [
+        elim (cases_Bool (ends_walks plan d)) [
           | inl ends ↦ absurd (none (subst (λ (s : Successors). leads_by s j ≡ true) (successors_there d i at_d ∙ successors_end d ends) leads_j))
           | inr other ↦ by other (or_cases (same_number (parent_place hit (primary_of plan d)) j) (same_number (parent_place hit (backup_of plan d)) j)
               (subst (λ (s : Successors). leads_by s j ≡ true) (successors_there d i at_d ∙ successors_on d other) leads_j))
@@ -126,7 +126,7 @@ module _ (net : Network) (plan : Plan) (domain : DomainId) (fits : Fits net plan
         none : leads_by no_successors j ≡ true → ⊥
         none same = cc
 
-        by : is_end plan d ≡ false → (same_number (parent_place hit (primary_of plan d)) j ≡ true)
+        by : ends_walks plan d ≡ false → (same_number (parent_place hit (primary_of plan d)) j ≡ true)
             ⊎ (same_number (parent_place hit (backup_of plan d)) j ≡ true) → (e : ℕ) × (place_in hit e ≡ Some j) × LeadsTo net plan domain d e
         by other (inl here) =
             let found = at_parent hit (primary_of plan d) j (same_number-some (parent_place hit (primary_of plan d)) j here) in (
@@ -161,20 +161,20 @@ module _ (net : Network) (plan : Plan) (domain : DomainId) (fits : Fits net plan
       rank_by false (Some i) d = net.params.depth + 1 + marked.ranked.rank i
 
       rank : ℕ → ℕ
-      rank d = rank_by (is_end plan d) (place_in hit d) d
+      rank d = rank_by (ends_walks plan d) (place_in hit d) d
 
-      rank_is : (d : ℕ) (b : Bool) (place : Option ℕ) → is_end plan d ≡ b → place_in hit d ≡ place → rank d ≡ rank_by b place d
+      rank_is : (d : ℕ) (b : Bool) (place : Option ℕ) → ends_walks plan d ≡ b → place_in hit d ≡ place → rank d ≡ rank_by b place d
       unfolding rank
       rank_is d b place ends at = ap (λ (x : Bool). rank_by x (place_in hit d) d) ends ∙ ap (λ (o : Option ℕ). rank_by b o d) at
 
       -- a device that ends walks has no endless place
-      ends_end : (e : ℕ) → is_end plan e ≡ true → Ends e
+      ends_end : (e : ℕ) → ends_walks plan e ≡ true → Ends e
       unfolding Ends
       ends_end e ends j at =
           marked.done j (λ endless.
           let next = marked.goes_on j endless in
           let on = led_on e j next.0 at next.1 in
-          both_ways (is_end plan e) (led net plan domain e on.0 on.2).ends_not ends)
+          both_ways (ends_walks plan e) (led net plan domain e on.0 on.2).ends_not ends)
 
       -- where a device that is not listed leads
       unlisted : (d e : ℕ) → place_in hit d ≡ None → LeadsTo net plan domain d e → GoesUnhit net plan domain d e
@@ -198,7 +198,7 @@ module _ (net : Network) (plan : Plan) (domain : DomainId) (fits : Fits net plan
           by (Some i) at_d =
               (both_at (EndsBelow marks marked.ranked.rank i) graph i j (leads_on d e i j at_d at_e leads_e) (marked.ranked.falls i (ends i at_d))).0
           by None none =
-              elim (cases_Bool (is_end plan e)) [
+              elim (cases_Bool (ends_walks plan e)) [
                 | inl last ↦ ends_end e last j at_e
                 | inr more ↦ absurd (both_ways (is_hit net plan domain e) ((unlisted d e none leads_e).unhit more) (hit_here e j at_e))
               ]
@@ -206,12 +206,12 @@ module _ (net : Network) (plan : Plan) (domain : DomainId) (fits : Fits net plan
       -- and has a lower rank
       falls : (d e : ℕ) → Ends d → LeadsTo net plan domain d e → rank e < rank d
       unfolding Ends
-      falls d e ends leads_e = by (place_in hit d) refl (is_end plan e) refl (place_in hit e) refl
+      falls d e ends leads_e = by (place_in hit d) refl (ends_walks plan e) refl (place_in hit e) refl
         where
-          open_here : is_end plan d ≡ false
+          open_here : ends_walks plan d ≡ false
           open_here = (led net plan domain d e leads_e).ends_not
 
-          by : (at_d : Option ℕ) → place_in hit d ≡ at_d → (last : Bool) → is_end plan e ≡ last → (at_e : Option ℕ) → place_in hit e ≡ at_e → rank e < rank d
+          by : (at_d : Option ℕ) → place_in hit d ≡ at_d → (last : Bool) → ends_walks plan e ≡ last → (at_e : Option ℕ) → place_in hit e ≡ at_e → rank e < rank d
           by (Some i) here true last at_e there = rw (rank_is d false (Some i) open_here here, rank_is e true at_e last there) (omega arith)
           by (Some i) here false more None there =
               rw (rank_is d false (Some i) open_here here, rank_is e false None more there) (omega (arith, short_count net plan e))
@@ -348,7 +348,7 @@ module _ (net : Network) (plan : Plan) (domain : DomainId) (fits : Fits net plan
         let before : i < length hit = omega (arith, ap (λ (g : List Successors). length g) made, length-map hit (successors_of plan hit)) in
         let at = place_in-at hit i (hit_ascends net plan domain hit is) before in
         subst (λ (s : Successors). BothAre (λ j. j < length graph) s) (sym (successors_there (get_or hit i 0) i at))
-        (by (cases_Bool (is_end plan (get_or hit i 0))))
+        (by (cases_Bool (ends_walks plan (get_or hit i 0))))
       where
         size : length graph ≡ length hit
         size = ap (λ (g : List Successors). length g) made ∙ length-map hit (successors_of plan hit)
@@ -357,7 +357,7 @@ module _ (net : Network) (plan : Plan) (domain : DomainId) (fits : Fits net plan
         one o None none = tt
         one o (Some j) some = let found = at_parent hit o j some in let place = place_in-some hit found.0 j found.2 in omega (arith, place.0, size)
 
-        by : (is_end plan (get_or hit i 0) ≡ true) ⊎ (is_end plan (get_or hit i 0) ≡ false)
+        by : (ends_walks plan (get_or hit i 0) ≡ true) ⊎ (ends_walks plan (get_or hit i 0) ≡ false)
             → BothAre (λ j. j < length graph) (successors_of plan hit (get_or hit i 0))
         by (inl ends) = subst (λ (s : Successors). BothAre (λ j. j < length graph) s) (sym (successors_end (get_or hit i 0) ends)) (tt, tt)
         by (inr other) =

@@ -2,7 +2,7 @@
 use Rattle.std.specs.Prelude.{ℕ, suc, ◌<◌, Bool, ◌||◌, List, [], ◌∷◌, length, map, nat_eq, slice_index_or, Option, Some, None, IfSome, option_map, if◌then◌else◌}
 use Rattle.sd_num.specs.Lists.{same_number}
 use Rattle.sd_plan.specs.Plans.{primary_of, backup_of}
-use Rattle.sd_plan.specs.Walks.{is_end}
+use Rattle.sd_plan.specs.Walks.{ends_walks}
 use Rattle.sd_plan.specs.declared.Hop.{Hop}
 use Rattle.sd_plan.specs.declared.Plan.{Plan}
 use Rattle.sd_check_loop.specs.declared.graph.Successors.{Successors}
@@ -23,7 +23,7 @@ no_successors = record { primary = None; backup = None }
 -- the places of the parents of a device that ends no walk
 unfoldable pub successors_of : Plan → List ℕ → ℕ → Successors
 successors_of plan hit d =
-    if is_end plan d then no_successors
+    if ends_walks plan d then no_successors
     else record { primary = parent_place hit (primary_of plan d); backup = parent_place hit (backup_of plan d) }
 
 -- the successors of each of the devices

@@ -6,12 +6,12 @@ use Rattle.sd_domain.specs.declared.DomainId.{DomainId}
 use Rattle.sd_plan.specs.declared.Hop.{Hop}
 use Rattle.sd_plan.specs.declared.Plan.{Plan}
 use Rattle.sd_plan.specs.Plans.{is_member, primary_of, backup_of}
-use Rattle.sd_plan.specs.Walks.{is_end, is_hit, end_of}
+use Rattle.sd_plan.specs.Walks.{ends_walks, is_hit, end_of}
 
 -- the hops that a device may be on while things of the domain fail: its primary, and where the domain hits it its backup too
 abbrev pub hops_of : Network → Plan → DomainId → ℕ → List Hop
 hops_of net plan domain d =
-    if is_member plan d && not (is_end plan d)
+    if is_member plan d && not (ends_walks plan d)
     then option_to_list (primary_of plan d) ++ (if is_hit net plan domain d then option_to_list (backup_of plan d) else [])
     else []
 

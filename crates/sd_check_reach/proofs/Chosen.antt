@@ -11,7 +11,7 @@ use Rattle.sd_check_hit.specs.Hit.{hit_by}
 use Rattle.sd_plan.specs.declared.Hop.{Hop}
 use Rattle.sd_plan.specs.declared.Plan.{Plan}
 use Rattle.sd_plan.specs.Plans.{Fits, is_member, is_root, backup_of}
-use Rattle.sd_plan.specs.Walks.{is_hit, is_end}
+use Rattle.sd_plan.specs.Walks.{is_hit, ends_walks}
 use Rattle.sd_plan.proofs.Rules.{KeepsRules}
 use Rattle.sd_check_reach.specs.Reach.{Fed, spared, acting_end, is_sound, LosesBackup, ReachHolds, IsShownChain}
 use Rattle.sd_check_reach.specs.Answered.{DomainShown}
@@ -105,12 +105,12 @@ module _ (net : Network) (plan : Plan) (domain : DomainId) (hit : List ℕ) (are
       there : (j d : ℕ) → slice_get hit j ≡ Some d → loses net plan domain d ≡ true → IsLosing net plan domain d
       there j d at lost =
           let is : (is_hit net plan domain d ≡ true) × (d < length net.devices) = hit_at net plan domain hit j d are at in
-          let parts : ((not (holds_device net domain d) && not (is_end plan d)) ≡ true)
+          let parts : ((not (holds_device net domain d) && not (ends_walks plan d)) ≡ true)
           × (of_some (backup_of plan d) false (λ hop. holds_link net domain hop.link || holds_device net domain hop.parent) ≡ true) =
-          and_parts (not (holds_device net domain d) && not (is_end plan d))
+          and_parts (not (holds_device net domain d) && not (ends_walks plan d))
           (of_some (backup_of plan d) false (λ hop. holds_link net domain hop.link || holds_device net domain hop.parent)) lost in
-          let first : (not (holds_device net domain d) ≡ true) × (not (is_end plan d) ≡ true) =
-          and_parts (not (holds_device net domain d)) (not (is_end plan d)) parts.0 in
+          let first : (not (holds_device net domain d) ≡ true) × (not (ends_walks plan d) ≡ true) =
+          and_parts (not (holds_device net domain d)) (not (ends_walks plan d)) parts.0 in
           let backup : (hop : Hop) × (backup_of plan d ≡ Some hop) × ((holds_link net domain hop.link || holds_device net domain hop.parent) ≡ true) =
           is_lost (backup_of plan d) net domain parts.1 in
           record {
@@ -127,9 +127,9 @@ module _ (net : Network) (plan : Plan) (domain : DomainId) (hit : List ℕ) (are
           let place : (i : ℕ) × (slice_get hit i ≡ Some d) = at_hit net plan domain hit d are (hit_device net plan domain d fits rules q.hit).within q.hit in (
             place.0,
             place.1,
-            and_from (not (holds_device net domain d) && not (is_end plan d))
+            and_from (not (holds_device net domain d) && not (ends_walks plan d))
                 (of_some (backup_of plan d) false (λ hop. holds_link net domain hop.link || holds_device net domain hop.parent))
-                (and_from (not (holds_device net domain d)) (not (is_end plan d))
+                (and_from (not (holds_device net domain d)) (not (ends_walks plan d))
                 (and_parts (is_member plan d) (not (holds_device net domain d)) q.sound).1 q.no_root)
                 (subst (λ (o : Option Hop). of_some o false (λ hop. holds_link net domain hop.link || holds_device net domain hop.parent) ≡ true)
                 (sym q.has_backup) q.lost),

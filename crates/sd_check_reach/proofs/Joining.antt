@@ -8,7 +8,7 @@ use Rattle.sd_domain.specs.NumberSets.{with_number}
 use Rattle.sd_num.specs.Lists.{has}
 use Rattle.sd_topo.specs.Network.{Network, joins, link_of, link_numbers}
 use Rattle.sd_topo.specs.Limits.{IsNetwork, IsLink}
-use Rattle.sd_topo.specs.Places.{is_end}
+use Rattle.sd_topo.specs.Places.{is_end_of}
 use Rattle.sd_topo.specs.Joined.{Joined, here, over}
 use Rattle.sd_topo.proofs.Laws.{link_law, joined_end}
 use Rattle.sd_domain.specs.Domains.{holds_device, holds_link}
@@ -183,7 +183,7 @@ pub record IsUsable (net : Network) (plan : Plan) (d : ℕ) (end : End) : Type 0
 
 module _ (net : Network) (plan : Plan) (d : ℕ) where
   -- the link joins the device to its other end
-  other_joined : (l : ℕ) → is_end (link_of net l) d ≡ true → joins net l d (other_end (link_of net l) d) ≡ true
+  other_joined : (l : ℕ) → is_end_of (link_of net l) d ≡ true → joins net l d (other_end (link_of net l) d) ≡ true
   other_joined l ends = by (nat_eq d (link_of net l).end_a) refl
     where
       by : (b : Bool) → nat_eq d (link_of net l).end_a ≡ b → joins net l d (if b then (link_of net l).end_b else (link_of net l).end_a) ≡ true
@@ -239,11 +239,11 @@ module _ (net : Network) (plan : Plan) (d : ℕ) where
       let l : ℕ = found.0 in
       let within : l < length net.links = below_has (length net.links) l found.1 in
       let tested =
-      cond_some (is_end (link_of net l) d && is_present plan l && is_member plan (other_end (link_of net l) d))
+      cond_some (is_end_of (link_of net l) d && is_present plan l && is_member plan (other_end (link_of net l) d))
       (record { link = l; device = other_end (link_of net l) d }) end found.2 in
-      let first : ((is_end (link_of net l) d && is_present plan l) ≡ true) × (is_member plan (other_end (link_of net l) d) ≡ true) =
-      and_parts (is_end (link_of net l) d && is_present plan l) (is_member plan (other_end (link_of net l) d)) tested.0 in
-      let second : (is_end (link_of net l) d ≡ true) × (is_present plan l ≡ true) = and_parts (is_end (link_of net l) d) (is_present plan l) first.0 in
+      let first : ((is_end_of (link_of net l) d && is_present plan l) ≡ true) × (is_member plan (other_end (link_of net l) d) ≡ true) =
+      and_parts (is_end_of (link_of net l) d && is_present plan l) (is_member plan (other_end (link_of net l) d)) tested.0 in
+      let second : (is_end_of (link_of net l) d ≡ true) × (is_present plan l ≡ true) = and_parts (is_end_of (link_of net l) d) (is_present plan l) first.0 in
       subst (λ (e : End). IsUsable net plan d e) tested.1 (record {
         link = within;
         present = second.1;
@@ -257,9 +257,9 @@ module _ (net : Network) (plan : Plan) (d : ℕ) where
       → (j : ℕ) × (slice_get (usable_ends net plan d) j ≡ Some (record { link = l; device = e }))
   usable_to l e within present member joined =
       let other : other_end (link_of net l) d ≡ e = joined_other l e joined in
-      let tests : (is_end (link_of net l) d && is_present plan l && is_member plan (other_end (link_of net l) d)) ≡ true =
-      and_from (is_end (link_of net l) d && is_present plan l) (is_member plan (other_end (link_of net l) d))
-      (and_from (is_end (link_of net l) d) (is_present plan l) (joined_end net l d e joined) present)
+      let tests : (is_end_of (link_of net l) d && is_present plan l && is_member plan (other_end (link_of net l) d)) ≡ true =
+      and_from (is_end_of (link_of net l) d && is_present plan l) (is_member plan (other_end (link_of net l) d))
+      (and_from (is_end_of (link_of net l) d) (is_present plan l) (joined_end net l d e joined) present)
       (subst (λ x. is_member plan x ≡ true) (sym other) member) in
       let is : usable_end net plan d l ≡ Some (record { link = l; device = e }) =
       ap (λ (b : Bool). if b then Some (record { link = l; device = other_end (link_of net l) d }) else None) tests

@@ -13,7 +13,7 @@ use Rattle.sd_plan.specs.declared.Hop.{Hop}
 use Rattle.sd_plan.specs.declared.Plan.{Plan}
 use Rattle.sd_plan.specs.declared.PlanRow.{PlanRow}
 use Rattle.sd_plan.specs.Plans.{Fits, IsHop, is_member, is_present, is_root, is_backup_root, has_row, primary_of, backup_of}
-use Rattle.sd_plan.specs.Walks.{hops, is_end, things_of, end_of, is_hit}
+use Rattle.sd_plan.specs.Walks.{hops, ends_walks, things_of, end_of, is_hit}
 use Rattle.sd_plan.specs.Structure.{structure_breach, first_failing, roots_breach, row_is_right, hop_is_right, hops_are_right, links_differ, reaches_root, falls_back}
 use Rattle.sd_plan.proofs.Numbered.{both_none, none_found}
 use Rattle.sd_plan.proofs.Rules.{KeepsRules, hops_within, member_is}
@@ -46,21 +46,21 @@ abbrev next : (ℕ → Bool) → (ℕ → List Hop) → Option Hop → List Hop
 next ends more found = elim found [ None ↦ [] | Some hop ↦ hop ∷ (elim (ends hop.parent) [ true ↦ [] | false ↦ more hop.parent ]) ]
 
 -- hops that would lead to the root end there, or at the backup root before
-end_ends : (plan : Plan) (n d : ℕ) → is_root plan (end_of d (hops (is_root plan) plan n d)) ≡ true → is_end plan (end_of d (hops (is_end plan) plan n d)) ≡ true
+end_ends : (plan : Plan) (n d : ℕ) → is_root plan (end_of d (hops (is_root plan) plan n d)) ≡ true → ends_walks plan (end_of d (hops (ends_walks plan) plan n d)) ≡ true
 end_ends plan zero d reach = or_left (is_root plan d) (is_backup_root plan d) reach
 end_ends plan (suc n) d reach = by (primary_of plan d) reach (end_ends plan n)
   where
     by_tests : (e : ℕ) (root backup : Bool) → is_root plan e ≡ root → is_backup_root plan e ≡ backup
         → is_root plan (end_of e (elim root [ true ↦ [] | false ↦ hops (is_root plan) plan n e ])) ≡ true
-        → (is_root plan (end_of e (hops (is_root plan) plan n e)) ≡ true → is_end plan (end_of e (hops (is_end plan) plan n e)) ≡ true)
-        → is_end plan (end_of e (elim (root || backup) [ true ↦ [] | false ↦ hops (is_end plan) plan n e ])) ≡ true
+        → (is_root plan (end_of e (hops (is_root plan) plan n e)) ≡ true → ends_walks plan (end_of e (hops (ends_walks plan) plan n e)) ≡ true)
+        → ends_walks plan (end_of e (elim (root || backup) [ true ↦ [] | false ↦ hops (ends_walks plan) plan n e ])) ≡ true
     by_tests e true backup root_is backup_is reach rest = or_left (is_root plan e) (is_backup_root plan e) root_is
     by_tests e false true root_is backup_is reach rest = or_right (is_root plan e) (is_backup_root plan e) backup_is
     by_tests e false false root_is backup_is reach rest = rest reach
 
     by : (found : Option Hop) → is_root plan (end_of d (next (is_root plan) (hops (is_root plan) plan n) found)) ≡ true
-        → ((e : ℕ) → is_root plan (end_of e (hops (is_root plan) plan n e)) ≡ true → is_end plan (end_of e (hops (is_end plan) plan n e)) ≡ true)
-        → is_end plan (end_of d (next (is_end plan) (hops (is_end plan) plan n) found)) ≡ true
+        → ((e : ℕ) → is_root plan (end_of e (hops (is_root plan) plan n e)) ≡ true → ends_walks plan (end_of e (hops (ends_walks plan) plan n e)) ≡ true)
+        → ends_walks plan (end_of d (next (ends_walks plan) (hops (ends_walks plan) plan n) found)) ≡ true
     by None reach rest = or_left (is_root plan d) (is_backup_root plan d) reach
     by (Some hop) reach rest = by_tests hop.parent (is_root plan hop.parent) (is_backup_root plan hop.parent) refl refl reach (rest hop.parent)
 
@@ -71,8 +71,8 @@ Leads plan (suc k) d e = (hop : Hop) × (primary_of plan d ≡ Some hop) × (is_
 
 -- where a first hop is made that does not come to the root
 goes : (plan : Plan) (n e : ℕ) (root backup : Bool) → is_root plan plan.backup_root ≡ false → is_root plan e ≡ root → is_backup_root plan e ≡ backup
-    → end_of e (elim (root || backup) [ true ↦ [] | false ↦ hops (is_end plan) plan n e ]) ≡ plan.backup_root
-    → (end_of e (hops (is_end plan) plan n e) ≡ plan.backup_root → (k : ℕ) × Leads plan k e plan.backup_root)
+    → end_of e (elim (root || backup) [ true ↦ [] | false ↦ hops (ends_walks plan) plan n e ]) ≡ plan.backup_root
+    → (end_of e (hops (ends_walks plan) plan n e) ≡ plan.backup_root → (k : ℕ) × Leads plan k e plan.backup_root)
     → (is_root plan e ≡ false) × ((k : ℕ) × Leads plan k e plan.backup_root)
 unfolding Leads
 goes plan n e true backup other root_is backup_is ends rest =
@@ -82,14 +82,14 @@ goes plan n e false true other root_is backup_is ends rest = (root_is, (0, ends)
 goes plan n e false false other root_is backup_is ends rest = (root_is, rest ends)
 
 -- hops that end at the backup root, which is not the root, lead to it
-leads_back : (plan : Plan) (n d : ℕ) → is_root plan plan.backup_root ≡ false → end_of d (hops (is_end plan) plan n d) ≡ plan.backup_root
+leads_back : (plan : Plan) (n d : ℕ) → is_root plan plan.backup_root ≡ false → end_of d (hops (ends_walks plan) plan n d) ≡ plan.backup_root
     → (k : ℕ) × Leads plan k d plan.backup_root
 unfolding Leads
 leads_back plan zero d other ends = (0, ends)
 leads_back plan (suc n) d other ends = by (primary_of plan d) refl ends (leads_back plan n)
   where
-    by : (found : Option Hop) → primary_of plan d ≡ found → end_of d (next (is_end plan) (hops (is_end plan) plan n) found) ≡ plan.backup_root
-        → ((e : ℕ) → is_root plan plan.backup_root ≡ false → end_of e (hops (is_end plan) plan n e) ≡ plan.backup_root
+    by : (found : Option Hop) → primary_of plan d ≡ found → end_of d (next (ends_walks plan) (hops (ends_walks plan) plan n) found) ≡ plan.backup_root
+        → ((e : ℕ) → is_root plan plan.backup_root ≡ false → end_of e (hops (ends_walks plan) plan n e) ≡ plan.backup_root
         → (k : ℕ) × Leads plan k e plan.backup_root)
         → (k : ℕ) × Leads plan k d plan.backup_root
     by None is ends rest = (0, ends)
@@ -126,13 +126,13 @@ no_return plan (suc bound) n k d within leads other comes =
 
 -- a cut path of the backup root, from which a walk comes to the root, does not end at it
 comes_back : (plan : Plan) (n : ℕ) → is_root plan plan.backup_root ≡ false
-    → end_of plan.backup_root (hops (is_end plan) plan n plan.backup_root) ≡ plan.backup_root → Comes plan n plan.backup_root → ⊥
+    → end_of plan.backup_root (hops (ends_walks plan) plan n plan.backup_root) ≡ plan.backup_root → Comes plan n plan.backup_root → ⊥
 unfolding Leads
 comes_back plan zero other ends comes = both_ways (is_root plan plan.backup_root) other comes
 comes_back plan (suc n) other ends comes = by (primary_of plan plan.backup_root) refl ends comes
   where
     by : (found : Option Hop) → primary_of plan plan.backup_root ≡ found
-        → end_of plan.backup_root (next (is_end plan) (hops (is_end plan) plan n) found) ≡ plan.backup_root
+        → end_of plan.backup_root (next (ends_walks plan) (hops (ends_walks plan) plan n) found) ≡ plan.backup_root
         → is_root plan (end_of plan.backup_root (next (is_root plan) (hops (is_root plan) plan n) found)) ≡ true → ⊥
     by None is ends root = both_ways (is_root plan plan.backup_root) other root
     by (Some hop) is ends root =
@@ -188,7 +188,7 @@ arrives net plan domain ends (suc n) d fits rules within free =
 pub record Ends (net : Network) (plan : Plan) (domain : DomainId) (d : ℕ) : Type 0 where
   pub at : ℕ
   pub arrives : Arrives net plan domain d at
-  pub is_end : is_end plan at ≡ true
+  pub is_end : ends_walks plan at ≡ true
   pub apart : (d ≡ plan.backup_root) → is_root plan d ≡ false → (at ≡ plan.backup_root) → ⊥
 
 pub unhit_ends : (net : Network) (plan : Plan) (domain : DomainId) (d : ℕ) → Fits net plan → structure_breach net plan ≡ None → KeepsRules net plan
@@ -200,17 +200,17 @@ unhit_ends net plan domain d fits structured rules within member spared = by (is
     wrong right not_so = cc
 
     turned : (d : ℕ) → d ≡ plan.backup_root → is_root plan d ≡ false → Comes plan net.params.depth d
-        → (end_of d (hops (is_end plan) plan net.params.depth d) ≡ plan.backup_root) → ⊥
+        → (end_of d (hops (ends_walks plan) plan net.params.depth d) ≡ plan.backup_root) → ⊥
     turned d is not_root root_comes same =
         let P : ℕ → Type 0 = λ x. is_root plan x ≡ false → Comes plan net.params.depth x
-        → (end_of x (hops (is_end plan) plan net.params.depth x) ≡ plan.backup_root) → ⊥ in
+        → (end_of x (hops (ends_walks plan) plan net.params.depth x) ≡ plan.backup_root) → ⊥ in
         subst P (sym is) (λ other comes ends. comes_back plan net.params.depth other ends comes) not_root root_comes same
 
     comes : (m r : Bool) → m ≡ true → (not m || r) ≡ true → r ≡ true
     comes true r m reaches = reaches
     comes false r m reaches = cc
 
-    by : (b : Bool) → is_root plan d ≡ b → hits net domain (things_of (if b then [] else hops (is_end plan) plan net.params.depth d)) ≡ false
+    by : (b : Bool) → is_root plan d ≡ b → hits net domain (things_of (if b then [] else hops (ends_walks plan) plan net.params.depth d)) ≡ false
         → (not (is_member plan d) || is_root plan (end_of d (if b then [] else hops (is_root plan) plan net.params.depth d))) ≡ true → Ends net plan domain d
     by true root free reaches =
         record {
@@ -222,8 +222,8 @@ unhit_ends net plan domain d fits structured rules within member spared = by (is
     by false other free reaches =
         let root_comes : Comes plan net.params.depth d = comes (is_member plan d) _ member reaches in
         record {
-          at = end_of d (hops (is_end plan) plan net.params.depth d);
-          arrives = arrives net plan domain (is_end plan) net.params.depth d fits rules within free;
+          at = end_of d (hops (ends_walks plan) plan net.params.depth d);
+          arrives = arrives net plan domain (ends_walks plan) net.params.depth d fits rules within free;
           is_end = end_ends plan net.params.depth d root_comes;
           apart = λ is not_root. turned d is not_root root_comes;
         }
@@ -241,13 +241,13 @@ pub hit_device : (net : Network) (plan : Plan) (domain : DomainId) (d : ℕ) →
 hit_device net plan domain d fits rules hit = by_root (is_root plan d) refl hit
   where
     by_length : (n : ℕ) (found : Option Hop)
-        → hits net domain (things_of (elim n [ zero ↦ [] | suc m ↦ next (is_end plan) (hops (is_end plan) plan m) found ])) ≡ true
+        → hits net domain (things_of (elim n [ zero ↦ [] | suc m ↦ next (ends_walks plan) (hops (ends_walks plan) plan m) found ])) ≡ true
         → (hop : Hop) × (found ≡ Some hop)
     by_length zero found hit = cc
     by_length (suc n) None hit = cc
     by_length (suc n) (Some hop) hit = (hop, refl)
 
-    first_hop : (n : ℕ) → hits net domain (things_of (hops (is_end plan) plan n d)) ≡ true → (hop : Hop) × (primary_of plan d ≡ Some hop)
+    first_hop : (n : ℕ) → hits net domain (things_of (hops (ends_walks plan) plan n d)) ≡ true → (hop : Hop) × (primary_of plan d ≡ Some hop)
     first_hop zero hit = cc
     first_hop (suc n) hit = by_length (suc n) (primary_of plan d) hit
 
@@ -269,7 +269,7 @@ hit_device net plan domain d fits rules hit = by_root (is_root plan d) refl hit
           cc)
     ]
 
-    by_root : (b : Bool) → is_root plan d ≡ b → hits net domain (things_of (if b then [] else hops (is_end plan) plan net.params.depth d)) ≡ true
+    by_root : (b : Bool) → is_root plan d ≡ b → hits net domain (things_of (if b then [] else hops (ends_walks plan) plan net.params.depth d)) ≡ true
         → IsHitDevice net plan d
     by_root true root hit = cc
     by_root false other hit =

@@ -7,7 +7,7 @@ use Rattle.sd_domain.specs.declared.DomainId.{DomainId}
 use Rattle.sd_plan.specs.declared.Hop.{Hop}
 use Rattle.sd_plan.specs.declared.Plan.{Plan}
 use Rattle.sd_plan.specs.Plans.{backup_of}
-use Rattle.sd_plan.specs.Walks.{is_hit, is_end}
+use Rattle.sd_plan.specs.Walks.{is_hit, ends_walks}
 use Rattle.sd_check_reach.specs.Reach.{Fed, is_sound}
 
 -- the list has, in order, the hit devices at places below k that pass
@@ -19,13 +19,13 @@ pub record Chooses (hit : List ℕ) (passes : ℕ → ℕ → Bool) (k : ℕ) (c
 -- the domain takes the backup of the device, which it leaves and which is not the backup root
 abbrev pub loses : Network → Plan → DomainId → ℕ → Bool
 loses net plan domain d =
-    not (holds_device net domain d) && not (is_end plan d)
+    not (holds_device net domain d) && not (ends_walks plan d)
     && of_some (backup_of plan d) false (λ hop. holds_link net domain hop.link || holds_device net domain hop.parent)
 
 -- what makes a device break the domain condition, beside that it is not cut off
 pub record IsLosing (net : Network) (plan : Plan) (domain : DomainId) (d : ℕ) : Type 0 where
   pub sound : IsTrue (is_sound net plan domain d)
-  pub no_root : IsTrue (not (is_end plan d))
+  pub no_root : IsTrue (not (ends_walks plan d))
   pub hit : IsTrue (is_hit net plan domain d)
   pub backup : Hop
   pub has_backup : backup_of plan d ≡ Some backup

@@ -8,7 +8,7 @@ use Rattle.sd_domain.specs.declared.DomainId.{DomainId}
 use Rattle.sd_plan.specs.declared.Hop.{Hop}
 use Rattle.sd_plan.specs.declared.Plan.{Plan}
 use Rattle.sd_plan.specs.Plans.{is_member, is_present, backup_of, primary_of}
-use Rattle.sd_plan.specs.Walks.{is_end, is_hit}
+use Rattle.sd_plan.specs.Walks.{ends_walks, is_hit}
 use Rattle.std.specs.Option.{option_or}
 
 -- the root, or where the domain has it the backup root
@@ -49,7 +49,7 @@ pub data Fed (net : Network) (plan : Plan) (domain : DomainId) : ℕ → Type 0 
 -- the device breaks the domain condition: it is sound, no root, hit and not cut off, and the domain has its backup link or backup parent
 pub record LosesBackup (net : Network) (plan : Plan) (domain : DomainId) (d : ℕ) : Type 0 where
   pub sound : IsTrue (is_sound net plan domain d)
-  pub no_root : IsTrue (not (is_end plan d))
+  pub no_root : IsTrue (not (ends_walks plan d))
   pub hit : IsTrue (is_hit net plan domain d)
   pub not_cut : CanReach net plan domain d
   pub backup : Hop

@@ -8,7 +8,7 @@ use Rattle.sd_plan.specs.Plans.{Fits, IsHop, is_member, is_backup_root, is_prese
 use Rattle.sd_plan.specs.Structure.{structure_breach, is_no_ancestor, hop_is_right}
 use Rattle.sd_plan.proofs.Rules.{keeps_rules, hops_within}
 use Rattle.sd_checker.specs.Ancestors.{is_above}
-use Rattle.sd_plan.specs.Walks.{on_walk, epath, things_of, short_path, short_walk, devices_of, is_end}
+use Rattle.sd_plan.specs.Walks.{on_walk, epath, things_of, short_path, short_walk, devices_of, ends_walks}
 use Rattle.sd_plan.specs.declared.Hop.{Hop}
 use Rattle.sd_plan.specs.declared.Plan.{Plan}
 
@@ -25,20 +25,20 @@ has_parents [] d = refl
 has_parents (hop ∷ hs) d = ap (λ b. b || has_device (things_of hs) d) (eq_swap hop.parent d) ∙ ap (λ b. nat_eq d hop.parent || b) (has_parents hs d)
 
 -- a device that is no root has its short walk from its cut path
-pub above_other : (net : Network) (plan : Plan) (x d : ℕ) → is_end plan x ≡ false
+pub above_other : (net : Network) (plan : Plan) (x d : ℕ) → ends_walks plan x ≡ false
     → has_device (things_of (short_path net plan x)) d ≡ has (map (λ hop. hop.parent) (short_walk net plan x)) d
 above_other net plan x d other =
     has_parents (short_path net plan x) d
     ∙ sym (ap (λ (b : Bool). has (map (λ hop. hop.parent) (if b then [] else short_path net plan x)) d) other)
 
 -- at a root it is the device alone
-pub above_end : (net : Network) (plan : Plan) (x d : ℕ) → is_end plan x ≡ true → has (map (λ hop. hop.parent) (short_walk net plan x)) d ≡ false
+pub above_end : (net : Network) (plan : Plan) (x d : ℕ) → ends_walks plan x ≡ true → has (map (λ hop. hop.parent) (short_walk net plan x)) d ≡ false
 above_end net plan x d is = ap (λ (b : Bool). has (map (λ hop. hop.parent) (if b then [] else short_path net plan x)) d) is
 
 -- so the test of a cut path is that of a short walk
 pub above_by : (net : Network) (plan : Plan) (x d : ℕ) → d ≢ x → x ≢ plan.root → x ≢ plan.backup_root → has_device (epath net plan x) d ≡ is_above net plan x d
 above_by net plan x d apart no_root no_backup_root =
-    let other : is_end plan x ≡ false =
+    let other : ends_walks plan x ≡ false =
     ap (λ b. b || is_backup_root plan x) (ne_eqb plan.root x (λ same. no_root (sym same))) ∙ ne_eqb plan.backup_root x (λ same. no_backup_root (sym same))
     in
     above_other net plan x d other

@@ -7,7 +7,8 @@ use Rattle.sd_topo.specs.Network.{Network}
 use Rattle.sd_topo.specs.declared.Thing.{Thing}
 use Rattle.sd_domain.specs.declared.DomainId.{DomainId}
 use Rattle.sd_check_root.specs.declared.TimingBreach.{TimingBreach}
-use Rattle.sd_checker.specs.Text.{device_name, domain_words, thing_words, refused_line}
+use Rattle.sd_checker.specs.Text.{domain_words, thing_words, refused_line}
+use Rattle.sd_topo.specs.Network.{device_name}
 use Rattle.sd_checker.specs.Named.{named}
 use Rattle.sd_checker.specs.declared.Breach.TheVariants as breach
 

@@ -1,7 +1,7 @@
 -- The names of devices in a row.
 use Rattle.std.specs.Prelude.{ℕ, List, ◌∷◌, flat_map}
 use Rattle.sd_topo.specs.Network.{Network}
-use Rattle.sd_checker.specs.Text.{device_name}
+use Rattle.sd_topo.specs.Network.{device_name}
 
 -- the names of devices, each behind a space
 abbrev pub named : Network → List ℕ → List ℕ

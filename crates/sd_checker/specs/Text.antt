@@ -1,8 +1,7 @@
 -- How a verdict is printed.
 use Rattle.std.specs.Prelude.{ℕ, List, ◌∷◌, ◌++◌, length, map, codes, decimal}
 use Rattle.std.specs.List.{join_with_byte}
-use Rattle.sd_num.specs.Lists.{at_place}
-use Rattle.sd_topo.specs.Network.{Network}
+use Rattle.sd_topo.specs.Network.{Network, device_name, link_name, domain_name}
 use Rattle.sd_topo.specs.declared.Thing.{Thing}
 use Rattle.sd_topo.specs.declared.Thing.TheVariants as thing
 use Rattle.sd_domain.specs.Domains.{domains}
@@ -10,15 +9,6 @@ use Rattle.sd_domain.specs.declared.DomainId.{DomainId}
 use Rattle.sd_domain.specs.declared.DomainId.TheVariants as domain
 use Rattle.sd_checker.specs.declared.Breach.{Breach}
 use Rattle.sd_checker.specs.declared.Breach.TheVariants.{Structure, Ancestor, Timing, Root, Loop, Domain, Reach}
-
-abbrev pub device_name : Network → ℕ → List ℕ
-device_name net d = at_place net.devices d [] (λ device. device.name)
-
-abbrev pub link_name : Network → ℕ → List ℕ
-link_name net l = at_place net.links l [] (λ link. link.name)
-
-abbrev pub domain_name : Network → ℕ → List ℕ
-domain_name net k = at_place net.domains k [] (λ listed. listed.name)
 
 -- words, parted by a space
 abbrev pub spaced : List (List ℕ) → List ℕ

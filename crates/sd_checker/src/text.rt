@@ -3,6 +3,7 @@ ghost use Rattle.std.specs.Prelude.{◌≡◌, ◌++◌, ◌∷◌, [], IfOk, On
 ghost use Rattle.sd_checker.specs.Text as text;
 ghost use Rattle.sd_checker.specs.Named.{named};
 ghost use Rattle.sd_checker.specs.Showing.{refused_by};
+ghost use Rattle.sd_topo.specs.Network as names;
 ghost use Rattle.sd_topo.specs.Topologies.{network};
 
 use crate::Breach;
@@ -13,7 +14,7 @@ use std::alloc::{AllocError, Global};
 
 /// The name of a device. A number past the last one has none.
 fn device_name(topo: &Topology, d: u32) -> &str
-    ensures { result.now ≡ text.device_name (network topo.now) d }
+    ensures { result.now ≡ names.device_name (network topo.now) d }
 {
     if d < topo.devices() {
         topo.device_name(d)
@@ -24,7 +25,7 @@ fn device_name(topo: &Topology, d: u32) -> &str
 
 /// The name of a link. A number past the last one has none.
 fn link_name(topo: &Topology, l: u32) -> &str
-    ensures { result.now ≡ text.link_name (network topo.now) l }
+    ensures { result.now ≡ names.link_name (network topo.now) l }
 {
     if l < topo.links() {
         topo.link_name(l)
@@ -35,7 +36,7 @@ fn link_name(topo: &Topology, l: u32) -> &str
 
 /// The name of a listed domain. A number past the last one has none.
 fn listed_name(topo: &Topology, k: u32) -> &str
-    ensures { result.now ≡ text.domain_name (network topo.now) k }
+    ensures { result.now ≡ names.domain_name (network topo.now) k }
 {
     if k < topo.domains() {
         topo.domain_name(k)

@@ -8,7 +8,8 @@ use Rattle.sd_num.specs.Texts.{text_of}
 use Rattle.sd_topo.specs.Network.{Network, Each, name_at, is_name, is_name_byte}
 use Rattle.sd_topo.proofs.Laws.{found_at}
 use Rattle.sd_domain.specs.declared.DomainId.{DomainId}
-use Rattle.sd_drill.specs.Checker.Text.{device_name, domain_words}
+use Rattle.sd_drill.specs.Checker.Text.{domain_words}
+use Rattle.sd_topo.specs.Network.{device_name}
 use Rattle.sd_drill.specs.Bounds.{bound_at}
 use Rattle.sd_drill.specs.Printed.{bound_line, bound_words}
 use Rattle.sd_cmd_drill.specs.Printing.{front_of, line_behind, line_of}

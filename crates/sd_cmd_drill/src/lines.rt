@@ -5,6 +5,7 @@ ghost use Rattle.sd_domain.specs.Lone.{IsDomain};
 ghost use Rattle.sd_cmd_drill.specs.Printing.{IsShort};
 ghost use Rattle.sd_num.specs.Texts.{text_of};
 ghost use Rattle.sd_outside.specs.Printed.{printed};
+ghost use Rattle.sd_topo.specs.Network as names;
 ghost use Rattle.sd_topo.specs.Topologies.{network};
 
 use sd_domain::DomainId;
@@ -21,7 +22,7 @@ pub(crate) struct Named<'a> {
 /// The name of a device, of at most 64 bytes.
 pub(crate) fn device_name(topo: &Topology, d: u32) -> &str
     requires { d < length (network topo.now).devices }
-    ensures is { result.now ≡ text.device_name (network topo.now) d }
+    ensures is { result.now ≡ names.device_name (network topo.now) d }
     ensures short { length result.now ≤ 64 }
 {
     topo.device_name(d)
@@ -30,7 +31,7 @@ pub(crate) fn device_name(topo: &Topology, d: u32) -> &str
 /// The name of a link, of at most 64 bytes.
 fn link_name(topo: &Topology, l: u32) -> &str
     requires { l < length (network topo.now).links }
-    ensures is { result.now ≡ text.link_name (network topo.now) l }
+    ensures is { result.now ≡ names.link_name (network topo.now) l }
     ensures short { length result.now ≤ 64 }
 {
     topo.link_name(l)
@@ -39,7 +40,7 @@ fn link_name(topo: &Topology, l: u32) -> &str
 /// The name of a listed domain, of at most 64 bytes.
 fn listed_name(topo: &Topology, k: u32) -> &str
     requires { k < length (network topo.now).domains }
-    ensures is { result.now ≡ text.domain_name (network topo.now) k }
+    ensures is { result.now ≡ names.domain_name (network topo.now) k }
     ensures short { length result.now ≤ 64 }
 {
     topo.domain_name(k)

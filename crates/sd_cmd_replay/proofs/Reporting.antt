@@ -10,7 +10,7 @@ use Rattle.sd_sched.specs.Events.{device_of, reference_of}
 use Rattle.sd_replay.specs.History.World.{Setting}
 use Rattle.sd_replay.specs.History.Steps.{Step}
 use Rattle.sd_replay.specs.History.Accepted.{AreSteps}
-use Rattle.sd_replay.specs.History.Lines.{report_of, reports}
+use Rattle.sd_replay.specs.History.Lines.{asked_report, reports}
 use Rattle.sd_replay.specs.History.Text.{bytes_of, device_name}
 use Rattle.sd_replay.proofs.History.Known.{named_is_known}
 use Rattle.sd_wait.specs.Printed.{bytes_at}
@@ -57,7 +57,7 @@ module _ (setting : Setting) (earlier : List Step) (s : Step) where
   -- a step with a report: its lines, and those of commit wait
   more_reports : length (reports earlier) < length (reports (s ∷ earlier))
       → with_waits setting (s ∷ earlier) ≡ bytes_of setting (s ∷ earlier) ++ latest_waits setting.net (reports (s ∷ earlier))
-  more_reports more = ap (λ (waits : List ℕ). bytes_of setting (s ∷ earlier) ++ waits) (more_waits (report_of s) more)
+  more_reports more = ap (λ (waits : List ℕ). bytes_of setting (s ∷ earlier) ++ waits) (more_waits (asked_report s) more)
 
   no_waits : (o : Option (ℕ × Report)) → (length (reports earlier) < length (with_told earlier s o) → ⊥)
       → of_some o [] (λ told. bytes_at (with_told earlier s o) (length (reports earlier)) (device_name setting.net told.0)) ≡ []
@@ -71,7 +71,7 @@ module _ (setting : Setting) (earlier : List Step) (s : Step) where
 
   -- a step without one: its lines alone
   no_reports : (length (reports earlier) < length (reports (s ∷ earlier)) → ⊥) → with_waits setting (s ∷ earlier) ≡ bytes_of setting (s ∷ earlier)
-  no_reports none = ap (λ (waits : List ℕ). bytes_of setting (s ∷ earlier) ++ waits) (no_waits (report_of s) none) ∙ append-nil (bytes_of setting (s ∷ earlier))
+  no_reports none = ap (λ (waits : List ℕ). bytes_of setting (s ∷ earlier) ++ waits) (no_waits (asked_report s) none) ∙ append-nil (bytes_of setting (s ∷ earlier))
 
 -- the same of steps whose latest one is known
 pub more_at : (setting : Setting) (steps earlier : List Step) (s : Step) → steps ≡ s ∷ earlier → length (reports earlier) < length (reports steps)
@@ -99,9 +99,9 @@ reporter_named _ report told is = cc
 pub latest_known : (setting : Setting) (steps : List Step) (d : ℕ) → AreSteps setting steps → latest_device (reports steps) ≡ Some d
     → d < length setting.net.devices
 latest_known setting [] d are is = cc
-latest_known setting (s ∷ earlier) d are is = by (latest_known setting earlier d are.0) (report_of s) refl
+latest_known setting (s ∷ earlier) d are is = by (latest_known setting earlier d are.0) (asked_report s) refl
   where
-    by : (latest_device (reports earlier) ≡ Some d → d < length setting.net.devices) → (o : Option (ℕ × Report)) → report_of s ≡ o
+    by : (latest_device (reports earlier) ≡ Some d → d < length setting.net.devices) → (o : Option (ℕ × Report)) → asked_report s ≡ o
         → d < length setting.net.devices
     by before None silent =
         before

@@ -7,7 +7,7 @@ use Rattle.sd_core.specs.contracts.device.DeviceNode.TheImpl.{ghosts}
 use Rattle.sd_msg.specs.declared.observer.Observer as observers
 use Rattle.sd_sched.specs.declared.Event.{Event}
 use Rattle.sd_sched.specs.declared.LineFault.{LineFault}
-use Rattle.sd_sched.specs.Events.{is_end}
+use Rattle.sd_sched.specs.Events.{is_end_event}
 use Rattle.sd_sched.specs.Lines.{event_of_line}
 use Rattle.sd_replay.specs.History.declared.ApplyFault.{ApplyFault}
 use Rattle.sd_replay.specs.History.World.{Setting}
@@ -40,9 +40,9 @@ not_refused None result u went refused = refl
 not_refused (Some why) result u went refused = absurd (went_on result u (fault.Apply why) went refused)
 
 -- the end of a history shows in its events
-ends_as : (steps : List Step) → after_end (seen_of steps) ≡ list_any is_end (events_of steps)
+ends_as : (steps : List Step) → after_end (seen_of steps) ≡ list_any is_end_event (events_of steps)
 ends_as [] = refl
-ends_as (s ∷ earlier) = ap (λ (b : Bool). is_end s.seen.event || b) (ends_as earlier)
+ends_as (s ∷ earlier) = ap (λ (b : Bool). is_end_event s.seen.event || b) (ends_as earlier)
 
 module _ {V : Type 0} (o : observers.Ghosts V) (setting : Setting) (events : List Event) where
   -- the steps of a replay are the chronicle of its events
@@ -51,8 +51,8 @@ module _ {V : Type 0} (o : observers.Ghosts V) (setting : Setting) (events : Lis
 
   pub over_as : (replay : Replay Registers V ghosts o) (over : Bool)
       → ((s : Setting) (run : List (NodeStep Registers)) → StandsFor ghosts o replay s run → over ≡ after_end (seen_of (steps_of run)))
-      → HasReplayed o replay setting events → over ≡ list_any is_end events
-  over_as replay over says replayed = says setting replayed.run replayed.stands ∙ ends_as (steps_of replayed.run) ∙ ap (list_any is_end) replayed.happened
+      → HasReplayed o replay setting events → over ≡ list_any is_end_event events
+  over_as replay over says replayed = says setting replayed.run replayed.stands ∙ ends_as (steps_of replayed.run) ∙ ap (list_any is_end_event) replayed.happened
 
   pub tally_as : (replay : Replay Registers V ghosts o) (tally : Tally)
       → ((s : Setting) (run : List (NodeStep Registers)) → StandsFor ghosts o replay s run → tally ≡ tally_of s (steps_of run))

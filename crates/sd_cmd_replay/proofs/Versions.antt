@@ -31,7 +31,7 @@ use Rattle.sd_replay.specs.History.Chronicle.{chronicle, next_step, told_by}
 use Rattle.sd_replay.specs.History.Refusals.{refusal}
 use Rattle.sd_replay.specs.History.Things.{failure_of}
 use Rattle.sd_replay.specs.History.Premises.{at_each, begins_orderly, breaks, broken_in, commits_orderly, domain_holds, fails_orderly, fails_within_one, failures_since_closing, is_prepared, leaves_out_cleanly, leaves_out_failed, newly, renew_holds, seals_orderly}
-use Rattle.sd_replay.specs.History.Lines.{Line, Broken, LoopAlarm, RootsAlarm, Reported, IntervalAlarm, broken_lines, first_on_loop, lines_of, loop_lines, report_lines, report_of, root_lines, roots}
+use Rattle.sd_replay.specs.History.Lines.{Line, Broken, LoopAlarm, RootsAlarm, Reported, IntervalAlarm, broken_lines, first_on_loop, lines_of, loop_lines, report_lines, asked_report, root_lines, roots}
 use Rattle.sd_replay.specs.History.Text.{bytes_of, line_words}
 use Rattle.std.specs.Prelude.{option_to_list, is_some}
 
@@ -231,7 +231,7 @@ module _ (v w : ℕ) (net : Network) where
         (
         λ (b : BrokenSet). broken_lines b ++ loop_lines (first_on_loop one earlier) (first_on_loop one (s ∷ earlier))
         ++ root_lines (roots one earlier) (roots one (s ∷ earlier))
-        ++ of_some (report_of s) [] (report_lines (reference_of s.seen.event))
+        ++ of_some (asked_report s) [] (report_lines (reference_of s.seen.event))
         )
         (breaks_alike (seen_of (s ∷ earlier)))
 

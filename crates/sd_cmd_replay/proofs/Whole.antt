@@ -7,7 +7,7 @@ use Rattle.sd_clock.specs.declared.Report.{Report}
 use Rattle.sd_replay.specs.History.World.{Setting}
 use Rattle.sd_replay.specs.History.Steps.{Step}
 use Rattle.sd_replay.specs.History.Chronicle.{chronicle}
-use Rattle.sd_replay.specs.History.Lines.{Line, lines_of, report_of, reports}
+use Rattle.sd_replay.specs.History.Lines.{Line, lines_of, asked_report, reports}
 use Rattle.sd_replay.specs.History.Text.{bytes_of, device_name, line_words}
 use Rattle.sd_wait.specs.Waits.{lines_at}
 use Rattle.sd_wait.specs.Printed.{bytes_at, words_of}
@@ -24,7 +24,7 @@ step_whole : (setting : Setting) (steps : List Step) → are_lines (bytes_of set
 step_whole setting steps = all_whole (line_words setting.net (length steps)) (lines_of setting steps)
 
 waits_whole : (setting : Setting) (earlier : List Step) (s : Step) → are_lines (waits_after setting earlier s) ≡ true
-waits_whole setting earlier s = by (report_of s)
+waits_whole setting earlier s = by (asked_report s)
   where
     by : (o : Option (ℕ × Report))
         → are_lines (of_some o [] (λ told. bytes_at (reports (s ∷ earlier)) (length (reports earlier)) (device_name setting.net told.0))) ≡ true

@@ -9,7 +9,7 @@ use Rattle.sd_core.specs.contracts.device.DeviceNode.TheImpl.{ghosts as device}
 use Rattle.sd_msg.specs.Observed.{ReportAt}
 use Rattle.sd_msg.specs.declared.observer.Observer as observers
 use Rattle.sd_sched.specs.declared.Event.{Event}
-use Rattle.sd_sched.specs.Events.{is_end}
+use Rattle.sd_sched.specs.Events.{is_end_event}
 use Rattle.sd_replay.specs.History.World.{Setting}
 use Rattle.sd_replay.specs.History.Steps.{Step}
 use Rattle.sd_replay.specs.History.Chronicle.{chronicle, next_step}
@@ -62,7 +62,7 @@ module _ {V : Type 0} (o : observers.Ghosts V) where
       λ work xs does. as_replay new line printed what work xs does.setting does.is (takes does.setting xs does.replayed)
 
   pub replay_ends : (old : Replayed V o) (over : Bool)
-      → ((setting : Setting) (events : List Event) → HasReplayed o old.replay setting events → over ≡ list_any is_end events)
+      → ((setting : Setting) (events : List Event) → HasReplayed o old.replay setting events → over ≡ list_any is_end_event events)
       → (work : Work Event) (xs : List Event) → DoesReplay o old work xs
       → over ≡ list_any work.ends xs
   replay_ends old over says work xs does = subst (λ (w : Work Event). over ≡ list_any w.ends xs) (sym does.is) (says does.setting xs does.replayed)
@@ -131,7 +131,7 @@ pub order_takes : (old new : Ordered) (line printed : List ℕ) (what : Taken)
 order_takes old new line printed what takes work xs does = as_order new line printed what work xs does.setting does.is (takes does.setting xs does.replayed)
 
 pub order_ends : (old : Ordered) (over : Bool)
-    → ((setting : Setting) (events : List Event) → HasReplayed ghosts old.replayed.replay setting events → over ≡ list_any is_end events)
+    → ((setting : Setting) (events : List Event) → HasReplayed ghosts old.replayed.replay setting events → over ≡ list_any is_end_event events)
     → (work : Work Event) (xs : List Event) → DoesOrder old work xs
     → over ≡ list_any work.ends xs
 order_ends old over says work xs does = subst (λ (w : Work Event). over ≡ list_any w.ends xs) (sym does.is) (says does.setting xs does.replayed)

@@ -6,12 +6,12 @@ use Rattle.sd_core.specs.Plan.declared.Plan.{Plan}
 use Rattle.sd_sched.specs.declared.Event.{Event}
 use Rattle.sd_sched.specs.declared.LineFault.{LineFault}
 use Rattle.sd_sched.specs.Lines.{event_of_line}
-use Rattle.sd_sched.specs.Events.{is_end}
+use Rattle.sd_sched.specs.Events.{is_end_event}
 use Rattle.sd_replay.specs.History.World.{Setting}
 use Rattle.sd_replay.specs.History.Steps.{Step}
 use Rattle.sd_replay.specs.History.Chronicle.{chronicle}
 use Rattle.sd_replay.specs.History.Refusals.{refusal}
-use Rattle.sd_replay.specs.History.Lines.{report_of, reports}
+use Rattle.sd_replay.specs.History.Lines.{asked_report, reports}
 use Rattle.sd_replay.specs.History.Text.{bytes_of, device_name, done_bytes}
 use Rattle.sd_replay.specs.History.declared.ApplyFault.{ApplyFault}
 use Rattle.sd_replay.specs.Tallies.{tally_of, shows_trouble}
@@ -49,7 +49,7 @@ status_if trouble = if trouble then Broken else Done
 -- the lines of commit wait of the latest step, behind these
 abbrev pub waits_after : Setting → List Step → Step → List ℕ
 waits_after setting earlier s =
-    of_some (report_of s) [] (λ told. bytes_at (reports (s ∷ earlier)) (length (reports earlier)) (device_name setting.net told.0))
+    of_some (asked_report s) [] (λ told. bytes_at (reports (s ∷ earlier)) (length (reports earlier)) (device_name setting.net told.0))
 
 abbrev pub with_waits : Setting → List Step → List ℕ
 with_waits setting [] = []
@@ -66,7 +66,7 @@ module _ (setting : Setting) where
       record {
         name = codes "schedule";
         says = event_said setting;
-        ends = is_end;
+        ends = is_end_event;
         bytes = λ earlier e. bytes_of setting (chronicle setting (e ∷ earlier));
         last_lines = λ events. done_bytes (chronicle setting events);
         last_status = λ events. status_if (shows_trouble (tally_of setting (chronicle setting events)));
@@ -78,7 +78,7 @@ module _ (setting : Setting) where
       record {
         name = codes "schedule";
         says = event_said setting;
-        ends = is_end;
+        ends = is_end_event;
         bytes = λ earlier e. with_waits setting (chronicle setting (e ∷ earlier));
         last_lines = λ events. done_bytes (chronicle setting events) ++ waits_line (waits_of (reports (chronicle setting events)));
         last_status = λ events. status_if (shows_disorder setting (chronicle setting events));

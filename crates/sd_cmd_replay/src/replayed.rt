@@ -4,7 +4,7 @@ ghost use Rattle.std.specs.List.{list_any};
 ghost use Rattle.sd_num.specs.Texts.{text_of};
 ghost use Rattle.sd_outside.specs.Printed.{printed};
 ghost use Rattle.sd_sched.specs.declared.Event.{Event as AnyEvent};
-ghost use Rattle.sd_sched.specs.Events.{is_end};
+ghost use Rattle.sd_sched.specs.Events.{is_end_event};
 ghost use Rattle.sd_replay.specs.History.World.{Setting};
 ghost use Rattle.sd_replay.specs.History.Chronicle.{chronicle};
 ghost use Rattle.sd_replay.specs.History.Lines.{reports};
@@ -133,7 +133,7 @@ impl<V: Observer> Replayed<V> {
     pub fn is_over(&self) -> bool
         ensures { (setting : Setting) (events : List AnyEvent)
             → HasReplayed V.Observer self.now.replay setting events
-            → result ≡ list_any is_end events }
+            → result ≡ list_any is_end_event events }
     {
         self.replay.ended()
     }

@@ -5,7 +5,7 @@ use Rattle.std.specs.List.{cons_option, list_any}
 use Rattle.std.proofs.lemmas.Bool.{eq-eqb}
 use Rattle.sd_topo.specs.Network.{Network, link_of}
 use Rattle.sd_cmd_files.specs.Stream.Lines.{lines}
-use Rattle.sd_twoway.specs.Lines.{exchange_line, is_end, span_on, span_over}
+use Rattle.sd_twoway.specs.Lines.{exchange_line, is_end_line, span_on, span_over}
 use Rattle.sd_twoway.specs.Spans.{joint_span}
 use Rattle.sd_twoway.specs.declared.Exchange.{Exchange}
 use Rattle.sd_twoway.specs.declared.Span.{Span}
@@ -43,7 +43,7 @@ spanned_over net (Exchanged link side x) = by (nat_le (length net.links) link) (
 
 spanned_said : (net : Network) (taken : List ExchangeLine) (line : Result ExchangeLine ExchangeLineFault) → IfOk (behind net taken line) (IsSpanned net)
 spanned_said net taken (Err why) = tt
-spanned_said net taken (Ok e) = by (list_any is_end taken)
+spanned_said net taken (Ok e) = by (list_any is_end_line taken)
   where
     by : (ended : Bool) → IfOk (cond ended (Err AfterEnd) (over_network net e)) (IsSpanned net)
     by true = tt

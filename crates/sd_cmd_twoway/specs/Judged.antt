@@ -2,7 +2,7 @@
 use Rattle.std.specs.Prelude.{ℕ, List, ◌++◌, length, nat_le, Result, Ok, Err, codes, decimal, if◌then◌else◌}
 use Rattle.std.specs.List.{list_any}
 use Rattle.sd_topo.specs.Network.{Network}
-use Rattle.sd_twoway.specs.Lines.{exchange_line, is_end, span_over}
+use Rattle.sd_twoway.specs.Lines.{exchange_line, is_end_line, span_over}
 use Rattle.sd_twoway.specs.declared.Span.{Span}
 use Rattle.sd_twoway.specs.declared.ExchangeFault.{ExchangeFault}
 use Rattle.sd_twoway.specs.declared.ExchangeFault.TheVariants.{Backwards, Impossible, TooLarge}
@@ -43,7 +43,7 @@ over_network net (Exchanged link side x) =
 -- nothing comes behind an `end`
 abbrev pub behind : Network → List ExchangeLine → Result ExchangeLine ExchangeLineFault → Result ExchangeLine TwowayFault
 behind net taken (Err why) = Err (Line why)
-behind net taken (Ok x) = if list_any is_end taken then Err AfterEnd else over_network net x
+behind net taken (Ok x) = if list_any is_end_line taken then Err AfterEnd else over_network net x
 
 abbrev pub exchange_said : Network → List ExchangeLine → List ℕ → Result ExchangeLine TwowayFault
 exchange_said net taken line = behind net taken (exchange_line line)

@@ -3,7 +3,7 @@ use Rattle.std.specs.Prelude.{◌≡◌, ℕ, ◌-◌, List, nat_eq, slice_get, 
 use Rattle.sd_num.specs.declared.Rates.{Rates}
 use Rattle.sd_topo.specs.Network.{Network, link_of}
 use Rattle.sd_twoway.specs.Lines.{rates_on, span_after}
-use Rattle.sd_twoway.specs.Spans.{Covers, IsHonestRun, MeetsBounds, is_inside}
+use Rattle.sd_twoway.specs.Spans.{Covers, IsHonestRun, IsWithinBounds, is_inside}
 use Rattle.sd_twoway.specs.declared.Exchange.{Exchange}
 use Rattle.sd_twoway.specs.declared.Span.{Span}
 use Rattle.sd_twoway.specs.declared.ExchangeLine.{ExchangeLine}
@@ -20,7 +20,7 @@ replier net link side = rates_on net link (nat_eq side 1)
 abbrev pub Meets : Network → (link side : ℕ) → Exchange → Type 0
 Meets net link side x =
     (r1 r2 r3 r4 : ℕ) → IsHonestRun (beginner net link side) (replier net link side) x r1 r2 r3 r4
-    → MeetsBounds (link_of net link) (r2 - r1) × MeetsBounds (link_of net link) (r4 - r3)
+    → IsWithinBounds (link_of net link) (r2 - r1) × IsWithinBounds (link_of net link) (r4 - r3)
 
 -- the link has a line for these lines of exchanges, and in each honest run of the exchange both delays lie from its min to its max; where the line says
 -- `inside`, they meet the topology's bounds

@@ -5,7 +5,7 @@ use Rattle.sd_num.specs.Lists.{below, of_some}
 use Rattle.sd_num.specs.Texts.{text_of}
 use Rattle.sd_topo.specs.Network.{Network}
 use Rattle.sd_twoway.specs.Joints.{AreFew, Joints, joint_at, StandsFor as SpansStand}
-use Rattle.sd_twoway.specs.Lines.{is_end, span_over}
+use Rattle.sd_twoway.specs.Lines.{is_end_line, span_over}
 use Rattle.sd_twoway.specs.Printed.{link_line}
 use Rattle.sd_twoway.specs.declared.Span.{Span}
 use Rattle.sd_twoway.specs.declared.ExchangeFault.{ExchangeFault}
@@ -35,7 +35,7 @@ pub record Fits (net : Network) (tally : Tally) : Type 0 where
 pub record StandsFor (net : Network) (tally : Tally) (taken : List ExchangeLine) : Type 0 where
   pub spans : SpansStand tally.spans (added net taken)
   pub lines : tally.lines ≡ length taken
-  pub ended : tally.ended ≡ list_any is_end taken
+  pub ended : tally.ended ≡ list_any is_end_line taken
 
 -- a line was taken after these, as what it says, or it is refused
 abbrev pub Takes : Result ExchangeLine TwowayFault → Network → List ExchangeLine → Tally → Result (Unit {0}) TwowayFault → Type 0

@@ -1,7 +1,7 @@
 -- How a text of exchanges is read over a network, and what is written for it.
 use Rattle.std.specs.Prelude.{[], ◌++◌, codes}
 use Rattle.sd_topo.specs.Network.{Network}
-use Rattle.sd_twoway.specs.Lines.{is_end}
+use Rattle.sd_twoway.specs.Lines.{is_end_line}
 use Rattle.sd_twoway.specs.Printed.{done_line, link_lines}
 use Rattle.sd_twoway.specs.declared.ExchangeLine.{ExchangeLine}
 use Rattle.sd_cmd_files.specs.declared.Status.TheVariants.{Done}
@@ -14,7 +14,7 @@ twoway_work net =
     record {
       name = codes "exchanges";
       says = λ taken line. told_reason (exchange_said net taken line);
-      ends = is_end;
+      ends = is_end_line;
       bytes = λ earlier x. [];
       last_lines = λ taken. link_lines net taken ++ done_line net taken;
       last_status = λ taken. Done;

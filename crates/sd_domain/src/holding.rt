@@ -4,7 +4,7 @@ ghost use Rattle.std.specs.List.{list_all};
 ghost use Rattle.sd_num.specs.Lists.{ascends, has, below};
 ghost use Rattle.sd_topo.specs.Topologies.{network};
 ghost use Rattle.sd_domain.specs.Domains as domains;
-ghost use Rattle.sd_domain.specs.Lone.{IsDomain};
+ghost use Rattle.sd_domain.specs.Lone.{IsDomain, alone};
 ghost use Rattle.sd_domain.specs.Failures.{things_of};
 ghost use Rattle.sd_domain.specs.Within.{has_all};
 
@@ -71,7 +71,7 @@ fn first_listed(topo: &Topology, failed: &Failure) -> Option<u32>
 /// this is the first device, since each topology has one.
 fn first_alone(topo: &Topology, failed: &Failure) -> Option<DomainId>
     ensures first { result ≡ find (has_all (network topo.now) failed.now)
-        (domains.alone (network topo.now)) }
+        (alone (network topo.now)) }
     ensures domain { IfSome result (IsDomain (network topo.now)) }
 {
     let links = failed.links();

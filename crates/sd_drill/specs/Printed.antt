@@ -6,7 +6,8 @@ use Rattle.sd_domain.specs.Domains.{domains}
 use Rattle.sd_domain.specs.declared.DomainId.{DomainId}
 use Rattle.sd_plan.specs.declared.Plan.{Plan}
 use Rattle.sd_plan.specs.Plans.{members}
-use Rattle.sd_checker.specs.Text.{device_name, domain_words}
+use Rattle.sd_checker.specs.Text.{domain_words}
+use Rattle.sd_topo.specs.Network.{device_name}
 use Rattle.sd_drill.specs.Bounds.{AreBounds, bound_at}
 use Rattle.sd_drill.specs.declared.Budget.{Budget}
 

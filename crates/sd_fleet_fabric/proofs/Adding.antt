@@ -5,7 +5,7 @@ use Rattle.std.proofs.lemmas.Bool.{or_cases, eqb-true, ne_eqb}
 use Rattle.std.proofs.lemmas.List.{length-take-le}
 use Rattle.sd_topo.specs.Network.{Network, link_of}
 use Rattle.sd_topo.specs.Limits.{IsNetwork}
-use Rattle.sd_topo.specs.Places.{is_end}
+use Rattle.sd_topo.specs.Places.{is_end_of}
 use Rattle.sd_topo.specs.declared.LinkEntry.{LinkEntry}
 use Rattle.sd_topo.proofs.Laws.{link_law}
 use Rattle.sd_plan.specs.declared.End.{End}
@@ -21,7 +21,7 @@ use Rattle.sd_fleet_fabric.specs.Sending.{flight_over, flights_over}
 
 -- an end is one of the network's devices, and the delay towards it is limited
 
-end_by : (link : LinkEntry) (d n : ℕ) → link.end_a < n → link.end_b < n → is_end link d ≡ true → d < n
+end_by : (link : LinkEntry) (d n : ℕ) → link.end_a < n → link.end_b < n → is_end_of link d ≡ true → d < n
 end_by link d n a b is = elim (or_cases (nat_eq d link.end_a) (nat_eq d link.end_b) is) [
   | inl one ↦ (let same = eqb-true d link.end_a one in omega arith)
   | inr two ↦ (let same = eqb-true d link.end_b two in omega arith)

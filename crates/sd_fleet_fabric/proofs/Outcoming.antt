@@ -9,7 +9,7 @@ use Rattle.sd_sched.specs.declared.Event.TheVariants as event
 use Rattle.sd_sched.specs.Events.{device_of, is_stage}
 use Rattle.sd_history.specs.World.{Setting, Seen, window, window_is_open, staged_epoch}
 use Rattle.sd_history.specs.Steps.{Told, Step, seen_of, epoch_in, acts_in, taken_by, acted_by, activated_by, has_turned, first_step, step_of}
-use Rattle.sd_history.specs.Lines.{report_of}
+use Rattle.sd_history.specs.Lines.{asked_report}
 use Rattle.sd_fleet_state.specs.membership.Memberships as memberships
 use Rattle.sd_fleet_state.specs.membership.Memberships.{staged_number, is_of, acts_at, can_close_in}
 use Rattle.sd_fleet_state.specs.membership.Standing as standing
@@ -28,7 +28,7 @@ use Rattle.sd_fleet_fabric.proofs.Stepping.{stands_open, closes_is}
 
 -- the report of an ask
 report_is : (setting : Setting) (steps : List Step) (e : Event) (reply : Reply) (told : Told) → reply.report ≡ told.report
-    → report_in e reply ≡ report_of (step_of setting steps e told)
+    → report_in e reply ≡ asked_report (step_of setting steps e told)
 report_is setting steps (event.Ask ref d c) reply told says = ap (option_map (λ (report : Report). (d, report))) says
 report_is setting steps _ reply told says = refl
 

@@ -8,7 +8,7 @@ use Rattle.sd_msg.specs.declared.Flight.{Flight}
 use Rattle.sd_msg.specs.Books.{Book, found, is_current}
 use Rattle.sd_sched.specs.declared.Event.{Event}
 use Rattle.sd_sched.specs.declared.Event.TheVariants as event
-use Rattle.sd_sched.specs.Events.{reference_of, device_of, message_of, is_end}
+use Rattle.sd_sched.specs.Events.{reference_of, device_of, message_of, is_end_event}
 use Rattle.sd_history.specs.Things.{failure_of}
 use Rattle.sd_history.specs.flights.Flights.{without_taken, without_swept}
 use Rattle.sd_fleet_state.specs.world.Registers.{is_open}
@@ -91,7 +91,7 @@ outcome_in r e reply =
       activated = entered_in r.membership (membership_after r e reply) e;
       acted = acts_named r.membership (device_of e);
       closed = can_close_in (membership_after r e reply);
-      ended = is_end e;
+      ended = is_end_event e;
     }
 
 -- nothing but the room for flights changed, and this did not fall

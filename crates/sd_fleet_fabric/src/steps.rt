@@ -1,6 +1,6 @@
 //! One step: what an accepted event makes of a fabric, once its device has told its part.
 ghost use Rattle.std.specs.Prelude.{◌≡◌, ◌≢◌, ◌≤◌, ◌<◌, ◌+◌, ◌&&◌, not, ℕ, List, ◌∷◌, None, IsTrue, length, OnOk, OnErr, if◌then◌else◌};
-ghost use Rattle.sd_sched.specs.Events.{is_end};
+ghost use Rattle.sd_sched.specs.Events.{is_end_event};
 ghost use Rattle.sd_sched.specs.Spelled.{is_within};
 ghost use Rattle.sd_history.specs.World.{Setting};
 ghost use Rattle.sd_history.specs.Steps.{Step, Told, step_of};
@@ -140,7 +140,7 @@ fn entering(device: Option<u32>, was_new: bool, is_new: bool) -> Option<u32>
 
 /// Whether the event is the end.
 fn ends(event: &Event) -> bool
-    ensures { result ≡ is_end event.now }
+    ensures { result ≡ is_end_event event.now }
 {
     matches!(event, Event::End { .. })
 }

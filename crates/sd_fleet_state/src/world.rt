@@ -4,7 +4,7 @@
 //! The meaning of each register is a word on what was seen (`World`, `Refusals` of the definitions
 //! of histories), and `Stands` says that the registers hold just these.
 ghost use Rattle.std.specs.Prelude.{◌≡◌, ℕ, ◌||◌, ◌-◌, ◌<◌, ◌^◌, List, [], ◌∷◌, length, true, false, IfSome, IfOk};
-ghost use Rattle.sd_sched.specs.Events.{device_of, link_of, is_stage, is_end};
+ghost use Rattle.sd_sched.specs.Events.{device_of, link_of, is_stage, is_end_event};
 ghost use Rattle.sd_history.specs.World.{Setting, Seen};
 ghost use Rattle.sd_fleet_state.specs.world.Registers.{up_at, failed_at, ever_failed_at, made_at, reading_at, joins_at, HasThing, HasNamed, devices_after, links_after, first_registers, registers_after, registers_closed};
 ghost use Rattle.sd_fleet_state.specs.world.Standing.{Stands};
@@ -83,7 +83,7 @@ fn stages(event: &Event) -> bool
 
 /// Whether the schedule has ended with the event or before.
 fn ends(event: &Event, ended: bool) -> bool
-    ensures { result ≡ (is_end event.now || ended) }
+    ensures { result ≡ (is_end_event event.now || ended) }
 {
     matches!(event, Event::End { .. }) || ended
 }

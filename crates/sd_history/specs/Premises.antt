@@ -2,7 +2,6 @@
 -- orderly renewal.
 use Rattle.std.specs.Prelude.{ℕ, ◌+◌, ◌-◌, Bool, true, false, ◌&&◌, ◌||◌, not, List, [], ◌∷◌, ◌++◌, length, filter, filter_map, flat_map, map, nat_eq, nat_le, nat_lt, Option, Some, None, is_some, option_map, option_to_list, if◌then◌else◌}
 use Rattle.std.specs.List.{list_any, list_all}
-use Rattle.sd_sched.specs.Num.Numbers.{distance, keeps_rate}
 use Rattle.sd_sched.specs.Num.Lists.{below, has, of_some, same_number, latest, leading}
 use Rattle.sd_core.specs.Topo.Network.{rates_of, delay_of, device_numbers, link_numbers}
 use Rattle.sd_core.specs.Topo.Joined.{joined_within}
@@ -13,8 +12,7 @@ use Rattle.sd_core.specs.Plan.declared.Plan.{Plan}
 use Rattle.sd_core.specs.Plan.Plans.{is_member, members}
 use Rattle.sd_core.specs.Msg.declared.Flight.{Flight}
 use Rattle.sd_core.specs.Msg.declared.Stamp.{Stamp}
-use Rattle.sd_sched.specs.declared.Event.{Event}
-use Rattle.sd_sched.specs.declared.Event.TheVariants as event
+use Rattle.sd_sched.specs.Honesty.{sets_true_clock, keeps_reading}
 use Rattle.sd_history.specs.declared.BrokenSet.{BrokenSet}
 use Rattle.sd_sched.specs.Events.{reference_of, device_of, counter_of, started, joined, given, ticked, is_stage, is_commit, is_seal}
 use Rattle.sd_history.specs.Things.{failure_of, mended}
@@ -27,18 +25,8 @@ at_each test (s ∷ earlier) = at_each test earlier && test s earlier
 
 -- Start: the clock that a start, join or fix sets is within its uncertainty.
 
--- the clock that the event sets, with its uncertainty
-abbrev pub clock_set : Event → Option (ℕ × ℕ)
-clock_set (event.Start reference device counter clock eps) = Some (clock, eps)
-clock_set (event.Fix reference device counter clock eps) = Some (clock, eps)
-clock_set (event.Join reference device counter clock eps) = Some (clock, eps)
-clock_set _ = None
-
-abbrev pub sets_true_clock : Seen → Bool
-sets_true_clock s = of_some (clock_set s.event) true (λ set. nat_le (distance set.0 (reference_of s.event)) set.1)
-
 abbrev pub start_holds : List Seen → Bool
-start_holds seen = list_all sets_true_clock seen
+start_holds seen = list_all (λ s. sets_true_clock s.event) seen
 
 -- Drift: any two readings of one life of a device keep the rates of its oscillator.
 
@@ -57,7 +45,7 @@ reads_honestly setting s earlier =
     of_some (device_of s.event) true (λ d.
     of_some (counter_of s.event) true (λ c.
     makes d s.event
-    || list_all (λ r. keeps_rate (rates_of setting.net d) (c - r.1) (reference_of s.event - r.0)) (readings earlier d)))
+    || list_all (keeps_reading (rates_of setting.net d) (reference_of s.event, c)) (readings earlier d)))
 
 abbrev pub drift_holds : Setting → List Seen → Bool
 drift_holds setting seen = at_each (reads_honestly setting) seen
@@ -105,12 +93,12 @@ tick_holds setting seen = at_each (ticks_in_time setting) seen
 -- Loss: no K + 1 consecutive rounds of one term are all spoiled, K the topology's loss.
 
 -- all flights that were sent and reach
-abbrev pub flights : List Seen → List Flight
-flights seen = flat_map (λ s. s.sent) seen
+abbrev pub reaching_flights : List Seen → List Flight
+reaching_flights seen = flat_map (λ s. s.sent) seen
 
 -- what came after the flight was sent
-abbrev pub since_sending : List Seen → ℕ → List Seen
-since_sending seen n = leading (λ s. not (list_any (λ f. nat_eq f.number n) s.sent)) seen
+abbrev pub seen_since_sending : List Seen → ℕ → List Seen
+seen_since_sending seen n = leading (λ s. not (list_any (λ f. nat_eq f.number n) s.sent)) seen
 
 abbrev pub was_received : List Seen → ℕ → Bool
 was_received seen n = list_any (λ s. of_some s.taken false (λ f. nat_eq f.number n)) seen
@@ -123,7 +111,7 @@ is_overdue seen f = list_any (λ s. nat_lt f.due (reference_of s.event)) seen
 abbrev pub was_interrupted : List Seen → Flight → Bool
 was_interrupted seen f =
     list_any (λ s. fails (thing.Device f.sender) s.event || fails (thing.Device f.receiver) s.event || fails (thing.Link f.link) s.event)
-    (since_sending seen f.number)
+    (seen_since_sending seen f.number)
 
 -- a flight that reached was neither received nor interrupted by the first event past its due
 abbrev pub spoils : List Seen → Flight → Bool
@@ -134,7 +122,7 @@ spoils (s ∷ earlier) f =
 
 -- the rounds of which some message is spoiled
 abbrev pub spoiled_rounds : List Seen → List Stamp
-spoiled_rounds seen = map (λ f. f.message.stamp) (filter (spoils seen) (flights seen))
+spoiled_rounds seen = map (λ f. f.message.stamp) (filter (spoils seen) (reaching_flights seen))
 
 abbrev pub is_round : Stamp → ℕ → ℕ → Bool
 is_round stamp term round = nat_eq stamp.term term && nat_eq stamp.round round

@@ -8,7 +8,7 @@ use Rattle.sd_core.specs.Msg.declared.Flight.{Flight}
 use Rattle.sd_sched.specs.declared.Event.{Event}
 use Rattle.sd_history.specs.declared.ApplyFault.{ApplyFault}
 use Rattle.sd_history.specs.declared.ApplyFault.TheVariants as fault
-use Rattle.sd_sched.specs.Events.{reference_of, device_of, counter_of, link_of, message_of, received, started, joined, given, is_stage, is_commit, is_seal, is_end}
+use Rattle.sd_sched.specs.Events.{reference_of, device_of, counter_of, link_of, message_of, received, started, joined, given, is_stage, is_commit, is_seal, is_end_event}
 use Rattle.sd_history.specs.Things.{failure_of, mended}
 use Rattle.sd_history.specs.World.{Setting, Seen, is_up, has_failed, fails, was_made, latest_reference, latest_reading, window_is_open, has_commit, epoch_in_force, staged_epoch, in_force, staged, is_staged_member, joined_in_window}
 use Rattle.sd_history.specs.Steps.{Step, seen_of, flight_numbered, flight_count, epoch_in, given_in}
@@ -101,7 +101,7 @@ abbrev pub window_order : Setting → List Step → Event → Bool
 window_order setting steps e = window_order_seen setting (seen_of steps) e || window_order_within steps e
 
 abbrev pub after_end : List Seen → Bool
-after_end seen = list_any (λ s. is_end s.event) seen
+after_end seen = list_any (λ s. is_end_event s.event) seen
 
 abbrev pub not_failed : List Seen → Event → Bool
 not_failed seen e = of_some (mended e) false (λ x. not (has_failed seen x))

@@ -7,7 +7,7 @@ use Rattle.std.proofs.lemmas.Bool.{or_cases, or_left, or_right, and_left, and_ri
 use Rattle.sd_num.specs.Lists.{has, of_some}
 use Rattle.sd_topo.specs.Network.{Network, Each}
 use Rattle.sd_plan.specs.Plans.{is_member, is_root, is_backup_root, primary_of}
-use Rattle.sd_plan.specs.Walks.{hops, walk, epath, path, things_of, on_walk, is_end}
+use Rattle.sd_plan.specs.Walks.{hops, walk, epath, path, things_of, on_walk, ends_walks}
 use Rattle.sd_plan.specs.Indexed.{Indexed, IsIndexOf, goes_over, carried_over, has_device, has_link, stands_below, is_cut_before}
 use Rattle.sd_plan.specs.declared.Hop.{Hop}
 use Rattle.sd_plan.specs.declared.Plan.{Plan}
@@ -28,27 +28,27 @@ abbrev begin : (ℕ → Bool) → Option Hop → (ℕ → List Hop) → List Hop
 begin ends found more = elim found [ None ↦ [] | Some h ↦ h ∷ stop (ends h.parent) (more h.parent) ]
 
 -- the hops to either root are those to the root, cut
-cut_hops : (plan : Plan) (n d : ℕ) → hops (is_end plan) plan n d ≡ cut (is_end plan) (hops (is_root plan) plan n d)
+cut_hops : (plan : Plan) (n d : ℕ) → hops (ends_walks plan) plan n d ≡ cut (ends_walks plan) (hops (is_root plan) plan n d)
 cut_hops plan zero d = refl
 cut_hops plan (suc n) d = by_hop (λ p. cut_hops plan n p) (primary_of plan d)
   where
-    by_root : ((p : ℕ) → hops (is_end plan) plan n p ≡ cut (is_end plan) (hops (is_root plan) plan n p)) → (root backup : Bool) (p : ℕ)
-        → stop (root || backup) (hops (is_end plan) plan n p) ≡ stop (root || backup) (cut (is_end plan) (stop root (hops (is_root plan) plan n p)))
+    by_root : ((p : ℕ) → hops (ends_walks plan) plan n p ≡ cut (ends_walks plan) (hops (is_root plan) plan n p)) → (root backup : Bool) (p : ℕ)
+        → stop (root || backup) (hops (ends_walks plan) plan n p) ≡ stop (root || backup) (cut (ends_walks plan) (stop root (hops (is_root plan) plan n p)))
     by_root more true backup p = refl
     by_root more false true p = refl
     by_root more false false p = more p
 
-    by_hop : ((p : ℕ) → hops (is_end plan) plan n p ≡ cut (is_end plan) (hops (is_root plan) plan n p)) → (o : Option Hop)
-        → begin (is_end plan) o (hops (is_end plan) plan n) ≡ cut (is_end plan) (begin (is_root plan) o (hops (is_root plan) plan n))
+    by_hop : ((p : ℕ) → hops (ends_walks plan) plan n p ≡ cut (ends_walks plan) (hops (is_root plan) plan n p)) → (o : Option Hop)
+        → begin (ends_walks plan) o (hops (ends_walks plan) plan n) ≡ cut (ends_walks plan) (begin (is_root plan) o (hops (is_root plan) plan n))
     by_hop more None = refl
     by_hop more (Some hop) = ap (λ hs. hop ∷ hs) (by_root more (is_root plan hop.parent) (is_backup_root plan hop.parent) hop.parent)
 
 -- the cut path is the walk, cut
-cut_path : (net : Network) (plan : Plan) (d : ℕ) → is_root plan d ≡ false → epath net plan d ≡ things_of (cut (is_end plan) (walk net plan d))
+cut_path : (net : Network) (plan : Plan) (d : ℕ) → is_root plan d ≡ false → epath net plan d ≡ things_of (cut (ends_walks plan) (walk net plan d))
 cut_path net plan d other =
-    ap (λ (root : Bool). things_of (if root then [] else hops (is_end plan) plan net.params.depth d)) other
+    ap (λ (root : Bool). things_of (if root then [] else hops (ends_walks plan) plan net.params.depth d)) other
     ∙ ap things_of (cut_hops plan net.params.depth d)
-    ∙ ap (λ hs. things_of (cut (is_end plan) hs)) (sym (other_walk net plan d other))
+    ∙ ap (λ hs. things_of (cut (ends_walks plan) hs)) (sym (other_walk net plan d other))
 
 -- what a cut walk has the walk has
 cut_has : (ends : ℕ → Bool) (hs : List Hop) (a : ℕ) → has_device (things_of (cut ends hs)) a ≡ true → has (map (λ hop. hop.parent) hs) a ≡ true
@@ -145,17 +145,17 @@ on_root_walk net plan forest d a root =
 
 -- what the rest of a cut walk has
 abbrev rest : Plan → Bool → List Hop → List Hop
-rest plan b hs = elim b [ true ↦ [] | false ↦ cut (is_end plan) hs ]
+rest plan b hs = elim b [ true ↦ [] | false ↦ cut (ends_walks plan) hs ]
 
 -- a cut walk has the devices above its beginning that it comes to before the cut
 pub devices_before : (net : Network) (plan : Plan) → IsForest net plan → (a : ℕ) → a < length net.devices → (d : ℕ) → d < length net.devices
-    → (not (nat_eq d a) && (on_walk net plan d a && not (cut_off net plan d a))) ≡ has_device (things_of (cut (is_end plan) (walk net plan d))) a
+    → (not (nat_eq d a) && (on_walk net plan d a && not (cut_off net plan d a))) ≡ has_device (things_of (cut (ends_walks plan) (walk net plan d))) a
 devices_before net plan forest a inside = climb net plan forest
-    (λ d. (not (nat_eq d a) && (on_walk net plan d a && not (cut_off net plan d a))) ≡ has_device (things_of (cut (is_end plan) (walk net plan d))) a)
+    (λ d. (not (nat_eq d a) && (on_walk net plan d a && not (cut_off net plan d a))) ≡ has_device (things_of (cut (ends_walks plan) (walk net plan d))) a)
     top up
   where
     top : (d : ℕ) → d < length net.devices → primary_of plan d ≡ None
-        → (not (nat_eq d a) && (on_walk net plan d a && not (cut_off net plan d a))) ≡ has_device (things_of (cut (is_end plan) (walk net plan d))) a
+        → (not (nat_eq d a) && (on_walk net plan d a && not (cut_off net plan d a))) ≡ has_device (things_of (cut (ends_walks plan) (walk net plan d))) a
     top d within none =
         elim (cases_eq d a) [
           | inl same ↦ and_left (not (nat_eq d a)) (on_walk net plan d a && not (cut_off net plan d a)) (not_from_true (nat_eq d a) (eq-eqb d a same))
@@ -163,17 +163,17 @@ devices_before net plan forest a inside = climb net plan forest
               and_right (not (nat_eq d a)) (on_walk net plan d a && not (cut_off net plan d a))
               (and_left (on_walk net plan d a) (not (cut_off net plan d a)) (on_top net plan d a (forest.top d none) ∙ flip d a false (ne_eqb d a other)))
         ]
-        ∙ sym (ap (λ hs. has_device (things_of (cut (is_end plan) hs)) a) (forest.top d none))
+        ∙ sym (ap (λ hs. has_device (things_of (cut (ends_walks plan) hs)) a) (forest.top d none))
 
-    on_same : (d : ℕ) (hop : Hop) → IsStep net plan d hop → d ≡ a → has_device (things_of (cut (is_end plan) (hop ∷ walk net plan hop.parent))) a ≡ false
+    on_same : (d : ℕ) (hop : Hop) → IsStep net plan d hop → d ≡ a → has_device (things_of (cut (ends_walks plan) (hop ∷ walk net plan hop.parent))) a ≡ false
     on_same d hop step same =
-        false_from_ne_true (has_device (things_of (cut (is_end plan) (hop ∷ walk net plan hop.parent))) a) (λ there.
-        let on : on_walk net plan hop.parent a ≡ true = cut_has (is_end plan) (hop ∷ walk net plan hop.parent) a there in
+        false_from_ne_true (has_device (things_of (cut (ends_walks plan) (hop ∷ walk net plan hop.parent))) a) (λ there.
+        let on : on_walk net plan hop.parent a ≡ true = cut_has (ends_walks plan) (hop ∷ walk net plan hop.parent) a there in
         absurd (cc (not_above net plan forest d hop step, subst (λ x. on_walk net plan hop.parent x ≡ true) (sym same) on)))
 
     beyond : (d : ℕ) (hop : Hop) → IsStep net plan d hop → nat_eq hop.parent a ≡ false
         → ((not (nat_eq hop.parent a) && (on_walk net plan hop.parent a && not (cut_off net plan hop.parent a)))
-        ≡ has_device (things_of (cut (is_end plan) (walk net plan hop.parent))) a)
+        ≡ has_device (things_of (cut (ends_walks plan) (walk net plan hop.parent))) a)
         → (on_walk net plan hop.parent a && not (cut_off net plan d a))
         ≡ has_device (things_of (rest plan (is_root plan hop.parent || is_backup_root plan hop.parent) (walk net plan hop.parent))) a
     beyond d hop step apart above = by_root (is_root plan hop.parent) (is_backup_root plan hop.parent) refl refl
@@ -197,8 +197,8 @@ devices_before net plan forest a inside = climb net plan forest
 
     up : (d : ℕ) (hop : Hop) → d < length net.devices → primary_of plan d ≡ Some hop → IsStep net plan d hop
         → ((not (nat_eq hop.parent a) && (on_walk net plan hop.parent a && not (cut_off net plan hop.parent a)))
-        ≡ has_device (things_of (cut (is_end plan) (walk net plan hop.parent))) a)
-        → (not (nat_eq d a) && (on_walk net plan d a && not (cut_off net plan d a))) ≡ has_device (things_of (cut (is_end plan) (walk net plan d))) a
+        ≡ has_device (things_of (cut (ends_walks plan) (walk net plan hop.parent))) a)
+        → (not (nat_eq d a) && (on_walk net plan d a && not (cut_off net plan d a))) ≡ has_device (things_of (cut (ends_walks plan) (walk net plan d))) a
     up d hop within is step above =
         elim (cases_eq d a) [
           | inl same ↦
@@ -212,19 +212,19 @@ devices_before net plan forest a inside = climb net plan forest
                 | inl same ↦
                     (ap (λ b. b && not (cut_off net plan d a)) (subst (λ x. on_walk net plan hop.parent x ≡ true) same (on_itself net plan hop.parent))
                     ∙ ap not (subst (λ x. cut_off net plan d x ≡ false) same (not_cut_at_parent net plan d hop step))
-                    ∙ sym (ap (λ b. b || has_device (things_of (rest plan (is_end plan hop.parent) (walk net plan hop.parent))) a) (eq-eqb hop.parent a same)))
+                    ∙ sym (ap (λ b. b || has_device (things_of (rest plan (ends_walks plan hop.parent) (walk net plan hop.parent))) a) (eq-eqb hop.parent a same)))
                 | inr apart ↦
                     (beyond d hop step (ne_eqb hop.parent a apart) above
-                    ∙ sym (ap (λ b. b || has_device (things_of (rest plan (is_end plan hop.parent) (walk net plan hop.parent))) a) (ne_eqb hop.parent a apart)))
+                    ∙ sym (ap (λ b. b || has_device (things_of (rest plan (ends_walks plan hop.parent) (walk net plan hop.parent))) a) (ne_eqb hop.parent a apart)))
               ])
         ]
-        ∙ sym (ap (λ hs. has_device (things_of (cut (is_end plan) hs)) a) step.walk)
+        ∙ sym (ap (λ hs. has_device (things_of (cut (ends_walks plan) hs)) a) step.walk)
 
 -- a device that goes over a link is the one that is carried there
 at_child : (net : Network) (plan : Plan) → IsForest net plan → (l child d : ℕ) (hop : Hop) → child < length net.devices → goes_over plan l child ≡ true
     → d < length net.devices → primary_of plan d ≡ Some hop → nat_eq hop.link l ≡ nat_eq d child
 at_child net plan forest l child d hop there goes within is =
-    let goes_d : goes_over plan l d ≡ nat_eq hop.link l = ap (λ o. of_some o (nat_eq 0 1) (λ hop. nat_eq hop.link l)) is in
+    let goes_d : goes_over plan l d ≡ nat_eq hop.link l = ap (λ o. of_some o false (λ hop. nat_eq hop.link l)) is in
     elim (cases_eq d child) [
       | inl same ↦ (sym goes_d ∙ subst (λ x. goes_over plan l x ≡ true) (sym same) goes ∙ sym (eq-eqb d child same))
       | inr other ↦
@@ -240,20 +240,20 @@ child_hop plan l child goes none = let (hop, is, over) = hop_over plan l child g
 pub link_before : (net : Network) (plan : Plan) → IsForest net plan → (l child : ℕ) → child < length net.devices → goes_over plan l child ≡ true → (d : ℕ)
     → d < length net.devices
     → ((nat_eq d child || not (nat_eq child plan.backup_root)) && (on_walk net plan d child && not (cut_off net plan d child)))
-    ≡ has_link (things_of (cut (is_end plan) (walk net plan d))) l
+    ≡ has_link (things_of (cut (ends_walks plan) (walk net plan d))) l
 link_before net plan forest l child inside goes = climb net plan forest
     (λ d. ((nat_eq d child || not (nat_eq child plan.backup_root)) && (on_walk net plan d child && not (cut_off net plan d child)))
-    ≡ has_link (things_of (cut (is_end plan) (walk net plan d))) l)
+    ≡ has_link (things_of (cut (ends_walks plan) (walk net plan d))) l)
     top up
   where
     top : (d : ℕ) → d < length net.devices → primary_of plan d ≡ None
         → ((nat_eq d child || not (nat_eq child plan.backup_root)) && (on_walk net plan d child && not (cut_off net plan d child)))
-        ≡ has_link (things_of (cut (is_end plan) (walk net plan d))) l
+        ≡ has_link (things_of (cut (ends_walks plan) (walk net plan d))) l
     top d within none =
         let apart : nat_eq child d ≡ false = ne_eqb child d (λ same. child_hop plan l child goes (subst (λ x. primary_of plan x ≡ None) (sym same) none)) in
         and_right (nat_eq d child || not (nat_eq child plan.backup_root)) (on_walk net plan d child && not (cut_off net plan d child))
         (and_left (on_walk net plan d child) (not (cut_off net plan d child)) (on_top net plan d child (forest.top d none) ∙ apart))
-        ∙ sym (ap (λ hs. has_link (things_of (cut (is_end plan) hs)) l) (forest.top d none))
+        ∙ sym (ap (λ hs. has_link (things_of (cut (ends_walks plan) hs)) l) (forest.top d none))
 
     not_cut_itself : (x y : Bool) → not (not x && y && not y) ≡ true
     not_cut_itself true y = refl
@@ -262,7 +262,7 @@ link_before net plan forest l child inside goes = climb net plan forest
 
     beyond : (d : ℕ) (hop : Hop) → IsStep net plan d hop
         → (((nat_eq hop.parent child || not (nat_eq child plan.backup_root)) && (on_walk net plan hop.parent child && not (cut_off net plan hop.parent child)))
-        ≡ has_link (things_of (cut (is_end plan) (walk net plan hop.parent))) l)
+        ≡ has_link (things_of (cut (ends_walks plan) (walk net plan hop.parent))) l)
         → (not (nat_eq child plan.backup_root) && (on_walk net plan hop.parent child && not (cut_off net plan d child)))
         ≡ has_link (things_of (rest plan (is_root plan hop.parent || is_backup_root plan hop.parent) (walk net plan hop.parent))) l
     beyond d hop step above = by_root (is_root plan hop.parent) (is_backup_root plan hop.parent) refl refl
@@ -311,26 +311,26 @@ link_before net plan forest l child inside goes = climb net plan forest
 
     up : (d : ℕ) (hop : Hop) → d < length net.devices → primary_of plan d ≡ Some hop → IsStep net plan d hop
         → (((nat_eq hop.parent child || not (nat_eq child plan.backup_root)) && (on_walk net plan hop.parent child && not (cut_off net plan hop.parent child)))
-        ≡ has_link (things_of (cut (is_end plan) (walk net plan hop.parent))) l)
+        ≡ has_link (things_of (cut (ends_walks plan) (walk net plan hop.parent))) l)
         → ((nat_eq d child || not (nat_eq child plan.backup_root)) && (on_walk net plan d child && not (cut_off net plan d child)))
-        ≡ has_link (things_of (cut (is_end plan) (walk net plan d))) l
+        ≡ has_link (things_of (cut (ends_walks plan) (walk net plan d))) l
     up d hop within is step above =
         elim (cases_eq d child) [
           | inl same ↦
               (ap (λ b. (b || not (nat_eq child plan.backup_root)) && (on_walk net plan d child && not (cut_off net plan d child))) (eq-eqb d child same)
               ∙ ap (λ b. b && not (cut_off net plan d child)) (subst (λ x. on_walk net plan d x ≡ true) same (on_itself net plan d))
               ∙ subst (λ x. not (cut_off net plan d x) ≡ true) same (not_cut_itself (nat_eq d plan.backup_root) (on_walk net plan d plan.backup_root))
-              ∙ sym (or_left (nat_eq hop.link l) (has_link (things_of (rest plan (is_end plan hop.parent) (walk net plan hop.parent))) l)
+              ∙ sym (or_left (nat_eq hop.link l) (has_link (things_of (rest plan (ends_walks plan hop.parent) (walk net plan hop.parent))) l)
               (at_child net plan forest l child d hop inside goes within is ∙ eq-eqb d child same)))
           | inr other ↦
               (ap (λ b. (b || not (nat_eq child plan.backup_root)) && (on_walk net plan d child && not (cut_off net plan d child))) (ne_eqb d child other)
               ∙ ap (λ b. not (nat_eq child plan.backup_root) && (b && not (cut_off net plan d child)))
               (on_up net plan d child hop step.walk ∙ ap (λ b. b || on_walk net plan hop.parent child) (flip d child false (ne_eqb d child other)))
               ∙ beyond d hop step above
-              ∙ sym (ap (λ b. b || has_link (things_of (rest plan (is_end plan hop.parent) (walk net plan hop.parent))) l)
+              ∙ sym (ap (λ b. b || has_link (things_of (rest plan (ends_walks plan hop.parent) (walk net plan hop.parent))) l)
               (at_child net plan forest l child d hop inside goes within is ∙ ne_eqb d child other)))
         ]
-        ∙ sym (ap (λ hs. has_link (things_of (cut (is_end plan) hs)) l) step.walk)
+        ∙ sym (ap (λ hs. has_link (things_of (cut (ends_walks plan) hs)) l) step.walk)
 
 -- a walk has the links that carry its devices
 pub link_on : (net : Network) (plan : Plan) → IsForest net plan → (l child : ℕ) → child < length net.devices → goes_over plan l child ≡ true → (d : ℕ)
@@ -352,24 +352,24 @@ link_off net plan forest l nobody = climb net plan forest (λ d. has_link (thing
     (λ d within none. ap (λ hs. has_link (things_of hs) l) (forest.top d none))
     (λ d hop within is step above.
     ap (λ hs. has_link (things_of hs) l) step.walk
-    ∙ ap (λ b. b || has_link (things_of (walk net plan hop.parent)) l) (sym (ap (λ o. of_some o (nat_eq 0 1) (λ hop. nat_eq hop.link l)) is) ∙ nobody d within)
+    ∙ ap (λ b. b || has_link (things_of (walk net plan hop.parent)) l) (sym (ap (λ o. of_some o false (λ hop. nat_eq hop.link l)) is) ∙ nobody d within)
     ∙ above)
 
 -- nor on a cut one
-pub cut_link_off : (plan : Plan) (hs : List Hop) (l : ℕ) → has_link (things_of hs) l ≡ false → has_link (things_of (cut (is_end plan) hs)) l ≡ false
+pub cut_link_off : (plan : Plan) (hs : List Hop) (l : ℕ) → has_link (things_of hs) l ≡ false → has_link (things_of (cut (ends_walks plan) hs)) l ≡ false
 cut_link_off plan [] l off = refl
 cut_link_off plan (h ∷ hs) l off = by_test (cut_link_off plan hs l) (nat_eq h.link l) off
   where
-    by_end : (has_link (things_of hs) l ≡ false → has_link (things_of (cut (is_end plan) hs)) l ≡ false) → (b : Bool) → has_link (things_of hs) l ≡ false
-        → has_link (things_of (elim b [ true ↦ [] | false ↦ cut (is_end plan) hs ])) l ≡ false
+    by_end : (has_link (things_of hs) l ≡ false → has_link (things_of (cut (ends_walks plan) hs)) l ≡ false) → (b : Bool) → has_link (things_of hs) l ≡ false
+        → has_link (things_of (elim b [ true ↦ [] | false ↦ cut (ends_walks plan) hs ])) l ≡ false
     by_end after true off = refl
     by_end after false off = after off
 
-    by_test : (has_link (things_of hs) l ≡ false → has_link (things_of (cut (is_end plan) hs)) l ≡ false) → (b : Bool)
+    by_test : (has_link (things_of hs) l ≡ false → has_link (things_of (cut (ends_walks plan) hs)) l ≡ false) → (b : Bool)
         → (b || has_link (things_of hs) l) ≡ false
-        → (b || has_link (things_of (elim (is_end plan h.parent) [ true ↦ [] | false ↦ cut (is_end plan) hs ])) l) ≡ false
+        → (b || has_link (things_of (elim (ends_walks plan h.parent) [ true ↦ [] | false ↦ cut (ends_walks plan) hs ])) l) ≡ false
     by_test after true off = cc
-    by_test after false off = by_end after (is_end plan h.parent) off
+    by_test after false off = by_end after (ends_walks plan h.parent) off
 
 -- the numbers of an index say what the walks do
 below_is : (net : Network) (plan : Plan) (index : Indexed) → IsIndexOf net plan index → (d a : ℕ) → d < length net.devices → a < length net.devices

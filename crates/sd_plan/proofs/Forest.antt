@@ -294,9 +294,9 @@ pub hop_over : (plan : Plan) (l d : ℕ) → goes_over plan l d ≡ true → (ho
 hop_over plan l d goes =
     by_option (primary_of plan d) ((hop : Hop) × (primary_of plan d ≡ Some hop) × (hop.link ≡ l))
     (λ none. absurd (no_hop (primary_of plan d) none goes))
-    (λ hop is. (hop, is, eqb-true hop.link l (subst (λ (o : Option Hop). of_some o (nat_eq 0 1) (λ hop. nat_eq hop.link l) ≡ true) is goes)))
+    (λ hop is. (hop, is, eqb-true hop.link l (subst (λ (o : Option Hop). of_some o false (λ hop. nat_eq hop.link l) ≡ true) is goes)))
   where
-    no_hop : (o : Option Hop) → o ≡ None → of_some o (nat_eq 0 1) (λ hop. nat_eq hop.link l) ≡ true → ⊥
+    no_hop : (o : Option Hop) → o ≡ None → of_some o false (λ hop. nat_eq hop.link l) ≡ true → ⊥
     no_hop None none goes = cc
     no_hop (Some hop) none goes = cc
 

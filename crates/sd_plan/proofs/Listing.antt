@@ -8,7 +8,7 @@ use Rattle.std.proofs.lemmas.List.Folds.{find-append}
 use Rattle.sd_num.specs.Lists.{below, has}
 use Rattle.sd_topo.specs.Network.{Network, device_numbers, link_numbers, link_of}
 use Rattle.sd_topo.specs.Limits.{IsNetwork}
-use Rattle.sd_topo.specs.Places.{is_end}
+use Rattle.sd_topo.specs.Places.{is_end_of}
 use Rattle.sd_topo.specs.declared.LinkEntry.{LinkEntry}
 use Rattle.sd_topo.proofs.Laws.{link_law}
 use Rattle.sd_plan.specs.Plans.{Fits, IsHop, is_member, is_present, primary_of}
@@ -112,7 +112,7 @@ usable_over : (net : Network) (plan : Plan) (l d : ℕ) → (link_of net l).end_
     → filter_map (usable_end net plan d) (l ∷ []) ≡ usable_below plan l (link_of net l).end_a (link_of net l).end_b d
     ++ usable_below plan l (link_of net l).end_b (link_of net l).end_a d
 usable_over net plan l d apart present =
-    ap (λ p. filter_map (λ (x : ℕ). if is_end (link_of net l) d && p
+    ap (λ p. filter_map (λ (x : ℕ). if is_end_of (link_of net l) d && p
     && is_member plan (other_end (link_of net l) d) then Some (end_to x (other_end (link_of net l) d)) else None) (l ∷ [])) present
     ∙ by_ends (link_of net l).end_a (link_of net l).end_b (nat_eq d (link_of net l).end_a) (nat_eq d (link_of net l).end_b)
     (not_both (cases_eq d (link_of net l).end_a))
@@ -154,7 +154,7 @@ usable_grown net plan l d law within present =
 -- a link that is left out is not
 pub usable_same : (net : Network) (plan : Plan) (l d : ℕ) → is_present plan l ≡ false → usable_before net plan (l + 1) d ≡ usable_before net plan l d ++ []
 usable_same net plan l d absent = filtered_more (usable_end net plan d) l
-    ∙ ap (λ more. usable_before net plan l d ++ more) (by_test (is_end (link_of net l) d) absent)
+    ∙ ap (λ more. usable_before net plan l d ++ more) (by_test (is_end_of (link_of net l) d) absent)
   where
     by_test : (b : Bool) → is_present plan l ≡ false
         → filter_map

@@ -102,7 +102,7 @@ hops_within net plan d fits = by_place (slice_get plan.rows d) (λ row at. fits.
 
 -- a hop leads to a device only over a link that joins them
 led : (net : Network) (plan : Plan) (c d l : ℕ) (hop : Option Hop) → hop_is_right net plan c hop ≡ true
-    → of_some hop (nat_eq 0 1) (λ h. nat_eq h.parent d && nat_eq h.link l) ≡ true → joins net l c d ≡ true
+    → of_some hop false (λ h. nat_eq h.parent d && nat_eq h.link l) ≡ true → joins net l c d ≡ true
 led net plan c d l None right leads = cc
 led net plan c d l (Some h) right leads =
     let (parent, link) = and_parts (nat_eq h.parent d) (nat_eq h.link l) leads in
@@ -111,8 +111,8 @@ led net plan c d l (Some h) right leads =
 
 -- so does each hop of a device
 pub both_led : (net : Network) (plan : Plan) (d l c : ℕ) → KeepsRules net plan → c < length net.devices
-    → ((of_some (primary_of plan c) (nat_eq 0 1) (λ h. nat_eq h.parent d && nat_eq h.link l) ≡ true) → joins net l c d ≡ true)
-    × ((of_some (backup_of plan c) (nat_eq 0 1) (λ h. nat_eq h.parent d && nat_eq h.link l) ≡ true) → joins net l c d ≡ true)
+    → ((of_some (primary_of plan c) false (λ h. nat_eq h.parent d && nat_eq h.link l) ≡ true) → joins net l c d ≡ true)
+    × ((of_some (backup_of plan c) false (λ h. nat_eq h.parent d && nat_eq h.link l) ≡ true) → joins net l c d ≡ true)
 both_led net plan d l c rules within =
     let (primary, backup) = and_parts (hop_is_right net plan c (primary_of plan c)) (hop_is_right net plan c (backup_of plan c)) (rules.hops c within) in
     (λ leads. led net plan c d l (primary_of plan c) primary leads, λ leads. led net plan c d l (backup_of plan c) backup leads)

@@ -1,9 +1,9 @@
 -- What contracts see of an index of walks, and of which plan it is one.
-use Rattle.std.specs.Prelude.{◌≡◌, ℕ, ◌<◌, ◌≤◌, Bool, ◌&&◌, not, List, length, map, filter_map, find, nat_eq, nat_le, nat_lt, slice_get, slice_index_or, Option, Some, None, IsTrue, if◌then◌else◌}
+use Rattle.std.specs.Prelude.{◌≡◌, ℕ, ◌<◌, ◌≤◌, Bool, ◌&&◌, not, List, length, map, filter_map, find, nat_eq, nat_le, nat_lt, slice_get, slice_index_or, Option, Some, None, IsTrue, if◌then◌else◌, false}
 use Rattle.std.specs.List.{list_any}
 use Rattle.sd_num.specs.Lists.{of_some}
 use Rattle.sd_topo.specs.Network.{Network, device_numbers, link_numbers, link_of}
-use Rattle.sd_topo.specs.Places.{is_end}
+use Rattle.sd_topo.specs.Places.{is_end_of}
 use Rattle.sd_topo.specs.declared.LinkEntry.{LinkEntry}
 use Rattle.sd_topo.specs.declared.Thing.{Thing}
 use Rattle.sd_topo.specs.declared.Thing.TheVariants as thing
@@ -43,7 +43,7 @@ is_cut_before index d a = not (nat_eq d index.backup_root) && stands_below index
 
 -- the device's primary hop goes over the link
 abbrev pub goes_over : Plan → ℕ → ℕ → Bool
-goes_over plan l d = of_some (primary_of plan d) (nat_eq 0 1) (λ hop. nat_eq hop.link l)
+goes_over plan l d = of_some (primary_of plan d) false (λ hop. nat_eq hop.link l)
 
 -- the device whose primary hop goes over the link, if there is one
 abbrev pub carried_over : Network → Plan → ℕ → Option ℕ
@@ -56,7 +56,7 @@ other_end link d = if nat_eq d link.end_a then link.end_b else link.end_a
 -- the other end of a link of d, where the link is not left out and the end is a member
 abbrev pub usable_end : Network → Plan → ℕ → ℕ → Option End
 usable_end net plan d l =
-    if is_end (link_of net l) d && is_present plan l && is_member plan (other_end (link_of net l) d)
+    if is_end_of (link_of net l) d && is_present plan l && is_member plan (other_end (link_of net l) d)
     then Some (record { link = l; device = other_end (link_of net l) d })
     else None
 
@@ -79,8 +79,8 @@ pub record IsIndexOf (net : Network) (plan : Plan) (index : Indexed) : Type 0 wh
 
 -- the device is one of the things
 abbrev pub has_device : List Thing → ℕ → Bool
-has_device things a = list_any (λ t. elim t [ thing.Device d ↦ nat_eq d a | thing.Link l ↦ nat_eq 0 1 ]) things
+has_device things a = list_any (λ t. elim t [ thing.Device d ↦ nat_eq d a | thing.Link l ↦ false ]) things
 
 -- the link is one of the things
 abbrev pub has_link : List Thing → ℕ → Bool
-has_link things l = list_any (λ t. elim t [ thing.Device d ↦ nat_eq 0 1 | thing.Link m ↦ nat_eq m l ]) things
+has_link things l = list_any (λ t. elim t [ thing.Device d ↦ false | thing.Link m ↦ nat_eq m l ]) things

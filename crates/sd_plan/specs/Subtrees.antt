@@ -9,7 +9,7 @@ use Rattle.sd_plan.specs.declared.index.Span.{Span}
 
 -- d is the primary parent of c
 abbrev pub is_child : Plan → ℕ → ℕ → Bool
-is_child plan d c = of_some (primary_of plan c) (nat_eq 0 1) (λ hop. nat_eq hop.parent d)
+is_child plan d c = of_some (primary_of plan c) false (λ hop. nat_eq hop.parent d)
 
 -- the devices below a number whose primary parent is d, ascending
 abbrev pub children_before : Plan → ℕ → ℕ → List ℕ

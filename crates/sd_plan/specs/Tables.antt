@@ -2,7 +2,7 @@
 use Rattle.std.specs.Prelude.{ℕ, ◌<◌, IsTrue, length, Bool, true, false, List, [], ◌∷◌, map, filter_map, find, nat_eq, ◌&&◌, Option, Some, None, option_map, if◌then◌else◌}
 use Rattle.sd_num.specs.Lists.{below, at_place, of_some}
 use Rattle.sd_topo.specs.Network.{Network, device_numbers, link_of}
-use Rattle.sd_topo.specs.Places.{is_end}
+use Rattle.sd_topo.specs.Places.{is_end_of}
 use Rattle.sd_plan.specs.Plans.{is_member}
 use Rattle.sd_plan.specs.Duties.{duty_of, ends_of, follows_over}
 use Rattle.sd_plan.specs.declared.Plan.{Plan}
@@ -49,4 +49,4 @@ end_below plan l parent child d = if nat_eq d parent && follows_over plan parent
 
 -- the hop's link is one of the network, and the device an end of it
 abbrev pub EndsAt : Network → ℕ → Hop → Type 0
-EndsAt net d hop = (hop.link < length net.links) × IsTrue (is_end (link_of net hop.link) d)
+EndsAt net d hop = (hop.link < length net.links) × IsTrue (is_end_of (link_of net hop.link) d)

@@ -4,7 +4,7 @@ use Rattle.std.proofs.lemmas.Bool.{cases_eq, eq-eqb, ne_eqb, and_left}
 use Rattle.std.proofs.lemmas.List.{append-nil}
 use Rattle.sd_topo.specs.Network.{Network, device_numbers, link_of}
 use Rattle.sd_topo.specs.Limits.{IsNetwork}
-use Rattle.sd_topo.specs.Places.{is_end}
+use Rattle.sd_topo.specs.Places.{is_end_of}
 use Rattle.sd_topo.specs.declared.LinkEntry.{LinkEntry}
 use Rattle.sd_topo.proofs.Laws.{link_law}
 use Rattle.sd_plan.specs.Indexed.{other_end}
@@ -22,7 +22,7 @@ link_over : (net : Network) (flags : List Bool) (l d : ℕ) → (link_of net l).
     → filter_map (neighbour_by net flags d) (l ∷ []) ≡ neighbour_below l (link_of net l).end_a (link_of net l).end_b d
     ++ neighbour_below l (link_of net l).end_b (link_of net l).end_a d
 link_over net flags l d apart flagged =
-    ap (λ p. filter_map (λ (x : ℕ). if p && is_end (link_of net l) d then Some (neighbour_to x (other_end (link_of net l) d)) else None) (l ∷ [])) flagged
+    ap (λ p. filter_map (λ (x : ℕ). if p && is_end_of (link_of net l) d then Some (neighbour_to x (other_end (link_of net l) d)) else None) (l ∷ [])) flagged
     ∙ by_ends (link_of net l).end_a (link_of net l).end_b (nat_eq d (link_of net l).end_a) (nat_eq d (link_of net l).end_b)
     (not_both (cases_eq d (link_of net l).end_a))
   where
@@ -54,7 +54,7 @@ over_same : (net : Network) (flags : List Bool) (l d : ℕ) → is_flagged flags
 over_same net flags l d not_flagged =
     filtered_more (neighbour_by net flags d) l
     ∙ ap (λ more. over_before net flags l d ++ more)
-    (ap (λ p. filter_map (λ (x : ℕ). if p && is_end (link_of net l) d then Some (neighbour_to x (other_end (link_of net l) d)) else None) (l ∷ [])) not_flagged)
+    (ap (λ p. filter_map (λ (x : ℕ). if p && is_end_of (link_of net l) d then Some (neighbour_to x (other_end (link_of net l) d)) else None) (l ∷ [])) not_flagged)
 
 -- the rows after both ends of a link
 pub rows_over : (net : Network) (flags : List Bool) (l : ℕ) (link : LinkEntry) (rows some all : List (List Neighbour)) → IsNetwork net → l < length net.links

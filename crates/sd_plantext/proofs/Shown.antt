@@ -12,7 +12,8 @@ use Rattle.sd_plan.specs.declared.Hop.{Hop}
 use Rattle.sd_plan.specs.declared.PlanRow.{PlanRow}
 use Rattle.sd_plan.specs.declared.Plan.{Plan as PlanShown}
 use Rattle.sd_plan.specs.Plans.{row_of}
-use Rattle.sd_plantext.specs.Printed.{device_name, link_name, quoted, with_key, array as array_text, object, row_text, rows_text, plan_text}
+use Rattle.sd_plantext.specs.Printed.{quoted, with_key, array as array_text, object, row_text, rows_text, plan_text}
+use Rattle.sd_topo.specs.Network.{device_name, link_name}
 use Rattle.sd_plantext.specs.PrintedTree.{count, device_data, link_data, list_data, row_members, row_data, rows_listed, rows_data, plan_members, plan_data}
 use Rattle.sd_plantext.proofs.Escapes.{device_quoted, link_quoted}
 

@@ -1,18 +1,11 @@
 -- How a plan is printed: compact JSON with the keys in byte order, names for numbers, and a newline.
 use Rattle.std.specs.Prelude.{ℕ, List, [], ◌∷◌, ◌++◌, map, filter_map, Option, Some, None, option_map, codes, decimal}
 use Rattle.std.specs.List.{join_with_byte}
-use Rattle.sd_num.specs.Lists.{at_place}
-use Rattle.sd_topo.specs.Network.{Network, device_numbers}
+use Rattle.sd_topo.specs.Network.{Network, device_name, link_name, device_numbers}
 use Rattle.sd_plan.specs.declared.Hop.{Hop}
 use Rattle.sd_plan.specs.declared.PlanRow.{PlanRow}
 use Rattle.sd_plan.specs.declared.Plan.{Plan}
 use Rattle.sd_plan.specs.Plans.{row_of}
-
-abbrev pub device_name : Network → ℕ → List ℕ
-device_name net d = at_place net.devices d [] (λ device. device.name)
-
-abbrev pub link_name : Network → ℕ → List ℕ
-link_name net l = at_place net.links l [] (λ link. link.name)
 
 -- names need no escapes
 abbrev pub quoted : List ℕ → List ℕ

@@ -8,7 +8,7 @@ use Rattle.sd_topo.specs.Network.{delay_of}
 use Rattle.sd_msg.specs.declared.Flight.{Flight}
 use Rattle.sd_sched.specs.Events.{reference_of}
 use Rattle.sd_history.specs.World.{Setting, Seen}
-use Rattle.sd_history.specs.Premises.{flights}
+use Rattle.sd_history.specs.Premises.{reaching_flights}
 use Rattle.sd_premise_loss.specs.rounds.Order as rounds
 use Rattle.sd_premise_loss.proofs.rounds.InOrder.{le_greatest}
 use Rattle.sd_premise.specs.Order.{IsSentAt, CanFollow, ComesInOrder}
@@ -26,15 +26,15 @@ follows setting earlier s can = record {
   where
     by : (o : Option Flight) → s.taken ≡ o → of_some o true (λ f. nat_le f.number (rounds.last_sent earlier)) ≡ true
     by None is = refl
-    by (Some f) is = le-leb f.number (rounds.last_sent earlier) (le_greatest (flights earlier) f (can.taken f is).sent)
+    by (Some f) is = le-leb f.number (rounds.last_sent earlier) (le_greatest (reaching_flights earlier) f (can.taken f is).sent)
 
 -- each flight that was sent goes over a link of the network
-pub sent_known : (setting : Setting) (seen : List Seen) (f : Flight) → ComesInOrder setting seen → Contains (flights seen) f → f.link < length setting.net.links
+pub sent_known : (setting : Setting) (seen : List Seen) (f : Flight) → ComesInOrder setting seen → Contains (reaching_flights seen) f → f.link < length setting.net.links
 sent_known setting [] f order (k, within, at) = absurd (omega (arith, within))
 sent_known setting (s ∷ earlier) f order sent =
-    by (Contains-append_cases s.sent (flights earlier) f sent) (λ before. sent_known setting earlier f order.0 before)
+    by (Contains-append_cases s.sent (reaching_flights earlier) f sent) (λ before. sent_known setting earlier f order.0 before)
   where
-    by : Contains s.sent f ⊎ Contains (flights earlier) f → (Contains (flights earlier) f → f.link < length setting.net.links)
+    by : Contains s.sent f ⊎ Contains (reaching_flights earlier) f → (Contains (reaching_flights earlier) f → f.link < length setting.net.links)
         → f.link < length setting.net.links
     by (inl now) rest = (All-contains (λ (g : Flight). IsSentAt setting (reference_of s.event) g) s.sent f order.1.sent now).link
     by (inr before) rest = rest before

@@ -195,13 +195,13 @@ last_low setting (s ∷ earlier) is = omega (arith, last_sent_with s.seen (seen_
 
 -- what was sent and reaches is seen to be sent
 seen_sent : (setting : Setting) (steps : List Step) (f : Flight) → AreSteps setting steps → Among f (flights steps) → f.reaches ≡ true
-    → Contains (premises.flights (seen_of steps)) f
+    → Contains (premises.reaching_flights (seen_of steps)) f
 seen_sent setting [] f is a reaches = elim a [ ]
 seen_sent setting (s ∷ earlier) f is a reaches = elim (either_side s.sent (flights earlier) a) [
   | inl now ↦
-      Contains-append_left s.seen.sent (premises.flights (seen_of earlier)) f
+      Contains-append_left s.seen.sent (premises.reaching_flights (seen_of earlier)) f
       (subst (λ (fs : List Flight). Contains fs f) (sym (reach setting s earlier is)) (kept_contains (λ g. g.reaches) s.sent f now reaches))
-  | inr before ↦ Contains-append_right s.seen.sent (premises.flights (seen_of earlier)) f (seen_sent setting earlier f is.0 before reaches)
+  | inr before ↦ Contains-append_right s.seen.sent (premises.reaching_flights (seen_of earlier)) f (seen_sent setting earlier f is.0 before reaches)
 ]
 
 -- what a receipt is of

@@ -7,7 +7,7 @@ use Rattle.sd_msg.specs.declared.Flight.{Flight}
 use Rattle.sd_sched.specs.Events.{reference_of, is_commit}
 use Rattle.sd_history.specs.World.{Setting, Seen, has_commit}
 use Rattle.sd_history.specs.Open.{may_be_seen}
-use Rattle.sd_history.specs.Premises.{flights, was_received}
+use Rattle.sd_history.specs.Premises.{reaching_flights, was_received}
 use Rattle.sd_premise_loss.specs.rounds.Order.{last_sent}
 
 -- a flight that is sent at the reference: it is due when the greatest delay of its direction has passed, and is purged when twice that has
@@ -21,7 +21,7 @@ pub record IsSentAt (setting : Setting) (reference : ℕ) (f : Flight) : Type 0 
 
 -- the flight was sent and not received
 pub record IsOnTheWay (seen : List Seen) (f : Flight) : Type 0 where
-  pub sent : Contains (flights seen) f
+  pub sent : Contains (reaching_flights seen) f
   pub unreceived : was_received seen f.number ≡ false
 
 -- What is seen of an event can follow what was seen before: no cause that shows from outside refuses the event; a window closes at its

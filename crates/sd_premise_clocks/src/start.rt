@@ -1,7 +1,8 @@
 //! The premise on starts: the clock that a start, join or fix sets is within its uncertainty.
 ghost use Rattle.std.specs.Prelude.{◌≡◌, ◌∷◌, [], List};
 ghost use Rattle.sd_fleet_state.specs.History.World.{Seen as Sight};
-ghost use Rattle.sd_fleet_state.specs.History.Premises.{clock_set, sets_true_clock, start_holds};
+ghost use Rattle.sd_sched.specs.Honesty.{clock_set, sets_true_clock};
+ghost use Rattle.sd_fleet_state.specs.History.Premises.{start_holds};
 ghost use Rattle.sd_premise_clocks.specs.Sights.{sight_of};
 ghost use Rattle.sd_premise_clocks.specs.Starts.{StartStands};
 
@@ -37,7 +38,7 @@ fn clock_set_by(event: &Event) -> Option<(u64, u64)>
 
 /// Whether the clock that the event sets, if it sets one, is within its uncertainty.
 fn sets_true_clock(seen: &Seen<'_>) -> bool
-    ensures { result ≡ sets_true_clock (sight_of seen.now) }
+    ensures { result ≡ sets_true_clock (sight_of seen.now).event }
 {
     match clock_set_by(&seen.event) {
         Some((clock, eps)) => clock.abs_diff(seen.event.reference()) <= eps,

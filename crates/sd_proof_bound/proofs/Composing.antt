@@ -18,7 +18,7 @@ use Rattle.sd_proof_safety.specs.History.World.{Setting, is_counted}
 use Rattle.sd_proof_safety.specs.History.Steps.{Step, seen_of, acts_in}
 use Rattle.sd_proof_safety.specs.History.Chronicle.{past_in, next_step, chronicle, IsHistory}
 use Rattle.sd_proof_safety.specs.History.Premises.{start_holds, drift_holds, delay_holds, all_hold, is_honest}
-use Rattle.sd_proof_safety.specs.History.Lines.{report_of}
+use Rattle.sd_proof_safety.specs.History.Lines.{asked_report}
 use Rattle.sd_proof_safety.proofs.History.Parts.{premises_of}
 use Rattle.sd_proof_safety.proofs.History.Given.{some_is}
 use Rattle.sd_proof_safety.proofs.History.Owned.{rates_are_own}
@@ -92,7 +92,7 @@ asked_of steps r x c d report (Some past) is same =
       report_is = both.1;
     }
 
-asked : (setting : Setting) (steps : List Step) (e : Event) (d : ℕ) (report : Report) → report_of (next_step setting steps e) ≡ Some (d, report)
+asked : (setting : Setting) (steps : List Step) (e : Event) (d : ℕ) (report : Report) → asked_report (next_step setting steps e) ≡ Some (d, report)
     → IsAsked steps e d report
 asked setting steps (event.Ask r x c) d report same = asked_of steps r x c d report (past_in steps x) refl same
 asked setting steps _ d report same = cc
@@ -194,7 +194,7 @@ module _ (net : Network) (plan : Plan) (budget : Budget) (f : DomainId) (bases :
         failed = subst (λ steps. FailsSo net f (seen_of steps)) (sym same) failed;
       } in
       let ends = ends_in (alone net plan) history later s earlier same in
-      let by = asked (alone net plan) (steps_under net plan ends.before) ends.e d report (ap report_of ends.step_is ∙ told) in
+      let by = asked (alone net plan) (steps_under net plan ends.before) ends.e d report (ap asked_report ends.step_is ∙ told) in
       subst (λ (x : Report). x.eps ≤ w) by.report_is
       (bounded history ends.before by.reference d by.counter by.past run (subst (λ e. Tail (e ∷ ends.before) history) by.is ends.tail) by.there
       (subst (λ steps. IsTrue (is_counted (alone net plan) (seen_of steps) d)) (sym ends.earlier_is) counted) w worst)

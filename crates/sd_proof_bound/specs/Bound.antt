@@ -16,8 +16,9 @@ use Rattle.sd_proof_safety.specs.History.Things.{failure_of}
 use Rattle.sd_proof_safety.specs.History.World.{Setting, Seen, is_counted}
 use Rattle.sd_proof_safety.specs.History.Steps.{Step, seen_of, acts_in}
 use Rattle.sd_proof_safety.specs.History.Chronicle.{chronicle, past_in, IsHistory}
-use Rattle.sd_proof_safety.specs.History.Premises.{all_hold, clock_set}
-use Rattle.sd_proof_safety.specs.History.Lines.{report_of}
+use Rattle.sd_proof_safety.specs.Sched.Honesty.{clock_set}
+use Rattle.sd_proof_safety.specs.History.Premises.{all_hold}
+use Rattle.sd_proof_safety.specs.History.Lines.{asked_report}
 use Rattle.sd_drill.specs.declared.Budget.{Budget}
 
 abbrev pub no_stage : List Seen → Bool
@@ -66,5 +67,5 @@ StaysBelow net plan budget f d w =
     → IsTrue (no_stage (seen_of (later ++ s ∷ earlier))) → IsTrue (within_base budget (seen_of (later ++ s ∷ earlier)))
     → IsTrue (within_hold budget (later ++ s ∷ earlier))
     → FailsSo net f (seen_of (later ++ s ∷ earlier))
-    → report_of s ≡ Some (d, report) → IsTrue (is_counted (alone net plan) (seen_of earlier) d)
+    → asked_report s ≡ Some (d, report) → IsTrue (is_counted (alone net plan) (seen_of earlier) d)
     → report.eps ≤ w

@@ -26,7 +26,8 @@ use Rattle.sd_cmd_files.specs.Plantext.declared.fault.PlanKey.TheVariants as pla
 use Rattle.sd_cmd_files.specs.Plantext.declared.fault.PlanPlace.{PlanPlace}
 use Rattle.sd_cmd_files.specs.Plantext.declared.fault.PlanFault.{PlanFault}
 use Rattle.sd_cmd_files.specs.Plantext.declared.fault.PlanFault.TheVariants as plan
-use Rattle.sd_cmd_files.specs.Checker.Text.{device_name, link_name, domain_name, domain_words, thing_words, breach_words, refused_line}
+use Rattle.sd_cmd_files.specs.Checker.Text.{domain_words, thing_words, breach_words, refused_line}
+use Rattle.sd_replay.specs.Topo.Network.{device_name, link_name, domain_name}
 use Rattle.sd_cmd_files.specs.Checker.declared.Breach.{Breach}
 use Rattle.sd_cmd_files.specs.Checker.declared.Breach.TheVariants.{Structure, Ancestor, Timing, Root, Loop, Domain, Reach}
 use Rattle.sd_cmd_files.specs.Reasons.{printed_input, at_place as at_topology_place, topology_reason, at_plan_place, plan_reason, reason, refusal_line}

@@ -12,7 +12,7 @@ use Rattle.sd_replay.specs.History.World.{Setting}
 use Rattle.sd_replay.specs.History.Steps.{Step, seen_of}
 use Rattle.sd_replay.specs.History.Chronicle.{next_step, chronicle, IsHistory}
 use Rattle.sd_replay.specs.History.Premises.{is_honest, all_hold}
-use Rattle.sd_replay.specs.History.Lines.{lines_of, report_of, reports}
+use Rattle.sd_replay.specs.History.Lines.{lines_of, asked_report, reports}
 use Rattle.sd_replay.specs.History.Text.{device_name, done_bytes}
 use Rattle.sd_replay.proofs.History.Contained.{reports_contain}
 use Rattle.sd_wait.specs.Waits.{WaitLine, lines_at, has_disorder, tally_of}
@@ -118,14 +118,14 @@ module _ (setting : Setting) (net : IsNetwork setting.net) (earlier : List Step)
   wait_lines_for o = of_some o [] (λ t. map (printed_wait (device_name setting.net t.0)) (lines_at told place))
 
   abbrev pub wait_lines : List (List ℕ)
-  wait_lines = wait_lines_for (report_of s)
+  wait_lines = wait_lines_for (asked_report s)
 
   are_for : (o : Option (ℕ × Report)) → AreLines (of_some o [] (λ t. bytes_at told place (device_name setting.net t.0))) (wait_lines_for o)
   are_for None = no_lines
   are_for (Some t) = wait.waits_are_lines (device_name setting.net t.0) (device_plain setting.net net t.0) told place
 
   pub waits_are : AreLines (wait_bytes setting earlier s) wait_lines
-  waits_are = are_for (report_of s)
+  waits_are = are_for (asked_report s)
 
   none_for : (test : List ℕ → Bool) → ((name : List ℕ) → is_plain name ≡ true → (line : WaitLine) → test (printed_wait name line) ≡ false)
       → (o : Option (ℕ × Report)) → count_by test (wait_lines_for o) ≡ 0
@@ -137,15 +137,15 @@ module _ (setting : Setting) (net : IsNetwork setting.net) (earlier : List Step)
   -- none of them is of a kind that no line of commit wait is
   pub none_waiting : (test : List ℕ → Bool) → ((name : List ℕ) → is_plain name ≡ true → (line : WaitLine) → test (printed_wait name line) ≡ false)
       → count_by test wait_lines ≡ 0
-  none_waiting test never = none_for test never (report_of s)
+  none_waiting test never = none_for test never (asked_report s)
 
-  orderly_for : (o : Option (ℕ × Report)) → (o ≡ report_of s) → ((k : ℕ) → k < length told → has_disorder told k ≡ false)
+  orderly_for : (o : Option (ℕ × Report)) → (o ≡ asked_report s) → ((k : ℕ) → k < length told → has_disorder told k ≡ false)
       → count_by is_disorder (wait_lines_for o) ≡ 0
   orderly_for None same ordered = refl
   orderly_for (Some t) same ordered =
       count-map (printed_wait (device_name setting.net t.0)) wait.tells_disorder is_disorder
       (wait.disorder_is (device_name setting.net t.0) (device_plain setting.net net t.0)) (lines_at told place)
-      ∙ wait.none_told told place (ordered place (one_more (report_of s) same))
+      ∙ wait.none_told told place (ordered place (one_more (asked_report s) same))
     where
       one_more : (o : Option (ℕ × Report)) → Some t ≡ o
           → place < length
@@ -160,7 +160,7 @@ module _ (setting : Setting) (net : IsNetwork setting.net) (earlier : List Step)
 
   -- none tells a disorder where there is none
   pub orderly : ((k : ℕ) → k < length told → has_disorder told k ≡ false) → count_by is_disorder wait_lines ≡ 0
-  orderly ordered = orderly_for (report_of s) refl ordered
+  orderly ordered = orderly_for (asked_report s) refl ordered
 
 -- Last lines
 

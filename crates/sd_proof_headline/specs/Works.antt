@@ -6,7 +6,7 @@ use Rattle.sd_replay.specs.History.World.{Setting}
 use Rattle.sd_replay.specs.History.Steps.{Step}
 use Rattle.sd_replay.specs.History.Chronicle.{next_step, chronicle}
 use Rattle.sd_replay.specs.History.Refusals.{refusal}
-use Rattle.sd_replay.specs.History.Lines.{report_of, reports}
+use Rattle.sd_replay.specs.History.Lines.{asked_report, reports}
 use Rattle.sd_replay.specs.History.Text.{bytes_of, device_name, done_bytes}
 use Rattle.sd_wait.specs.Printed.{bytes_at, waits_line}
 use Rattle.sd_wait.specs.Waits.{tally_of}
@@ -28,7 +28,7 @@ pub record PrintsEvents (setting : Setting) (work : Work Event) : Type 0 where
 -- the lines of commit wait of a step behind others
 abbrev pub wait_bytes : Setting → List Step → Step → List ℕ
 wait_bytes setting earlier s =
-    of_some (report_of s) [] (λ told. bytes_at (reports (s ∷ earlier)) (length (reports earlier)) (device_name setting.net told.0))
+    of_some (asked_report s) [] (λ told. bytes_at (reports (s ∷ earlier)) (length (reports earlier)) (device_name setting.net told.0))
 
 -- it prints the lines of commit wait behind those of each event, and how many there were at the end
 pub record PrintsWaits (setting : Setting) (work : Work Event) : Type 0 where

@@ -15,7 +15,7 @@ use Rattle.sd_history.specs.World.{Setting}
 use Rattle.sd_history.specs.Steps.{Step, seen_of}
 use Rattle.sd_history.proofs.Parts.{premises_of}
 use Rattle.sd_history.specs.Premises.{breaks, is_honest, all_hold, start_holds, drift_holds, delay_holds}
-use Rattle.sd_history.specs.Lines.{Line, Premise, Broken, LoopAlarm, RootsAlarm, Reported, IntervalAlarm, broken_lines, loop_lines, root_lines, report_lines, report_of, reports, roots, first_on_loop, lines_of}
+use Rattle.sd_history.specs.Lines.{Line, Premise, Broken, LoopAlarm, RootsAlarm, Reported, IntervalAlarm, broken_lines, loop_lines, root_lines, report_lines, asked_report, reports, roots, first_on_loop, lines_of}
 use Rattle.sd_history.specs.Lines as premise
 use Rattle.sd_replay.specs.Tallies.{is_alarm}
 use Rattle.sd_replay.specs.Devices.{is_miss}
@@ -93,7 +93,7 @@ module _ (setting : Setting) (s : Step) (earlier : List Step) where
   acting = root_lines (roots setting earlier) (roots setting (s ∷ earlier))
 
   abbrev pub told : List Line
-  told = of_some (report_of s) [] (report_lines (reference_of s.seen.event))
+  told = of_some (asked_report s) [] (report_lines (reference_of s.seen.event))
 
   -- the lines of an event by their parts
   pub four_parts : (test : Line → Bool)
@@ -106,7 +106,7 @@ module _ (setting : Setting) (s : Step) (earlier : List Step) where
 
   abbrev here : List ReportAt
   here = option_to_list
-      (option_map (λ x. record { line = length earlier + 1; device = x.0; reference = reference_of s.seen.event; report = x.1 }) (report_of s))
+      (option_map (λ x. record { line = length earlier + 1; device = x.0; reference = reference_of s.seen.event; report = x.1 }) (asked_report s))
 
   both_contain : all_contain (reports (s ∷ earlier)) ≡ true → (all_contain (reports earlier) ≡ true) × (all_contain here ≡ true)
   both_contain all =
@@ -118,15 +118,15 @@ module _ (setting : Setting) (s : Step) (earlier : List Step) where
   reports_before all = (both_contain all).0
 
   -- and so does the latest
-  told_contains : all_contain (reports (s ∷ earlier)) ≡ true → (x : ℕ × Report) → report_of s ≡ Some x → contains x.1 (reference_of s.seen.event) ≡ true
-  told_contains all = latest_contains (length earlier + 1) (reference_of s.seen.event) (report_of s) (both_contain all).1
+  told_contains : all_contain (reports (s ∷ earlier)) ≡ true → (x : ℕ × Report) → asked_report s ≡ Some x → contains x.1 (reference_of s.seen.event) ≡ true
+  told_contains all = latest_contains (length earlier + 1) (reference_of s.seen.event) (asked_report s) (both_contain all).1
 
   -- no report misses its reference
   pub no_interval : all_contain (reports (s ∷ earlier)) ≡ true → count_by is_miss loop + count_by is_miss acting + count_by is_miss told ≡ 0
   no_interval contained =
       let l = no_loop is_miss (first_on_loop setting earlier) (first_on_loop setting (s ∷ earlier)) (λ d same. refl) in
       let r = no_roots is_miss (roots setting earlier) (roots setting (s ∷ earlier)) (λ two d e. refl) in
-      let t = no_miss is_miss (reference_of s.seen.event) (report_of s) (λ d report. refl) (told_contains contained) in
+      let t = no_miss is_miss (reference_of s.seen.event) (asked_report s) (λ d report. refl) (told_contains contained) in
       omega (arith, l, r, t)
 
   -- there is no alarm where there is no loop, no second root, and no report that misses its reference
@@ -135,7 +135,7 @@ module _ (setting : Setting) (s : Step) (earlier : List Step) where
   no_alarm_due none one contained =
       let l = no_loop is_alarm (first_on_loop setting earlier) (first_on_loop setting (s ∷ earlier)) (λ d same. contradicts (sym none ∙ same)) in
       let r = no_roots is_alarm (roots setting earlier) (roots setting (s ∷ earlier)) (λ two d e. absurd (omega (arith, one, two))) in
-      let t = no_miss is_alarm (reference_of s.seen.event) (report_of s) (λ d report. refl) (told_contains contained) in
+      let t = no_miss is_alarm (reference_of s.seen.event) (asked_report s) (λ d report. refl) (told_contains contained) in
       omega (arith, l, r, t)
     where
       contradicts : {d : ℕ} → None ≡ Some d → is_alarm (LoopAlarm d) ≡ false

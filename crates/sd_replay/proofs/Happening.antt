@@ -15,7 +15,7 @@ use Rattle.sd_sched.specs.Events.{reference_of}
 use Rattle.sd_history.specs.World.{Setting}
 use Rattle.sd_history.specs.Steps.{Step}
 use Rattle.sd_history.specs.Nodes.{NodeStep, steps_of}
-use Rattle.sd_history.specs.Lines.{lines_of, report_of, reports}
+use Rattle.sd_history.specs.Lines.{lines_of, asked_report, reports}
 use Rattle.sd_fleet.specs.FleetFabric.declared.Outcome.{Outcome}
 use Rattle.sd_fleet.specs.FleetFabric.Doing.{asks}
 use Rattle.sd_fleet.specs.declared.fleet.Fleet.{Fleet}
@@ -133,10 +133,10 @@ module _ {N V : Type 0} (g : Ghosts N) (o : observers.Ghosts V) (before after : 
       → o.stands told (reports_ ++ report_at noted.tally.events one.0 (reference_of e) one.1 ∷ []))
       → o.stands told (reports (step ∷ steps_of run))
   told_on None is same =
-      let none : report_of step ≡ None = ap (λ (out : Outcome). out.report) (sym accepted.comes) ∙ is in
+      let none : asked_report step ≡ None = ap (λ (out : Outcome). out.report) (sym accepted.comes) ∙ is in
       subst (λ xs. o.stands told xs) (sym (reports_same step (steps_of run) none)) (subst (λ v. o.stands v (reports (steps_of run))) (sym same) stands.told)
   told_on (Some one) is more =
-      let some : report_of step ≡ Some one = ap (λ (out : Outcome). out.report) (sym accepted.comes) ∙ is in
+      let some : asked_report step ≡ Some one = ap (λ (out : Outcome). out.report) (sym accepted.comes) ∙ is in
       subst (λ xs. o.stands told xs)
       (ap (λ n. reports (steps_of run) ++ report_at n one.0 (reference_of e) one.1 ∷ []) line_is
       ∙ ap (λ r. reports (steps_of run) ++ report_at (length (steps_of run) + 1) one.0 r one.1 ∷ []) (ap reference_of (sym accepted.happens))

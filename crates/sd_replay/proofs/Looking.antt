@@ -17,7 +17,7 @@ use Rattle.sd_history.specs.World.{Setting, Seen}
 use Rattle.sd_history.specs.Steps.{Step, seen_of, flight_count}
 use Rattle.sd_history.specs.Accepted.{AreSteps}
 use Rattle.sd_history.specs.Premises.{breaks}
-use Rattle.sd_history.specs.Lines.{Line, broken_lines, loop_lines, root_lines, report_lines, report_of, is_on_loop, first_on_loop, roots, lines_of}
+use Rattle.sd_history.specs.Lines.{Line, broken_lines, loop_lines, root_lines, report_lines, asked_report, is_on_loop, first_on_loop, roots, lines_of}
 use Rattle.sd_history.proofs.Known.{named_is_known}
 use Rattle.sd_history.proofs.flights.Counts.{numbers_few}
 use Rattle.sd_history.proofs.flights.Sending.{counted}
@@ -59,7 +59,7 @@ pub record AreFound (setting : Setting) (s : Step) (earlier : List Step) (found 
   pub acting : found.roots ≡ (if is_some roots_before then None else roots_now)
   pub before_roots : roots_before ≡ two_least (roots setting earlier)
   pub now_roots : roots_now ≡ two_least (roots setting (s ∷ earlier))
-  pub report : found.report ≡ report_of s
+  pub report : found.report ≡ asked_report s
   pub reference : found.reference ≡ reference_of s.seen.event
 
 module _ (setting : Setting) (s : Step) (earlier : List Step) (found : Findings) (loop_before loop_now : Option ℕ) (roots_before roots_now : Option (ℕ × ℕ))
@@ -86,7 +86,7 @@ module _ (setting : Setting) (s : Step) (earlier : List Step) (found : Findings)
       ∙ ap (λ o. lines_with (breaks setting (seen_of (s ∷ earlier))) (loop_lines (first_on_loop setting earlier) (first_on_loop setting (s ∷ earlier)))
       (root_lines (roots setting earlier) (roots setting (s ∷ earlier))) o found.reference) are.report
       ∙ ap (λ n. lines_with (breaks setting (seen_of (s ∷ earlier))) (loop_lines (first_on_loop setting earlier) (first_on_loop setting (s ∷ earlier)))
-      (root_lines (roots setting earlier) (roots setting (s ∷ earlier))) (report_of s) n) are.reference
+      (root_lines (roots setting earlier) (roots setting (s ∷ earlier))) (asked_report s) n) are.reference
 
   -- Its devices
 
@@ -109,7 +109,7 @@ module _ (setting : Setting) (s : Step) (earlier : List Step) (found : Findings)
       (All-filter (counted_acts setting (s ∷ earlier)) (λ x. x < length setting.net.devices) (below (length setting.net.devices))
       (below_bound (length setting.net.devices) (length setting.net.devices) (omega arith)))
 
-  report_named : (told : ℕ × Report) → report_of s ≡ Some told → device_of s.seen.event ≡ Some told.0
+  report_named : (told : ℕ × Report) → asked_report s ≡ Some told → device_of s.seen.event ≡ Some told.0
   report_named told is = by s.seen.event is
     where
       on : (d : ℕ) (o : Option Report) → option_map (λ report. (d, report)) o ≡ Some told → Some d ≡ Some told.0
@@ -132,7 +132,7 @@ module _ (setting : Setting) (s : Step) (earlier : List Step) (found : Findings)
         second = subst (λ o. IfSome o (λ two. two.1 < length setting.net.devices)) (sym are.acting)
             (second_within roots_before roots_now (λ two at. two_acting_bound two (sym are.now_roots ∙ at)));
         asked = subst (λ o. IfSome o (λ told. told.0 < length setting.net.devices)) (sym are.report)
-            (asked_within (report_of s) (λ told at. named_is_known setting earlier s.seen.event told.0 is.1 (report_named told at)));
+            (asked_within (asked_report s) (λ told at. named_is_known setting earlier s.seen.event told.0 is.1 (report_named told at)));
       }
     where
       loop_within : (before now : Option ℕ) → ((d : ℕ) → now ≡ Some d → d < length setting.net.devices)
@@ -161,7 +161,7 @@ module _ (setting : Setting) (s : Step) (earlier : List Step) (found : Findings)
       asked_within (Some told) within = within told refl
 
 -- an event of which there is a report asks for one
-pub asks_by_report : (s : Step) (told : ℕ × Report) → report_of s ≡ Some told → asks s.seen.event ≡ true
+pub asks_by_report : (s : Step) (told : ℕ × Report) → asked_report s ≡ Some told → asks s.seen.event ≡ true
 asks_by_report s told is = by s.seen.event is
   where
     by : (e : Event) → elim e [ event.Ask reference device counter ↦ option_map (λ report. (device, report)) s.told.report | _ ↦ None ] ≡ Some told

@@ -11,14 +11,14 @@ use Rattle.sd_clock.specs.declared.Report.{Report}
 use Rattle.sd_clock.specs.Estimates.{contains}
 use Rattle.sd_msg.specs.Observed.{ReportAt}
 use Rattle.sd_msg.specs.Observing.{report_at}
-use Rattle.sd_sched.specs.Events.{reference_of, is_end}
+use Rattle.sd_sched.specs.Events.{reference_of, is_end_event}
 use Rattle.sd_history.specs.declared.BrokenSet.{BrokenSet}
 use Rattle.sd_history.specs.World.{Setting}
 use Rattle.sd_history.specs.Steps.{Step, seen_of}
 use Rattle.sd_history.specs.Refusals.{causes, after_end}
 use Rattle.sd_history.specs.Accepted.{AreSteps}
 use Rattle.sd_history.specs.Premises.{breaks}
-use Rattle.sd_history.specs.Lines.{Line, Broken, LoopAlarm, RootsAlarm, Reported, IntervalAlarm, broken_lines, loop_lines, root_lines, report_lines, report_of, first_on_loop, roots, lines_of, reports}
+use Rattle.sd_history.specs.Lines.{Line, Broken, LoopAlarm, RootsAlarm, Reported, IntervalAlarm, broken_lines, loop_lines, root_lines, report_lines, asked_report, first_on_loop, roots, lines_of, reports}
 use Rattle.sd_history.specs.Lines as line
 use Rattle.sd_history.specs.Text.{bytes_of}
 use Rattle.sd_history.proofs.Among.{first, later}
@@ -79,7 +79,7 @@ lines_few setting (s ∷ earlier) =
     (both_most _ _ 8 1
     (both_most _ _ 7 1 (broken_few (breaks setting (seen_of (s ∷ earlier)))) (loop_few (first_on_loop setting earlier) (first_on_loop setting (s ∷ earlier))))
     (roots_few (roots setting earlier) (roots setting (s ∷ earlier))))
-    (report_few (reference_of s.seen.event) (report_of s))
+    (report_few (reference_of s.seen.event) (asked_report s))
 
 counts_few : (test : Line → Bool) (setting : Setting) (steps : List Step) → lines_that test setting steps ≤ 11 * length steps
 counts_few test setting [] = omega arith
@@ -91,7 +91,7 @@ counts_few test setting (s ∷ earlier) =
 
 reports_few : (steps : List Step) → length (reports steps) ≤ length steps
 reports_few [] = omega arith
-reports_few (s ∷ earlier) = both_next (report_of s) (reports_few earlier)
+reports_few (s ∷ earlier) = both_next (asked_report s) (reports_few earlier)
   where
     both_next : (o : Option (ℕ × Report)) → length (reports earlier) ≤ length earlier
         → length (reports earlier
@@ -138,14 +138,14 @@ abbrev told_at : Step → ℕ → ℕ × Report → ReportAt
 told_at s n told = record { line = n; device = told.0; reference = reference_of s.seen.event; report = told.1 }
 
 module _ (setting : Setting) (s : Step) (earlier : List Step) (is : AreSteps setting (s ∷ earlier)) (found : Findings)
-    (lines : found_lines found ≡ lines_of setting (s ∷ earlier)) (report : found.report ≡ report_of s) where
+    (lines : found_lines found ≡ lines_of setting (s ∷ earlier)) (report : found.report ≡ asked_report s) where
   tally_next : tally_with (tally_of setting earlier) found ≡ tally_of setting (s ∷ earlier)
   tally_next =
       same_tally (tally_with (tally_of setting earlier) found) (tally_of setting (s ∷ earlier)) (add-one (length earlier))
-      (ap (λ o. length (reports earlier) + (if is_some o then 1 else 0)) report ∙ count (report_of s))
+      (ap (λ o. length (reports earlier) + (if is_some o then 1 else 0)) report ∙ count (asked_report s))
       (ap (λ xs. lines_that is_broken setting earlier + count_by is_broken xs) lines)
       (ap (λ xs. lines_that is_alarm setting earlier + count_by is_alarm xs) lines)
-      (ap (λ o. max (greatest_eps earlier) (of_some o 0 (λ told. told.1.eps))) report ∙ eps (report_of s))
+      (ap (λ o. max (greatest_eps earlier) (of_some o 0 (λ told. told.1.eps))) report ∙ eps (asked_report s))
     where
       count : (o : Option (ℕ × Report))
           → length (reports earlier) + (if is_some o then 1 else 0) ≡ length (reports earlier ++ option_to_list (option_map (told_at s (length earlier + 1)) o))
@@ -168,11 +168,11 @@ module _ (setting : Setting) (s : Step) (earlier : List Step) (is : AreSteps set
       ∙ ap (λ k. found_bytes setting.net k found) (ap (λ k. k + 1) events ∙ add-one (length earlier))
       ∙ ap (flat_map (line_bytes setting.net (length (s ∷ earlier)))) lines
 
-  ended_next : is_end s.seen.event ≡ after_end (seen_of (s ∷ earlier))
+  ended_next : is_end_event s.seen.event ≡ after_end (seen_of (s ∷ earlier))
   ended_next =
-      sym (ap (λ b. is_end s.seen.event || b)
+      sym (ap (λ b. is_end_event s.seen.event || b)
       (none_holds (causes setting earlier s.seen.event) _ is.1
-      (later (later (later (later (later (later (later (later (later (later (later (later (later first)))))))))))))) ∙ or_nothing (is_end s.seen.event))
+      (later (later (later (later (later (later (later (later (later (later (later (later (later first)))))))))))))) ∙ or_nothing (is_end_event s.seen.event))
     where
       or_nothing : (b : Bool) → (b || false) ≡ b
       or_nothing true = refl
@@ -181,7 +181,7 @@ module _ (setting : Setting) (s : Step) (earlier : List Step) (is : AreSteps set
   -- the event_output that was written tells of the event
   pub tells_next : (old new : EventOutput) → Tells old setting earlier → new.topology ≡ old.topology → new.tally ≡ tally_with old.tally found
       → printed new.lines ≡ found_bytes (network old.topology) (old.tally.events + 1) found
-      → new.ended ≡ is_end s.seen.event → Tells new setting (s ∷ earlier)
+      → new.ended ≡ is_end_event s.seen.event → Tells new setting (s ∷ earlier)
   tells_next old new tells topology tally bytes ended =
       record {
         net = ap network topology ∙ tells.net;
@@ -193,10 +193,10 @@ module _ (setting : Setting) (s : Step) (earlier : List Step) (is : AreSteps set
 -- Reports
 
 -- where nobody is asked, the reports are as before
-pub reports_same : (s : Step) (earlier : List Step) → report_of s ≡ None → reports (s ∷ earlier) ≡ reports earlier
+pub reports_same : (s : Step) (earlier : List Step) → asked_report s ≡ None → reports (s ∷ earlier) ≡ reports earlier
 reports_same s earlier none = ap (λ o. reports earlier ++ option_to_list (option_map (told_at s (length earlier + 1)) o)) none ∙ append-nil (reports earlier)
 
 -- and else there is one more
-pub reports_more : (s : Step) (earlier : List Step) (d : ℕ) (report : Report) → report_of s ≡ Some (d, report)
+pub reports_more : (s : Step) (earlier : List Step) (d : ℕ) (report : Report) → asked_report s ≡ Some (d, report)
     → reports (s ∷ earlier) ≡ reports earlier ++ report_at (length earlier + 1) d (reference_of s.seen.event) report ∷ []
 reports_more s earlier d report some = ap (λ o. reports earlier ++ option_to_list (option_map (told_at s (length earlier + 1)) o)) some

@@ -101,6 +101,6 @@ is_seal (Seal reference device) = true
 is_seal _ = false
 
 -- the event ends the schedule
-abbrev pub is_end : Event → Bool
-is_end (End reference) = true
-is_end _ = false
+abbrev pub is_end_event : Event → Bool
+is_end_event (End reference) = true
+is_end_event _ = false

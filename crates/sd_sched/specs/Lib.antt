@@ -2,6 +2,7 @@ pub mod Lines
 pub mod Spelled
 pub mod Events
 pub mod Clocks
+pub mod Honesty
 pub mod Reading
 pub mod Printing
 -- Handed on: what crates above name of those below.

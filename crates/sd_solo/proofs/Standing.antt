@@ -4,7 +4,7 @@ use Rattle.std.proofs.lemmas.List.Sums.{sum_by-cons}
 use Rattle.std.specs.Prelude.{count_by, cond}
 use Rattle.sd_num.specs.Lists.{of_some}
 use Rattle.sd_sched.specs.declared.Event.{Event}
-use Rattle.sd_sched.specs.Events.{reference_of, counter_of, is_end}
+use Rattle.sd_sched.specs.Events.{reference_of, counter_of, is_end_event}
 use Rattle.sd_solo.specs.Histories.{Situation, situation, refusal_in, is_start, is_ask, is_known, estimate_set, IsHistory, refusal}
 use Rattle.sd_solo.specs.Registers.{StandsFor, situation_of}
 use Rattle.sd_solo.specs.declared.Solo.{Solo}
@@ -16,7 +16,7 @@ situation_after past e =
       reference = reference_of e;
       counter = of_some (counter_of e) past.counter (λ c. c);
       started = is_start e || past.started;
-      ended = is_end e || past.ended;
+      ended = is_end_event e || past.ended;
       count = past.count + 1;
     }
 

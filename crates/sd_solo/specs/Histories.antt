@@ -9,7 +9,7 @@ use Rattle.sd_clock.specs.declared.Report.{Report}
 use Rattle.sd_clock.specs.Estimates.{estimate_at, report_of}
 use Rattle.sd_sched.specs.declared.Event.{Event}
 use Rattle.sd_sched.specs.declared.Event.TheVariants as event
-use Rattle.sd_sched.specs.Events.{reference_of, device_of, counter_of, started, is_end}
+use Rattle.sd_sched.specs.Events.{reference_of, device_of, counter_of, started, is_end_event}
 use Rattle.sd_solo.specs.declared.SoloFault.{SoloFault}
 use Rattle.sd_solo.specs.declared.SoloFault.TheVariants as fault
 
@@ -50,7 +50,7 @@ situation events =
       reference = latest (λ e. Some (reference_of e)) events 0;
       counter = latest counter_of events 0;
       started = was_started events;
-      ended = list_any is_end events;
+      ended = list_any is_end_event events;
       count = length events;
     }
 

@@ -1,19 +1,12 @@
 -- What is promised of the reports of one device alone.
-use Rattle.std.specs.Prelude.{ℕ, ◌-◌, Bool, true, ◌&&◌, List, [], ◌∷◌, nat_le, IsTrue}
+use Rattle.std.specs.Prelude.{ℕ, Bool, true, ◌&&◌, List, [], ◌∷◌, IsTrue}
 use Rattle.std.specs.List.{list_all}
 use Rattle.sd_num.specs.Lists.{of_some}
-use Rattle.sd_num.specs.Numbers.{distance, keeps_rate}
 use Rattle.sd_clock.specs.Estimates.{contains}
 use Rattle.sd_sched.specs.declared.Event.{Event}
-use Rattle.sd_sched.specs.declared.Event.TheVariants as event
+use Rattle.sd_sched.specs.Honesty.{sets_true_clock, keeps_reading}
 use Rattle.sd_sched.specs.Events.{reference_of, counter_of}
 use Rattle.sd_solo.specs.Histories.{rates, report_by, IsHistory}
-
--- the clock that a start or fix sets is within its uncertainty
-abbrev pub sets_true_clock : Event → Bool
-sets_true_clock (event.Start reference device counter clock eps) = nat_le (distance clock reference) eps
-sets_true_clock (event.Fix reference device counter clock eps) = nat_le (distance clock reference) eps
-sets_true_clock _ = true
 
 -- the premise *start*
 abbrev pub start_holds : List Event → Bool
@@ -21,7 +14,7 @@ start_holds events = list_all sets_true_clock events
 
 -- a reading at this counter and reference keeps the rates with the reading of an earlier event, where that is one
 abbrev pub keeps_with : ℕ → ℕ → Event → Bool
-keeps_with counter reference earlier = of_some (counter_of earlier) true (λ c. keeps_rate rates (counter - c) (reference - reference_of earlier))
+keeps_with counter reference earlier = of_some (counter_of earlier) true (λ c. keeps_reading rates (reference, counter) (reference_of earlier, c))
 
 abbrev pub reads_honestly : Event → List Event → Bool
 reads_honestly e earlier = of_some (counter_of e) true (λ counter. list_all (keeps_with counter (reference_of e)) earlier)

@@ -20,7 +20,7 @@ impl Solo {
     ghost use Rattle.sd_sched.specs.declared.Event.{Event};
     ghost use Rattle.sd_solo.specs.Histories.{refusal_in, refusal, report_by, is_known, is_ask};
     ghost use Rattle.sd_solo.specs.Registers.{StandsFor, situation_of};
-    ghost use Rattle.sd_sched.specs.Events.{is_end, reference_of};
+    ghost use Rattle.sd_sched.specs.Events.{is_end_event, reference_of};
     ghost use Rattle.sd_clock.specs.Estimates.{contains};
     ghost use Rattle.sd_solo.specs.Promises.{start_holds, drift_holds};
 
@@ -58,7 +58,7 @@ impl Solo {
     /// Whether the schedule has ended.
     pub fn ended(&self) -> bool
         ensures { (events : List Event) → StandsFor self.now events
-            → result ≡ list_any is_end events }
+            → result ≡ list_any is_end_event events }
     {
         self.ended
     }

@@ -2,7 +2,7 @@
 use Rattle.std.specs.Prelude.{◌≡◌, ℕ, List, Ok}
 use Rattle.sd_topo.specs.Network.{Network}
 use Rattle.sd_topotext.specs.Meaning.{network_of}
-use Rattle.sd_topotext.specs.Printed.{with_version_two}
+use Rattle.sd_topotext.specs.Versions.{with_version_two}
 use Rattle.sd_topotext.specs.Reading.{tree_of}
 use Rattle.sd_cmd_files.specs.Answering.{May, After}
 use Rattle.sd_cmd_files.specs.Inputs.{topology_of}

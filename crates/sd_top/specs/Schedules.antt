@@ -2,7 +2,7 @@
 use Rattle.std.specs.Prelude.{◌≡◌, ℕ, List, [], ◌∷◌, Option, None, Some, Result, Ok, Err, codes, IsTrue}
 use Rattle.sd_sched.specs.declared.Event.{Event}
 use Rattle.sd_sched.specs.declared.LineFault.{LineFault}
-use Rattle.sd_sched.specs.Events.{is_end}
+use Rattle.sd_sched.specs.Events.{is_end_event}
 use Rattle.sd_solo.specs.declared.SoloFault.{SoloFault}
 use Rattle.sd_solo.specs.Faults.{fault_name}
 use Rattle.sd_solo.specs.Histories.{refusal, bytes_of, done_text}
@@ -29,7 +29,7 @@ solo_work =
     record {
       name = codes "schedule";
       says = λ events line. accepted events (solo_event line);
-      ends = is_end;
+      ends = is_end_event;
       bytes = bytes_of;
       last_lines = done_text;
       last_status = λ events. Done;

@@ -1,7 +1,7 @@
 -- The migration law: a topology that is written again with version 2 changes no answer.
 use Rattle.std.specs.Prelude.{◌≡◌, ◌≢◌, ◌↔◌, ℕ, All, List, ◌∷◌, Option, Ok}
 use Rattle.sd_topo.specs.Network.{Network}
-use Rattle.sd_topotext.specs.Printed.{with_version_two}
+use Rattle.sd_topotext.specs.Versions.{with_version_two}
 use Rattle.sd_cmd_files.specs.Inputs.{topology_of}
 use Rattle.sd_cmd_files.specs.Texts.{Texts}
 use Rattle.sd_cmd_files.specs.declared.Status.{Status}

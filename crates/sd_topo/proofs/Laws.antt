@@ -6,7 +6,7 @@ use Rattle.std.proofs.lemmas.Option.{slice_get-get_or}
 use Rattle.sd_num.specs.Lists.{ascends, all_below, of_some, at_place}
 use Rattle.sd_topo.specs.Network.{Network, Domain, no_link, no_rates, rates_of, link_of, joins}
 use Rattle.sd_topo.specs.Limits.{IsNetwork, IsRates, IsLink}
-use Rattle.sd_topo.specs.Places.{no_device, no_named_link, no_domain, domain_of, is_end}
+use Rattle.sd_topo.specs.Places.{no_device, no_named_link, no_domain, domain_of, is_end_of}
 
 -- an element that there is, at a place
 pub found_at : {A B : Type 0} (xs : List A) (i : ℕ) (d : A) (e : B) (f : A → B) → i < length xs → at_place xs i e f ≡ f (get_or xs i d)
@@ -60,7 +60,7 @@ domain_law net f law within =
     (law.each_domain f (get_or net.domains f no_domain) (slice_get-get_or net.domains f no_domain within)))
 
 -- a device that a link joins to another is an end of it
-pub joined_end : (net : Network) (l d e : ℕ) → joins net l d e ≡ true → is_end (link_of net l) d ≡ true
+pub joined_end : (net : Network) (l d e : ℕ) → joins net l d e ≡ true → is_end_of (link_of net l) d ≡ true
 joined_end net l d e joined =
     elim (or_cases (nat_eq (link_of net l).end_a d && nat_eq (link_of net l).end_b e) (nat_eq (link_of net l).end_a e && nat_eq (link_of net l).end_b d) joined) [
       | inl forth ↦ or_left (nat_eq d (link_of net l).end_a) (nat_eq d (link_of net l).end_b)

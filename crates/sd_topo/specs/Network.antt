@@ -79,6 +79,16 @@ device_names net = map (λ device. device.name) net.devices
 abbrev pub link_names : Network → List (List ℕ)
 link_names net = map (λ link. link.name) net.links
 
+-- the name of a device, of a link, and of a listed domain
+abbrev pub device_name : Network → ℕ → List ℕ
+device_name net d = at_place net.devices d [] (λ device. device.name)
+
+abbrev pub link_name : Network → ℕ → List ℕ
+link_name net l = at_place net.links l [] (λ link. link.name)
+
+abbrev pub domain_name : Network → ℕ → List ℕ
+domain_name net k = at_place net.domains k [] (λ listed. listed.name)
+
 -- the number of the thing with a name, if there is one
 abbrev pub number_in : List (List ℕ) → List ℕ → Option ℕ
 number_in names name = position (bytes_eq name) names

@@ -27,5 +27,5 @@ abbrev pub domain_of : Network → ℕ → Domain
 domain_of net f = at_place net.domains f no_domain (λ domain. domain)
 
 -- the device is one of the link's ends
-abbrev pub is_end : LinkEntry → ℕ → Bool
-is_end link d = nat_eq d link.end_a || nat_eq d link.end_b
+abbrev pub is_end_of : LinkEntry → ℕ → Bool
+is_end_of link d = nat_eq d link.end_a || nat_eq d link.end_b

@@ -39,7 +39,7 @@ impl Topology {
     ghost use Rattle.std.specs.Prelude.{◌≡◌, ◌<◌, length, IsTrue, IfOk};
     ghost use Rattle.sd_topo.specs.Seen.{network_seen};
     ghost use Rattle.sd_topo.specs.Network.{rates_of, link_of, delay_of, bounds_of, greatest_delay, device_names, link_names, name_at, number_in};
-    ghost use Rattle.sd_topo.specs.Places.{is_end, side_of, domain_names, domain_of};
+    ghost use Rattle.sd_topo.specs.Places.{is_end_of, side_of, domain_names, domain_of};
     ghost use Rattle.sd_topo.specs.Topologies.{network};
 
     /// The topology of some parts.
@@ -161,7 +161,7 @@ impl Topology {
     /// The delays of a link's direction towards a receiver, which is one of its ends.
     pub fn delay(&self, l: u32, receiver: u32) -> Delay
         requires range { l < length (network self.now).links }
-        requires end { IsTrue (is_end (link_of (network self.now) l) receiver) }
+        requires end { IsTrue (is_end_of (link_of (network self.now) l) receiver) }
         ensures { result ≡ delay_of (network self.now) l receiver }
     {
         let link = self.link(l);
@@ -181,7 +181,7 @@ impl Topology {
     /// How a message that came over a link to a receiver is corrected.
     pub fn bounds(&self, l: u32, receiver: u32) -> Bounds
         requires range { l < length (network self.now).links }
-        requires end { IsTrue (is_end (link_of (network self.now) l) receiver) }
+        requires end { IsTrue (is_end_of (link_of (network self.now) l) receiver) }
         ensures { result ≡ bounds_of (network self.now) l receiver }
     {
         let delay = self.delay(l, receiver);

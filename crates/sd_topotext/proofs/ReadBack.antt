@@ -24,7 +24,7 @@ use Rattle.sd_topo.proofs.Ascending.{ascending-itself}
 use Rattle.std.specs.Str.{IsUtf8}
 use Rattle.toml.specs.Parse.{parse_document}
 use Rattle.sd_topotext.specs.Reading.{tree_of}
-use Rattle.sd_topotext.specs.Printed.{with_version_two}
+use Rattle.sd_topotext.specs.Versions.{with_version_two}
 use Rattle.sd_topotext.specs.Meaning.{network_of}
 use Rattle.sd_topotext.proofs.Trees.{tree_known}
 use Rattle.sd_topo.proofs.Laws.{group_of, IsGroup}

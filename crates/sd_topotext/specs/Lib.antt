@@ -4,3 +4,4 @@ pub mod Then
 pub mod Meaning
 pub mod Reading
 pub mod Printed
+pub mod Versions

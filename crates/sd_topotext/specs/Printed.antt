@@ -1,5 +1,5 @@
 -- The tree that a topology is printed as: a table of version 2 that names the rates of each device and all bounds of each link.
-use Rattle.std.specs.Prelude.{ℕ, pos, List, [], ◌∷◌, map, codes}
+use Rattle.std.specs.Prelude.{ℕ, pos, List, ◌∷◌, map, codes}
 use Rattle.std.specs.Ordering.{nat_cmp, match_ordering}
 use Rattle.std.specs.Cmp.Lexicographic.{slice_cmp}
 use Rattle.toml.specs.Data.{Data, string, integer, array, table, Members, no_members, member}
@@ -61,7 +61,3 @@ network_tree net =
     (put keys.Link (array (items_of (map (λ link. table (link_tree (device_names net) link)) net.links)))
     (put keys.Domain (array (items_of (map (λ domain. table (domain_tree (device_names net) (link_names net) domain)) net.domains)))
     (put keys.Roots (names_data (device_names net) net.roots) (params_tree net))))
-
--- the same network, with version 2
-abbrev pub with_version_two : Network → Network
-with_version_two net = record net { version = 2 }

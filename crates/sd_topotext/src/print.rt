@@ -5,7 +5,8 @@ ghost use Rattle.toml.specs.View.{view, table_view, items_of};
 ghost use Rattle.sd_topo.specs.Network.{device_names, link_names, name_at};
 ghost use Rattle.sd_topo.specs.Places.{no_device, no_named_link, no_domain};
 ghost use Rattle.sd_topo.specs.Topologies.{network};
-ghost use Rattle.sd_topotext.specs.Printed.{put, names_data, device_tree, link_tree, domain_tree, params_tree, network_tree, with_version_two};
+ghost use Rattle.sd_topotext.specs.Printed.{put, names_data, device_tree, link_tree, domain_tree, params_tree, network_tree};
+ghost use Rattle.sd_topotext.specs.Versions.{with_version_two};
 ghost use Rattle.sd_topotext.specs.Meaning.{network_of};
 ghost use Rattle.sd_topotext.specs.Reading.{tree_of};
 

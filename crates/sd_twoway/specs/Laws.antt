@@ -4,7 +4,7 @@ use Rattle.sd_num.specs.declared.Rates.{Rates}
 use Rattle.sd_topo.specs.declared.LinkEntry.{LinkEntry}
 use Rattle.sd_twoway.specs.declared.Exchange.{Exchange}
 use Rattle.sd_twoway.specs.declared.Span.{Span}
-use Rattle.sd_twoway.specs.Spans.{joint_span, is_inside, MeetsBounds}
+use Rattle.sd_twoway.specs.Spans.{joint_span, is_inside, IsWithinBounds}
 
 -- in each honest run of an exchange that has a span both delays lie in it
 abbrev pub SpanCovers : Type 0
@@ -21,4 +21,4 @@ abbrev pub InsideMeets : Type 0
 InsideMeets =
     (first second : Rates) (x : Exchange) (span joint : Span) (spans : List Span) (i n : ℕ) (link : LinkEntry)
     → span_of first second x ≡ Ok span → slice_get spans i ≡ Some span → joint_span spans ≡ Some (joint, n) → IsTrue (is_inside link joint)
-    → (r1 r2 r3 r4 : ℕ) → IsHonestRun first second x r1 r2 r3 r4 → MeetsBounds link (r2 - r1) × MeetsBounds link (r4 - r3)
+    → (r1 r2 r3 r4 : ℕ) → IsHonestRun first second x r1 r2 r3 r4 → IsWithinBounds link (r2 - r1) × IsWithinBounds link (r4 - r3)

@@ -61,9 +61,9 @@ exchange_line bytes = line_of_fields (fields bytes)
 
 -- Lines over a network
 
-abbrev pub is_end : ExchangeLine → Bool
-is_end (Exchanged link side exchange) = false
-is_end End = true
+abbrev pub is_end_line : ExchangeLine → Bool
+is_end_line (Exchanged link side exchange) = false
+is_end_line End = true
 
 -- the rates of the end of a link that begins an exchange, or of the one that replies: on side 0 the first end begins
 abbrev pub rates_on : Network → ℕ → Bool → Rates

@@ -14,7 +14,7 @@ use Rattle.sd_domain.specs.declared.DomainId.{DomainId}
 use Rattle.sd_plan.specs.declared.Hop.{Hop}
 use Rattle.sd_plan.specs.declared.Plan.{Plan}
 use Rattle.sd_plan.specs.Plans.{Fits}
-use Rattle.sd_plan.specs.Walks.{devices_of, is_end, is_hit}
+use Rattle.sd_plan.specs.Walks.{devices_of, ends_walks, is_hit}
 use Rattle.sd_plan.proofs.Rules.{KeepsRules}
 use Rattle.sd_checker.specs.CheckLoop.Loops.{hops_of, same_hop, is_walk, HasNoCycle}
 use Rattle.sd_checker.specs.CheckReach.Reach.{Fed, is_sound}
@@ -93,9 +93,9 @@ module _ (net : Network) (plan : Plan) (f : DomainId) (law : IsNetwork net) (fit
       by (Some hop) some = some
 
   fed_by : (d : ℕ) → BothAre Parent (hops_at net plan f d) → HasTest (Fed net plan f d)
-  fed_by d known = by (is_sound net plan f d) (is_end plan d) (is_hit net plan f d) refl refl refl
+  fed_by d known = by (is_sound net plan f d) (ends_walks plan d) (is_hit net plan f d) refl refl refl
     where
-      by : (sound ends hit : Bool) → is_sound net plan f d ≡ sound → is_end plan d ≡ ends → is_hit net plan f d ≡ hit → HasTest (Fed net plan f d)
+      by : (sound ends hit : Bool) → is_sound net plan f d ≡ sound → ends_walks plan d ≡ ends → is_hit net plan f d ≡ hit → HasTest (Fed net plan f d)
       by false ends hit sound is at = (false, decides_unsound net plan f d sound)
       by true true hit sound is at = (true, decides_end net plan f d sound is)
       by true false false sound is at = (true, decides_spared net plan f d sound at)

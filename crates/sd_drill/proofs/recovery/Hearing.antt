@@ -8,7 +8,7 @@ use Rattle.sd_domain.specs.declared.DomainId.{DomainId}
 use Rattle.sd_plan.specs.declared.Hop.{Hop}
 use Rattle.sd_plan.specs.declared.Plan.{Plan}
 use Rattle.sd_plan.specs.Plans.{is_member, is_root, is_backup_root}
-use Rattle.sd_plan.specs.Walks.{is_end, is_hit}
+use Rattle.sd_plan.specs.Walks.{ends_walks, is_hit}
 use Rattle.sd_checker.specs.CheckReach.Reach.{Fed, acts, stands_by, spared, turns, is_sound, acting_end, next_hop}
 use Rattle.sd_drill.specs.recovery.Feeding.{IsFedOver}
 use Rattle.sd_drill.specs.recovery.Hops.{hops_at, next_of}
@@ -19,22 +19,22 @@ sound_of (stands_by sound equal) = sound
 sound_of (spared sound free) = sound
 sound_of (turns hop sound hit next link parent fed) = sound
 
-acting_ends : (net : Network) (plan : Plan) (f : DomainId) → is_end plan (acting_end net plan f) ≡ true
+acting_ends : (net : Network) (plan : Plan) (f : DomainId) → ends_walks plan (acting_end net plan f) ≡ true
 acting_ends net plan f = by (holds_device net f plan.root)
   where
-    by : (lost : Bool) → is_end plan (if lost then plan.backup_root else plan.root) ≡ true
+    by : (lost : Bool) → ends_walks plan (if lost then plan.backup_root else plan.root) ≡ true
     by true = or_right (is_root plan plan.backup_root) (is_backup_root plan plan.backup_root) (eq-eqb plan.backup_root plan.backup_root refl)
     by false = or_left (is_root plan plan.root) (is_backup_root plan plan.root) (eq-eqb plan.root plan.root refl)
 
-backup_ends : (plan : Plan) (d : ℕ) → d ≡ plan.backup_root → is_end plan d ≡ true
+backup_ends : (plan : Plan) (d : ℕ) → d ≡ plan.backup_root → ends_walks plan d ≡ true
 backup_ends plan d same = or_right (is_root plan d) (is_backup_root plan d) (eq-eqb plan.backup_root d (sym same))
 
 -- a device that is hit, and at which no walk ends, is fed where it turns
-fed_over : {net : Network} {plan : Plan} {f : DomainId} {d : ℕ} → Fed net plan f d → is_hit net plan f d ≡ true → is_end plan d ≡ false
+fed_over : {net : Network} {plan : Plan} {f : DomainId} {d : ℕ} → Fed net plan f d → is_hit net plan f d ≡ true → ends_walks plan d ≡ false
     → IsFedOver net plan f (next_hop plan d)
 fed_over {net} {plan} {f} {d} (acts sound equal) hit other =
-    absurd (both_ways (is_end plan d) other (subst (λ (x : ℕ). is_end plan x ≡ true) (sym equal) (acting_ends net plan f)))
-fed_over {net} {plan} {f} {d} (stands_by sound equal) hit other = absurd (both_ways (is_end plan d) other (backup_ends plan d equal))
+    absurd (both_ways (ends_walks plan d) other (subst (λ (x : ℕ). ends_walks plan x ≡ true) (sym equal) (acting_ends net plan f)))
+fed_over {net} {plan} {f} {d} (stands_by sound equal) hit other = absurd (both_ways (ends_walks plan d) other (backup_ends plan d equal))
 fed_over {net} {plan} {f} {d} (spared sound free) hit other = absurd (both_ways (is_hit net plan f d) (not-true (is_hit net plan f d) free) hit)
 fed_over {net} {plan} {f} {d} (turns hop sound is_hit next link parent fed) hit other =
     subst (λ (o : Option Hop). IsFedOver net plan f o) (sym next) (link, parent, fed)
@@ -48,7 +48,7 @@ module _ (net : Network) (plan : Plan) (f : DomainId) (d : ℕ) where
       wrong same = cc
 
   -- an end is fed, and so is what is not hit
-  pub decides_end : is_sound net plan f d ≡ true → is_end plan d ≡ true → Decides true (Fed net plan f d)
+  pub decides_end : is_sound net plan f d ≡ true → ends_walks plan d ≡ true → Decides true (Fed net plan f d)
   decides_end sound ends = (λ _. is, λ _. refl)
     where
       out : holds_device net f d ≡ false
@@ -72,13 +72,13 @@ module _ (net : Network) (plan : Plan) (f : DomainId) (d : ℕ) where
   turned None is sound hit over = absurd over
   turned (Some hop) is sound hit over = turns hop sound hit is over.0 over.1 over.2
 
-  pub decides_turned : (fed : Bool) (next : Option Hop) → next_hop plan d ≡ next → is_sound net plan f d ≡ true → is_end plan d ≡ false
+  pub decides_turned : (fed : Bool) (next : Option Hop) → next_hop plan d ≡ next → is_sound net plan f d ≡ true → ends_walks plan d ≡ false
       → is_hit net plan f d ≡ true
       → Decides fed (IsFedOver net plan f next) → Decides fed (Fed net plan f d)
   decides_turned fed next is sound other hit tells =
       (λ yes. turned next is sound hit (tells.0 yes), λ heard. tells.1 (subst (λ (o : Option Hop). IsFedOver net plan f o) is (fed_over heard hit other)))
 
   -- where a device turns that is hit
-  pub next_is : is_end plan d ≡ false → is_hit net plan f d ≡ true → next_hop plan d ≡ next_of (hops_at net plan f d)
+  pub next_is : ends_walks plan d ≡ false → is_hit net plan f d ≡ true → next_hop plan d ≡ next_of (hops_at net plan f d)
   unfolding hops_at
   next_is other hit = rw (other, hit) refl

@@ -10,7 +10,7 @@ use Rattle.sd_plan.specs.declared.PlanRow.{PlanRow}
 use Rattle.sd_plan.specs.declared.Plan.{Plan}
 use Rattle.sd_plan.specs.Plans.{Fits, IsHop, is_member, is_root, has_row, row_of, primary_of, backup_of}
 use Rattle.sd_plan.specs.Tables.{EndsAt}
-use Rattle.sd_plan.specs.Walks.{is_end, is_hit}
+use Rattle.sd_plan.specs.Walks.{ends_walks, is_hit}
 use Rattle.sd_plan.proofs.Rules.{KeepsRules, member_is, hops_within, both_end}
 use Rattle.sd_checker.specs.CheckLoop.Loops.{hops_of}
 use Rattle.sd_drill.specs.recovery.Hops.{listed, no_hops, hops_at, backup_under, IsRightHop, BothAre}
@@ -45,7 +45,7 @@ pub listed_is : (net : Network) (plan : Plan) (f : DomainId) (d : ℕ) → Keeps
     → listed (hops_at net plan f d) ≡ hops_of net plan f d
 unfolding hops_at
 listed_is net plan f d rules within =
-    listed_by (is_member plan d) (is_end plan d) (is_hit net plan f d) (primary_of plan d) (backup_of plan d)
+    listed_by (is_member plan d) (ends_walks plan d) (is_hit net plan f d) (primary_of plan d) (backup_of plan d)
     (λ left_out. rowless plan d (or_parts (is_root plan d) (has_row plan d) (member_is net plan d rules within ∙ left_out)).1)
 
 right_one : (net : Network) (d : ℕ) (o : Option Hop) → IfSome o (IsHop net) → IfSome o (EndsAt net d) → IfSome o (IsRightHop net d)
@@ -64,15 +64,15 @@ unfolding hops_at
 right_hops net plan f d fits rules within =
     let known = hops_within net plan d fits in
     let over = both_end net plan d fits rules within in
-    right_by net d (is_end plan d) (is_hit net plan f d) (primary_of plan d) (backup_of plan d)
+    right_by net d (ends_walks plan d) (is_hit net plan f d) (primary_of plan d) (backup_of plan d)
     (right_one net d (primary_of plan d) known.0 over.0) (right_one net d (backup_of plan d) known.1 over.1)
 
 -- the hops, where walks end and where they do not
-pub hops_closed : (net : Network) (plan : Plan) (f : DomainId) (d : ℕ) → is_end plan d ≡ true → hops_at net plan f d ≡ no_hops
+pub hops_closed : (net : Network) (plan : Plan) (f : DomainId) (d : ℕ) → ends_walks plan d ≡ true → hops_at net plan f d ≡ no_hops
 unfolding hops_at
-hops_closed net plan f d ends = cond-true (is_end plan d) no_hops (record { primary = primary_of plan d; backup = backup_under net plan f d }) ends
+hops_closed net plan f d ends = cond-true (ends_walks plan d) no_hops (record { primary = primary_of plan d; backup = backup_under net plan f d }) ends
 
-pub hops_open : (net : Network) (plan : Plan) (f : DomainId) (d : ℕ) → is_end plan d ≡ false
+pub hops_open : (net : Network) (plan : Plan) (f : DomainId) (d : ℕ) → ends_walks plan d ≡ false
     → hops_at net plan f d ≡ record { primary = primary_of plan d; backup = backup_under net plan f d }
 unfolding hops_at
-hops_open net plan f d other = cond-false (is_end plan d) no_hops (record { primary = primary_of plan d; backup = backup_under net plan f d }) other
+hops_open net plan f d other = cond-false (ends_walks plan d) no_hops (record { primary = primary_of plan d; backup = backup_under net plan f d }) other

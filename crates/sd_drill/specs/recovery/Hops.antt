@@ -7,7 +7,7 @@ use Rattle.sd_plan.specs.declared.Hop.{Hop}
 use Rattle.sd_plan.specs.declared.Plan.{Plan}
 use Rattle.sd_plan.specs.Plans.{primary_of, backup_of}
 use Rattle.sd_plan.specs.Tables.{EndsAt}
-use Rattle.sd_plan.specs.Walks.{is_end, is_hit}
+use Rattle.sd_plan.specs.Walks.{ends_walks, is_hit}
 use Rattle.sd_drill.specs.declared.recovery.hops.Hops.{Hops}
 
 abbrev pub listed : Hops → List Hop
@@ -22,7 +22,7 @@ no_hops = record { primary = None; backup = None }
 
 -- none where walks end; else the primary, and the backup where the domain hits the device
 unfoldable pub hops_at : Network → Plan → DomainId → ℕ → Hops
-hops_at net plan f d = if is_end plan d then no_hops else record { primary = primary_of plan d; backup = backup_under net plan f d }
+hops_at net plan f d = if ends_walks plan d then no_hops else record { primary = primary_of plan d; backup = backup_under net plan f d }
 
 -- the hop leads to a device of the network over a link that ends at d
 abbrev pub IsRightHop : Network → ℕ → Hop → Type 0

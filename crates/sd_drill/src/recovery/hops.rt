@@ -29,7 +29,7 @@ impl Hops {
 
 /// Whether a device is the root or the backup root, at which walks end.
 pub(crate) fn is_end(plan: &Plan, d: u32) -> bool
-    ensures { result ≡ walks.is_end plan.now d }
+    ensures { result ≡ walks.ends_walks plan.now d }
 {
     plan.root == d || plan.backup_root == d
 }

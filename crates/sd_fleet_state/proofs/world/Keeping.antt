@@ -5,7 +5,7 @@ use Rattle.std.proofs.lemmas.List.Sums.{sum_by-cons}
 use Rattle.sd_num.specs.Lists.{of_some, same_number}
 use Rattle.sd_topo.specs.declared.Thing.TheVariants as thing
 use Rattle.sd_sched.specs.declared.Event.{Event}
-use Rattle.sd_sched.specs.Events.{device_of, joined, counter_of, is_stage, is_end}
+use Rattle.sd_sched.specs.Events.{device_of, joined, counter_of, is_stage, is_end_event}
 use Rattle.sd_history.specs.World.{Setting, Seen, makes, fails, up_after, failed_after, epoch_in_force}
 use Rattle.sd_fleet_state.specs.world.Registers.{Registers, device_at, registers_after, registers_closed}
 use Rattle.sd_fleet_state.specs.world.Standing.{Stands, StandsAt}
@@ -89,7 +89,7 @@ stands_after r setting seen s stays stands =
           ∙ ap (λ (b : Bool). of_some (failed_after (thing.Link l) s.event) b (λ told. told)) (stands.links l inside));
       reference = refl;
       events = omega (arith, stands.events);
-      ended = ap (λ (b : Bool). is_end s.event || b) stands.ended;
+      ended = ap (λ (b : Bool). is_end_event s.event || b) stands.ended;
       open_window = opens r.window s seen stays stands.open_window;
       commit = commits r.window s seen stays stands.open_window stands.commit;
       windows = windows_next r.windows s seen stands.windows;

@@ -2,7 +2,7 @@
 use Rattle.std.specs.Prelude.{◌≡◌, ℕ, ◌+◌, ◌-◌, ◌<◌, ◌≤◌, Bool, List, [], length, map, Option, Some, None, IsTrue}
 use Rattle.sd_num.specs.Lists.{below, at_place}
 use Rattle.sd_topo.specs.Network.{Network, link_of, Each}
-use Rattle.sd_topo.specs.Places.{is_end}
+use Rattle.sd_topo.specs.Places.{is_end_of}
 use Rattle.sd_plan.specs.declared.Plan.{Plan}
 use Rattle.sd_plan.specs.declared.End.{End}
 use Rattle.sd_plan.specs.declared.Role.TheVariants.{Root}
@@ -54,7 +54,7 @@ is_member_numbered plans epoch d = has_row_at (table_numbered plans epoch) d
 -- the end lies at a link of the network, and is one of its devices
 pub record IsEnd (net : Network) (end : End) : Type 0 where
   pub link : end.link < length net.links
-  pub device : IsTrue (is_end (link_of net end.link) end.device)
+  pub device : IsTrue (is_end_of (link_of net end.link) end.device)
 
 -- what a member is told is within the limits, and below it lie ends of links, at most one of each
 pub record IsSoundRow (net : Network) (row : TableRow) : Type 0 where

@@ -5,7 +5,7 @@ use Rattle.sd_topo.specs.declared.Thing.{Thing}
 use Rattle.sd_topo.specs.declared.Thing.TheVariants as thing
 use Rattle.sd_sched.specs.declared.Event.{Event}
 use Rattle.sd_sched.specs.declared.Event.TheVariants as event
-use Rattle.sd_sched.specs.Events.{reference_of, device_of, link_of, is_stage, is_commit, is_end}
+use Rattle.sd_sched.specs.Events.{reference_of, device_of, link_of, is_stage, is_commit, is_end_event}
 use Rattle.sd_fleet_state.specs.declared.world.window.Window.{Window}
 use Rattle.sd_fleet_state.specs.declared.world.window.Window.TheVariants.{Closed, Preparing, Committed}
 use Rattle.sd_fleet_state.specs.declared.world.device.DeviceState.{DeviceState}
@@ -122,7 +122,7 @@ registers_after r e =
       failed_links = links_after e r.failed_links;
       reference = reference_of e;
       events = r.events + 1;
-      ended = is_end e || r.ended;
+      ended = is_end_event e || r.ended;
       window = window_after e r.window;
       windows = if is_stage e then r.windows + 1 else r.windows;
       epoch = r.epoch;

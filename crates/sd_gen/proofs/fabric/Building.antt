@@ -8,7 +8,7 @@ use Rattle.toml.specs.declared.value.Value.{Value}
 use Rattle.toml.proofs.Views.{items_view-push}
 use Rattle.sd_num.specs.Lists.{below}
 use Rattle.sd_gen.specs.fabric.Fabrics.{spine_name, leaf_name, link_name}
-use Rattle.sd_gen.specs.fabric.Numbered.{device_name}
+use Rattle.sd_gen.specs.fabric.Numbered.{numbered_device_name}
 use Rattle.sd_gen.specs.fabric.Trees.{tables, strings, device_tree, link_tree, rack_tree, fabric_tree}
 use Rattle.sd_gen.proofs.fabric.Numbering.{numbered, one_more, alike, both, grid}
 
@@ -40,11 +40,11 @@ map_twice g f (x ∷ xs) = ap (λ ys. g (f x) ∷ ys) (map_twice g f xs)
 
 pub devices_numbered : (leaves spines : ℕ)
     → tables (map device_tree (map spine_name (below spines) ++ map leaf_name (below leaves)))
-    ≡ array (items_of (numbered (λ d. table (device_tree (device_name spines d))) (spines + leaves)))
+    ≡ array (items_of (numbered (λ d. table (device_tree (numbered_device_name spines d))) (spines + leaves)))
 devices_numbered leaves spines =
     ap (λ names. tables (map device_tree names)) (both spine_name leaf_name spines leaves)
-    ∙ ap tables (map_twice device_tree (device_name spines) (below (spines + leaves)))
-    ∙ ap (λ ds. array (items_of ds)) (map_twice table (λ d. device_tree (device_name spines d)) (below (spines + leaves)))
+    ∙ ap tables (map_twice device_tree (numbered_device_name spines) (below (spines + leaves)))
+    ∙ ap (λ ds. array (items_of ds)) (map_twice table (λ d. device_tree (numbered_device_name spines d)) (below (spines + leaves)))
 
 pub links_numbered : (leaves spines : ℕ)
     → tables (flat_map (λ i. map (link_tree i) (below spines)) (below leaves))
@@ -60,18 +60,18 @@ pub strings_numbered : (name : ℕ → List ℕ) (n : ℕ) → strings (map name
 strings_numbered name n = ap (λ ds. array (items_of ds)) (map_twice string name (below n))
 
 -- a spine is named as a device
-pub spine_named : (spines j : ℕ) → j < spines → device_name spines j ≡ spine_name j
+pub spine_named : (spines j : ℕ) → j < spines → numbered_device_name spines j ≡ spine_name j
 spine_named spines j is = rw (lt-ltb j spines is) refl
 
 -- so is a leaf
-pub leaf_named : (spines i : ℕ) → device_name spines (spines + i) ≡ leaf_name i
+pub leaf_named : (spines i : ℕ) → numbered_device_name spines (spines + i) ≡ leaf_name i
 leaf_named spines i = let back : spines + i - spines ≡ i = omega arith in rw (le-ltb (spines + i) spines (omega arith), back) refl
 
-pub roots_numbered : (spines : ℕ) → strings (map spine_name (below spines)) ≡ array (items_of (numbered (λ k. string (device_name spines k)) spines))
+pub roots_numbered : (spines : ℕ) → strings (map spine_name (below spines)) ≡ array (items_of (numbered (λ k. string (numbered_device_name spines k)) spines))
 roots_numbered spines =
     strings_numbered spine_name spines
     ∙ ap (λ ds. array (items_of ds))
-    (alike (λ k. string (spine_name k)) (λ k. string (device_name spines k)) spines (λ k less. ap string (sym (spine_named spines k less))))
+    (alike (λ k. string (spine_name k)) (λ k. string (numbered_device_name spines k)) spines (λ k less. ap string (sym (spine_named spines k less))))
 
 -- The tree is shallow.
 
@@ -96,7 +96,7 @@ unfolding fabric_tree
 fabric_depth leaves spines =
     let devices : depth (tables (map device_tree (map spine_name (below spines) ++ map leaf_name (below leaves)))) ≤ 5 =
     subst (λ d. depth d ≤ 5) (sym (devices_numbered leaves spines))
-    (let inner = items_depth_le (λ d. table (device_tree (device_name spines d))) 3 (spines + leaves) (λ k. omega arith) in omega (arith, inner)) in
+    (let inner = items_depth_le (λ d. table (device_tree (numbered_device_name spines d))) 3 (spines + leaves) (λ k. omega arith) in omega (arith, inner)) in
     let links : depth (tables (flat_map (λ i. map (link_tree i) (below spines)) (below leaves))) ≤ 5 =
     subst (λ d. depth d ≤ 5) (sym (links_numbered leaves spines))
     (let inner = items_depth_le (λ l. table (link_tree (l / spines) (l % spines))) 3 (leaves * spines) (λ k. omega arith) in omega (arith, inner)) in

@@ -11,7 +11,7 @@ use Rattle.std.proofs.lemmas.List.Folds.{list_all-append}
 use Rattle.sd_topo.specs.Network.{is_name, is_name_byte}
 use Rattle.sd_topo.proofs.Places.{same_bytes}
 use Rattle.sd_gen.specs.fabric.Fabrics.{spine_name, leaf_name, link_name}
-use Rattle.sd_gen.specs.fabric.Numbered.{device_name}
+use Rattle.sd_gen.specs.fabric.Numbered.{numbered_device_name}
 
 abbrev is_digit : ℕ → Bool
 is_digit b = nat_le 48 b && nat_le b 57
@@ -67,7 +67,7 @@ leaf_is_name i small = lettered (codes "l") i small (omega arith) (omega arith) 
 pub rack_is_name : (i : ℕ) → i < 10 ^ 3 → is_name (codes "rack" ++ decimal i) ≡ true
 rack_is_name i small = lettered (codes "rack") i small (omega arith) (omega arith) refl
 
-pub device_is_name : (spines d : ℕ) → d < 10 ^ 3 → is_name (device_name spines d) ≡ true
+pub device_is_name : (spines d : ℕ) → d < 10 ^ 3 → is_name (numbered_device_name spines d) ≡ true
 device_is_name spines d small = by (nat_lt d spines)
   where
     by : (b : Bool) → is_name (if b then spine_name d else leaf_name (d - spines)) ≡ true
@@ -120,7 +120,7 @@ head_of (b ∷ bs) = b
 heads : (xs ys : List ℕ) → xs ≡ ys → (head_of xs ≡ head_of ys → ⊥) → ⊥
 heads xs ys same differ = differ (ap head_of same)
 
-pub devices_apart : (spines m n : ℕ) → m < 10 ^ 3 → n < 10 ^ 3 → m ≢ n → device_name spines m ≢ device_name spines n
+pub devices_apart : (spines m n : ℕ) → m < 10 ^ 3 → n < 10 ^ 3 → m ≢ n → numbered_device_name spines m ≢ numbered_device_name spines n
 devices_apart spines m n small narrow differ = by (nat_lt m spines) (nat_lt n spines) refl refl
   where
     by : (a b : Bool) → nat_lt m spines ≡ a → nat_lt n spines ≡ b

@@ -29,7 +29,7 @@ use Rattle.sd_topotext.specs.Reading.{tree_of}
 use Rattle.sd_topotext.proofs.Trees.{tree_known}
 use Rattle.sd_gen.specs.fabric.Fabrics.{params, spine_name, leaf_name, link_name, device_named, link_between, rack, fabric}
 use Rattle.sd_gen.specs.fabric.Texts.{IsFabricText}
-use Rattle.sd_gen.specs.fabric.Numbered.{device_name}
+use Rattle.sd_gen.specs.fabric.Numbered.{numbered_device_name}
 use Rattle.sd_gen.specs.fabric.Trees.{device_tree, link_tree, rack_tree, fabric_tree}
 use Rattle.sd_gen.proofs.fabric.Numbering.{numbered, one_more, alike, both, grid, none_below, sum_alike}
 use Rattle.sd_gen.proofs.fabric.Naming.{device_is_name, link_is_name, rack_is_name, told_apart, devices_apart, racks_apart, links_same}
@@ -190,7 +190,7 @@ module _ (leaves spines : ℕ) (some : 1 ≤ spines) (few_leaves : leaves ≤ 25
   links = leaves * spines
 
   abbrev device_names : List (List ℕ)
-  device_names = numbered (device_name spines) devices
+  device_names = numbered (numbered_device_name spines) devices
 
   abbrev link_named : ℕ → List ℕ
   link_named l = link_name (l / spines) (l % spines)
@@ -199,12 +199,12 @@ module _ (leaves spines : ℕ) (some : 1 ≤ spines) (few_leaves : leaves ≤ 25
   link_names = numbered link_named links
 
   abbrev device_at : ℕ → Device
-  device_at d = device_named (device_name spines d)
+  device_at d = device_named (numbered_device_name spines d)
 
   abbrev link_at : ℕ → Link
   link_at l = link_between spines (l / spines) (l % spines)
 
-  at_devices : value keys.Device tree ≡ Some (array (items_of (numbered (λ d. table (device_tree (device_name spines d))) devices)))
+  at_devices : value keys.Device tree ≡ Some (array (items_of (numbered (λ d. table (device_tree (numbered_device_name spines d))) devices)))
   unfolding fabric_tree
   at_devices = ap (λ (d : Data). Some d) (devices_numbered leaves spines)
 
@@ -216,7 +216,7 @@ module _ (leaves spines : ℕ) (some : 1 ≤ spines) (few_leaves : leaves ≤ 25
   unfolding fabric_tree
   at_racks = ap (λ (d : Data). Some d) (tables_numbered (rack_tree spines) leaves)
 
-  at_roots : value keys.Roots tree ≡ Some (array (items_of (numbered (λ k. string (device_name spines k)) spines)))
+  at_roots : value keys.Roots tree ≡ Some (array (items_of (numbered (λ k. string (numbered_device_name spines k)) spines)))
   unfolding fabric_tree
   at_roots = ap (λ (d : Data). Some d) (roots_numbered spines)
 
@@ -230,30 +230,30 @@ module _ (leaves spines : ℕ) (some : 1 ≤ spines) (few_leaves : leaves ≤ 25
 
   -- Devices
 
-  devices_differ : (m n : ℕ) → m < devices → n < devices → m ≢ n → device_name spines m ≢ device_name spines n
+  devices_differ : (m n : ℕ) → m < devices → n < devices → m ≢ n → numbered_device_name spines m ≢ numbered_device_name spines n
   devices_differ m n a b differ = devices_apart spines m n (omega (arith, a, few_leaves, few_spines)) (omega (arith, b, few_leaves, few_spines)) differ
 
   devices_read : devices_in 1 top tree ≡ Ok (numbered device_at devices)
   unfolding devices_in
   devices_read =
       rw (
-        array_read keys.Device 0 tree (items_of (numbered (λ d. table (device_tree (device_name spines d))) devices)) at_devices,
-        count_read (λ d. table (device_tree (device_name spines d))) devices,
+        array_read keys.Device 0 tree (items_of (numbered (λ d. table (device_tree (numbered_device_name spines d))) devices)) at_devices,
+        count_read (λ d. table (device_tree (numbered_device_name spines d))) devices,
         le-leb 1 devices (omega (arith, some)),
-        count_read (λ d. table (device_tree (device_name spines d))) devices,
+        count_read (λ d. table (device_tree (numbered_device_name spines d))) devices,
         le-leb devices 4096 (omega (arith, few_leaves, few_spines)),
       )
-      (each_read (one_more_device 1 top) (λ d. table (device_tree (device_name spines d))) device_at devices
-      (λ k less. one_device_read (numbered device_at k) (device_name spines k) (device_is_name spines k (omega (arith, less, few_leaves, few_spines)))
+      (each_read (one_more_device 1 top) (λ d. table (device_tree (numbered_device_name spines d))) device_at devices
+      (λ k less. one_device_read (numbered device_at k) (numbered_device_name spines k) (device_is_name spines k (omega (arith, less, few_leaves, few_spines)))
       (new_name (λ (d : Device). d.name) device_at k devices devices_differ less)))
 
   spine_found : (j : ℕ) → j < spines → number_in device_names (spine_name j) ≡ Some j
   spine_found j less = ap (number_in device_names) (sym (spine_named spines j less))
-      ∙ found_by (device_name spines) devices j devices_differ (omega (arith, less))
+      ∙ found_by (numbered_device_name spines) devices j devices_differ (omega (arith, less))
 
   leaf_found : (i : ℕ) → i < leaves → number_in device_names (leaf_name i) ≡ Some (spines + i)
   leaf_found i less = ap (number_in device_names) (sym (leaf_named spines i))
-      ∙ found_by (device_name spines) devices (spines + i) devices_differ (omega (arith, less))
+      ∙ found_by (numbered_device_name spines) devices (spines + i) devices_differ (omega (arith, less))
 
   -- Links
 
@@ -327,7 +327,7 @@ module _ (leaves spines : ℕ) (some : 1 ≤ spines) (few_leaves : leaves ≤ 25
       → domain_in device_names link_names names entry (table (rack_tree spines i)) ≡ Ok (rack spines i)
   unfolding domain_in own_name text
   rack_read names entry i less new =
-      let all : length device_names ≡ devices = length-numbered (device_name spines) devices in
+      let all : length device_names ≡ devices = length-numbered (numbered_device_name spines) devices in
       let total : length link_names ≡ links = length-numbered link_named links in
       let row : spines * i + spines ≤ links = row_within in
       rw (
@@ -389,14 +389,14 @@ module _ (leaves spines : ℕ) (some : 1 ≤ spines) (few_leaves : leaves ≤ 25
   unfolding roots_in
   roots_read names is =
       rw (
-        array_read keys.Roots 0 tree (items_of (numbered (λ k. string (device_name spines k)) spines)) at_roots,
-        count_read (λ k. string (device_name spines k)) spines,
+        array_read keys.Roots 0 tree (items_of (numbered (λ k. string (numbered_device_name spines k)) spines)) at_roots,
+        count_read (λ k. string (numbered_device_name spines k)) spines,
         le-leb 1 spines some,
         is,
       )
-      (each_read (one_more_listed (place keys.Roots 0) device_names) (λ k. string (device_name spines k)) (λ k. 0 + k) spines
-      (λ k less. listed_read (place keys.Roots 0) device_names (numbered (λ j. 0 + j) k) (device_name spines k) (0 + k)
-      (found_by (device_name spines) devices k devices_differ (omega (arith, less)) ∙ ap (λ n. Some n) (let same : k ≡ 0 + k = omega arith in same))
+      (each_read (one_more_listed (place keys.Roots 0) device_names) (λ k. string (numbered_device_name spines k)) (λ k. 0 + k) spines
+      (λ k less. listed_read (place keys.Roots 0) device_names (numbered (λ j. 0 + j) k) (numbered_device_name spines k) (0 + k)
+      (found_by (numbered_device_name spines) devices k devices_differ (omega (arith, less)) ∙ ap (λ n. Some n) (let same : k ≡ 0 + k = omega arith in same))
       (new_number 0 k))
       ∙ ap (λ ks. Ok ks) (alike (λ k. 0 + k) (λ k. k) spines (λ k h. let same : 0 + k ≡ k = omega arith in same) ∙ map_itself (below spines)))
     where

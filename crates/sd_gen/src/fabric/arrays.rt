@@ -4,7 +4,7 @@ ghost use Rattle.toml.specs.Data.{string, table};
 ghost use Rattle.toml.specs.View.{view};
 ghost use Rattle.sd_num.specs.Lists.{below};
 ghost use Rattle.sd_gen.specs.fabric.Fabrics.{spine_name, leaf_name, link_name as link_named};
-ghost use Rattle.sd_gen.specs.fabric.Numbered.{device_name as device_named};
+ghost use Rattle.sd_gen.specs.fabric.Numbered.{numbered_device_name as device_named};
 ghost use Rattle.sd_gen.specs.fabric.Trees.{tables, strings, device_tree, link_tree, rack_tree};
 
 use crate::fabric::names::{device_name, link_name, rack_name};

@@ -1,7 +1,7 @@
 //! The names of devices, links and racks.
 ghost use Rattle.std.specs.Prelude.{◌≡◌, ◌++◌, IfOk, OnOk, string_bytes, codes, decimal};
 ghost use Rattle.sd_gen.specs.fabric.Fabrics.{link_name as link_named};
-ghost use Rattle.sd_gen.specs.fabric.Numbered.{device_name as device_named};
+ghost use Rattle.sd_gen.specs.fabric.Numbered.{numbered_device_name as device_named};
 
 use sd_num::NoMemory;
 use std::alloc::Global;

@@ -6,7 +6,7 @@ use Rattle.std.proofs.Common.{arith, sym, ap, subst, inl, inr}
 use Rattle.std.proofs.lemmas.Bool.{or_cases}
 use Rattle.sd_sched.specs.Num.Lists.{of_some, below}
 use Rattle.sd_core.specs.Topo.Network.{Network, Each, device_numbers, link_numbers, link_of, joins}
-use Rattle.sd_core.specs.Topo.Places.{is_end}
+use Rattle.sd_core.specs.Topo.Places.{is_end_of}
 use Rattle.sd_core.proofs.Topo.Laws.{joined_end}
 use Rattle.sd_core.specs.Plan.declared.Plan.{Plan}
 use Rattle.sd_core.specs.Plan.declared.End.{End}
@@ -191,7 +191,7 @@ follower_joined setting n d l c right within follows = by (slice_get setting.pla
         elim (or_cases (leads_to d l (primary_of plan c)) (leads_to d l (backup_of plan c)) follows') [ inl one ↦ both.0 one | inr two ↦ both.1 two ]
 
 sent_to_end : (setting : Setting) → AreStructured setting → (s : Step) (earlier : List Step) (f : Flight) → AreSteps setting (s ∷ earlier) → Among f s.sent
-    → is_end (link_of setting.net f.link) f.receiver ≡ true
+    → is_end_of (link_of setting.net f.link) f.receiver ≡ true
 sent_to_end setting right s earlier f is a =
     let sent : WasSent setting s earlier f = was_sent setting s earlier f is a in
     let planned = ends_planned setting earlier sent.answers.epoch sent.device sent.over.end_ sent.over.among in
@@ -199,12 +199,12 @@ sent_to_end setting right s earlier f is a =
     ends_below setting.net (plan_numbered setting planned.0) sent.device sent.over.end_ planned.1 in
     let joined : joins setting.net sent.over.end_.link sent.over.end_.device sent.device ≡ true =
     follower_joined setting planned.0 sent.device sent.over.end_.link sent.over.end_.device right below_.device below_.follows in
-    subst (λ (g : Flight). is_end (link_of setting.net g.link) g.receiver ≡ true) (sym sent.over.is)
+    subst (λ (g : Flight). is_end_of (link_of setting.net g.link) g.receiver ≡ true) (sym sent.over.is)
     (joined_end setting.net sent.over.end_.link sent.over.end_.device sent.device joined)
 
 -- its receiver is an end of its link
 pub receiver_is_end : (setting : Setting) (steps : List Step) (f : Flight) → AreStructured setting → AreSteps setting steps → Among f (flights steps)
-    → is_end (link_of setting.net f.link) f.receiver ≡ true
+    → is_end_of (link_of setting.net f.link) f.receiver ≡ true
 receiver_is_end setting steps f right is a =
-    each_flight setting (λ steps' g. is_end (link_of setting.net g.link) g.receiver ≡ true) (sent_to_end setting right)
+    each_flight setting (λ steps' g. is_end_of (link_of setting.net g.link) g.receiver ≡ true) (sent_to_end setting right)
     (λ s earlier g is' rest. rest) steps f is a

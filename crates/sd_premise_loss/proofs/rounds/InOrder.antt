@@ -10,7 +10,7 @@ use Rattle.sd_sched.specs.Events.{reference_of}
 use Rattle.sd_history.specs.World.{Setting, Seen, latest_reference}
 use Rattle.sd_history.specs.Refusals.{unknown_device, unknown_link, time_falls}
 use Rattle.sd_history.specs.Open.{may_be_seen}
-use Rattle.sd_history.specs.Premises.{flights, is_overdue, was_received}
+use Rattle.sd_history.specs.Premises.{reaching_flights, is_overdue, was_received}
 use Rattle.sd_premise_loss.specs.rounds.Order.{last_sent, IsInOrder}
 use Rattle.sd_premise_loss.proofs.rounds.Sending.{greatest_of}
 
@@ -52,7 +52,7 @@ greatest-append [] gs = omega arith
 greatest-append (f ∷ fs) gs = let rest : greatest_of (fs ++ gs) ≡ max (greatest_of fs) (greatest_of gs) = greatest-append fs gs in omega (arith, rest)
 
 pub last_sent_with : (s : Seen) (earlier : List Seen) → last_sent (s ∷ earlier) ≡ max (greatest_of s.sent) (last_sent earlier)
-last_sent_with s earlier = greatest-append s.sent (flights earlier)
+last_sent_with s earlier = greatest-append s.sent (reaching_flights earlier)
 
 pub last_sent_more : (s : Seen) (earlier : List Seen) → last_sent earlier ≤ last_sent (s ∷ earlier)
 last_sent_more s earlier = omega (arith, last_sent_with s earlier)

@@ -7,7 +7,7 @@ use Rattle.sd_topo.specs.declared.Thing.{Thing}
 use Rattle.sd_topo.specs.declared.Thing.TheVariants as thing
 use Rattle.sd_msg.specs.declared.Flight.{Flight}
 use Rattle.sd_history.specs.World.{Setting, Seen, fails}
-use Rattle.sd_history.specs.Premises.{flights, since_sending, was_interrupted}
+use Rattle.sd_history.specs.Premises.{reaching_flights, seen_since_sending, was_interrupted}
 use Rattle.sd_premise_loss.specs.rounds.Order.{last_sent, IsInOrder}
 use Rattle.sd_premise_loss.specs.flights.Interrupted.{is_interrupted}
 use Rattle.sd_premise_loss.specs.rounds.Loss.{mark_in}
@@ -28,23 +28,23 @@ by_failure true rest n last before low same = sym (le-leb n last low)
 by_failure false rest n last before low same = same
 
 -- whether the thing failed after the flight was sent
-failed_since : (setting : Setting) (seen : List Seen) (f : Flight) (x : Thing) → IsInOrder setting seen → Contains (flights seen) f
-    → list_any (λ s. fails x s.event) (since_sending seen f.number) ≡ nat_le f.number (mark_in seen x)
+failed_since : (setting : Setting) (seen : List Seen) (f : Flight) (x : Thing) → IsInOrder setting seen → Contains (reaching_flights seen) f
+    → list_any (λ s. fails x s.event) (seen_since_sending seen f.number) ≡ nat_le f.number (mark_in seen x)
 failed_since setting [] f x order (k, within, at) = absurd (omega arith)
 failed_since setting (s ∷ earlier) f x order sent =
-    by_place (Contains-append_cases s.sent (flights earlier) f sent) (λ before. failed_since setting earlier f x order.0 before)
+    by_place (Contains-append_cases s.sent (reaching_flights earlier) f sent) (λ before. failed_since setting earlier f x order.0 before)
   where
-    by_place : Contains s.sent f ⊎ Contains (flights earlier) f
-        → (Contains (flights earlier) f → list_any (λ e. fails x e.event) (since_sending earlier f.number) ≡ nat_le f.number (mark_in earlier x))
-        → list_any (λ e. fails x e.event) (since_sending (s ∷ earlier) f.number) ≡ nat_le f.number (mark_in (s ∷ earlier) x)
+    by_place : Contains s.sent f ⊎ Contains (reaching_flights earlier) f
+        → (Contains (reaching_flights earlier) f → list_any (λ e. fails x e.event) (seen_since_sending earlier f.number) ≡ nat_le f.number (mark_in earlier x))
+        → list_any (λ e. fails x e.event) (seen_since_sending (s ∷ earlier) f.number) ≡ nat_le f.number (mark_in (s ∷ earlier) x)
     by_place (inl now) rest =
         let above : last_sent earlier < f.number = sent_above (last_sent earlier) s.sent f order.1.numbers now in
         let low : mark_in (s ∷ earlier) x ≤ last_sent earlier = mark_before s earlier x (mark_low earlier x) in
         rw (has_sent s.sent f now) (sym (lt-leb f.number (mark_in (s ∷ earlier) x) (omega (arith, above, low))))
     by_place (inr before) rest =
-        let low : f.number ≤ last_sent earlier = le_greatest (flights earlier) f before in
+        let low : f.number ≤ last_sent earlier = le_greatest (reaching_flights earlier) f before in
         rw (has_not_sent (last_sent earlier) f.number s.sent order.1.numbers low)
-        (by_failure (fails x s.event) (list_any (λ e. fails x e.event) (since_sending earlier f.number)) f.number (last_sent earlier) (mark_in earlier x) low
+        (by_failure (fails x s.event) (list_any (λ e. fails x e.event) (seen_since_sending earlier f.number)) f.number (last_sent earlier) (mark_in earlier x) low
         (rest before))
 
 either : (a b c d : Bool) → ((a || b) || (c || d)) ≡ ((a || c) || (b || d))
@@ -58,10 +58,10 @@ any_either p q [] = refl
 any_either p q (s ∷ xs) = ap (λ b. (p s || q s) || b) (any_either p q xs) ∙ either (p s) (q s) (list_any p xs) (list_any q xs)
 
 -- a flight was interrupted where it is cut by these numbers
-pub was_interrupted_by : (setting : Setting) (seen : List Seen) (f : Flight) → IsInOrder setting seen → Contains (flights seen) f
+pub was_interrupted_by : (setting : Setting) (seen : List Seen) (f : Flight) → IsInOrder setting seen → Contains (reaching_flights seen) f
     → was_interrupted seen f ≡ is_interrupted (mark_in seen) f
 was_interrupted_by setting seen f order sent =
-    let since = since_sending seen f.number in
+    let since = seen_since_sending seen f.number in
     let by : Thing → Seen → Bool = λ x s. fails x s.event in
     let sender = thing.Device f.sender in
     let receiver = thing.Device f.receiver in

@@ -6,7 +6,7 @@ use Rattle.std.proofs.lemmas.List.Elements.{Contains-append_cases, Contains-appe
 use Rattle.sd_msg.specs.declared.Flight.{Flight}
 use Rattle.sd_sched.specs.Events.{reference_of}
 use Rattle.sd_history.specs.World.{Setting, Seen}
-use Rattle.sd_history.specs.Premises.{flights, is_overdue, was_received, was_interrupted, spoils, is_round}
+use Rattle.sd_history.specs.Premises.{reaching_flights, is_overdue, was_received, was_interrupted, spoils, is_round}
 use Rattle.sd_premise_loss.specs.rounds.Order.{Follows, IsInOrder}
 use Rattle.sd_premise_loss.specs.rounds.Loss.{Waits, AreWaiting, mark_in, is_spoiled, is_round_of, IsLost, HasOnlyLost}
 use Rattle.sd_premise_loss.proofs.rounds.Marks.{was_interrupted_by}
@@ -16,7 +16,7 @@ use Rattle.sd_premise_loss.proofs.rounds.Waits.{LeavesTaken, received_now, left_
 
 pub record SpoiledBy (seen : List Seen) (t r : ℕ) : Type 0 where
   pub flight : Flight
-  pub sent : Contains (flights seen) flight
+  pub sent : Contains (reaching_flights seen) flight
   pub spoils_it : spoils seen flight ≡ true
   pub of_round : is_round_of flight t r ≡ true
 
@@ -53,13 +53,13 @@ any_stamp t r (f ∷ fs) = ap (λ b. is_round_of f t r || b) (any_stamp t r fs)
 
 pub spoiled_by : (seen : List Seen) (t r : ℕ) → is_spoiled seen t r ≡ true → SpoiledBy seen t r
 spoiled_by seen t r is =
-    let found = kept_flight (spoils seen) (λ f. is_round_of f t r) (flights seen) (sym (any_stamp t r (filter (spoils seen) (flights seen))) ∙ is) in
+    let found = kept_flight (spoils seen) (λ f. is_round_of f t r) (reaching_flights seen) (sym (any_stamp t r (filter (spoils seen) (reaching_flights seen))) ∙ is) in
     record { flight = found.0; sent = found.1; spoils_it = found.2; of_round = found.3 }
 
 pub is_spoiled_by : (seen : List Seen) (t r : ℕ) → SpoiledBy seen t r → is_spoiled seen t r ≡ true
 is_spoiled_by seen t r by =
-    any_stamp t r (filter (spoils seen) (flights seen))
-    ∙ any_kept (spoils seen) (λ f. is_round_of f t r) (flights seen) by.flight by.sent by.spoils_it by.of_round
+    any_stamp t r (filter (spoils seen) (reaching_flights seen))
+    ∙ any_kept (spoils seen) (λ f. is_round_of f t r) (reaching_flights seen) by.flight by.sent by.spoils_it by.of_round
 
 -- What was judged stays
 
@@ -86,7 +86,7 @@ spoiled_still s earlier t r is =
     is_spoiled_by (s ∷ earlier) t r
     (record {
       flight = by.flight;
-      sent = Contains-append_right s.sent (flights earlier) by.flight by.sent;
+      sent = Contains-append_right s.sent (reaching_flights earlier) by.flight by.sent;
       spoils_it = spoils_still s earlier by.flight by.spoils_it;
       of_round = by.of_round;
     })
@@ -97,7 +97,7 @@ module _ (setting : Setting) (earlier : List Seen) (s : Seen) (order : IsInOrder
     (was left : ℕ → Option Flight) (waiting : AreWaiting earlier was)
     (received : LeavesTaken s was left) where
   -- a flight that was sent before and is not settled is spoiled where it is lost
-  lost_where : (f : Flight) → Contains (flights earlier) f → is_overdue earlier f ≡ false → spoils (s ∷ earlier) f ≡ true
+  lost_where : (f : Flight) → Contains (reaching_flights earlier) f → is_overdue earlier f ≡ false → spoils (s ∷ earlier) f ≡ true
       → IsLost left (mark_in (s ∷ earlier)) (reference_of s.event) f
   lost_where f held unsettled spoilt =
       let judged : spoils_now s earlier f ≡ true = subst (λ (b : Bool). cond b (spoils earlier f) (spoils_now s earlier f) ≡ true) unsettled spoilt in
@@ -108,18 +108,18 @@ module _ (setting : Setting) (earlier : List Seen) (s : Seen) (order : IsInOrder
       record {
         waits = received f.number ∙ ap (λ b. cond b None (was f.number)) (sym (received_now s f.number) ∙ receipt.0) ∙ waiting.all f waited;
         overdue = ltb-true f.due (reference_of s.event) inner.0;
-        whole = sym (was_interrupted_by setting (s ∷ earlier) f (order, follows) (Contains-append_right s.sent (flights earlier) f held))
+        whole = sym (was_interrupted_by setting (s ∷ earlier) f (order, follows) (Contains-append_right s.sent (reaching_flights earlier) f held))
             ∙ not-true (was_interrupted (s ∷ earlier) f) outer.1;
       }
 
   -- a lost flight is spoiled with this event
-  lost_spoils : (f : Flight) → IsLost left (mark_in (s ∷ earlier)) (reference_of s.event) f → Contains (flights earlier) f × (spoils (s ∷ earlier) f ≡ true)
+  lost_spoils : (f : Flight) → IsLost left (mark_in (s ∷ earlier)) (reference_of s.event) f → Contains (reaching_flights earlier) f × (spoils (s ∷ earlier) f ≡ true)
   lost_spoils f lost =
       let there = left_parts s was left received f.number f lost.waits in
       let known = (waiting.found f.number f there.0).1 in
       let not_received : was_received (s ∷ earlier) f.number ≡ false = or_from _ _ (received_now s f.number ∙ there.1) known.unreceived in
       let whole : was_interrupted (s ∷ earlier) f ≡ false =
-      was_interrupted_by setting (s ∷ earlier) f (order, follows) (Contains-append_right s.sent (flights earlier) f known.sent) ∙ lost.whole in
+      was_interrupted_by setting (s ∷ earlier) f (order, follows) (Contains-append_right s.sent (reaching_flights earlier) f known.sent) ∙ lost.whole in
       let judged : spoils_now s earlier f ≡ true =
       and_from _ _ (and_from _ _ (lt-ltb f.due (reference_of s.event) lost.overdue) (not_from_false _ not_received)) (not_from_false _ whole) in
       (known.sent, subst (λ (b : Bool). cond b (spoils earlier f) (spoils_now s earlier f) ≡ true) (sym known.in_time) judged)
@@ -130,16 +130,16 @@ module _ (setting : Setting) (earlier : List Seen) (s : Seen) (order : IsInOrder
   lost_round f t r lost of_round =
       let found = lost_spoils f lost in
       is_spoiled_by (s ∷ earlier) t r
-      (record { flight = f; sent = Contains-append_right s.sent (flights earlier) f found.0; spoils_it = found.1; of_round = of_round })
+      (record { flight = f; sent = Contains-append_right s.sent (reaching_flights earlier) f found.0; spoils_it = found.1; of_round = of_round })
 
   -- and no other round is spoiled with it
   pub spoiled_only : HasOnlyLost left (mark_in (s ∷ earlier)) (reference_of s.event) (is_spoiled earlier) (is_spoiled (s ∷ earlier))
-  spoiled_only t r is = by_place (Contains-append_cases s.sent (flights earlier) by.flight by.sent)
+  spoiled_only t r is = by_place (Contains-append_cases s.sent (reaching_flights earlier) by.flight by.sent)
     where
       by : SpoiledBy (s ∷ earlier) t r
       by = spoiled_by (s ∷ earlier) t r is
 
-      by_settled : Contains (flights earlier) by.flight → (b : Bool) → is_overdue earlier by.flight ≡ b
+      by_settled : Contains (reaching_flights earlier) by.flight → (b : Bool) → is_overdue earlier by.flight ≡ b
           → (is_spoiled earlier t r ≡ true) ⊎ ((f : Flight) × IsLost left (mark_in (s ∷ earlier)) (reference_of s.event) f × (is_round_of f t r ≡ true))
       by_settled held true settled_before =
           let before : spoils earlier by.flight ≡ true =
@@ -147,7 +147,7 @@ module _ (setting : Setting) (earlier : List Seen) (s : Seen) (order : IsInOrder
           inl (is_spoiled_by earlier t r (record { flight = by.flight; sent = held; spoils_it = before; of_round = by.of_round }))
       by_settled held false unsettled = inr (by.flight, lost_where by.flight held unsettled by.spoils_it, by.of_round)
 
-      by_place : Contains s.sent by.flight ⊎ Contains (flights earlier) by.flight
+      by_place : Contains s.sent by.flight ⊎ Contains (reaching_flights earlier) by.flight
           → (is_spoiled earlier t r ≡ true) ⊎ ((f : Flight) × IsLost left (mark_in (s ∷ earlier)) (reference_of s.event) f × (is_round_of f t r ≡ true))
       by_place (inl held) =
           absurd (both_ways (is_overdue (s ∷ earlier) by.flight) (sent_waits setting earlier s order follows by.flight held).in_time

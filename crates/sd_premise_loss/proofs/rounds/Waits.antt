@@ -8,7 +8,7 @@ use Rattle.sd_num.specs.Lists.{of_some, same_number, ascends}
 use Rattle.sd_msg.specs.declared.Flight.{Flight}
 use Rattle.sd_sched.specs.Events.{reference_of}
 use Rattle.sd_history.specs.World.{Setting, Seen, latest_reference}
-use Rattle.sd_history.specs.Premises.{flights, is_overdue, was_received}
+use Rattle.sd_history.specs.Premises.{reaching_flights, is_overdue, was_received}
 use Rattle.sd_premise_loss.specs.rounds.Order.{last_sent, Follows, IsInOrder}
 use Rattle.sd_premise_loss.specs.rounds.Loss.{number_taken, Waits, AreWaiting, with_sent, if_in_time}
 use Rattle.sd_premise_loss.proofs.rounds.InOrder.{time_rises, le_greatest, sent_above, not_overdue, taken_low, received_low}
@@ -100,7 +100,7 @@ module _ (setting : Setting) (earlier : List Seen) (s : Seen) (order : IsInOrder
       let above : last_sent earlier < f.number = sent_above (last_sent earlier) s.sent f follows.numbers held in
       let rises : latest_reference earlier ≤ reference_of s.event = time_rises setting earlier s.event follows.allowed in
       record {
-        sent = Contains-append_left s.sent (flights earlier) f held;
+        sent = Contains-append_left s.sent (reaching_flights earlier) f held;
         in_time = or_from (nat_lt f.due (reference_of s.event)) (is_overdue earlier f) (le-ltb f.due (reference_of s.event) due)
             (not_overdue setting earlier f order (omega (arith, due, rises)));
         unreceived =
@@ -120,14 +120,14 @@ module _ (setting : Setting) (earlier : List Seen) (s : Seen) (order : IsInOrder
   waits_on : (f : Flight) → Waits earlier f → same_number (number_taken s) f.number ≡ false → reference_of s.event ≤ f.due → Waits (s ∷ earlier) f
   waits_on f waited other late =
       record {
-        sent = Contains-append_right s.sent (flights earlier) f waited.sent;
+        sent = Contains-append_right s.sent (reaching_flights earlier) f waited.sent;
         in_time = or_from (nat_lt f.due (reference_of s.event)) (is_overdue earlier f) (le-ltb f.due (reference_of s.event) late) waited.in_time;
         unreceived =
             or_from (of_some s.taken false (λ g. nat_eq g.number f.number)) (was_received earlier f.number) (received_now s f.number ∙ other) waited.unreceived;
       }
 
   -- and one that waits now, and was sent before, waited
-  waited_before : (f : Flight) → Waits (s ∷ earlier) f → Contains (flights earlier) f
+  waited_before : (f : Flight) → Waits (s ∷ earlier) f → Contains (reaching_flights earlier) f
       → Waits earlier f × (same_number (number_taken s) f.number ≡ false) × (reference_of s.event ≤ f.due)
   waited_before f waits held =
       let time = or_parts (nat_lt f.due (reference_of s.event)) (is_overdue earlier f) waits.in_time in
@@ -165,14 +165,14 @@ module _ (setting : Setting) (earlier : List Seen) (s : Seen) (order : IsInOrder
             let there : left f.number ≡ Some f = received f.number ∙ ap (λ b. cond b None (was f.number)) other ∙ waiting.all f waited in
             ap (if_in_time (reference_of s.event)) there ∙ rw (le-leb (reference_of s.event) f.due late) refl
 
-        by_place : (f : Flight) → Waits (s ∷ earlier) f → Contains s.sent f ⊎ Contains (flights earlier) f → now f.number ≡ Some f
+        by_place : (f : Flight) → Waits (s ∷ earlier) f → Contains s.sent f ⊎ Contains (reaching_flights earlier) f → now f.number ≡ Some f
         by_place f waits (inl held) =
             sent f.number ∙ sent_stands (last_sent earlier) s.sent (λ m. if_in_time (reference_of s.event) (left m)) f follows.numbers held
         by_place f waits (inr held) =
             sent f.number
             ∙ below_sent (last_sent earlier) s.sent (λ m. if_in_time (reference_of s.event) (left m)) f.number follows.numbers
-            (le_greatest (flights earlier) f held)
+            (le_greatest (reaching_flights earlier) f held)
             ∙ on_time f (waited_before f waits held)
 
         all : (f : Flight) → Waits (s ∷ earlier) f → now f.number ≡ Some f
-        all f waits = by_place f waits (Contains-append_cases s.sent (flights earlier) f waits.sent)
+        all f waits = by_place f waits (Contains-append_cases s.sent (reaching_flights earlier) f waits.sent)

@@ -5,7 +5,7 @@ use Rattle.sd_num.specs.Lists.{of_some}
 use Rattle.sd_topo.specs.declared.Thing.{Thing}
 use Rattle.sd_msg.specs.declared.Flight.{Flight}
 use Rattle.sd_history.specs.World.{Seen, fails}
-use Rattle.sd_history.specs.Premises.{flights, is_overdue, was_received, spoiled_rounds, is_round}
+use Rattle.sd_history.specs.Premises.{reaching_flights, is_overdue, was_received, spoiled_rounds, is_round}
 use Rattle.sd_premise_loss.specs.flights.Interrupted.{is_interrupted}
 use Rattle.sd_premise_loss.specs.rounds.Order.{last_sent}
 
@@ -17,7 +17,7 @@ number_taken s = option_map (λ f. f.number) s.taken
 
 -- the flight was sent and not received, and no event lies past its due
 pub record Waits (seen : List Seen) (f : Flight) : Type 0 where
-  pub sent : Contains (flights seen) f
+  pub sent : Contains (reaching_flights seen) f
   pub in_time : is_overdue seen f ≡ false
   pub unreceived : was_received seen f.number ≡ false
 

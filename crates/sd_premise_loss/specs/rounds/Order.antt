@@ -4,11 +4,11 @@ use Rattle.sd_num.specs.Lists.{of_some, greatest, ascends}
 use Rattle.sd_sched.specs.Events.{reference_of}
 use Rattle.sd_history.specs.World.{Setting, Seen}
 use Rattle.sd_history.specs.Open.{may_be_seen}
-use Rattle.sd_history.specs.Premises.{flights}
+use Rattle.sd_history.specs.Premises.{reaching_flights}
 
 -- the greatest number of a flight, 0 before the first
 abbrev pub last_sent : List Seen → ℕ
-last_sent seen = greatest (map (λ f. f.number) (flights seen))
+last_sent seen = greatest (map (λ f. f.number) (reaching_flights seen))
 
 -- The event may be seen after what was seen before. The flights that it sends are due at its reference or later, and their numbers ascend
 -- from above all earlier ones. The flight that it receives has a number that is not above those.

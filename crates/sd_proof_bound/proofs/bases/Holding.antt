@@ -22,7 +22,7 @@ use Rattle.sd_proof_safety.specs.Sched.declared.Event.{Event}
 use Rattle.sd_proof_safety.specs.History.World.{is_up}
 use Rattle.sd_proof_safety.specs.History.Steps.{Calls, Step, seen_of, act_by, acts_in}
 use Rattle.sd_proof_safety.specs.History.Chronicle.{past_in, past_after, new_past, next_step}
-use Rattle.sd_proof_safety.specs.History.Premises.{clock_set}
+use Rattle.sd_proof_safety.specs.Sched.Honesty.{clock_set}
 use Rattle.sd_proof_safety.specs.Clock.Estimates.{corrected}
 use Rattle.sd_proof_safety.specs.Msg.Stamps.{carried}
 use Rattle.sd_drill.specs.ages.Ages.{ageing}

@@ -7,7 +7,7 @@ use Rattle.sd_drill.specs.Topo.Network.{Network, joins, link_of}
 use Rattle.sd_drill.specs.Plan.declared.Hop.{Hop}
 use Rattle.sd_drill.specs.Plan.declared.Plan.{Plan}
 use Rattle.sd_drill.specs.Plan.Plans.{IsHop, is_member, is_present, is_root, is_backup_root, primary_of, backup_of}
-use Rattle.sd_drill.specs.Plan.Walks.{walk, short_path, devices_of, is_end, on_walk}
+use Rattle.sd_drill.specs.Plan.Walks.{walk, short_path, devices_of, ends_walks, on_walk}
 use Rattle.sd_drill.specs.Plan.Structure.{hop_is_right, is_no_ancestor}
 use Rattle.sd_drill.proofs.Plan.Rules.{hops_within}
 use Rattle.sd_drill.proofs.Plan.Forest.{IsForest, forest_of, not_above}
@@ -58,7 +58,7 @@ right_by net plan d (Some h) hop is right within =
 ancestor_by : (net : Network) (plan : Plan) (o : Option Hop) (hop : Hop) (b : Bool) → o ≡ Some hop → b ≡ true
     → of_some o true
     (λ h. if b then not (on_walk net plan h.parent plan.backup_root) else not
-    (has (devices_of h.parent (if is_end plan h.parent then [] else short_path net plan h.parent)) plan.backup_root)) ≡ true
+    (has (devices_of h.parent (if ends_walks plan h.parent then [] else short_path net plan h.parent)) plan.backup_root)) ≡ true
     → on_walk net plan hop.parent plan.backup_root ≡ false
 ancestor_by net plan None hop b is yes_ clause = cc
 ancestor_by net plan (Some h) hop false is yes_ clause = cc

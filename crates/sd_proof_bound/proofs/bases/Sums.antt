@@ -9,7 +9,7 @@ use Rattle.sd_drill.specs.Domain.declared.DomainId.{DomainId}
 use Rattle.sd_drill.specs.Plan.declared.Hop.{Hop}
 use Rattle.sd_drill.specs.Plan.declared.Plan.{Plan}
 use Rattle.sd_drill.specs.Plan.Plans.{is_member, is_root, is_backup_root, primary_of, backup_of}
-use Rattle.sd_drill.specs.Plan.Walks.{walk, is_end, is_hit}
+use Rattle.sd_drill.specs.Plan.Walks.{walk, ends_walks, is_hit}
 use Rattle.sd_drill.specs.CheckLoop.Loops.{same_hop, hops_of, is_walk}
 use Rattle.sd_proof_safety.specs.Sched.declared.Event.{Event}
 use Rattle.sd_drill.specs.ages.Ages.{ageing}
@@ -127,7 +127,7 @@ module _ (net : Network) (plan : Plan) (budget : Budget) (f : DomainId) where
       last (Some h) = or_right (same_hop hop h) (list_any (same_hop hop) (option_to_list b)) here
 
   -- over a hop that a device may be on, the walk grows by it
-  pub hop_walked : (d n : ℕ) (hop : Hop) (moved : Bool) → is_member plan d ≡ true → is_end plan d ≡ false → (moved ≡ true → is_hit net plan f d ≡ true)
+  pub hop_walked : (d n : ℕ) (hop : Hop) (moved : Bool) → is_member plan d ≡ true → ends_walks plan d ≡ false → (moved ≡ true → is_hit net plan f d ≡ true)
       → (if moved then backup_of plan d else primary_of plan d) ≡ Some hop
       → IsWalked net plan budget f hop.parent n → IsWalked net plan budget f d (n + (bounds_of net hop.link d).half)
   hop_walked d n hop moved member other caused on walked =
@@ -135,7 +135,7 @@ module _ (net : Network) (plan : Plan) (budget : Budget) (f : DomainId) where
         hops = hop ∷ walked.hops;
         walk =
             and_from (list_any (same_hop hop) (hops_of net plan f d)) (is_walk net plan f hop.parent walked.hops)
-            (among_hops (is_member plan d) (is_end plan d) (is_hit net plan f d) moved (primary_of plan d) (backup_of plan d) hop member other caused on)
+            (among_hops (is_member plan d) (ends_walks plan d) (is_hit net plan f d) moved (primary_of plan d) (backup_of plan d) hop member other caused on)
             walked.walk;
         sum = hop_adds n (bounds_of net hop.link d).half (source net plan budget) (halves net hop.parent walked.hops) walked.sum;
       }

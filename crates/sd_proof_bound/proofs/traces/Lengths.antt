@@ -13,7 +13,7 @@ use Rattle.sd_drill.specs.Domain.declared.DomainId.{DomainId}
 use Rattle.sd_drill.specs.Plan.declared.Hop.{Hop}
 use Rattle.sd_drill.specs.Plan.declared.Plan.{Plan}
 use Rattle.sd_drill.specs.Plan.Plans.{is_member, is_root, is_backup_root, primary_of, backup_of}
-use Rattle.sd_drill.specs.Plan.Walks.{walk, epath, is_end, is_hit, devices_of}
+use Rattle.sd_drill.specs.Plan.Walks.{walk, epath, ends_walks, is_hit, devices_of}
 use Rattle.sd_drill.proofs.Plan.Forest.{IsStep, IsForest, forest_of}
 use Rattle.sd_drill.specs.CheckLoop.Loops.{hops_of, same_hop, is_walk}
 use Rattle.sd_proof_safety.specs.Msg.declared.Stamp.{Stamp}
@@ -69,7 +69,7 @@ pub allowed : (net : Network) (plan : Plan) (f : DomainId) (y : ℕ) (put : Bool
 allowed net plan f y put hop member root backup is caused =
     subst (λ b. list_any (same_hop hop) (if b then option_to_list (primary_of plan y)
     ++ (if is_hit net plan f y then option_to_list (backup_of plan y) else []) else []) ≡ true)
-    (sym (and_from (is_member plan y) (not (is_end plan y)) member (ap not (or_from (is_root plan y) (is_backup_root plan y) root backup)))) (by put is caused)
+    (sym (and_from (is_member plan y) (not (ends_walks plan y)) member (ap not (or_from (is_root plan y) (is_backup_root plan y) root backup)))) (by put is caused)
   where
     by : (b : Bool) → hop_on plan b y ≡ Some hop → (b ≡ true → is_hit net plan f y ≡ true)
         → list_any (same_hop hop) (option_to_list (primary_of plan y) ++ (if is_hit net plan f y then option_to_list (backup_of plan y) else [])) ≡ true

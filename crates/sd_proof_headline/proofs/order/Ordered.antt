@@ -12,7 +12,7 @@ use Rattle.sd_replay.specs.Sched.Events.{reference_of}
 use Rattle.sd_replay.specs.History.World.{Setting, latest_reference}
 use Rattle.sd_replay.specs.History.Steps.{seen_of}
 use Rattle.sd_replay.specs.History.Chronicle.{next_step, chronicle, IsHistory}
-use Rattle.sd_replay.specs.History.Lines.{reports, report_of}
+use Rattle.sd_replay.specs.History.Lines.{reports, asked_report}
 use Rattle.sd_replay.proofs.History.Among.{Among, first, later, passes}
 use Rattle.sd_replay.proofs.History.Contained.{reports_contain, time_goes_on}
 use Rattle.sd_wait.specs.Waits.{stamp_of, surely_after, ends_by, end_place, stamp_at, has_ended_by, is_disorder, has_disorder}
@@ -83,7 +83,7 @@ ascending : (setting : Setting) (history : List Event) → IsHistory setting his
 ascending setting [] is = record { each = λ p q x y before here there. cc; bound = λ p x here. cc }
 ascending setting (e ∷ earlier) is =
     with_latest (latest_reference (seen_of (chronicle setting earlier))) (reference_of e) (length (chronicle setting earlier) + 1)
-    (reports (chronicle setting earlier)) (report_of (next_step setting (chronicle setting earlier) e))
+    (reports (chronicle setting earlier)) (asked_report (next_step setting (chronicle setting earlier) e))
     (ascending setting earlier is.0) (time_goes_on setting (chronicle setting earlier) e is.1)
 
 -- what the parts of a disorder say, by numbers

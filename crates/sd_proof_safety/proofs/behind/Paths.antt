@@ -9,7 +9,7 @@ use Rattle.sd_checker.specs.Topo.declared.Thing.TheVariants as thing
 use Rattle.sd_checker.specs.Plan.declared.Hop.{Hop}
 use Rattle.sd_checker.specs.Plan.declared.Plan.{Plan}
 use Rattle.sd_checker.specs.Plan.Plans.{is_root, is_backup_root, primary_of}
-use Rattle.sd_checker.specs.Plan.Walks.{hops, walk, path, epath, things_of, is_end, on_walk}
+use Rattle.sd_checker.specs.Plan.Walks.{hops, walk, path, epath, things_of, ends_walks, on_walk}
 use Rattle.sd_history.proofs.Among.{Among, first, later}
 use Rattle.sd_proof_safety.specs.invariant.Eras.{is_among, touches}
 use Rattle.sd_proof_safety.proofs.invariant.Prefix.{Passing, some_passing, any_passing}
@@ -56,9 +56,9 @@ module _ (plan : Plan) (y : Thing) where
       ]
 
   cut_by : (n : ℕ) (hop : Hop) (r e : Bool) → is_backup_root plan hop.parent ≡ e
-      → (In (hops (is_root plan) plan n hop.parent) → In (hops (is_end plan) plan n hop.parent) ⊎ In (hops (is_root plan) plan n plan.backup_root))
+      → (In (hops (is_root plan) plan n hop.parent) → In (hops (ends_walks plan) plan n hop.parent) ⊎ In (hops (is_root plan) plan n plan.backup_root))
       → In (hop ∷ (elim r [ true ↦ [] | false ↦ hops (is_root plan) plan n hop.parent ]))
-      → In (hop ∷ (elim (r || e) [ true ↦ [] | false ↦ hops (is_end plan) plan n hop.parent ])) ⊎ In (hops (is_root plan) plan n plan.backup_root)
+      → In (hop ∷ (elim (r || e) [ true ↦ [] | false ↦ hops (ends_walks plan) plan n hop.parent ])) ⊎ In (hops (is_root plan) plan n plan.backup_root)
   cut_by n hop true e is more a = inl a
   cut_by n hop false true is more a =
       cut_tail y (thing.Link hop.link) (thing.Device hop.parent) (things_of (hops (is_root plan) plan n hop.parent)) []
@@ -66,22 +66,22 @@ module _ (plan : Plan) (y : Thing) where
       (λ in_. inr (subst (λ z. In (hops (is_root plan) plan n z)) (sym (eqb-true plan.backup_root hop.parent is)) in_)) a
   cut_by n hop false false is more a =
       cut_tail y (thing.Link hop.link) (thing.Device hop.parent) (things_of (hops (is_root plan) plan n hop.parent))
-      (things_of (hops (is_end plan) plan n hop.parent)) (things_of (hops (is_root plan) plan n plan.backup_root)) refl more a
+      (things_of (hops (ends_walks plan) plan n hop.parent)) (things_of (hops (is_root plan) plan n plan.backup_root)) refl more a
 
   cut_from : (n x : ℕ) (o : Option Hop)
-      → ((z : ℕ) → In (hops (is_root plan) plan n z) → In (hops (is_end plan) plan n z) ⊎ In (hops (is_root plan) plan n plan.backup_root))
+      → ((z : ℕ) → In (hops (is_root plan) plan n z) → In (hops (ends_walks plan) plan n z) ⊎ In (hops (is_root plan) plan n plan.backup_root))
       → In (elim o [ None ↦ [] | Some hop ↦ hop ∷ (elim (is_root plan hop.parent) [ true ↦ [] | false ↦ hops (is_root plan) plan n hop.parent ]) ])
-      → In (elim o [ None ↦ [] | Some hop ↦ hop ∷ (elim (is_end plan hop.parent) [ true ↦ [] | false ↦ hops (is_end plan) plan n hop.parent ]) ])
+      → In (elim o [ None ↦ [] | Some hop ↦ hop ∷ (elim (ends_walks plan hop.parent) [ true ↦ [] | false ↦ hops (ends_walks plan) plan n hop.parent ]) ])
       ⊎ In (hops (is_root plan) plan n plan.backup_root)
   cut_from n x None more a = elim a [ ]
   cut_from n x (Some hop) more a = cut_by n hop (is_root plan hop.parent) (is_backup_root plan hop.parent) refl (more hop.parent) a
 
-  cut : (n x : ℕ) → In (hops (is_root plan) plan n x) → In (hops (is_end plan) plan n x) ⊎ In (hops (is_root plan) plan n plan.backup_root)
+  cut : (n x : ℕ) → In (hops (is_root plan) plan n x) → In (hops (ends_walks plan) plan n x) ⊎ In (hops (is_root plan) plan n plan.backup_root)
   cut zero x a = elim a [ ]
   cut (suc n) x a = elim (cut_from n x (primary_of plan x) (cut n) a) [ inl in_ ↦ inl in_ | inr in_ ↦ inr (longer n plan.backup_root in_) ]
 
   cut_path : (net : Network) (x : ℕ) (r b : Bool) → b ≡ false → In (if r then [] else hops (is_root plan) plan net.params.depth x)
-      → In (if r then [] else hops (is_end plan) plan net.params.depth x) ⊎ In (if b then [] else hops (is_root plan) plan net.params.depth plan.backup_root)
+      → In (if r then [] else hops (ends_walks plan) plan net.params.depth x) ⊎ In (if b then [] else hops (is_root plan) plan net.params.depth plan.backup_root)
   cut_path net x true b other a = elim a [ ]
   cut_path net x false true other a = cc
   cut_path net x false false other a = cut net.params.depth x a
@@ -108,11 +108,11 @@ module _ (plan : Plan) where
 
   on_when : (n : ℕ) (hop : Hop) (b r : Bool) → nat_eq plan.backup_root hop.parent ≡ b → is_root plan hop.parent ≡ r
       → (b || has (map (λ (h : Hop). h.parent) (elim r [ true ↦ [] | false ↦ hops (is_root plan) plan n hop.parent ])) plan.backup_root) ≡ true
-      → (has (map (λ (h : Hop). h.parent) (hops (is_root plan) plan n hop.parent)) plan.backup_root ≡ true → On (hops (is_end plan) plan n hop.parent))
-      → On (hop ∷ (elim (r || b) [ true ↦ [] | false ↦ hops (is_end plan) plan n hop.parent ]))
+      → (has (map (λ (h : Hop). h.parent) (hops (is_root plan) plan n hop.parent)) plan.backup_root ≡ true → On (hops (ends_walks plan) plan n hop.parent))
+      → On (hop ∷ (elim (r || b) [ true ↦ [] | false ↦ hops (ends_walks plan) plan n hop.parent ]))
   on_when n hop true r is root on more =
       subst (λ z. Among (thing.Device z)
-      (thing.Link hop.link ∷ thing.Device hop.parent ∷ things_of (elim (r || true) [ true ↦ [] | false ↦ hops (is_end plan) plan n hop.parent ])))
+      (thing.Link hop.link ∷ thing.Device hop.parent ∷ things_of (elim (r || true) [ true ↦ [] | false ↦ hops (ends_walks plan) plan n hop.parent ])))
       (sym (eqb-true plan.backup_root hop.parent is)) (later first)
   on_when n hop false true is root on more = cc
   on_when n hop false false is root on more = later (later (more on))
@@ -121,18 +121,18 @@ module _ (plan : Plan) where
       → has (map (λ (h : Hop). h.parent)
       (elim o [ None ↦ [] | Some hop ↦ hop ∷ (elim (is_root plan hop.parent) [ true ↦ [] | false ↦ hops (is_root plan) plan n hop.parent ]) ]))
       plan.backup_root ≡ true
-      → ((y : ℕ) → has (map (λ (h : Hop). h.parent) (hops (is_root plan) plan n y)) plan.backup_root ≡ true → On (hops (is_end plan) plan n y))
-      → On (elim o [ None ↦ [] | Some hop ↦ hop ∷ (elim (is_end plan hop.parent) [ true ↦ [] | false ↦ hops (is_end plan) plan n hop.parent ]) ])
+      → ((y : ℕ) → has (map (λ (h : Hop). h.parent) (hops (is_root plan) plan n y)) plan.backup_root ≡ true → On (hops (ends_walks plan) plan n y))
+      → On (elim o [ None ↦ [] | Some hop ↦ hop ∷ (elim (ends_walks plan hop.parent) [ true ↦ [] | false ↦ hops (ends_walks plan) plan n hop.parent ]) ])
   on_by n x None on more = cc
   on_by n x (Some hop) on more = on_when n hop (nat_eq plan.backup_root hop.parent) (is_root plan hop.parent) refl refl on (more hop.parent)
 
-  on_hops : (n x : ℕ) → has (map (λ (h : Hop). h.parent) (hops (is_root plan) plan n x)) plan.backup_root ≡ true → On (hops (is_end plan) plan n x)
+  on_hops : (n x : ℕ) → has (map (λ (h : Hop). h.parent) (hops (is_root plan) plan n x)) plan.backup_root ≡ true → On (hops (ends_walks plan) plan n x)
   on_hops zero x on = cc
   on_hops (suc n) x on = on_by n x (primary_of plan x) on (on_hops n)
 
   on_path : (net : Network) (x : ℕ) (b : Bool)
       → has (map (λ (h : Hop). h.parent) (if b then [] else hops (is_root plan) plan net.params.depth x)) plan.backup_root ≡ true
-      → On (if b then [] else hops (is_end plan) plan net.params.depth x)
+      → On (if b then [] else hops (ends_walks plan) plan net.params.depth x)
   on_path net x true on = cc
   on_path net x false on = on_hops net.params.depth x on
 

@@ -10,7 +10,7 @@ use Rattle.sd_checker.specs.Topo.declared.Thing.TheVariants as thing
 use Rattle.sd_checker.specs.Plan.declared.Hop.{Hop}
 use Rattle.sd_checker.specs.Plan.declared.Plan.{Plan}
 use Rattle.sd_checker.specs.Plan.Plans.{IsHop, is_member, is_present, is_root, is_backup_root, primary_of}
-use Rattle.sd_checker.specs.Plan.Walks.{hops, walk, epath, things_of, end_of, is_end, on_walk}
+use Rattle.sd_checker.specs.Plan.Walks.{hops, walk, epath, things_of, end_of, ends_walks, on_walk}
 use Rattle.sd_checker.specs.Plan.Structure.{hop_is_right}
 use Rattle.sd_checker.proofs.Plan.Forest.{IsStep, IsForest, forest_of}
 use Rattle.sd_checker.proofs.Plan.Rules.{hops_within}
@@ -36,27 +36,27 @@ pub record IsCutClear (net : Network) (plan : Plan) (failed : List Thing) (y : �
 -- hops up to the first that leads to an end
 abbrev pub cut_off : Plan → List Hop → List Hop
 cut_off plan [] = []
-cut_off plan (h ∷ hs) = h ∷ (elim (is_end plan h.parent) [ true ↦ [] | false ↦ cut_off plan hs ])
+cut_off plan (h ∷ hs) = h ∷ (elim (ends_walks plan h.parent) [ true ↦ [] | false ↦ cut_off plan hs ])
 
 module _ (plan : Plan) where
-  by_ends : (n : ℕ) (hop : Hop) (r b : Bool) → hops (is_end plan) plan n hop.parent ≡ cut_off plan (hops (is_root plan) plan n hop.parent)
-      → ◌≡◌ {A = List Hop} (elim (r || b) [ true ↦ [] | false ↦ hops (is_end plan) plan n hop.parent ])
+  by_ends : (n : ℕ) (hop : Hop) (r b : Bool) → hops (ends_walks plan) plan n hop.parent ≡ cut_off plan (hops (is_root plan) plan n hop.parent)
+      → ◌≡◌ {A = List Hop} (elim (r || b) [ true ↦ [] | false ↦ hops (ends_walks plan) plan n hop.parent ])
       (elim (r || b) [ true ↦ [] | false ↦ cut_off plan (elim r [ true ↦ [] | false ↦ hops (is_root plan) plan n hop.parent ]) ])
   by_ends n hop true b more = refl
   by_ends n hop false true more = refl
   by_ends n hop false false more = more
 
-  by_hop : (n : ℕ) (o : Option Hop) → ((z : ℕ) → hops (is_end plan) plan n z ≡ cut_off plan (hops (is_root plan) plan n z))
+  by_hop : (n : ℕ) (o : Option Hop) → ((z : ℕ) → hops (ends_walks plan) plan n z ≡ cut_off plan (hops (is_root plan) plan n z))
       → (elim o as
       (λ (k : Option Hop). List Hop)
-      [ None ↦ [] | Some hop ↦ hop ∷ (elim (is_end plan hop.parent) [ true ↦ [] | false ↦ hops (is_end plan) plan n hop.parent ]) ])
+      [ None ↦ [] | Some hop ↦ hop ∷ (elim (ends_walks plan hop.parent) [ true ↦ [] | false ↦ hops (ends_walks plan) plan n hop.parent ]) ])
       ≡ cut_off plan
       (elim o as (λ (k : Option Hop). List Hop)
       [ None ↦ [] | Some hop ↦ hop ∷ (elim (is_root plan hop.parent) [ true ↦ [] | false ↦ hops (is_root plan) plan n hop.parent ]) ])
   by_hop n None more = refl
   by_hop n (Some hop) more = ap (λ (hs : List Hop). hop ∷ hs) (by_ends n hop (is_root plan hop.parent) (is_backup_root plan hop.parent) (more hop.parent))
 
-  cut_hops : (n y : ℕ) → hops (is_end plan) plan n y ≡ cut_off plan (hops (is_root plan) plan n y)
+  cut_hops : (n y : ℕ) → hops (ends_walks plan) plan n y ≡ cut_off plan (hops (is_root plan) plan n y)
   cut_hops zero y = refl
   cut_hops (suc n) y = by_hop n (primary_of plan y) (cut_hops n)
 
@@ -65,7 +65,7 @@ module _ (plan : Plan) where
   epath_is net y = go (is_root plan y)
     where
       go : (b : Bool)
-          → things_of (if b then [] else hops (is_end plan) plan net.params.depth y)
+          → things_of (if b then [] else hops (ends_walks plan) plan net.params.depth y)
           ≡ things_of (cut_off plan (if b then [] else hops (is_root plan) plan net.params.depth y))
       go true = refl
       go false = ap things_of (cut_hops net.params.depth y)
@@ -151,11 +151,11 @@ module _ (net : Network) (plan : Plan) (failed : List Thing) (fine : IsSound net
   cut_walk (hop ∷ hs) y is known member ordinary self none on =
       let s : Steps_ y hop hs = steps_at y hop hs is known member in
       let one = or_parts (is_among failed (thing.Link hop.link))
-      (is_among failed (thing.Device hop.parent) || touches failed (things_of (elim (is_end plan hop.parent) [ true ↦ [] | false ↦ cut_off plan hs ])))
+      (is_among failed (thing.Device hop.parent) || touches failed (things_of (elim (ends_walks plan hop.parent) [ true ↦ [] | false ↦ cut_off plan hs ])))
       none in
       let two = or_parts (is_among failed (thing.Device hop.parent))
-      (touches failed (things_of (elim (is_end plan hop.parent) [ true ↦ [] | false ↦ cut_off plan hs ]))) one.1 in
-      let rest : CutTail y hs (is_end plan hop.parent) hop =
+      (touches failed (things_of (elim (ends_walks plan hop.parent) [ true ↦ [] | false ↦ cut_off plan hs ]))) one.1 in
+      let rest : CutTail y hs (ends_walks plan hop.parent) hop =
       tail_by (λ z w k m o f n r. cut_walk hs z w k m o f n r) s two.1 two.0 (is_root plan hop.parent) refl (is_backup_root plan hop.parent) refl in
       record {
         clear =
@@ -175,7 +175,7 @@ module _ (net : Network) (plan : Plan) (failed : List Thing) (fine : IsSound net
             })
             rest.0;
         ends = rest.1;
-        short = longer (length (elim (is_end plan hop.parent) as (λ (k : Bool). List Hop) [ true ↦ [] | false ↦ cut_off plan hs ])) (length hs) rest.2;
+        short = longer (length (elim (ends_walks plan hop.parent) as (λ (k : Bool). List Hop) [ true ↦ [] | false ↦ cut_off plan hs ])) (length hs) rest.2;
       }
     where
       longer : (a n : ℕ) → a + 1 ≤ n → suc a + 1 ≤ suc n
@@ -187,9 +187,9 @@ module _ (net : Network) (plan : Plan) (failed : List Thing) (fine : IsSound net
       tail_by : ((z : ℕ) → walk net plan z ≡ hs → z < length net.devices → is_member plan z ≡ true → is_backup_root plan z ≡ false
           → is_among failed (thing.Device z) ≡ false → touches failed (things_of (cut_off plan hs)) ≡ false
           → has (map (λ (h : Hop). h.parent) hs) plan.backup_root ≡ true → CutWalk net plan failed z hs) → Steps_ y hop hs
-          → touches failed (things_of (elim (is_end plan hop.parent) [ true ↦ [] | false ↦ cut_off plan hs ])) ≡ false
+          → touches failed (things_of (elim (ends_walks plan hop.parent) [ true ↦ [] | false ↦ cut_off plan hs ])) ≡ false
           → is_among failed (thing.Device hop.parent) ≡ false → (r : Bool) → is_root plan hop.parent ≡ r → (b : Bool) → is_backup_root plan hop.parent ≡ b
-          → CutTail y hs (is_end plan hop.parent) hop
+          → CutTail y hs (ends_walks plan hop.parent) hop
       tail_by again s missed parent r root true backup =
           subst (λ e. CutTail y hs e hop) (sym (ap (λ c. is_root plan hop.parent || c) backup ∙ or_true (is_root plan hop.parent))) (
             over,
@@ -209,9 +209,9 @@ module _ (net : Network) (plan : Plan) (failed : List Thing) (fine : IsSound net
           nothing [] is' on' = cc
           nothing (k ∷ l) is' on' = cc
       tail_by again s missed parent false root false backup =
-          let low : is_end plan hop.parent ≡ false = or_from (is_root plan hop.parent) (is_backup_root plan hop.parent) root backup in
+          let low : ends_walks plan hop.parent ≡ false = or_from (is_root plan hop.parent) (is_backup_root plan hop.parent) root backup in
           let c : CutWalk net plan failed hop.parent hs =
-          again hop.parent s.rest s.known s.member backup parent (more_missed (is_end plan hop.parent) hop hs low missed)
+          again hop.parent s.rest s.known s.member backup parent (more_missed (ends_walks plan hop.parent) hop hs low missed)
           (on_more (nat_eq plan.backup_root hop.parent) (has (map (λ (h : Hop). h.parent) hs) plan.backup_root) backup on) in
           subst (λ e. CutTail y hs e hop) (sym low) (c.clear, c.ends, c.short)
 

@@ -10,7 +10,7 @@ use Rattle.sd_checker.specs.Topo.declared.Thing.TheVariants as thing
 use Rattle.sd_checker.specs.Plan.declared.Hop.{Hop}
 use Rattle.sd_checker.specs.Plan.declared.Plan.{Plan}
 use Rattle.sd_checker.specs.Plan.Plans.{is_member, is_root, is_backup_root, primary_of}
-use Rattle.sd_checker.specs.Plan.Walks.{hops, walk, path, epath, things_of, end_of, is_end, on_walk}
+use Rattle.sd_checker.specs.Plan.Walks.{hops, walk, path, epath, things_of, end_of, ends_walks, on_walk}
 use Rattle.sd_checker.proofs.Plan.Rules.{KeepsRules}
 use Rattle.sd_history.proofs.Among.{Among, first, later}
 use Rattle.sd_proof_safety.proofs.invariant.Sides.{implied, not_both}
@@ -30,39 +30,39 @@ module _ (plan : Plan) where
   abbrev Misses : ℕ → List Hop → Type 0
   Misses x hs = has (map (λ (h : Hop). h.parent) hs) plan.backup_root ≡ false
 
-  other_end : (x : ℕ) → is_root plan x ≡ false → nat_eq plan.backup_root x ≡ false → is_end plan x ≡ false
+  other_end : (x : ℕ) → is_root plan x ≡ false → nat_eq plan.backup_root x ≡ false → ends_walks plan x ≡ false
   other_end x root backup = or_from (is_root plan x) (is_backup_root plan x) root backup
 
   same_cut : (n : ℕ) (hop : Hop) (b : Bool) → is_root plan hop.parent ≡ b
       → has (map (λ (h : Hop). h.parent) (hop ∷ (elim b [ true ↦ [] | false ↦ hops (is_root plan) plan n hop.parent ]))) plan.backup_root ≡ false
-      → (Misses hop.parent (hops (is_root plan) plan n hop.parent) → hops (is_end plan) plan n hop.parent ≡ hops (is_root plan) plan n hop.parent)
-      → (hop ∷ (elim (is_end plan hop.parent) [ true ↦ [] | false ↦ hops (is_end plan) plan n hop.parent ]))
+      → (Misses hop.parent (hops (is_root plan) plan n hop.parent) → hops (ends_walks plan) plan n hop.parent ≡ hops (is_root plan) plan n hop.parent)
+      → (hop ∷ (elim (ends_walks plan hop.parent) [ true ↦ [] | false ↦ hops (ends_walks plan) plan n hop.parent ]))
       ≡ (hop ∷ (elim b [ true ↦ [] | false ↦ hops (is_root plan) plan n hop.parent ]))
   same_cut n hop true is misses more =
-      ap (λ e. hop ∷ (elim e [ true ↦ [] | false ↦ hops (is_end plan) plan n hop.parent ])) (ap (λ r. r || is_backup_root plan hop.parent) is)
+      ap (λ e. hop ∷ (elim e [ true ↦ [] | false ↦ hops (ends_walks plan) plan n hop.parent ])) (ap (λ r. r || is_backup_root plan hop.parent) is)
   same_cut n hop false is misses more =
       let parts = or_parts (nat_eq plan.backup_root hop.parent) _ misses in
-      ap (λ e. hop ∷ (elim e [ true ↦ [] | false ↦ hops (is_end plan) plan n hop.parent ])) (other_end hop.parent is parts.0)
+      ap (λ e. hop ∷ (elim e [ true ↦ [] | false ↦ hops (ends_walks plan) plan n hop.parent ])) (other_end hop.parent is parts.0)
       ∙ ap (λ hs. hop ∷ hs) (more parts.1)
 
   same_by : (n x : ℕ) (o : Option Hop)
       → has (map (λ (h : Hop). h.parent)
       (elim o [ None ↦ [] | Some hop ↦ hop ∷ (elim (is_root plan hop.parent) [ true ↦ [] | false ↦ hops (is_root plan) plan n hop.parent ]) ]))
       plan.backup_root ≡ false
-      → ((y : ℕ) → Misses y (hops (is_root plan) plan n y) → hops (is_end plan) plan n y ≡ hops (is_root plan) plan n y)
+      → ((y : ℕ) → Misses y (hops (is_root plan) plan n y) → hops (ends_walks plan) plan n y ≡ hops (is_root plan) plan n y)
       → ◌≡◌ {A = List Hop}
-      (elim o [ None ↦ [] | Some hop ↦ hop ∷ (elim (is_end plan hop.parent) [ true ↦ [] | false ↦ hops (is_end plan) plan n hop.parent ]) ])
+      (elim o [ None ↦ [] | Some hop ↦ hop ∷ (elim (ends_walks plan hop.parent) [ true ↦ [] | false ↦ hops (ends_walks plan) plan n hop.parent ]) ])
       (elim o [ None ↦ [] | Some hop ↦ hop ∷ (elim (is_root plan hop.parent) [ true ↦ [] | false ↦ hops (is_root plan) plan n hop.parent ]) ])
   same_by n x None misses more = refl
   same_by n x (Some hop) misses more = same_cut n hop (is_root plan hop.parent) refl misses (more hop.parent)
 
-  same_hops : (n x : ℕ) → Misses x (hops (is_root plan) plan n x) → hops (is_end plan) plan n x ≡ hops (is_root plan) plan n x
+  same_hops : (n x : ℕ) → Misses x (hops (is_root plan) plan n x) → hops (ends_walks plan) plan n x ≡ hops (is_root plan) plan n x
   same_hops zero x misses = refl
   same_hops (suc n) x misses = same_by n x (primary_of plan x) misses (same_hops n)
 
   same_path : (net : Network) (x : ℕ) (b : Bool)
       → has (map (λ (h : Hop). h.parent) (if b then [] else hops (is_root plan) plan net.params.depth x)) plan.backup_root ≡ false
-      → (if b then [] else hops (is_end plan) plan net.params.depth x) ≡ (if b then [] else hops (is_root plan) plan net.params.depth x)
+      → (if b then [] else hops (ends_walks plan) plan net.params.depth x) ≡ (if b then [] else hops (is_root plan) plan net.params.depth x)
   same_path net x true misses = refl
   same_path net x false misses = same_hops net.params.depth x misses
 
@@ -94,8 +94,8 @@ module _ (plan : Plan) where
     pass_first y h hs is (later (later a)) = inr a
 
     missed_when : (n : ℕ) (hop : Hop) (r e : Bool) → is_root plan hop.parent ≡ r → is_backup_root plan hop.parent ≡ e
-        → (plan.root ≡ hop.parent) ⊎ Passes (elim (r || e) [ true ↦ [] | false ↦ hops (is_end plan) plan n hop.parent ])
-        → (Passes (hops (is_end plan) plan n hop.parent) → Misses hop.parent (hops (is_root plan) plan n hop.parent))
+        → (plan.root ≡ hop.parent) ⊎ Passes (elim (r || e) [ true ↦ [] | false ↦ hops (ends_walks plan) plan n hop.parent ])
+        → (Passes (hops (ends_walks plan) plan n hop.parent) → Misses hop.parent (hops (is_root plan) plan n hop.parent))
         → has (map (λ (h : Hop). h.parent) (hop ∷ (elim r [ true ↦ [] | false ↦ hops (is_root plan) plan n hop.parent ]))) plan.backup_root ≡ false
     missed_when n hop true e root backup way more =
         or_from (nat_eq plan.backup_root hop.parent) false (subst (λ y. nat_eq plan.backup_root y ≡ false) (eqb-true plan.root hop.parent root) apart) refl
@@ -104,22 +104,22 @@ module _ (plan : Plan) where
     missed_when n hop false false root backup (inr a) more = or_from (nat_eq plan.backup_root hop.parent) _ backup (more a)
 
     missed_by : (n x : ℕ) (o : Option Hop)
-        → Passes (elim o [ None ↦ [] | Some hop ↦ hop ∷ (elim (is_end plan hop.parent) [ true ↦ [] | false ↦ hops (is_end plan) plan n hop.parent ]) ])
-        → ((y : ℕ) → Passes (hops (is_end plan) plan n y) → Misses y (hops (is_root plan) plan n y))
+        → Passes (elim o [ None ↦ [] | Some hop ↦ hop ∷ (elim (ends_walks plan hop.parent) [ true ↦ [] | false ↦ hops (ends_walks plan) plan n hop.parent ]) ])
+        → ((y : ℕ) → Passes (hops (ends_walks plan) plan n y) → Misses y (hops (is_root plan) plan n y))
         → has (map (λ (h : Hop). h.parent)
         (elim o [ None ↦ [] | Some hop ↦ hop ∷ (elim (is_root plan hop.parent) [ true ↦ [] | false ↦ hops (is_root plan) plan n hop.parent ]) ]))
         plan.backup_root ≡ false
     missed_by n x None a more = refl
     missed_by n x (Some hop) a more =
         missed_when n hop (is_root plan hop.parent) (is_backup_root plan hop.parent) refl refl
-        (pass_first (thing.Device plan.root) hop (elim (is_end plan hop.parent) [ true ↦ [] | false ↦ hops (is_end plan) plan n hop.parent ]) refl a)
+        (pass_first (thing.Device plan.root) hop (elim (ends_walks plan hop.parent) [ true ↦ [] | false ↦ hops (ends_walks plan) plan n hop.parent ]) refl a)
         (more hop.parent)
 
-    missed : (n x : ℕ) → Passes (hops (is_end plan) plan n x) → Misses x (hops (is_root plan) plan n x)
+    missed : (n x : ℕ) → Passes (hops (ends_walks plan) plan n x) → Misses x (hops (is_root plan) plan n x)
     missed zero x a = elim a [ ]
     missed (suc n) x a = missed_by n x (primary_of plan x) a (missed n)
 
-    missed_path : (net : Network) (x : ℕ) (b : Bool) → Passes (if b then [] else hops (is_end plan) plan net.params.depth x)
+    missed_path : (net : Network) (x : ℕ) (b : Bool) → Passes (if b then [] else hops (ends_walks plan) plan net.params.depth x)
         → has (map (λ (h : Hop). h.parent) (if b then [] else hops (is_root plan) plan net.params.depth x)) plan.backup_root ≡ false
     missed_path net x true a = elim a [ ]
     missed_path net x false a = missed net.params.depth x a

@@ -9,7 +9,8 @@ use Rattle.sd_history.specs.Msg.declared.Flight.{Flight}
 use Rattle.sd_history.specs.Msg.declared.Stamp.{Stamp}
 use Rattle.sd_history.specs.Sched.Events.{reference_of}
 use Rattle.sd_history.specs.World.{Setting, Seen}
-use Rattle.sd_history.specs.Premises.{sets_true_clock, start_holds, reads_honestly, drift_holds, arrives_in_time, delay_holds, ticks_in_time, tick_holds, flights, is_overdue, was_received, was_interrupted, spoils, spoiled_rounds, is_round, all_from, loss_holds, fails_within_one, domain_holds, commits_orderly, seals_orderly, fails_orderly, begins_orderly, renew_holds, all_hold}
+use Rattle.sd_history.specs.Sched.Honesty.{sets_true_clock}
+use Rattle.sd_history.specs.Premises.{start_holds, reads_honestly, drift_holds, arrives_in_time, delay_holds, ticks_in_time, tick_holds, reaching_flights, is_overdue, was_received, was_interrupted, spoils, spoiled_rounds, is_round, all_from, loss_holds, fails_within_one, domain_holds, commits_orderly, seals_orderly, fails_orderly, begins_orderly, renew_holds, all_hold}
 use Rattle.sd_history.specs.Sched.declared.Event.{Event}
 use Rattle.sd_history.specs.Steps.{seen_of}
 use Rattle.sd_history.specs.Chronicle.{next_step, chronicle}
@@ -115,9 +116,9 @@ stays_spoiled s seen f spoiled =
 
 rounds_grow : (s : Seen) (seen : List Seen) → IsWithin (spoiled_rounds seen) (spoiled_rounds (s ∷ seen))
 rounds_grow s seen r a =
-    let i : IsImage (spoils seen) (λ f. f.message.stamp) (flights seen) r = image_of (spoils seen) (λ f. f.message.stamp) (flights seen) r a in
+    let i : IsImage (spoils seen) (λ f. f.message.stamp) (reaching_flights seen) r = image_of (spoils seen) (λ f. f.message.stamp) (reaching_flights seen) r a in
     subst (λ z. Among z (spoiled_rounds (s ∷ seen))) i.image
-    (to_image (spoils (s ∷ seen)) (λ f. f.message.stamp) (flights (s ∷ seen)) i.one (on_right s.sent i.there) (stays_spoiled s seen i.one i.passed))
+    (to_image (spoils (s ∷ seen)) (λ f. f.message.stamp) (reaching_flights (s ∷ seen)) i.one (on_right s.sent i.there) (stays_spoiled s seen i.one i.passed))
 
 from_within : (rounds more : List Stamp) (term round k : ℕ) → IsWithin rounds more → all_from rounds term round k ≡ true → all_from more term round k ≡ true
 from_within rounds more term round k within all =
@@ -143,7 +144,7 @@ loss_before setting s seen holds =
 pub premises_before : (setting : Setting) (s : Seen) (seen : List Seen) → AllHold setting (s ∷ seen) → AllHold setting seen
 premises_before setting s seen h =
     record {
-      start = (and_parts (sets_true_clock s) (start_holds seen) h.start).1;
+      start = (and_parts (sets_true_clock s.event) (start_holds seen) h.start).1;
       drift = (and_parts (drift_holds setting seen) (reads_honestly setting s seen) h.drift).0;
       delay = (and_parts (arrives_in_time setting s) (delay_holds setting seen) h.delay).1;
       tick = (and_parts (tick_holds setting seen) (ticks_in_time setting s seen) h.tick).0;

@@ -10,7 +10,7 @@ use Rattle.sd_checker.specs.Topo.Network.{Network}
 use Rattle.sd_checker.specs.Plan.declared.Hop.{Hop}
 use Rattle.sd_checker.specs.Plan.declared.Plan.{Plan}
 use Rattle.sd_checker.specs.Plan.Plans.{Fits, IsHop, is_member, is_present, is_root, is_backup_root, primary_of, backup_of}
-use Rattle.sd_checker.specs.Plan.Walks.{walk, devices_of, end_of, is_end, is_hit}
+use Rattle.sd_checker.specs.Plan.Walks.{walk, devices_of, end_of, ends_walks, is_hit}
 use Rattle.sd_checker.specs.Plan.Structure.{hop_is_right}
 use Rattle.sd_checker.proofs.Plan.Rules.{KeepsRules, hops_within}
 use Rattle.sd_checker.specs.CheckRoot.Roots.{fallback_devices}
@@ -187,21 +187,21 @@ module _ (setting : Setting) (history : List Event) (inv : Invariant setting (ch
   allowed false is_last h p b hop m l way = cc
 
   module _ (held : Holding setting (chronicle setting history)) where
-    edge_when : (x y : ℕ) (m : Bool) → moved steps x ≡ m → is_member plan x ≡ true → is_end plan x ≡ false → (m ≡ true → hit setting steps x ≡ true)
+    edge_when : (x y : ℕ) (m : Bool) → moved steps x ≡ m → is_member plan x ≡ true → ends_walks plan x ≡ false → (m ≡ true → hit setting steps x ≡ true)
         → Over (if m then backup_of plan x else primary_of plan x) y → IsEdge net plan held.domain x y
     edge_when x y true is member end_ hits over =
         record {
           hop = over.hop;
           leads = over.leads;
           allowed =
-              allowed (is_member plan x) (is_end plan x) (is_hit net plan held.domain x) (primary_of plan x) (backup_of plan x) over.hop member end_
+              allowed (is_member plan x) (ends_walks plan x) (is_hit net plan held.domain x) (primary_of plan x) (backup_of plan x) over.hop member end_
               (inr (hit_is_hit setting steps held x (hits refl), over.is));
         }
     edge_when x y false is member end_ hits over =
         record {
           hop = over.hop;
           leads = over.leads;
-          allowed = allowed (is_member plan x) (is_end plan x) (is_hit net plan held.domain x) (primary_of plan x) (backup_of plan x) over.hop member end_
+          allowed = allowed (is_member plan x) (ends_walks plan x) (is_hit net plan held.domain x) (primary_of plan x) (backup_of plan x) over.hop member end_
               (inl over.is);
         }
 

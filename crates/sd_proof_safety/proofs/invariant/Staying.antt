@@ -11,7 +11,7 @@ use Rattle.sd_checker.specs.Domain.Things.{same_thing}
 use Rattle.sd_checker.specs.Plan.declared.Hop.{Hop}
 use Rattle.sd_checker.specs.Plan.declared.Plan.{Plan}
 use Rattle.sd_checker.specs.Plan.Plans.{Fits, IsHop, is_member, is_present, is_root, is_backup_root, primary_of, backup_of}
-use Rattle.sd_checker.specs.Plan.Walks.{hops, walk, short_path, epath, things_of, devices_of, links_of, end_of, is_end, on_walk}
+use Rattle.sd_checker.specs.Plan.Walks.{hops, walk, short_path, epath, things_of, devices_of, links_of, end_of, ends_walks, on_walk}
 use Rattle.sd_checker.specs.Plan.Structure.{is_no_ancestor, hop_is_right}
 use Rattle.sd_checker.proofs.Plan.Rules.{KeepsRules, keeps_rules, hops_within}
 use Rattle.sd_checker.proofs.Plan.Numbered.{none_found}
@@ -79,27 +79,27 @@ module _ (plan : Plan) where
     lies_further x hop rest here more h first = record { hop = here.hop; parent = here.parent }
     lies_further x hop rest here more h (later a) = more h a
 
-    lies_when : (n x : ℕ) (hop : Hop) (b : Bool) → is_end plan hop.parent ≡ b → IsOnward x hop hs (devices_of z hs)
-        → (is_root plan hop.parent ≡ false → Lies (hops (is_end plan) plan n hop.parent))
-        → Lies (hop ∷ (elim b [ true ↦ [] | false ↦ hops (is_end plan) plan n hop.parent ]))
+    lies_when : (n x : ℕ) (hop : Hop) (b : Bool) → ends_walks plan hop.parent ≡ b → IsOnward x hop hs (devices_of z hs)
+        → (is_root plan hop.parent ≡ false → Lies (hops (ends_walks plan) plan n hop.parent))
+        → Lies (hop ∷ (elim b [ true ↦ [] | false ↦ hops (ends_walks plan) plan n hop.parent ]))
     lies_when n x hop true is here more = lies_further x hop [] here (λ h a. elim a [ ])
     lies_when n x hop false is here more =
-        lies_further x hop (hops (is_end plan) plan n hop.parent) here (more (or_parts (is_root plan hop.parent) (is_backup_root plan hop.parent) is).0)
+        lies_further x hop (hops (ends_walks plan) plan n hop.parent) here (more (or_parts (is_root plan hop.parent) (is_backup_root plan hop.parent) is).0)
 
     lies_by : (n x : ℕ) (o : Option Hop) → primary_of plan x ≡ o → Among x (devices_of z hs) → is_root plan x ≡ false
-        → ((y : ℕ) → Among y (devices_of z hs) → is_root plan y ≡ false → Lies (hops (is_end plan) plan n y))
-        → Lies (elim o [ None ↦ [] | Some hop ↦ hop ∷ (elim (is_end plan hop.parent) [ true ↦ [] | false ↦ hops (is_end plan) plan n hop.parent ]) ])
+        → ((y : ℕ) → Among y (devices_of z hs) → is_root plan y ≡ false → Lies (hops (ends_walks plan) plan n y))
+        → Lies (elim o [ None ↦ [] | Some hop ↦ hop ∷ (elim (ends_walks plan hop.parent) [ true ↦ [] | false ↦ hops (ends_walks plan) plan n hop.parent ]) ])
     lies_by n x None at a other more = λ h b. elim b [ ]
     lies_by n x (Some hop) at a other more =
         let here : IsOnward x hop hs (devices_of z hs) = on x hop a other to_root at in
-        lies_when n x hop (is_end plan hop.parent) refl here (λ root. more hop.parent here.parent root)
+        lies_when n x hop (ends_walks plan hop.parent) refl here (λ root. more hop.parent here.parent root)
 
-    lies : (n x : ℕ) → Among x (devices_of z hs) → is_root plan x ≡ false → Lies (hops (is_end plan) plan n x)
+    lies : (n x : ℕ) → Among x (devices_of z hs) → is_root plan x ≡ false → Lies (hops (ends_walks plan) plan n x)
     lies zero x a other = λ h b. elim b [ ]
     lies (suc n) x a other = lies_by n x (primary_of plan x) refl a other (λ y b root. lies n y b root)
 
     path_when : (net : Network) (x : ℕ) (b : Bool) → is_root plan x ≡ b → Among x (devices_of z hs) → is_root plan x ≡ false
-        → Lies (if b then [] else hops (is_end plan) plan net.params.depth x)
+        → Lies (if b then [] else hops (ends_walks plan) plan net.params.depth x)
     path_when net x true is a other = λ h b. elim b [ ]
     path_when net x false is a other = lies net.params.depth x a other
 
@@ -242,7 +242,7 @@ module _ (net : Network) (plan : Plan) (fits : Fits net plan) (accepted : IsAcce
   ancestor_when : (o : Option Hop) (hop : Hop) (b : Bool) → o ≡ Some hop → b ≡ true
       → of_some o true
       (λ h. if b then not (on_walk net plan h.parent plan.backup_root) else not
-      (has (devices_of h.parent (if is_end plan h.parent then [] else short_path net plan h.parent)) plan.backup_root)) ≡ true
+      (has (devices_of h.parent (if ends_walks plan h.parent then [] else short_path net plan h.parent)) plan.backup_root)) ≡ true
       → on_walk net plan hop.parent plan.backup_root ≡ false
   ancestor_when None hop b is yes_ clause = cc
   ancestor_when (Some h) hop false is yes_ clause = cc

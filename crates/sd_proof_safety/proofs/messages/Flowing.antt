@@ -49,8 +49,8 @@ sent_is setting p x m is s =
 pub seen_sent : (setting : Setting) (p : Moment) → IsChronicle setting (upto p) → p.step.seen.sent ≡ filter (λ f. f.reaches) p.step.sent
 seen_sent setting p is = ap (λ y. y.seen.sent) is.1 ∙ ap (filter (λ f. f.reaches)) (sym (ap (λ y. y.sent) is.1))
 
-seen_in : (p : Moment) (steps : List Step) (f : Flight) → IsIn p steps → Among f p.step.seen.sent → Among f (premises.flights (seen_of steps))
-seen_in p steps f whole a = on_left p.step.seen.sent (premises.flights (seen_of p.earlier)) a
+seen_in : (p : Moment) (steps : List Step) (f : Flight) → IsIn p steps → Among f p.step.seen.sent → Among f (premises.reaching_flights (seen_of steps))
+seen_in p steps f whole a = on_left p.step.seen.sent (premises.reaching_flights (seen_of p.earlier)) a
 seen_in p (s ∷ steps) f (behind t) a = on_right s.seen.sent (seen_in p steps f t a)
 
 -- the flight over an end that the sender has, where the link is whole and the device up

@@ -6,7 +6,8 @@ use Rattle.sd_checker.specs.Num.Lists.{below}
 use Rattle.sd_history.specs.Msg.declared.Stamp.{Stamp}
 use Rattle.sd_history.specs.World.{Setting}
 use Rattle.sd_history.specs.Steps.{Step, seen_of}
-use Rattle.sd_history.specs.Premises.{sets_true_clock, reads_honestly, arrives_in_time, ticks_in_time, spoiled_rounds, all_from, loss_holds, fails_within_one, commits_orderly, seals_orderly, fails_orderly, begins_orderly, all_hold}
+use Rattle.sd_history.specs.Sched.Honesty.{sets_true_clock}
+use Rattle.sd_history.specs.Premises.{reads_honestly, arrives_in_time, ticks_in_time, spoiled_rounds, all_from, loss_holds, fails_within_one, commits_orderly, seals_orderly, fails_orderly, begins_orderly, all_hold}
 use Rattle.sd_history.proofs.Among.{passes, all_pass}
 use Rattle.sd_history.proofs.Parts.{AllHold, premises_of, premises_hold}
 use Rattle.sd_proof_safety.specs.messages.Moments.{Tail}
@@ -46,7 +47,7 @@ loss_before setting older steps t holds =
 pub premises_before : (setting : Setting) (older steps : List Step) → Tail older steps → AllHold setting (seen_of steps) → AllHold setting (seen_of older)
 premises_before setting older steps t p =
     record {
-      start = tail_all sets_true_clock t p.start;
+      start = tail_all (λ s. sets_true_clock s.event) t p.start;
       drift = tail_each (reads_honestly setting) t p.drift;
       delay = tail_all (arrives_in_time setting) t p.delay;
       tick = tail_each (ticks_in_time setting) t p.tick;

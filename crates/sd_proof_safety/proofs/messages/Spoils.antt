@@ -11,7 +11,7 @@ use Rattle.sd_history.specs.Msg.declared.Flight.{Flight}
 use Rattle.sd_history.specs.Sched.Events.{reference_of}
 use Rattle.sd_history.specs.World.{Seen, fails, latest_reference}
 use Rattle.sd_history.specs.Steps.{Step, seen_of}
-use Rattle.sd_history.specs.Premises.{flights, since_sending, was_received, is_overdue, was_interrupted, spoils, spoiled_rounds, is_round}
+use Rattle.sd_history.specs.Premises.{reaching_flights, seen_since_sending, was_received, is_overdue, was_interrupted, spoils, spoiled_rounds, is_round}
 use Rattle.sd_history.proofs.Among.{Among, first, later, on_right}
 use Rattle.sd_proof_safety.specs.messages.Moments.{Tail, whole, behind, Moment, upto, when, IsIn, IsBefore}
 use Rattle.sd_proof_safety.specs.messages.Rounds.{is_spoiled}
@@ -73,18 +73,18 @@ mapped f x xs (later {y = y} {xs = ys} a) = later (mapped f x ys a)
 -- Spoiled rounds
 
 -- a round of which a flight is spoiled is spoiled
-pub spoiled_from : (seen : List Seen) (f : Flight) (term round : ℕ) → Among f (flights seen) → is_round f.message.stamp term round ≡ true → spoils seen f ≡ true
+pub spoiled_from : (seen : List Seen) (f : Flight) (term round : ℕ) → Among f (reaching_flights seen) → is_round f.message.stamp term round ≡ true → spoils seen f ≡ true
     → is_spoiled seen term round ≡ true
 spoiled_from seen f term round a is bad =
     any_from (λ other. is_round other term round) f.message.stamp (spoiled_rounds seen)
-    (mapped (λ g. g.message.stamp) f (filter (spoils seen) (flights seen)) (filtered (spoils seen) f (flights seen) a bad)) is
+    (mapped (λ g. g.message.stamp) f (filter (spoils seen) (reaching_flights seen)) (filtered (spoils seen) f (reaching_flights seen) a bad)) is
 
 false_from : (b : Bool) → (b ≡ true → ⊥) → b ≡ false
 false_from true none = absurd (none refl)
 false_from false none = refl
 
 -- so no flight of a clean round is
-pub clean_flight : (seen : List Seen) (f : Flight) (stamp : Stamp) → Among f (flights seen) → f.message.stamp ≡ stamp
+pub clean_flight : (seen : List Seen) (f : Flight) (stamp : Stamp) → Among f (reaching_flights seen) → f.message.stamp ≡ stamp
     → is_spoiled seen stamp.term stamp.round ≡ false → spoils seen f ≡ false
 clean_flight seen f stamp a carries clean =
     false_from (spoils seen f) (λ bad. clash (spoiled_from seen f stamp.term stamp.round a itself bad))
@@ -163,24 +163,24 @@ head_or : {A : Type 0} (s y : A) (xs : List A) → Among s (y ∷ xs) → (y ≡
 head_or s y xs first = inl refl
 head_or s y xs (later a) = inr a
 
-since_head : (x : Step) (rest : List Step) (from : Moment) (n : ℕ) (s : Seen) → IsIn from rest → (x.seen ≡ s) ⊎ Among s (since_sending (seen_of rest) n)
-    → (Among s (since_sending (seen_of rest) n) → Since rest from s) → Since (x ∷ rest) from s
+since_head : (x : Step) (rest : List Step) (from : Moment) (n : ℕ) (s : Seen) → IsIn from rest → (x.seen ≡ s) ⊎ Among s (seen_since_sending (seen_of rest) n)
+    → (Among s (seen_since_sending (seen_of rest) n) → Since rest from s) → Since (x ∷ rest) from s
 since_head x rest from n s t (inl is) before = record { moment = record { step = x; earlier = rest }; is_in = whole; after = t; is = is }
 since_head x rest from n s t (inr a) before = let found = before a in
     record { moment = found.moment; is_in = behind found.is_in; after = found.after; is = found.is }
 
 since_by : (x : Step) (rest : List Step) (from : Moment) (n : ℕ) (s : Seen) (b : Bool) → IsIn from rest
-    → Among s (cond b (x.seen ∷ since_sending (seen_of rest) n) []) → (Among s (since_sending (seen_of rest) n) → Since rest from s) → Since (x ∷ rest) from s
+    → Among s (cond b (x.seen ∷ seen_since_sending (seen_of rest) n) []) → (Among s (seen_since_sending (seen_of rest) n) → Since rest from s) → Since (x ∷ rest) from s
 since_by x rest from n s false t a before = elim a [ ]
-since_by x rest from n s true t a before = since_head x rest from n s t (head_or s x.seen (since_sending (seen_of rest) n) a) before
+since_by x rest from n s true t a before = since_head x rest from n s t (head_or s x.seen (seen_since_sending (seen_of rest) n) a) before
 
 pub since_after : (steps : List Step) (from : Moment) (f : Flight) → IsIn from steps → Among f from.step.seen.sent → (s : Seen)
-    → Among s (since_sending (seen_of steps) f.number) → Since steps from s
+    → Among s (seen_since_sending (seen_of steps) f.number) → Since steps from s
 since_after [] from f t sent s a = elim t [ ]
 since_after (x ∷ rest) from f whole sent s a =
     let has : list_any (λ g. nat_eq g.number f.number) x.seen.sent ≡ true =
     any_from (λ g. nat_eq g.number f.number) f x.seen.sent sent (eq-eqb f.number f.number refl) in
-    let none : Among s [] = subst (λ b. Among s (cond (not b) (x.seen ∷ since_sending (seen_of rest) f.number) [])) has a in
+    let none : Among s [] = subst (λ b. Among s (cond (not b) (x.seen ∷ seen_since_sending (seen_of rest) f.number) [])) has a in
     elim none [ ]
 since_after (x ∷ rest) from f (behind t) sent s a =
     since_by x rest from f.number s (not (list_any (λ g. nat_eq g.number f.number) x.seen.sent)) t a (since_after rest from f t sent s)
@@ -245,7 +245,7 @@ clean_is_received steps from f t sent over clean o inside whole_ =
     unharmed : was_interrupted (seen_of (upto o.moment)) f ≡ false
     unharmed =
         none_any (λ s. fails (thing.Device f.sender) s.event || fails (thing.Device f.receiver) s.event || fails (thing.Link f.link) s.event)
-        (since_sending (seen_of (upto o.moment)) f.number)
+        (seen_since_sending (seen_of (upto o.moment)) f.number)
         (λ s a.
         let found = since_after (upto o.moment) from f inside sent s a in
         let none = whole_ found.moment found.is_in found.after in
@@ -280,18 +280,18 @@ pub spoils_stays : (older steps : List Step) (f : Flight) → Tail older steps �
 spoils_stays older steps f whole bad = bad
 spoils_stays older (s ∷ steps) f (behind t) bad = spoils_on s.seen (seen_of steps) f (spoils_stays older steps f t bad)
 
-flights_on : (older steps : List Step) (f : Flight) → Tail older steps → Among f (flights (seen_of older)) → Among f (flights (seen_of steps))
+flights_on : (older steps : List Step) (f : Flight) → Tail older steps → Among f (reaching_flights (seen_of older)) → Among f (reaching_flights (seen_of steps))
 flights_on older steps f whole a = a
 flights_on older (s ∷ steps) f (behind t) a = on_right s.seen.sent (flights_on older steps f t a)
 
 -- a flight of which the round is spoiled
 record SpoiledFlight (seen : List Seen) (term round : ℕ) : Type 0 where
   flight : Flight
-  among : Among flight (flights seen)
+  among : Among flight (reaching_flights seen)
   bad : spoils seen flight ≡ true
   is : is_round flight.message.stamp term round ≡ true
 
-unmapped : (seen : List Seen) (term round : ℕ) (fs : List Flight) → ((f : Flight) → Among f fs → Among f (flights seen) × (spoils seen f ≡ true)) → (s : Stamp)
+unmapped : (seen : List Seen) (term round : ℕ) (fs : List Flight) → ((f : Flight) → Among f fs → Among f (reaching_flights seen) × (spoils seen f ≡ true)) → (s : Stamp)
     → is_round s term round ≡ true → Among s (map (λ f. f.message.stamp) fs) → SpoiledFlight seen term round
 unmapped seen term round [] each s is a = elim a [ ]
 unmapped seen term round (f ∷ fs) each s is a =
@@ -306,7 +306,7 @@ unmapped seen term round (f ∷ fs) each s is a =
 spoiled_by : (seen : List Seen) (term round : ℕ) → is_spoiled seen term round ≡ true → SpoiledFlight seen term round
 spoiled_by seen term round spoiled =
     let p = any_passing (λ other. is_round other term round) (spoiled_rounds seen) spoiled in
-    unmapped seen term round (filter (spoils seen) (flights seen)) (λ f a. unfiltered (spoils seen) f (flights seen) a) p.element p.passes p.among
+    unmapped seen term round (filter (spoils seen) (reaching_flights seen)) (λ f a. unfiltered (spoils seen) f (reaching_flights seen) a) p.element p.passes p.among
 
 -- so a round that is clean at an event was clean before
 pub clean_before : (older steps : List Step) (term round : ℕ) → Tail older steps → is_spoiled (seen_of steps) term round ≡ false

@@ -16,7 +16,7 @@ use Rattle.sd_checker.specs.Domain.Domains.{holds, holds_device, holds_link}
 use Rattle.sd_checker.specs.Plan.declared.Hop.{Hop}
 use Rattle.sd_checker.specs.Plan.declared.Plan.{Plan}
 use Rattle.sd_checker.specs.Plan.Plans.{is_member, is_present, is_root, is_backup_root, primary_of, backup_of, IsHop}
-use Rattle.sd_checker.specs.Plan.Walks.{hops, walk, path, epath, things_of, devices_of, links_of, end_of, is_end}
+use Rattle.sd_checker.specs.Plan.Walks.{hops, walk, path, epath, things_of, devices_of, links_of, end_of, ends_walks}
 use Rattle.sd_checker.specs.Plan.Structure.{hop_is_right, hops_are_right}
 use Rattle.sd_checker.proofs.Plan.Rules.{keeps_rules, hops_within}
 use Rattle.sd_checker.specs.CheckRoot.Roots.{fallback_devices, fallback_links}
@@ -97,15 +97,15 @@ joined_is_staged setting (e ∷ history) is x joined_ = by s.seen.closed refl (i
 -- Where a walk ends
 
 -- a walk cut at root and backup root ends there, where the whole one ends at the root
-cut_ends : (plan : Plan) (n y : ℕ) → is_root plan (end_of y (hops (is_root plan) plan n y)) ≡ true → is_end plan (end_of y (hops (is_end plan) plan n y)) ≡ true
+cut_ends : (plan : Plan) (n y : ℕ) → is_root plan (end_of y (hops (is_root plan) plan n y)) ≡ true → ends_walks plan (end_of y (hops (ends_walks plan) plan n y)) ≡ true
 cut_ends plan zero y ends = or_left (is_root plan y) (is_backup_root plan y) ends
 cut_ends plan (suc n) y ends = by (primary_of plan y) ends (cut_ends plan n)
   where
     on : (hop : Hop) (r b : Bool) → is_root plan hop.parent ≡ r → is_backup_root plan hop.parent ≡ b
         → is_root plan (end_of hop.parent (elim r as (λ (k : Bool). List Hop) [ true ↦ [] | false ↦ hops (is_root plan) plan n hop.parent ])) ≡ true
         → (is_root plan (end_of hop.parent (hops (is_root plan) plan n hop.parent)) ≡ true
-        → is_end plan (end_of hop.parent (hops (is_end plan) plan n hop.parent)) ≡ true)
-        → is_end plan (end_of hop.parent (elim (r || b) as (λ (k : Bool). List Hop) [ true ↦ [] | false ↦ hops (is_end plan) plan n hop.parent ])) ≡ true
+        → ends_walks plan (end_of hop.parent (hops (ends_walks plan) plan n hop.parent)) ≡ true)
+        → ends_walks plan (end_of hop.parent (elim (r || b) as (λ (k : Bool). List Hop) [ true ↦ [] | false ↦ hops (ends_walks plan) plan n hop.parent ])) ≡ true
     on hop true b root backup ends' rest = or_left (is_root plan hop.parent) (is_backup_root plan hop.parent) root
     on hop false true root backup ends' rest = or_right (is_root plan hop.parent) (is_backup_root plan hop.parent) backup
     on hop false false root backup ends' rest = rest ends'
@@ -115,11 +115,11 @@ cut_ends plan (suc n) y ends = by (primary_of plan y) ends (cut_ends plan n)
         (end_of y (elim o as
         (λ (k : Option Hop). List Hop)
         [ None ↦ [] | Some hop ↦ hop ∷ (elim (is_root plan hop.parent) [ true ↦ [] | false ↦ hops (is_root plan) plan n hop.parent ]) ])) ≡ true
-        → ((z : ℕ) → is_root plan (end_of z (hops (is_root plan) plan n z)) ≡ true → is_end plan (end_of z (hops (is_end plan) plan n z)) ≡ true)
-        → is_end plan
+        → ((z : ℕ) → is_root plan (end_of z (hops (is_root plan) plan n z)) ≡ true → ends_walks plan (end_of z (hops (ends_walks plan) plan n z)) ≡ true)
+        → ends_walks plan
         (end_of y (elim o as
         (λ (k : Option Hop). List Hop)
-        [ None ↦ [] | Some hop ↦ hop ∷ (elim (is_end plan hop.parent) [ true ↦ [] | false ↦ hops (is_end plan) plan n hop.parent ]) ])) ≡ true
+        [ None ↦ [] | Some hop ↦ hop ∷ (elim (ends_walks plan hop.parent) [ true ↦ [] | false ↦ hops (ends_walks plan) plan n hop.parent ]) ])) ≡ true
     by None ends' rest = or_left (is_root plan y) (is_backup_root plan y) ends'
     by (Some hop) ends' rest = on hop (is_root plan hop.parent) (is_backup_root plan hop.parent) refl refl ends' (rest hop.parent)
 
@@ -321,7 +321,7 @@ module _ {setting : Setting} (r d c : ℕ) (history : List Event) (comes : Comes
     -- one that is not hit is joined to the root or the backup root
     record Reached (x : ℕ) : Type 0 where
       to : ℕ
-      ends : is_end (plan_now setting (chronicle setting history)) to ≡ true
+      ends : ends_walks (plan_now setting (chronicle setting history)) to ≡ true
       unfailed : device_failed_now (chronicle setting history) to ≡ false
       way : Way x to
 
@@ -329,16 +329,16 @@ module _ {setting : Setting} (r d c : ℕ) (history : List Event) (comes : Comes
         → is_root (plan_now setting (chronicle setting history)) x ≡ false
         → is_backup_root (plan_now setting (chronicle setting history)) x ≡ false → hit setting (chronicle setting history) x ≡ false → Reached x
     unhit_reaches x known member other apart unhit =
-        by (hops (is_end plan) plan net.params.depth x) (hops_primary (is_end plan) plan net.params.depth x)
+        by (hops (ends_walks plan) plan net.params.depth x) (hops_primary (ends_walks plan) plan net.params.depth x)
         (cut_ends plan net.params.depth x (sym (ap (λ b. is_root plan (end_of x (if b then [] else hops (is_root plan) plan net.params.depth x))) other)
         ∙ implied (is_member plan x) _ (sound.rules.reaches x known) member))
-        (sym (ap (λ b. touches failed (things_of (if b then [] else hops (is_end plan) plan net.params.depth x))) other) ∙ unhit)
+        (sym (ap (λ b. touches failed (things_of (if b then [] else hops (ends_walks plan) plan net.params.depth x))) other) ∙ unhit)
       where
         by : (hs : List Hop)
             → Walks (plan_now setting (chronicle setting history)) (λ z hop. primary_of (plan_now setting (chronicle setting history)) z ≡ Some hop) x hs
-            → is_end (plan_now setting (chronicle setting history)) (end_of x hs) ≡ true
+            → ends_walks (plan_now setting (chronicle setting history)) (end_of x hs) ≡ true
             → touches (failed_now (chronicle setting history)) (things_of hs) ≡ false → Reached x
-        by [] on ends clear = absurd (not_both (is_end plan x) ends (or_from (is_root plan x) (is_backup_root plan x) other apart))
+        by [] on ends clear = absurd (not_both (ends_walks plan x) ends (or_from (is_root plan x) (is_backup_root plan x) other apart))
         by (hop ∷ hs) on ends clear =
             record { to = end_of hop.parent hs; ends = ends; unfailed = end_is_among hop hs failed clear; way = walk_joins (hop ∷ hs) x on known clear }
 

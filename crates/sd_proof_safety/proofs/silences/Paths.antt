@@ -9,7 +9,7 @@ use Rattle.sd_checker.specs.Topo.declared.Thing.TheVariants as thing
 use Rattle.sd_checker.specs.Plan.declared.Hop.{Hop}
 use Rattle.sd_checker.specs.Plan.declared.Plan.{Plan}
 use Rattle.sd_checker.specs.Plan.Plans.{Fits, IsHop, is_member, is_present, is_root, is_backup_root, primary_of}
-use Rattle.sd_checker.specs.Plan.Walks.{hops, walk, path, epath, things_of, end_of, is_end}
+use Rattle.sd_checker.specs.Plan.Walks.{hops, walk, path, epath, things_of, end_of, ends_walks}
 use Rattle.sd_checker.specs.Plan.Structure.{hop_is_right}
 use Rattle.sd_checker.proofs.Plan.Rules.{KeepsRules, hops_within}
 use Rattle.sd_proof_safety.specs.invariant.Eras.{is_among, touches}
@@ -129,8 +129,8 @@ module _ (plan : Plan) where
 
   -- what touches the cut path touches the path
   cut_by : (p : Thing → Bool) (n : ℕ) (hop : Hop) (r e : Bool)
-      → list_any p (things_of (elim (r || e) [ true ↦ [] | false ↦ hops (is_end plan) plan n hop.parent ])) ≡ true
-      → (list_any p (things_of (hops (is_end plan) plan n hop.parent)) ≡ true → list_any p (things_of (hops (is_root plan) plan n hop.parent)) ≡ true)
+      → list_any p (things_of (elim (r || e) [ true ↦ [] | false ↦ hops (ends_walks plan) plan n hop.parent ])) ≡ true
+      → (list_any p (things_of (hops (ends_walks plan) plan n hop.parent)) ≡ true → list_any p (things_of (hops (is_root plan) plan n hop.parent)) ≡ true)
       → list_any p (things_of (after n r hop)) ≡ true
   cut_by p n hop true e h more = h
   cut_by p n hop false true h more = cc
@@ -143,17 +143,17 @@ module _ (plan : Plan) where
 
   cut_hop : (p : Thing → Bool) (n : ℕ) (o : Option Hop)
       → list_any p
-      (things_of (elim o [ None ↦ [] | Some hop ↦ hop ∷ (elim (is_end plan hop.parent) [ true ↦ [] | false ↦ hops (is_end plan) plan n hop.parent ]) ])) ≡ true
-      → ((z : ℕ) → list_any p (things_of (hops (is_end plan) plan n z)) ≡ true → list_any p (things_of (hops (is_root plan) plan n z)) ≡ true)
+      (things_of (elim o [ None ↦ [] | Some hop ↦ hop ∷ (elim (ends_walks plan hop.parent) [ true ↦ [] | false ↦ hops (ends_walks plan) plan n hop.parent ]) ])) ≡ true
+      → ((z : ℕ) → list_any p (things_of (hops (ends_walks plan) plan n z)) ≡ true → list_any p (things_of (hops (is_root plan) plan n z)) ≡ true)
       → list_any p (things_of (elim o [ None ↦ [] | Some hop ↦ hop ∷ after n (is_root plan hop.parent) hop ])) ≡ true
   cut_hop p n None h more = h
   cut_hop p n (Some hop) h more =
       or_on (p (thing.Link hop.link)) (p (thing.Device hop.parent))
-      (list_any p (things_of (elim (is_end plan hop.parent) [ true ↦ [] | false ↦ hops (is_end plan) plan n hop.parent ])))
+      (list_any p (things_of (elim (ends_walks plan hop.parent) [ true ↦ [] | false ↦ hops (ends_walks plan) plan n hop.parent ])))
       (list_any p (things_of (after n (is_root plan hop.parent) hop))) h
       (λ on. cut_by p n hop (is_root plan hop.parent) (is_backup_root plan hop.parent) on (more hop.parent))
 
-  cut_hops : (p : Thing → Bool) (n y : ℕ) → list_any p (things_of (hops (is_end plan) plan n y)) ≡ true
+  cut_hops : (p : Thing → Bool) (n y : ℕ) → list_any p (things_of (hops (ends_walks plan) plan n y)) ≡ true
       → list_any p (things_of (hops (is_root plan) plan n y)) ≡ true
   cut_hops p zero y h = h
   cut_hops p (suc n) y h = cut_hop p n (primary_of plan y) h (cut_hops p n)
@@ -162,7 +162,7 @@ module _ (plan : Plan) where
   path_misses_cut net failed y none =
       false_from_ne_true (touches failed (epath net plan y)) (λ is. not_both (touches failed (path net plan y)) (go (is_root plan y) is) none)
     where
-      go : (b : Bool) → list_any (is_among failed) (things_of (if b then [] else hops (is_end plan) plan net.params.depth y)) ≡ true
+      go : (b : Bool) → list_any (is_among failed) (things_of (if b then [] else hops (ends_walks plan) plan net.params.depth y)) ≡ true
           → list_any (is_among failed) (things_of (if b then [] else hops (is_root plan) plan net.params.depth y)) ≡ true
       go true h = h
       go false h = cut_hops (is_among failed) net.params.depth y h

@@ -2,7 +2,7 @@ use Rattle.std.proofs.Common.{◌∙◌, ◌++◌, ◌<◌, List, ℕ, [], lengt
 use Rattle.std.specs.Prelude.{flat_map, codes}
 use Rattle.std.proofs.lemmas.List.{flat_map_more, take_more}
 use Rattle.sd_topo.specs.Topologies.{network}
-use Rattle.sd_drill.specs.Checker.Text.{device_name}
+use Rattle.sd_topo.specs.Network.{device_name}
 use Rattle.sd_drill.specs.Printed.{bound_line}
 use Rattle.sd_cmd_drill.specs.Printing.{front_of, line_behind}
 use Rattle.sd_outside.specs.Printed.{printed}

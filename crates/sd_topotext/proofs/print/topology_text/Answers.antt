@@ -6,7 +6,7 @@ use Rattle.toml.specs.Data.{Members, members_depth}
 use Rattle.sd_topo.specs.Topologies.{network}
 use Rattle.sd_topotext.specs.Meaning.{network_of}
 use Rattle.sd_topotext.specs.Reading.{tree_of}
-use Rattle.sd_topotext.specs.Printed.{with_version_two}
+use Rattle.sd_topotext.specs.Versions.{with_version_two}
 use Rattle.sd_topotext.proofs.ReadBack.{network_depth, text_read_back}
 use Rattle.sd_topotext.proofs.print.topology_text.Goals as goal
 
