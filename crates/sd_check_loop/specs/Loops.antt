@@ -1,5 +1,5 @@
 -- No loop of parents, whichever of the hit devices have moved to their backups.
-use Rattle.std.specs.Prelude.{◌≡◌, ◌≢◌, ℕ, ◌<◌, Bool, true, ◌&&◌, not, List, ◌∷◌, ◌++◌, length, nat_eq, IsTrue, option_to_list, if◌then◌else◌}
+use Rattle.std.specs.Prelude.{◌≡◌, ◌≢◌, ℕ, ◌<◌, Bool, true, ◌&&◌, not, List, ◌∷◌, ◌++◌, length, nat_eq, IsTrue, option_to_list, if◌then◌else◌, []}
 use Rattle.std.specs.List.{list_any}
 use Rattle.sd_topo.specs.Network.{Network}
 use Rattle.sd_domain.specs.declared.DomainId.{DomainId}

@@ -1,5 +1,5 @@
 -- Whatever one domain fails, each sound device is cut off by it or comes to hear the acting end again.
-use Rattle.std.specs.Prelude.{◌≡◌, ℕ, ◌<◌, Bool, true, false, ◌&&◌, not, List, ◌∷◌, nat_eq, IsTrue, Option, Some, ◌⊎◌, if◌then◌else◌}
+use Rattle.std.specs.Prelude.{◌≡◌, ℕ, ◌<◌, Bool, true, false, ◌&&◌, not, List, ◌∷◌, nat_eq, IsTrue, Option, Some, ◌⊎◌, if◌then◌else◌, [], ◌||◌}
 use Rattle.sd_num.specs.Lists.{has, of_some}
 use Rattle.sd_topo.specs.Network.{Network}
 use Rattle.sd_topo.specs.Joined.{Joined}

@@ -1,5 +1,5 @@
 -- How a verdict is printed.
-use Rattle.std.specs.Prelude.{ℕ, List, ◌∷◌, ◌++◌, length, map, codes, decimal}
+use Rattle.std.specs.Prelude.{ℕ, List, ◌∷◌, ◌++◌, length, map, codes, decimal, []}
 use Rattle.std.specs.List.{join_with_byte}
 use Rattle.sd_topo.specs.Network.{Network, device_name, link_name, domain_name}
 use Rattle.sd_topo.specs.declared.Thing.{Thing}

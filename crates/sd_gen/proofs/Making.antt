@@ -16,7 +16,8 @@ use Rattle.sd_gen.specs.arrivals.Standing as arrivals
 use Rattle.sd_gen.specs.declared.driven.Driven.{Ghosts}
 use Rattle.sd_gen.specs.declared.driver.Driver.{Driver}
 use Rattle.sd_gen.specs.declared.recording.Recording.{Recording}
-use Rattle.sd_gen.specs.Drafts.{seeded, unstarted, with_starts, round, draft_after, history_of, schedule}
+use Rattle.sd_gen.specs.Drafts.{seeded, unstarted, with_starts, round, draft_after, history_of}
+use Rattle.sd_gen.specs.Schedules.{schedule}
 use Rattle.sd_gen.specs.Driving.{HasHappened}
 use Rattle.sd_gen.specs.Recording as recording
 use Rattle.sd_gen.specs.Standing.{StandsFor}

@@ -1,6 +1,6 @@
 -- The schedule of a generated case, made event by event: each event is tried on the history so far and left out where it is refused there,
 -- and each message that is sent and reaches draws a word for the moment at which it is to be received.
-use Rattle.std.specs.Prelude.{ℕ, zero, suc, ◌+◌, ◌-◌, ◌*◌, ◌/◌, ◌%◌, ◌^◌, Bool, true, false, ◌&&◌, List, [], ◌∷◌, ◌++◌, length, map, reverse, slice_index, nat_eq, nat_lt, Option, Some, None, if◌then◌else◌}
+use Rattle.std.specs.Prelude.{ℕ, zero, suc, ◌+◌, ◌-◌, ◌*◌, ◌/◌, ◌%◌, ◌^◌, Bool, true, false, ◌&&◌, List, [], ◌∷◌, ◌++◌, length, map, slice_index, nat_eq, nat_lt, Option, Some, None, if◌then◌else◌}
 use Rattle.rand_core.specs.Pcg32Seed.{pcg32_seed}
 use Rattle.rand_core.specs.Steps.{first_words}
 use Rattle.rand_pcg.specs.Lcg.{Lcg, advance}
@@ -179,7 +179,3 @@ module _ (setting : Setting) where
   -- the history of the schedule, the newest event first
   abbrev pub history_of : (number : ℕ) → List Event
   history_of number = events_of (draft_after number 200).steps
-
-  -- the events of the schedule, in order
-  unfoldable pub schedule : (number : ℕ) → List Event
-  schedule number = reverse (history_of number)

@@ -7,7 +7,8 @@ ghost use Rattle.sd_topo.specs.Topologies.{network};
 ghost use Rattle.sd_fleet.specs.FleetState.membership.Plans.{AreSound};
 ghost use Rattle.sd_fleet.specs.History.World.{Setting};
 ghost use Rattle.sd_fleet.specs.History.Chronicle.{IsHistory};
-ghost use Rattle.sd_gen.specs.Drafts.{history_of, schedule};
+ghost use Rattle.sd_gen.specs.Drafts.{history_of};
+ghost use Rattle.sd_gen.specs.Schedules.{schedule};
 ghost use Rattle.sd_gen.specs.Driving.{HasHappened};
 
 pub mod arrivals;

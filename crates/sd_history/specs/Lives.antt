@@ -1,5 +1,5 @@
 -- The present life of a device in a history, and what a device tells when it is asked.
-use Rattle.std.specs.Prelude.{ℕ, List, ◌∷◌, nat_eq, Option, Some, None, option_map, if◌then◌else◌}
+use Rattle.std.specs.Prelude.{ℕ, List, ◌∷◌, nat_eq, Option, Some, None, option_map, if◌then◌else◌, []}
 use Rattle.sd_core.specs.Clock.declared.Report.{Report}
 use Rattle.sd_core.specs.declared.Effect.TheVariants.{Quiet}
 use Rattle.sd_core.specs.Calls as calls

@@ -1,5 +1,5 @@
 -- The lines of a whole history, each with the number of its event.
-use Rattle.std.specs.Prelude.{ℕ, ◌+◌, List, ◌∷◌, ◌++◌, length}
+use Rattle.std.specs.Prelude.{ℕ, ◌+◌, List, ◌∷◌, ◌++◌, length, []}
 use Rattle.sd_history.specs.World.{Setting}
 use Rattle.sd_history.specs.Steps.{Step}
 use Rattle.sd_history.specs.Lines.{Line, lines_of}

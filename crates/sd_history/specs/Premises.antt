@@ -1,6 +1,6 @@
 -- The premises of the safety theorem, each judged of what is seen of a history: honest clocks, honest links, lively devices, failures within one domain,
 -- orderly renewal.
-use Rattle.std.specs.Prelude.{ℕ, ◌+◌, ◌-◌, Bool, true, false, ◌&&◌, ◌||◌, not, List, [], ◌∷◌, ◌++◌, length, filter, filter_map, flat_map, map, nat_eq, nat_le, nat_lt, Option, Some, None, is_some, option_map, option_to_list, if◌then◌else◌}
+use Rattle.std.specs.Prelude.{ℕ, ◌+◌, ◌-◌, Bool, true, false, ◌&&◌, ◌||◌, not, List, [], ◌∷◌, ◌++◌, length, filter, filter_map, flat_map, map, nat_eq, nat_le, nat_lt, Some, None, is_some, option_map, option_to_list, if◌then◌else◌}
 use Rattle.std.specs.List.{list_any, list_all}
 use Rattle.sd_sched.specs.Num.Lists.{below, has, of_some, same_number, latest, leading}
 use Rattle.sd_core.specs.Topo.Network.{rates_of, delay_of, device_numbers, link_numbers}

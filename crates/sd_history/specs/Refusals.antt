@@ -1,5 +1,5 @@
 -- Why an event is refused after a history.
-use Rattle.std.specs.Prelude.{ℕ, ◌^◌, Bool, false, ◌&&◌, not, List, ◌∷◌, length, find, max, nat_eq, nat_le, nat_lt, Option, is_some, option_map}
+use Rattle.std.specs.Prelude.{ℕ, ◌^◌, Bool, false, ◌&&◌, not, List, ◌∷◌, length, find, max, nat_eq, nat_le, nat_lt, Option, is_some, option_map, [], ◌||◌}
 use Rattle.std.specs.List.{list_any}
 use Rattle.sd_sched.specs.Num.Lists.{of_some, same_number, leading}
 use Rattle.sd_core.specs.Topo.declared.Thing.TheVariants as thing

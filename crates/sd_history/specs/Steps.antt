@@ -1,6 +1,6 @@
 -- The steps of a history: each accepted event with what it did to its device, what that device told, and all flights that it sent. The
 -- newest comes first. Nothing here says what kind of device it is: its words are what the devices told.
-use Rattle.std.specs.Prelude.{ℕ, ◌+◌, ◌*◌, Bool, false, ◌&&◌, not, List, ◌∷◌, length, find, filter, flat_map, map, sum_by, nat_eq, nat_le, Option, Some, None, option_map, option_and_then, if◌then◌else◌}
+use Rattle.std.specs.Prelude.{ℕ, ◌+◌, ◌*◌, Bool, false, ◌&&◌, not, List, ◌∷◌, length, find, filter, flat_map, map, sum_by, nat_eq, nat_le, Option, Some, None, option_map, option_and_then, if◌then◌else◌, []}
 use Rattle.std.specs.List.{list_all}
 use Rattle.sd_sched.specs.Num.Lists.{of_some, same_number, latest}
 use Rattle.sd_core.specs.Topo.Network.{delay_of, rates_of}

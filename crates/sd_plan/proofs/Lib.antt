@@ -10,6 +10,7 @@ mod Joined
 mod Whole
 pub mod TableLaws
 pub mod Forest
+pub mod CutOff
 pub mod Cutting
 mod Subtrees
 mod Times

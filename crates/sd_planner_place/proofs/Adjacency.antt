@@ -12,7 +12,8 @@ use Rattle.sd_topo.specs.Network.{Network, device_numbers, link_numbers, link_of
 use Rattle.sd_planner_place.specs.declared.present.Neighbour.{Neighbour}
 use Rattle.sd_plan.specs.declared.Absent.{Absent}
 use Rattle.sd_plan.proofs.Numbered.{get_or-numbered, length-numbered}
-use Rattle.sd_planner_place.specs.Usable.{takes_part, is_usable, links_between, link_between, neighbours_of, all_neighbours}
+use Rattle.sd_planner_place.specs.Usable.{takes_part, is_usable, links_between, link_between, neighbours_of}
+use Rattle.sd_planner_place.specs.Neighbours.{all_neighbours}
 use Rattle.sd_planner_place.proofs.Turned.{neighbour_over, all_numbers}
 
 -- there are neighbours of each device

@@ -1,4 +1,5 @@
 pub mod Usable
+pub mod Neighbours
 pub mod Absences
 pub mod Views
 pub mod Gathered

@@ -1,5 +1,5 @@
 -- How the greedy plan places devices: each below its primary parent, in an order.
-use Rattle.std.specs.Prelude.{ℕ, zero, suc, Bool, false, true, ◌&&◌, not, List, ◌∷◌, ◌++◌, length, find, nat_eq, nat_le, nat_lt, Option, None, is_some, option_map, if◌then◌else◌}
+use Rattle.std.specs.Prelude.{ℕ, zero, suc, Bool, false, true, ◌&&◌, not, List, ◌∷◌, ◌++◌, length, find, nat_eq, nat_le, nat_lt, Option, None, is_some, option_map, if◌then◌else◌, [], ◌||◌}
 use Rattle.std.specs.List.{list_all}
 use Rattle.sd_num.specs.Lists.{of_some, at_place}
 use Rattle.sd_topo.specs.Network.{Network}

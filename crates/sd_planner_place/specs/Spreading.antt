@@ -1,5 +1,5 @@
 -- Placing breadth first: each device below its earliest placed neighbour, ring after ring.
-use Rattle.std.specs.Prelude.{ℕ, zero, suc, ◌+◌, Bool, ◌&&◌, List, ◌∷◌, length, map, find, filter, flat_map, nat_eq, Option, option_map}
+use Rattle.std.specs.Prelude.{ℕ, zero, suc, ◌+◌, Bool, ◌&&◌, List, ◌∷◌, length, map, find, filter, flat_map, nat_eq, Option, option_map, []}
 use Rattle.std.specs.List.{list_any}
 use Rattle.sd_num.specs.Lists.{below, of_some, same_number}
 use Rattle.sd_topo.specs.Network.{Network, device_numbers}

@@ -40,7 +40,3 @@ module _ (net : Network) (absent : Absent) where
   -- the hops that d may take, in this order
   abbrev pub hops_from : ℕ → List Hop
   hops_from d = map hop_to (neighbours_of d)
-
-  -- the neighbours of each device
-  unfoldable pub all_neighbours : List (List Neighbour)
-  all_neighbours = map neighbours_of (device_numbers net)

@@ -2,7 +2,8 @@
 ghost use Rattle.std.specs.Prelude.{◌≡◌, map};
 ghost use Rattle.sd_topo.specs.Network.{device_numbers};
 ghost use Rattle.sd_topo.specs.Topologies.{network};
-ghost use Rattle.sd_planner_place.specs.Usable.{takes_part, all_neighbours, hop_to};
+ghost use Rattle.sd_planner_place.specs.Usable.{takes_part, hop_to};
+ghost use Rattle.sd_planner_place.specs.Neighbours.{all_neighbours};
 ghost use Rattle.sd_planner_place.specs.Absences.{IsAbsentOf};
 
 mod joining;

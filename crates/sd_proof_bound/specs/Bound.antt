@@ -1,5 +1,5 @@
 -- What the drill promises of every history: no report of a live device is above its bound.
-use Rattle.std.specs.Prelude.{◌≡◌, ℕ, ◌-◌, ◌≤◌, Bool, true, ◌&&◌, not, List, ◌∷◌, ◌++◌, filter_map, nat_eq, nat_le, IsTrue, Some, None, ◌⊎◌}
+use Rattle.std.specs.Prelude.{◌≡◌, ℕ, ◌-◌, ◌≤◌, Bool, true, ◌&&◌, not, List, ◌∷◌, ◌++◌, filter_map, nat_eq, nat_le, IsTrue, Some, None, ◌⊎◌, [], ◌||◌}
 use Rattle.std.specs.List.{list_all, list_any}
 use Rattle.sd_drill.specs.Num.Lists.{of_some}
 use Rattle.sd_drill.specs.Topo.declared.Thing.{Thing}

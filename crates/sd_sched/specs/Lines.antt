@@ -1,5 +1,5 @@
 -- Schedule lines: a word and its fields, parted by one space.
-use Rattle.std.specs.Prelude.{ℕ, ◌+◌, ◌-◌, ◌^◌, Bool, true, false, ◌&&◌, not, List, ◌∷◌, length, find, nat_eq, nat_le, slice_index, Option, Some, None, Result, Ok, Err, codes, if◌then◌else◌}
+use Rattle.std.specs.Prelude.{ℕ, ◌+◌, ◌-◌, ◌^◌, Bool, true, false, ◌&&◌, not, List, ◌∷◌, length, find, nat_eq, nat_le, slice_index, Option, Some, None, Result, Ok, Err, codes, if◌then◌else◌, [], ◌||◌}
 use Rattle.sd_num.specs.Lists.{of_some}
 use Rattle.sd_num.specs.Decimals.{number}
 use Rattle.sd_num.specs.declared.NumFault.{NumFault}

@@ -1,5 +1,5 @@
 -- The line that an event is printed as, and the limits of its numbers.
-use Rattle.std.specs.Prelude.{ℕ, Bool, ◌&&◌, List, ◌∷◌, map, nat_le, codes, decimal}
+use Rattle.std.specs.Prelude.{ℕ, Bool, ◌&&◌, List, ◌∷◌, map, nat_le, codes, decimal, []}
 use Rattle.std.specs.List.{join_with_byte, list_all, list_any}
 use Rattle.sd_sched.specs.declared.Event.{Event}
 use Rattle.sd_sched.specs.declared.Event.TheVariants.{Start, Tick, Recv, Lose, FailDevice, FailLink, Fix, Ask, Stage, Give, Commit, Seal, Join, MendDevice, MendLink, End}

@@ -1,5 +1,5 @@
 -- One device alone, with the number 0 and rates of its own: its starts, fixes, asks and an end. A history has its newest event first.
-use Rattle.std.specs.Prelude.{◌≡◌, ℕ, ◌+◌, ◌^◌, Bool, true, false, ◌&&◌, not, List, ◌∷◌, length, count_by, nat_eq, nat_le, nat_lt, Option, Some, None, is_some, codes, decimal, IsTrue, if◌then◌else◌}
+use Rattle.std.specs.Prelude.{◌≡◌, ℕ, ◌+◌, ◌^◌, Bool, true, false, ◌&&◌, not, List, ◌∷◌, length, count_by, nat_eq, nat_le, nat_lt, Option, Some, None, is_some, codes, decimal, IsTrue, if◌then◌else◌, []}
 use Rattle.std.specs.List.{list_any}
 use Rattle.sd_num.specs.Lists.{of_some, latest}
 use Rattle.sd_num.specs.Texts.{text_of}

@@ -1,5 +1,5 @@
 -- What is printed for all events of one device.
-use Rattle.std.specs.Prelude.{ℕ, List, ◌∷◌, ◌++◌}
+use Rattle.std.specs.Prelude.{ℕ, List, ◌∷◌, ◌++◌, []}
 use Rattle.sd_sched.specs.declared.Event.{Event}
 use Rattle.sd_solo.specs.Histories.{bytes_of}
 

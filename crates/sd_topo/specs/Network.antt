@@ -1,5 +1,5 @@
 -- A datacenter: devices with their oscillators, links with the delays of both directions, and listed fault domains.
-use Rattle.std.specs.Prelude.{◌≡◌, ℕ, Bool, ◌&&◌, List, ◌∷◌, length, map, flat_map, nat_eq, nat_le, slice_get, position, Option, Some, if◌then◌else◌}
+use Rattle.std.specs.Prelude.{◌≡◌, ℕ, Bool, ◌&&◌, List, ◌∷◌, length, map, flat_map, nat_eq, nat_le, slice_get, position, Option, Some, if◌then◌else◌, [], ◌||◌}
 use Rattle.std.specs.List.{list_all}
 use Rattle.std.specs.Str.{bytes_eq}
 use Rattle.sd_num.specs.declared.Rates.{Rates}

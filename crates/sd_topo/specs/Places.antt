@@ -1,5 +1,5 @@
 -- What stands at a number of a topology, beside what the promise needs: sides, domains, and which devices a link joins.
-use Rattle.std.specs.Prelude.{ℕ, Bool, List, map, nat_eq}
+use Rattle.std.specs.Prelude.{ℕ, Bool, List, map, nat_eq, [], ◌||◌}
 use Rattle.sd_num.specs.Lists.{at_place}
 use Rattle.sd_topo.specs.declared.Side.{Side}
 use Rattle.sd_topo.specs.declared.Side.TheVariants.{Root}

@@ -1,5 +1,5 @@
 -- The tree that a topology is printed as: a table of version 2 that names the rates of each device and all bounds of each link.
-use Rattle.std.specs.Prelude.{ℕ, pos, List, ◌∷◌, map, codes}
+use Rattle.std.specs.Prelude.{ℕ, pos, List, ◌∷◌, map, codes, []}
 use Rattle.std.specs.Ordering.{nat_cmp, match_ordering}
 use Rattle.std.specs.Cmp.Lexicographic.{slice_cmp}
 use Rattle.toml.specs.Data.{Data, string, integer, array, table, Members, no_members, member}

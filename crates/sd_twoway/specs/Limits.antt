@@ -1,5 +1,5 @@
 -- The words of an exchanges text, and the limits of its numbers.
-use Rattle.std.specs.Prelude.{ℕ, ◌^◌, ◌<◌, ◌≤◌, Bool, List, slice_index, codes}
+use Rattle.std.specs.Prelude.{ℕ, ◌^◌, ◌<◌, ◌≤◌, Bool, List, slice_index, codes, ◌||◌}
 use Rattle.sd_sched.specs.Lines.{same_bytes}
 use Rattle.sd_twoway.specs.declared.ExchangeLine.{ExchangeLine}
 use Rattle.sd_twoway.specs.declared.ExchangeLine.TheVariants.{Exchange as Exchanged, End}

@@ -1,5 +1,5 @@
 -- Lines of an exchanges text, and what they say of a network's links.
-use Rattle.std.specs.Prelude.{ℕ, ◌+◌, ◌-◌, ◌^◌, Bool, true, false, List, ◌∷◌, length, filter_map, nat_eq, slice_index, Option, Some, None, Result, Ok, Err, codes, if◌then◌else◌}
+use Rattle.std.specs.Prelude.{ℕ, ◌+◌, ◌-◌, ◌^◌, Bool, true, false, List, ◌∷◌, length, filter_map, nat_eq, slice_index, Option, Some, None, Result, Ok, Err, codes, if◌then◌else◌, []}
 use Rattle.sd_num.specs.Lists.{of_some}
 use Rattle.sd_num.specs.Decimals.{number}
 use Rattle.sd_num.specs.declared.Rates.{Rates}

@@ -1,5 +1,5 @@
 -- Who is left waiting, and in which order.
-use Rattle.std.specs.Prelude.{ℕ, ◌<◌, ◌≤◌, List, ◌∷◌, Option, Some, None}
+use Rattle.std.specs.Prelude.{ℕ, ◌<◌, ◌≤◌, List, ◌∷◌, Option, Some, None, []}
 use Rattle.sd_gen.specs.declared.arrivals.Arrival.{Arrival}
 use Rattle.sd_gen.specs.arrivals.Waiting.{without}
 

@@ -1,5 +1,5 @@
 -- Messages that wait, in the order in which they were sent, and which of them is received first.
-use Rattle.std.specs.Prelude.{ℕ, Bool, ◌&&◌, not, List, ◌∷◌, filter, nat_eq, nat_le, nat_lt, Option, Some, None, if◌then◌else◌}
+use Rattle.std.specs.Prelude.{ℕ, Bool, ◌&&◌, not, List, ◌∷◌, filter, nat_eq, nat_le, nat_lt, Option, Some, None, if◌then◌else◌, [], ◌||◌}
 use Rattle.sd_gen.specs.declared.arrivals.Arrival.{Arrival}
 
 -- a is received before b: the least by moment, then by number, comes first

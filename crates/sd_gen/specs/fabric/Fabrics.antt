@@ -1,5 +1,5 @@
 -- The network of leaves and spines of `case`.
-use Rattle.std.specs.Prelude.{ℕ, ◌+◌, ◌*◌, List, ◌∷◌, ◌++◌, map, flat_map, codes, decimal}
+use Rattle.std.specs.Prelude.{ℕ, ◌+◌, ◌*◌, List, ◌∷◌, ◌++◌, map, flat_map, codes, decimal, []}
 use Rattle.sd_num.specs.Lists.{below}
 use Rattle.sd_topo.specs.Network.{Network, Device, Link, Domain}
 use Rattle.sd_topo.specs.declared.Params.{Params}

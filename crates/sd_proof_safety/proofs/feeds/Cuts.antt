@@ -1,6 +1,6 @@
 -- The cut walk of a device behind the backup root: it ends there, and each of its hops is the primary one of an ordinary member, whose own cut path is
 -- missed where that of the device is.
-use Rattle.std.specs.Prelude.{◌≡◌, ℕ, zero, suc, ◌+◌, ◌<◌, ◌≤◌, Bool, true, false, ◌&&◌, ◌||◌, List, [], ◌∷◌, length, map, nat_eq, Option, Some, None, IfSome, refl, if◌then◌else◌}
+use Rattle.std.specs.Prelude.{◌≡◌, ℕ, suc, ◌+◌, ◌<◌, ◌≤◌, Bool, true, false, ◌&&◌, ◌||◌, List, [], ◌∷◌, length, map, nat_eq, Some, IfSome, refl, if◌then◌else◌}
 use Rattle.std.proofs.Common.{arith, ◌∙◌, ap, sym, subst}
 use Rattle.std.proofs.lemmas.Bool.{and_parts, or_parts, or_from, eqb-true, eq-eqb}
 use Rattle.sd_checker.specs.Num.Lists.{has}
@@ -12,6 +12,7 @@ use Rattle.sd_checker.specs.Plan.declared.Plan.{Plan}
 use Rattle.sd_checker.specs.Plan.Plans.{IsHop, is_member, is_present, is_root, is_backup_root, primary_of}
 use Rattle.sd_checker.specs.Plan.Walks.{hops, walk, epath, things_of, end_of, ends_walks, on_walk}
 use Rattle.sd_checker.specs.Plan.Structure.{hop_is_right}
+use Rattle.sd_checker.proofs.Plan.CutOff.{cut_off, epath_is}
 use Rattle.sd_checker.proofs.Plan.Forest.{IsStep, IsForest, forest_of}
 use Rattle.sd_checker.proofs.Plan.Rules.{hops_within}
 use Rattle.sd_proof_safety.specs.invariant.Eras.{is_among, touches}
@@ -32,43 +33,6 @@ pub record IsCutClear (net : Network) (plan : Plan) (failed : List Thing) (y : �
   pub parent : is_among failed (thing.Device hop.parent) ≡ false
   pub within : IsHop net hop
   pub present : is_present plan hop.link ≡ true
-
--- hops up to the first that leads to an end
-abbrev pub cut_off : Plan → List Hop → List Hop
-cut_off plan [] = []
-cut_off plan (h ∷ hs) = h ∷ (elim (ends_walks plan h.parent) [ true ↦ [] | false ↦ cut_off plan hs ])
-
-module _ (plan : Plan) where
-  by_ends : (n : ℕ) (hop : Hop) (r b : Bool) → hops (ends_walks plan) plan n hop.parent ≡ cut_off plan (hops (is_root plan) plan n hop.parent)
-      → ◌≡◌ {A = List Hop} (elim (r || b) [ true ↦ [] | false ↦ hops (ends_walks plan) plan n hop.parent ])
-      (elim (r || b) [ true ↦ [] | false ↦ cut_off plan (elim r [ true ↦ [] | false ↦ hops (is_root plan) plan n hop.parent ]) ])
-  by_ends n hop true b more = refl
-  by_ends n hop false true more = refl
-  by_ends n hop false false more = more
-
-  by_hop : (n : ℕ) (o : Option Hop) → ((z : ℕ) → hops (ends_walks plan) plan n z ≡ cut_off plan (hops (is_root plan) plan n z))
-      → (elim o as
-      (λ (k : Option Hop). List Hop)
-      [ None ↦ [] | Some hop ↦ hop ∷ (elim (ends_walks plan hop.parent) [ true ↦ [] | false ↦ hops (ends_walks plan) plan n hop.parent ]) ])
-      ≡ cut_off plan
-      (elim o as (λ (k : Option Hop). List Hop)
-      [ None ↦ [] | Some hop ↦ hop ∷ (elim (is_root plan hop.parent) [ true ↦ [] | false ↦ hops (is_root plan) plan n hop.parent ]) ])
-  by_hop n None more = refl
-  by_hop n (Some hop) more = ap (λ (hs : List Hop). hop ∷ hs) (by_ends n hop (is_root plan hop.parent) (is_backup_root plan hop.parent) (more hop.parent))
-
-  cut_hops : (n y : ℕ) → hops (ends_walks plan) plan n y ≡ cut_off plan (hops (is_root plan) plan n y)
-  cut_hops zero y = refl
-  cut_hops (suc n) y = by_hop n (primary_of plan y) (cut_hops n)
-
-  -- the cut path is that of the walk, cut off
-  epath_is : (net : Network) (y : ℕ) → epath net plan y ≡ things_of (cut_off plan (walk net plan y))
-  epath_is net y = go (is_root plan y)
-    where
-      go : (b : Bool)
-          → things_of (if b then [] else hops (ends_walks plan) plan net.params.depth y)
-          ≡ things_of (cut_off plan (if b then [] else hops (is_root plan) plan net.params.depth y))
-      go true = refl
-      go false = ap things_of (cut_hops net.params.depth y)
 
 first_hop : (a hop : Hop) (xs hs : List Hop) → ◌≡◌ {A = List Hop} (a ∷ xs) (hop ∷ hs) → (a ≡ hop) × (xs ≡ hs)
 first_hop a hop xs hs same = (ap (λ (l : List Hop). elim l [ [] ↦ a | z ∷ zs ↦ z ]) same, ap (λ (l : List Hop). elim l [ [] ↦ xs | z ∷ zs ↦ zs ]) same)
