@@ -12,7 +12,7 @@ use sd_num::NoMemory;
 use std::alloc::{AllocError, Global};
 
 /// The line of an event, with its newline.
-#[tactic(auto, unfolding(crate::specs::Lines::line_of_event))]
+#[tactic(auto, unfolding(crate::specs::Spelled::line_of_event))]
 pub fn line_text(alloc: Global, event: &Event) -> Result<Vec<u8>, NoMemory>
     ensures text { IfOk result (λ v. v.items ≡ line_of_event event.now ++ 10 ∷ []) }
     // A printed line reads back.

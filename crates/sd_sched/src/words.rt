@@ -38,7 +38,7 @@ pub const MOST_FIELDS: usize = 5;
 
 impl Word {
     /// The word that a field spells.
-    #[tactic(auto, unfolding(crate::specs::Lines::is_word))]
+    #[tactic(auto, unfolding(crate::specs::Spelled::is_word))]
     pub fn of(field: &[u8]) -> Option<Word>
         ensures known { IfSome result (λ word. field.now ≡ (row_of word).spelled) }
         ensures unknown { IfNone result (is_word field.now ≡ false) }

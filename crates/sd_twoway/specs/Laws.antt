@@ -4,7 +4,7 @@ use Rattle.sd_num.specs.declared.Rates.{Rates}
 use Rattle.sd_topo.specs.declared.LinkEntry.{LinkEntry}
 use Rattle.sd_twoway.specs.declared.Exchange.{Exchange}
 use Rattle.sd_twoway.specs.declared.Span.{Span}
-use Rattle.sd_twoway.specs.Spans.{joint_span, is_inside, IsWithinBounds}
+use Rattle.sd_twoway.specs.Spans.{span_of, Covers, IsHonestRun, joint_span, is_inside, IsWithinBounds}
 
 -- in each honest run of an exchange that has a span both delays lie in it
 abbrev pub SpanCovers : Type 0

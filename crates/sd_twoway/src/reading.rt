@@ -36,7 +36,7 @@ enum Word {
 }
 
 /// The word that a field spells.
-#[tactic(auto, unfolding(crate::specs::Lines::is_word))]
+#[tactic(auto, unfolding(crate::specs::Limits::is_word))]
 fn word_of(field: &[u8]) -> Option<Word>
     ensures known { IfSome result (λ word. field.now ≡ spelled word) }
     ensures unknown { IfNone result (is_word field.now ≡ false) }
