@@ -12,7 +12,8 @@ use Rattle.sd_sched.specs.declared.Event.{Event}
 use Rattle.sd_sched.specs.declared.Event.TheVariants as event
 use Rattle.sd_sched.specs.Events.{reference_of}
 use Rattle.sd_solo.specs.Histories.{report_by, rates, was_started, estimate_now, IsHistory, situation}
-use Rattle.sd_solo.specs.Promises.{start_holds, drift_holds, keeps_with, sets_true_clock, ReportsContain}
+use Rattle.sd_sched.specs.Honesty.{sets_true_clock}
+use Rattle.sd_solo.specs.Promises.{start_holds, drift_holds, keeps_with, ReportsContain}
 use Rattle.sd_solo.proofs.Accepted.{reference_goes_on, started_before}
 
 -- where a device sets its estimate: the reference of that event, how near its clock was then, and what the readings since then keep

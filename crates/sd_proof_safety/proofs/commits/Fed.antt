@@ -33,7 +33,8 @@ use Rattle.sd_proof_safety.proofs.rounds.Silent.{IsSilent, silent_by}
 use Rattle.sd_proof_safety.specs.behind.Feeding.{StandsBehind}
 use Rattle.sd_proof_safety.proofs.behind.Silent.{behind_parts}
 use Rattle.sd_proof_safety.proofs.spans.PathHears.{IsSpared, spared}
-use Rattle.sd_proof_safety.proofs.feeds.Cuts.{IsCutClear, cut_off, CutWalk, cut_walk_of}
+use Rattle.sd_checker.proofs.Plan.CutOff.{cut_off}
+use Rattle.sd_proof_safety.proofs.feeds.Cuts.{IsCutClear, CutWalk, cut_walk_of}
 use Rattle.sd_proof_safety.proofs.feeds.Ready.{cut_lasting}
 use Rattle.sd_proof_safety.specs.commits.Leading.{IsLed}
 use Rattle.sd_proof_safety.proofs.commits.Sources.{leads}

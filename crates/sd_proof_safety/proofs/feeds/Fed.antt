@@ -42,7 +42,8 @@ use Rattle.sd_proof_safety.proofs.spans.SilenceStarts.{idle_of}
 use Rattle.sd_proof_safety.proofs.spans.FallbackWay.{fallback_open}
 use Rattle.sd_proof_safety.proofs.spans.Staged.{is_staged}
 use Rattle.sd_proof_safety.proofs.spans.PathHears.{not_root, IsSpared, spared, acts}
-use Rattle.sd_proof_safety.proofs.feeds.Cuts.{IsCutClear, cut_off, CutWalk, cut_walk_of}
+use Rattle.sd_checker.proofs.Plan.CutOff.{cut_off}
+use Rattle.sd_proof_safety.proofs.feeds.Cuts.{IsCutClear, CutWalk, cut_walk_of}
 use Rattle.sd_proof_safety.proofs.feeds.Ready.{cut_lasting}
 use Rattle.sd_proof_safety.proofs.feeds.Since.{IsOnBackup}
 

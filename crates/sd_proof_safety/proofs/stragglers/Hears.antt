@@ -21,7 +21,8 @@ use Rattle.sd_proof_safety.proofs.silences.SoundWays.{map_walks}
 use Rattle.sd_proof_safety.proofs.silences.WalkWays.{walk_length}
 use Rattle.sd_proof_safety.specs.behind.Feeding.{path_failed_at, StandsBehind, MendedHears}
 use Rattle.sd_proof_safety.proofs.spans.PathHears.{IsSpared, spared}
-use Rattle.sd_proof_safety.proofs.feeds.Cuts.{cut_off, CutWalk, cut_walk_of}
+use Rattle.sd_checker.proofs.Plan.CutOff.{cut_off}
+use Rattle.sd_proof_safety.proofs.feeds.Cuts.{CutWalk, cut_walk_of}
 use Rattle.sd_proof_safety.proofs.stragglers.Stragglers.{IsFed, Hearing, early, straggler, fed, hearing}
 use Rattle.sd_proof_safety.proofs.stragglers.PathWays.{cut_lasting, comes_down}
 

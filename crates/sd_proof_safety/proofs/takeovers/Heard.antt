@@ -38,7 +38,8 @@ use Rattle.sd_proof_safety.specs.rounds.Rounds.{IsRound}
 use Rattle.sd_proof_safety.proofs.rounds.Along.{heard_along}
 use Rattle.sd_proof_safety.proofs.behind.Silent.{behind_parts}
 use Rattle.sd_proof_safety.proofs.spans.PathHears.{IsSpared, spared}
-use Rattle.sd_proof_safety.proofs.feeds.Cuts.{IsCutClear, cut_off, CutWalk, cut_walk_of}
+use Rattle.sd_checker.proofs.Plan.CutOff.{cut_off}
+use Rattle.sd_proof_safety.proofs.feeds.Cuts.{IsCutClear, CutWalk, cut_walk_of}
 use Rattle.sd_proof_safety.proofs.takeovers.Acted.{does_is}
 use Rattle.sd_proof_safety.proofs.takeovers.Places.{took, all_chronicle, stood}
 use Rattle.sd_proof_safety.proofs.takeovers.Source.{spacing, rule, terms, emits_in_era, newest}
