@@ -7,3 +7,6 @@ pub mod chains
 pub mod histories
 pub mod timeouts
 pub mod traces
+-- Handed on: what crates above name of those below.
+pub use Rattle.sd_proof_safety.proofs as Safety
+pub use Rattle.sd_drill.proofs as Drill
