@@ -11,34 +11,44 @@
  *   3. On each message of a link: read the counter and call sundial_receive.
  *   4. Where the effect's `sends` is not 0, send its message at once over each link below the
  *      device: those of the devices whose duty names it as primary or backup parent.
- *   5. To tell the time: read the counter, call sundial_report, and take the interval from
- *      clock - eps to clock + eps (sundial_earliest and sundial_latest).
+ *   5. To tell the time: read the counter and call sundial_now, or sundial_report for the clock and
+ *      its uncertainty.
  *
  * What you owe. The calls test what they can of the first three, and name the fault. Nothing can
- * test the rest, and the interval is right only while all of them hold.
- *   - One counter for each device, which never falls between its start and its end. Read it anew
- *     for each call. A fall below a counter that the device keeps is answered by COUNTER_FELL.
- *   - Counters, and clocks and uncertainties that you set, are at most 2^60 ps (13 days).
- *   - The struct is changed by these calls alone. One that is no device, or has a number past its
- *     limit, is answered by NO_DEVICE; another change within the limits goes unseen.
- *   - start:  a clock that you set (start, join, fix) is within the eps that you give of the
- *             reference time.
- *   - drift:  while the counter advances by x ps, the reference time advances by x, plus or minus
- *             x * ppm / 1000000 + grain.
- *   - delay:  a message takes from mid - half to mid + half ps over its link, from the reading of
- *             the sender's counter in the call that sent it to the reading of the receiver's.
- *   - tick:   two ticks of a device are at most the topology's `tick` apart.
- *   - loss:   no more rounds of the root in a row are lost than the topology's `loss`.
- *   - domain: at most one fault domain fails between two renewals.
- *   - renew:  give, commit and seal come in the order of a renewal.
+ * test the rest. docs/PREMISES.md has each premise exactly.
+ *   - counter: one for each device, which never falls between its start and its end. Read it anew
+ *              for each call. A fall below a counter that the device keeps is answered by
+ *              COUNTER_FELL.
+ *   - limits:  counters, and clocks and uncertainties that you set, are at most 2^60 ps (13 days).
+ *   - struct:  these calls alone change it. One that is no device, or has a number past its limit,
+ *              is answered by NO_DEVICE; another change within the limits goes unseen.
+ *   - message: it arrives as it was sent, over the link that it was sent over, and nobody forges
+ *              one.
+ *   - start:   a clock that you set (start, join, fix) is within the eps that you give of the
+ *              reference time.
+ *   - drift:   while the counter advances by x ps, the reference time advances by x, plus or minus
+ *              x * ppm / 1000000 + grain.
+ *   - delay:   a message takes from mid - half to mid + half ps over its link, from the reading of
+ *              the sender's counter in the call that sent it to the reading of the receiver's.
+ *   - tick:    two ticks of a device are at most the topology's `tick` apart.
+ *   - loss:    no more rounds of the root in a row are lost than the topology's `loss`.
+ *   - domain:  at most one fault domain fails between two renewals.
+ *   - renew:   a renewal keeps its order: the duties to all, the commit by the root that acts, and
+ *              the seals once all have gone over.
+ * The interval is right while the first seven hold. That no two devices act as root together, and
+ * that reports stay narrow after a failure, needs all of them.
  *
  * Units. Counters, clocks, uncertainties (eps), delays, waits and grains are in picoseconds, ppm
  * in parts per million. A number of 128 bits is two of 64. A flag is set where its byte is not 0.
  *
+ * Rules. Each call says which event of docs/FLEET.md it is. docs/DEVICE.md says what the device
+ * then does, and docs/RULES.md has the formulas of reports.
+ *
  * Answers. Each call answers SUNDIAL_DONE exactly where it could be made. Every other answer
- * names what was wrong, and then the call has changed nothing. Pointers are not null, aligned, to
- * initialised memory, and to different objects. One device is in one call at a time; different
- * devices may be called from different threads.
+ * names what was wrong, and then the call has changed nothing. Where several things were wrong, it
+ * names one of them. Pointers are not null, aligned, to initialised memory, and to different
+ * objects. One device is in one call at a time; different devices may be called from different
+ * threads.
  */
 #ifndef SUNDIAL_DEVICE_H
 #define SUNDIAL_DEVICE_H
@@ -55,14 +65,17 @@ extern "C" {
 
 enum {
     SUNDIAL_DONE = 0,
-    /* a byte of a role or mode that is none, a mode without a duty, or a number past its limit */
+    /* a mode that is none, a mode other than IDLE without a duty, a duty that is none (NO_DUTY), or
+     * rates past their limits (RATES_TOO_GREAT) */
     SUNDIAL_NO_DEVICE = 1,
-    /* epoch 0, a role that is none, mid, half or grain over 10^12, or ppm over 100000 */
+    /* epoch 0, a role that is none, mid or half of an edge whose flag is set over 10^12, ppm over
+     * 100000, or grain over 10^12 */
     SUNDIAL_NO_DUTY = 2,
     /* ppm over 100000, or grain over 10^12 */
     SUNDIAL_RATES_TOO_GREAT = 3,
-    /* the counter is below one that the device keeps: that of its start, of its latest fix, of the
-     * latest message that it accepted, of its latest move or of its latest sending as root */
+    /* the counter is below one that the device keeps: that of its start or join, of its latest
+     * fix, of the latest message that it accepted, of its latest move to its backup parent, of its
+     * latest sending as root, or of a commit that made it root */
     SUNDIAL_COUNTER_FELL = 4,
     /* the counter is over 2^60 */
     SUNDIAL_COUNTER_TOO_GREAT = 5,
@@ -78,23 +91,29 @@ enum {
     SUNDIAL_NOT_ROOT = 10
 };
 
+/* The role of a duty. */
 enum { SUNDIAL_ROOT = 0, SUNDIAL_BACKUP_ROOT = 1, SUNDIAL_ORDINARY = 2 };
 
+/* The mode of a device: it follows its primary parent, its backup parent, acts as root, or has no
+ * duty yet. */
 enum { SUNDIAL_PRIMARY = 0, SUNDIAL_BACKUP = 1, SUNDIAL_ACTING = 2, SUNDIAL_IDLE = 3 };
 
+/* The number high * 2^64 + low. */
 struct sundial_wide {
     uint64_t low;
     uint64_t high;
 };
 
-/* How far the oscillator may drift: parts per million, and a constant in ps. */
+/* How far the oscillator may drift: a constant in ps, from 0 to 10^12, and parts per million, from
+ * 0 to 100000. They are the topology's `grain` and `ppm`, or the device's own. */
 struct sundial_rates {
     uint64_t grain;
     uint32_t ppm;
 };
 
-/* A parent, the link to it, and the correction of what comes over it: for delays from min to max,
- * mid = (min + max) / 2 rounded down, and half = max - mid. */
+/* A parent, the link to it, and the correction of what comes over it: for delays from min to max
+ * towards the device, mid = (min + max) / 2 rounded down, and half = max - mid, each from 0 to
+ * 10^12. Devices and links have the number of their place in the topology, from 0. */
 struct sundial_edge {
     uint64_t mid;
     uint64_t half;
@@ -102,26 +121,29 @@ struct sundial_edge {
     uint32_t link;
 };
 
-/* The device's part of a plan. */
+/* The device's part of a plan. The waits are the plan's, and the period is the topology's. */
 struct sundial_duty {
-    struct sundial_edge primary;
-    struct sundial_edge backup;
-    uint64_t period;
-    uint64_t wait_first;
-    uint64_t wait_second;
-    uint64_t wait;
+    struct sundial_edge primary; /* read where has_primary is set */
+    struct sundial_edge backup;  /* read where has_backup is set */
+    uint64_t period;             /* between two sendings of an acting root */
+    uint64_t wait_first;         /* silence until the backup root moves to its backup parent */
+    uint64_t wait_second;        /* silence there until it takes over */
+    uint64_t wait;               /* silence until any other device moves to its backup parent */
     struct sundial_rates rates;
-    uint32_t epoch;
+    uint32_t epoch; /* the number of the plan: 1 for the first, one more for each later plan */
     uint8_t role;
     uint8_t has_primary;
     uint8_t has_backup;
 };
 
+/* The age of a message: how often a device began to act as root, and how often that root has sent
+ * since. Each is below 2^31 in a message that is received. */
 struct sundial_stamp {
     uint64_t round;
     uint32_t term;
 };
 
+/* The clock and its uncertainty while the counter showed `at`. */
 struct sundial_estimate {
     struct sundial_wide clock;
     struct sundial_wide base;
@@ -134,6 +156,14 @@ struct sundial_report {
     struct sundial_wide eps;
 };
 
+/* The reference time lies from the one to the other. */
+struct sundial_interval {
+    struct sundial_wide earliest;
+    struct sundial_wide latest;
+};
+
+/* What a device sends downward. Send the fields, in a byte order of your own; a struct has bytes of
+ * padding. In a message that is received clock and eps are below 2^100. */
 struct sundial_message {
     struct sundial_wide clock;
     struct sundial_wide eps;
@@ -141,11 +171,13 @@ struct sundial_message {
     uint32_t epoch;
 };
 
+/* What a call sends: the message to each device below, where the flag is set. */
 struct sundial_effect {
     struct sundial_message message;
     uint8_t sends;
 };
 
+/* The number of the parent, where the flag is set. */
 struct sundial_parent {
     uint32_t parent;
     uint8_t has_parent;
@@ -212,65 +244,76 @@ SUNDIAL_ASSERT(offsetof(struct sundial_device, has_given) == 297);
 SUNDIAL_ASSERT(offsetof(struct sundial_device, mode) == 298);
 SUNDIAL_ASSERT(offsetof(struct sundial_device, sealed) == 299);
 
-/* Whether the struct holds a device. Faults: NO_DEVICE. Call it on a struct that was kept over a
- * restart. */
+/* Whether the struct holds a device. Call it on a struct that was kept over a restart.
+ * Faults: NO_DEVICE. */
 uint32_t sundial_made(const struct sundial_device *device);
 
-/* Makes a device of a plan that was never part of one before (rule `start`). Of the old struct
- * nothing is read that matters, but it is to be initialised. Faults: NO_DUTY, COUNTER_TOO_GREAT,
- * CLOCK_TOO_GREAT. */
+/* A device of the plan in force begins, for the first time (event `start`). The counter, the clock
+ * and its eps are in ps, each from 0 to 2^60. The clock is within eps of the reference time. The
+ * old struct has to be initialised, with anything.
+ * Faults: NO_DUTY, COUNTER_TOO_GREAT, CLOCK_TOO_GREAT. */
 uint32_t sundial_start(struct sundial_device *device, const struct sundial_duty *duty,
                        uint64_t counter, uint64_t clock, uint64_t eps);
 
-/* Makes a device that joins while a new plan is brought in: it has no duty until it commits or
- * hears of that plan (rule `join`). Faults: RATES_TOO_GREAT, COUNTER_TOO_GREAT, CLOCK_TOO_GREAT. */
+/* A device begins, or begins anew, while a new plan is brought in: it has no duty until it commits
+ * or hears of that plan (event `join`). Numbers and old struct are as for a start.
+ * Faults: RATES_TOO_GREAT, COUNTER_TOO_GREAT, CLOCK_TOO_GREAT. */
 uint32_t sundial_join(struct sundial_device *device, const struct sundial_rates *rates,
                       uint64_t counter, uint64_t clock, uint64_t eps);
 
-/* Its duty in the next plan, kept beside the present one (rule `give`). Faults: NO_DEVICE,
- * NO_DUTY. */
+/* Tells it its duty in the next plan, which it keeps beside the present one (event `give`). A later
+ * give replaces it.
+ * Faults: NO_DEVICE, NO_DUTY. */
 uint32_t sundial_give(struct sundial_device *device, const struct sundial_duty *duty);
 
-/* Takes up the given duty, as the root of the next plan (rule `commit`). Faults: NO_DEVICE,
- * COUNTER_FELL, COUNTER_TOO_GREAT, STAMP_TOO_GREAT, NOT_ROOT. */
+/* Takes up the given duty at once, as the root of the next plan (event `commit`). The counter is in
+ * ps, from those that the device keeps to 2^60.
+ * Faults: NO_DEVICE, COUNTER_FELL, COUNTER_TOO_GREAT, STAMP_TOO_GREAT, NOT_ROOT. */
 uint32_t sundial_commit(struct sundial_device *device, uint64_t counter);
 
-/* From now on it may move to its backup parent (rule `seal`). Faults: NO_DEVICE. */
+/* From now on it may move to its backup parent and take over (event `seal`). A device that goes over
+ * to a new plan does neither until this call. Make it once all devices have gone over.
+ * Faults: NO_DEVICE. */
 uint32_t sundial_seal(struct sundial_device *device);
 
-/* Sets the clock from outside (rule `fix`). Faults: NO_DEVICE, COUNTER_FELL, COUNTER_TOO_GREAT,
- * CLOCK_TOO_GREAT. */
+/* Sets the clock from outside (event `fix`). The counter is as for a commit. The clock and its eps
+ * are as for a start.
+ * Faults: NO_DEVICE, COUNTER_FELL, COUNTER_TOO_GREAT, CLOCK_TOO_GREAT. */
 uint32_t sundial_fix(struct sundial_device *device, uint64_t counter, uint64_t clock, uint64_t eps);
 
-/* The device's own timer (rule `tick`): it sends its report as root, takes over, moves to its
- * backup parent, or does nothing. Faults: NO_DEVICE, COUNTER_FELL, COUNTER_TOO_GREAT,
- * ESTIMATE_TOO_GREAT, STAMP_TOO_GREAT. */
+/* The device's own timer (event `tick`): it sends its report as root, takes over, moves to its
+ * backup parent, or does nothing. The counter is as for a commit.
+ * Faults: NO_DEVICE, COUNTER_FELL, COUNTER_TOO_GREAT, ESTIMATE_TOO_GREAT, STAMP_TOO_GREAT. */
 uint32_t sundial_tick(struct sundial_device *device, uint64_t counter,
                       struct sundial_effect *effect);
 
-/* A message came over the link (rule `recv`). Where the device does not accept it, the answer is
- * still SUNDIAL_DONE, nothing changes and nothing is sent. Faults: those of a tick, and
- * MESSAGE_TOO_GREAT. */
+/* A message came over the link of this number (event `recv`). Where the device does not accept it,
+ * the answer is still SUNDIAL_DONE, nothing changes and nothing is sent. The counter is as for a
+ * commit.
+ * Faults: those of a tick, and MESSAGE_TOO_GREAT. */
 uint32_t sundial_receive(struct sundial_device *device, uint32_t link,
                          const struct sundial_message *message, uint64_t counter,
                          struct sundial_effect *effect);
 
-/* What the device takes the reference time for (rule `ask`). Faults: NO_DEVICE, COUNTER_FELL,
- * COUNTER_TOO_GREAT, ESTIMATE_TOO_GREAT. */
+/* What the device takes the reference time for while its counter shows this, and by how much it may
+ * be off, in ps (event `ask`). The counter is as for a commit.
+ * Faults: NO_DEVICE, COUNTER_FELL, COUNTER_TOO_GREAT, ESTIMATE_TOO_GREAT. */
 uint32_t sundial_report(const struct sundial_device *device, uint64_t counter,
                         struct sundial_report *report);
 
-/* The device that it follows, if it follows one. Faults: NO_DEVICE. */
+/* The number of the device that it follows, if it follows one.
+ * Faults: NO_DEVICE. */
 uint32_t sundial_parent(const struct sundial_device *device, struct sundial_parent *parent);
 
-/* 1 where it acts as root, and else 0. Faults: NO_DEVICE. */
+/* 1 where it acts as root, and else 0.
+ * Faults: NO_DEVICE. */
 uint32_t sundial_acts(const struct sundial_device *device, uint8_t *acts);
 
-/* The number of the plan that it follows, from 1; 0 where it follows none yet. Faults:
- * NO_DEVICE. */
+/* The number of the plan that it follows, from 1; 0 where it follows none yet.
+ * Faults: NO_DEVICE. */
 uint32_t sundial_epoch(const struct sundial_device *device, uint32_t *epoch);
 
-/* The earliest reference time that a report allows. */
+/* The earliest reference time that a report allows, in ps: clock - eps, and at least 0. */
 static inline struct sundial_wide sundial_earliest(const struct sundial_report *report)
 {
     struct sundial_wide earliest = {0, 0};
@@ -283,13 +326,34 @@ static inline struct sundial_wide sundial_earliest(const struct sundial_report *
     return earliest;
 }
 
-/* The latest reference time that a report allows. */
+/* The latest reference time that a report allows, in ps: clock + eps. */
 static inline struct sundial_wide sundial_latest(const struct sundial_report *report)
 {
     struct sundial_wide latest;
     latest.low = report->clock.low + report->eps.low;
     latest.high = report->clock.high + report->eps.high + (latest.low < report->clock.low);
     return latest;
+}
+
+/* now(), as a database asks it: the interval in which the reference time lies while the counter
+ * shows this. It is that of the report, and has the faults of one. */
+static inline uint32_t sundial_now(const struct sundial_device *device, uint64_t counter,
+                                   struct sundial_interval *now)
+{
+    struct sundial_report report = {{0, 0}, {0, 0}};
+    uint32_t answer = sundial_report(device, counter, &report);
+    if (answer == SUNDIAL_DONE) {
+        now->earliest = sundial_earliest(&report);
+        now->latest = sundial_latest(&report);
+    }
+    return answer;
+}
+
+/* 1 where the reference time has surely passed the stamp, and else 0: the end of a commit wait. */
+static inline int sundial_has_passed(const struct sundial_interval *now, struct sundial_wide stamp)
+{
+    return now->earliest.high > stamp.high
+           || (now->earliest.high == stamp.high && now->earliest.low > stamp.low);
 }
 
 #ifdef __cplusplus

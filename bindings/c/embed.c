@@ -1,21 +1,27 @@
-/* A small fabric whose devices run the library: a root that fails, a takeover, and a renewal.
+/* A small fabric whose devices run the library. Its root is fixed and fails. The backup root takes
+ * over and is fixed. A renewal leaves the failed device out, and a second one takes it in again.
  *
  *     embed SEED SCHEDULE [drift|tick]
  *
  * prints a line for each report, as `sundial replay` prints it, and writes the schedule of all that
  * happened. `drift` lets one oscillator run too fast from the middle on, `tick` lets one device
- * miss its ticks for a while. */
+ * miss its ticks for a while. Without them each report has to contain the reference time. */
 #include <inttypes.h>
 #include <stdio.h>
 #include <stdlib.h>
 #include <string.h>
 
 #include "fabric.h"
+#include "recorder.h"
 
 enum { FLIGHTS = 4096 };
 
 /* When what happens, in ps of the reference time. */
-static const uint64_t FAIL = 600000000, STAGE = 4000000000, SEAL = 4600000000, END = 5600000000;
+static const uint64_t FIX_FIRST = 300000000, FAIL = 600000000, FIX_SECOND = 3600000000,
+                      RENEW = 4000000000, SEAL = 4600000000, RESTART = 4800000000,
+                      REPAIR = 5000000000, SEAL_AGAIN = 5600000000, END = 6600000000;
+
+static const uint64_t ROOT_EPS = 500, EPS = 1000000; /* of clocks that are set, in ps */
 
 static const uint64_t PAUSE = 97000000; /* between two reports */
 
@@ -39,16 +45,35 @@ struct node {
 
 static struct node nodes[DEVICES];
 static struct flight flights[FLIGHTS];
-static uint64_t now, line, sent, reports, word;
-static FILE *schedule;
-static int is_fast, is_late;
+static uint64_t now, reports, word;
+static struct sundial_recorder recorder;
+static int is_fast, is_late, is_faulty;
+
+static void stop(const char *why)
+{
+    fprintf(stderr, "embed: at %" PRIu64 ": %s\n", now, why);
+    exit(1);
+}
 
 static void check(uint32_t answer, const char *what)
 {
     if (answer != SUNDIAL_DONE) {
-        fprintf(stderr, "embed: %s answered %" PRIu32 " at %" PRIu64 "\n", what, answer, now);
-        exit(1);
+        fprintf(stderr, "embed: %s answered %" PRIu32 "\n", what, answer);
+        stop("a call was refused");
     }
+}
+
+/* The recorder wrote the line of this number. */
+static uint64_t recorded(uint64_t line)
+{
+    if (line == 0)
+        stop("the schedule cannot be written");
+    return line;
+}
+
+static int write_file(void *to, const char *text, size_t bytes)
+{
+    return fwrite(text, 1, bytes, to) == bytes ? 0 : -1;
 }
 
 /* A word of chance below the bound (xorshift64*). */
@@ -67,23 +92,11 @@ static uint64_t counter_of(const struct node *node)
            + since % 1000000 * node->millionths / 1000000;
 }
 
-/* Begins a line of the schedule. */
-static void tell(const char *event)
+/* A clock that is off by at most this many ps. */
+static uint64_t clock_within(uint64_t eps)
 {
-    line++;
-    fprintf(schedule, "%s %" PRIu64, event, now);
-}
-
-static void tell_device(const char *event, uint32_t number)
-{
-    tell(event);
-    fprintf(schedule, " %" PRIu32, number);
-}
-
-static void tell_counter(const char *event, uint32_t number)
-{
-    tell_device(event, number);
-    fprintf(schedule, " %" PRIu64, counter_of(&nodes[number]));
+    uint64_t ahead = now + chance(2 * eps + 1);
+    return ahead < eps ? 0 : ahead - eps;
 }
 
 static int follows(const struct sundial_duty *duty, uint32_t parent, uint32_t link)
@@ -97,8 +110,8 @@ static struct flight *free_place(void)
     for (int i = 0; i < FLIGHTS; i++)
         if (!flights[i].is_used)
             return &flights[i];
-    fprintf(stderr, "embed: too many messages are on their way\n");
-    exit(1);
+    stop("too many messages are on their way");
+    return NULL;
 }
 
 /* One message over each link below the sender, by its plan, in the order of the links. */
@@ -114,11 +127,11 @@ static void send_on(uint32_t sender, const struct sundial_effect *effect)
         uint32_t receiver = ENDS[link][0] == sender ? ENDS[link][1] : ENDS[link][0];
         if (!follows(&DUTIES[epoch - 1][receiver], sender, link))
             continue;
-        sent++;
+        uint64_t message = sundial_record_sent(&recorder);
         if (!nodes[receiver].is_up)
             continue;
         struct flight *flight = free_place();
-        flight->number = sent;
+        flight->number = message;
         flight->comes_at = now + LEAST_DELAY + chance(GREATEST_DELAY - LEAST_DELAY + 1);
         flight->link = link;
         flight->receiver = receiver;
@@ -127,28 +140,42 @@ static void send_on(uint32_t sender, const struct sundial_effect *effect)
     }
 }
 
-static void start(uint32_t number)
+static void power_up(struct node *node)
 {
-    struct node *node = &nodes[number];
-    uint64_t eps = number == S0 ? 500 : 1000000;
     memset(node, 0, sizeof *node);
     node->first = chance(1000000);
     node->millionths = 999960 + chance(81);
-    node->next_tick = 1 + chance(TICK);
+    node->changed_at = now;
+    node->next_tick = now + 1 + chance(TICK);
     node->is_up = 1;
-    check(sundial_start(&node->device, &DUTIES[0][number], counter_of(node), now, eps), "start");
-    tell_counter("start", number);
-    fprintf(schedule, " %" PRIu64 " %" PRIu64 "\n", now, eps);
+}
+
+static void start(uint32_t number)
+{
+    struct node *node = &nodes[number];
+    uint64_t eps = number == S0 ? ROOT_EPS : EPS;
+    power_up(node);
+    uint64_t counter = counter_of(node), clock = clock_within(eps);
+    check(sundial_start(&node->device, &DUTIES[0][number], counter, clock, eps), "start");
+    recorded(sundial_record_start(&recorder, now, number, counter, clock, eps));
+}
+
+static void join(uint32_t number)
+{
+    struct node *node = &nodes[number];
+    power_up(node);
+    uint64_t counter = counter_of(node), clock = clock_within(EPS);
+    check(sundial_join(&node->device, &DUTIES[0][number].rates, counter, clock, EPS), "join");
+    recorded(sundial_record_join(&recorder, now, number, counter, clock, EPS));
 }
 
 static void tick(uint32_t number)
 {
-    struct sundial_effect effect;
+    struct sundial_effect effect = {0};
     struct node *node = &nodes[number];
-    memset(&effect, 0, sizeof effect);
-    check(sundial_tick(&node->device, counter_of(node), &effect), "tick");
-    tell_counter("tick", number);
-    fputc('\n', schedule);
+    uint64_t counter = counter_of(node);
+    check(sundial_tick(&node->device, counter, &effect), "tick");
+    recorded(sundial_record_tick(&recorder, now, number, counter));
     send_on(number, &effect);
     node->next_tick = now + TICK / 2 + chance(TICK / 2);
     if (is_late && number == L1 && now > END / 2) {
@@ -159,68 +186,42 @@ static void tick(uint32_t number)
 
 static void receive(struct flight *flight)
 {
-    struct sundial_effect effect;
+    struct sundial_effect effect = {0};
     uint32_t number = flight->receiver;
     struct node *node = &nodes[number];
-    memset(&effect, 0, sizeof effect);
+    uint64_t counter = counter_of(node);
     flight->is_used = 0;
-    check(sundial_receive(&node->device, flight->link, &flight->message, counter_of(node), &effect),
+    check(sundial_receive(&node->device, flight->link, &flight->message, counter, &effect),
           "receive");
-    tell_counter("recv", number);
-    fprintf(schedule, " %" PRIu64 "\n", flight->number);
+    recorded(sundial_record_receive(&recorder, now, number, counter, flight->number));
     send_on(number, &effect);
+}
+
+/* The reference time lies in what the device answers. */
+static void check_now(uint32_t number)
+{
+    struct sundial_interval interval = {0};
+    struct sundial_wide at = {now, 0};
+    check(sundial_now(&nodes[number].device, counter_of(&nodes[number]), &interval), "now");
+    if (sundial_has_passed(&interval, at))
+        stop("the earliest time is too late");
+    if (interval.latest.high == 0 && interval.latest.low < now)
+        stop("the latest time is too early");
 }
 
 static void ask(uint32_t number)
 {
-    struct sundial_report report;
-    memset(&report, 0, sizeof report);
-    check(sundial_report(&nodes[number].device, counter_of(&nodes[number]), &report), "report");
-    tell_counter("ask", number);
-    fputc('\n', schedule);
+    struct sundial_report report = {0};
+    uint64_t counter = counter_of(&nodes[number]);
+    check(sundial_report(&nodes[number].device, counter, &report), "report");
+    uint64_t line = recorded(sundial_record_report(&recorder, now, number, counter));
     reports++;
-    printf("report %" PRIu64 " %s %" PRIu64 " %" PRIu64 "\n", line, NAMES[number], report.clock.low,
-           report.eps.low);
-}
-
-static void fail(uint32_t number)
-{
-    nodes[number].is_up = 0;
-    for (int i = 0; i < FLIGHTS; i++)
-        if (flights[i].receiver == number)
-            flights[i].is_used = 0;
-    tell("fail");
-    fprintf(schedule, " device %" PRIu32 "\n", number);
-}
-
-/* The next plan is given to all that are up, and its root goes over to it. */
-static void renew(void)
-{
-    uint8_t acts = 0;
-    check(sundial_acts(&nodes[S1].device, &acts), "acts");
-    if (acts == 0) {
-        fprintf(stderr, "embed: s1 has not taken over\n");
-        exit(1);
-    }
-    tell("stage");
-    fputc('\n', schedule);
-    for (uint32_t number = S1; number < DEVICES; number++) {
-        check(sundial_give(&nodes[number].device, &DUTIES[1][number]), "give");
-        tell_device("give", number);
-        fputc('\n', schedule);
-    }
-    check(sundial_commit(&nodes[S1].device, counter_of(&nodes[S1])), "commit");
-    tell_counter("commit", S1);
-    fputc('\n', schedule);
-}
-
-static void seal(void)
-{
-    for (uint32_t number = S1; number < DEVICES; number++) {
-        check(sundial_seal(&nodes[number].device), "seal");
-        tell_device("seal", number);
-        fputc('\n', schedule);
-    }
+    printf("report %" PRIu64 " %s %" PRIu64 " %" PRIu64 "\n", line, NAMES[number],
+           report.clock.low, report.eps.low);
+    if (report.clock.high != 0 || report.eps.high != 0)
+        stop("a report is too great");
+    if (!is_faulty)
+        check_now(number);
 }
 
 static void ask_all(void)
@@ -228,6 +229,118 @@ static void ask_all(void)
     for (uint32_t number = 0; number < DEVICES; number++)
         if (nodes[number].is_up)
             ask(number);
+}
+
+/* The clock of the device is set from a source that is as good as the root's first clock. */
+static void fix(uint32_t number)
+{
+    struct node *node = &nodes[number];
+    uint64_t counter = counter_of(node), clock = clock_within(ROOT_EPS);
+    check(sundial_fix(&node->device, counter, clock, ROOT_EPS), "fix");
+    recorded(sundial_record_fix(&recorder, now, number, counter, clock, ROOT_EPS));
+    ask(number);
+}
+
+static void fix_first(void)
+{
+    fix(S0);
+}
+
+static void fail_root(void)
+{
+    nodes[S0].is_up = 0;
+    for (int i = 0; i < FLIGHTS; i++)
+        if (flights[i].receiver == S0)
+            flights[i].is_used = 0;
+    recorded(sundial_record_fail_device(&recorder, now, S0));
+}
+
+static void fix_second(void)
+{
+    uint8_t acts = 0;
+    check(sundial_acts(&nodes[S1].device, &acts), "acts");
+    if (acts == 0)
+        stop("s1 has not taken over");
+    fix(S1);
+}
+
+/* Every device that is up is given its duty in this plan, and s1, its root, goes over to it. */
+static void go_over(uint32_t plan)
+{
+    for (uint32_t number = 0; number < DEVICES; number++) {
+        if (!nodes[number].is_up)
+            continue;
+        check(sundial_give(&nodes[number].device, &DUTIES[plan - 1][number]), "give");
+        recorded(sundial_record_give(&recorder, now, number));
+    }
+    uint64_t counter = counter_of(&nodes[S1]);
+    check(sundial_commit(&nodes[S1].device, counter), "commit");
+    recorded(sundial_record_commit(&recorder, now, S1, counter));
+}
+
+/* Plan 2 leaves out s0, which is down. */
+static void renew(void)
+{
+    recorded(sundial_record_stage(&recorder, now));
+    go_over(2);
+}
+
+/* s0 is repaired, and plan 3 takes it in again. */
+static void repair(void)
+{
+    recorded(sundial_record_stage(&recorder, now));
+    recorded(sundial_record_mend_device(&recorder, now, S0));
+    join(S0);
+    ask(S0);
+    go_over(3);
+}
+
+static void seal(void)
+{
+    for (uint32_t number = 0; number < DEVICES; number++) {
+        if (!nodes[number].is_up)
+            continue;
+        check(sundial_seal(&nodes[number].device), "seal");
+        recorded(sundial_record_seal(&recorder, now, number));
+    }
+}
+
+/* The process of l1 ends and begins anew. It kept its device, and its counter goes on. */
+static void restart(void)
+{
+    unsigned char kept[sizeof(struct sundial_device)];
+    struct sundial_device *device = &nodes[L1].device;
+    memcpy(kept, device, sizeof kept);
+    memset(device, 0, sizeof *device);
+    if (sundial_made(device) != SUNDIAL_NO_DEVICE)
+        stop("nothing passes for a device");
+    memcpy(device, kept, sizeof kept);
+    check(sundial_made(device), "made");
+}
+
+/* Each device follows its primary parent of plan 3, and s1 acts. */
+static void check_parents(void)
+{
+    for (uint32_t number = 0; number < DEVICES; number++) {
+        const struct sundial_duty *duty = &DUTIES[PLANS - 1][number];
+        struct sundial_parent parent = {0};
+        uint32_t epoch = 0;
+        uint8_t acts = 0;
+        check(sundial_parent(&nodes[number].device, &parent), "parent");
+        check(sundial_acts(&nodes[number].device, &acts), "acts");
+        check(sundial_epoch(&nodes[number].device, &epoch), "epoch");
+        if (epoch != PLANS || acts != (number == S1) || parent.has_parent != duty->has_primary
+            || (parent.has_parent && parent.parent != duty->primary.parent))
+            stop("a device does not follow plan 3");
+    }
+}
+
+static void finish(void)
+{
+    ask_all();
+    check_parents();
+    uint64_t line = recorded(sundial_record_end(&recorder, now));
+    printf("done %" PRIu64 " %" PRIu64 "\n", line, reports);
 }
 
 /* From now on the oscillator is 400 ppm fast: twice what its rates allow. */
@@ -256,22 +369,10 @@ static uint32_t first_to_tick(void)
 {
     uint32_t first = DEVICES;
     for (uint32_t number = 0; number < DEVICES; number++)
-        if (nodes[number].is_up && (first == DEVICES || nodes[number].next_tick < nodes[first].next_tick))
+        if (nodes[number].is_up
+            && (first == DEVICES || nodes[number].next_tick < nodes[first].next_tick))
             first = number;
     return first;
-}
-
-static void fail_root(void)
-{
-    fail(S0);
-}
-
-static void finish(void)
-{
-    ask_all();
-    tell("end");
-    fputc('\n', schedule);
-    printf("done %" PRIu64 " %" PRIu64 "\n", line, reports);
 }
 
 int main(int count, char **words)
@@ -281,16 +382,19 @@ int main(int count, char **words)
         return 2;
     }
     word = strtoull(words[1], NULL, 10) * 2 + 1;
-    schedule = fopen(words[2], "w");
+    FILE *schedule = fopen(words[2], "w");
     if (schedule == NULL) {
         perror(words[2]);
         return 1;
     }
+    recorder = (struct sundial_recorder){write_file, schedule, 0, 0, 0};
     is_fast = count > 3 && strcmp(words[3], "drift") == 0;
     is_late = count > 3 && strcmp(words[3], "tick") == 0;
+    is_faulty = is_fast || is_late;
 
     struct { uint64_t at; void (*act)(void); } acts[] = {
-        {FAIL, fail_root}, {STAGE, renew}, {SEAL, seal}, {END, finish},
+        {FIX_FIRST, fix_first}, {FAIL, fail_root}, {FIX_SECOND, fix_second}, {RENEW, renew},
+        {SEAL, seal}, {RESTART, restart}, {REPAIR, repair}, {SEAL_AGAIN, seal}, {END, finish},
     };
     size_t act = 0;
     uint64_t next_ask = PAUSE;
@@ -323,6 +427,7 @@ int main(int count, char **words)
             tick(ticking);
         }
     }
-    fclose(schedule);
+    if (fclose(schedule) != 0)
+        stop("the schedule cannot be written");
     return 0;
 }

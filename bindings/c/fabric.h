@@ -1,12 +1,12 @@
-/* The fabric of topology.toml with plan-1.json and plan-2.json, as tables. The names, links and
- * duties have to be those of the texts; run.sh compares what the devices report with what
- * `sundial replay` reports for the texts. */
+/* The fabric of topology.toml with its three plans, as tables. The names, links and duties have to
+ * be those of the texts; run.sh compares what the devices report with what `sundial replay`
+ * reports for the texts. */
 #ifndef FABRIC_H
 #define FABRIC_H
 
 #include "../../include/sundial_device.h"
 
-enum { DEVICES = 5, LINKS = 6, PLANS = 2 };
+enum { DEVICES = 5, LINKS = 6, PLANS = 3 };
 
 enum { S0, S1, S2, L0, L1 };
 
@@ -24,7 +24,7 @@ static const uint64_t TICK = 40000000;
 #define NO_EDGE {0, 0, 0, 0}
 #define WAITS 100000000, 1240417084, 1240417084, 6203077952
 
-/* The device's part of each plan. Plan 2 leaves s0 out. */
+/* The device's part of each plan. Plan 2 leaves s0 out, and plan 3 takes it in again. */
 static const struct sundial_duty DUTIES[PLANS][DEVICES] = {
     {
         {NO_EDGE, NO_EDGE, WAITS, RATES, 1, SUNDIAL_ROOT, 0, 0},
@@ -39,6 +39,13 @@ static const struct sundial_duty DUTIES[PLANS][DEVICES] = {
         {EDGE(L0, 4), EDGE(L1, 5), WAITS, RATES, 2, SUNDIAL_BACKUP_ROOT, 1, 1},
         {EDGE(S1, 2), EDGE(S2, 4), WAITS, RATES, 2, SUNDIAL_ORDINARY, 1, 1},
         {EDGE(S1, 3), EDGE(S2, 5), WAITS, RATES, 2, SUNDIAL_ORDINARY, 1, 1},
+    },
+    {
+        {EDGE(L0, 0), EDGE(L1, 1), WAITS, RATES, 3, SUNDIAL_BACKUP_ROOT, 1, 1},
+        {NO_EDGE, NO_EDGE, WAITS, RATES, 3, SUNDIAL_ROOT, 0, 0},
+        {EDGE(L0, 4), EDGE(L1, 5), WAITS, RATES, 3, SUNDIAL_ORDINARY, 1, 1},
+        {EDGE(S1, 2), EDGE(S0, 0), WAITS, RATES, 3, SUNDIAL_ORDINARY, 1, 1},
+        {EDGE(S1, 3), EDGE(S0, 1), WAITS, RATES, 3, SUNDIAL_ORDINARY, 1, 1},
     },
 };
 

@@ -73,7 +73,7 @@ pub record Tells {T : Type 0} (device : PlainDevice) (by_rules : Registers → T
   pub registers : (r : Registers) → Holds device r → told ≡ by_rules r
   pub life : (life : Life) → StandsIn device life → told ≡ by_words (past_of life)
 
--- it is a duty, the device was made of it, and what is owed holds
+-- it is a duty, and what a start with it owes holds
 abbrev pub MayStart : PlainDuty → (counter clock eps : ℕ) → Type 0
 MayStart plain counter clock eps =
     (duty : Duty) × (duty_from plain ≡ Some duty) × ((fault : Fault) → OwesToMake fault (Started duty counter clock eps))
