@@ -3,20 +3,30 @@
 
 pub mod raw;
 
-pub use raw::{Duty, Edge, Message, Rates};
+pub use raw::{Duty, Edge, Message, Rates, BACKUP_ROOT, ORDINARY, ROOT};
 
 /// Why a call was not made. The device is then as it was.
 #[derive(Clone, Copy, Debug, PartialEq, Eq)]
 pub enum Fault {
+    /// The numbers are those of no device.
     NoDevice,
+    /// Epoch 0, a role that is none, or a number past its limit.
     NoDuty,
+    /// More than 100000 parts per million, or a grain of more than 10^12 ps.
     RatesTooGreat,
+    /// The counter is below one that the device keeps.
     CounterFell,
+    /// The counter is past 2^60 ps.
     CounterTooGreat,
+    /// The clock or its eps, set from outside, is past 2^60 ps.
     ClockTooGreat,
+    /// The device's own clock or eps is 2^100 ps or more.
     EstimateTooGreat,
+    /// The device's own term or round is 2^31 or more.
     StampTooGreat,
+    /// The message's clock or eps is 2^100 ps or more, or its term or round 2^31 or more.
     MessageTooGreat,
+    /// No duty of a root was given to the device.
     NotRoot,
     /// An answer that the header does not name.
     Unknown(u32),
@@ -30,35 +40,43 @@ pub struct Report {
 }
 
 impl Report {
+    /// The earliest reference time that the report allows, in ps.
     pub fn earliest(self) -> u128 {
         self.clock.saturating_sub(self.eps)
     }
 
+    /// The latest reference time that the report allows, in ps.
     pub fn latest(self) -> u128 {
         self.clock + self.eps
     }
 }
 
 /// A device: plain numbers, which may be copied and kept.
+///
+/// Counters, clocks and eps are in ps. Those that a call takes are at most 2^60, and a counter is
+/// not below one that the device keeps. A call that is not made answers the fault, and changes
+/// nothing.
 #[derive(Clone, Debug)]
 pub struct Device(raw::Device);
 
 impl Device {
-    /// A device of a plan that was never part of one before.
+    /// A device of the plan in force, which begins for the first time. The clock is within eps of
+    /// the reference time. Faults: `NoDuty`, `CounterTooGreat`, `ClockTooGreat`.
     pub fn start(duty: &Duty, counter: u64, clock: u64, eps: u64) -> Result<Device, Fault> {
         let mut device = raw::Device::default();
         done(unsafe { raw::sundial_start(&mut device, duty, counter, clock, eps) })?;
         Ok(Device(device))
     }
 
-    /// A device that joins while a new plan is brought in.
+    /// A device that begins, or begins anew, while a new plan is brought in. The clock is within eps
+    /// of the reference time. Faults: `RatesTooGreat`, `CounterTooGreat`, `ClockTooGreat`.
     pub fn join(rates: &Rates, counter: u64, clock: u64, eps: u64) -> Result<Device, Fault> {
         let mut device = raw::Device::default();
         done(unsafe { raw::sundial_join(&mut device, rates, counter, clock, eps) })?;
         Ok(Device(device))
     }
 
-    /// The device that was kept as these numbers.
+    /// The device that was kept as these numbers. Faults: `NoDevice`.
     pub fn restore(kept: raw::Device) -> Result<Device, Fault> {
         done(unsafe { raw::sundial_made(&kept) })?;
         Ok(Device(kept))
@@ -69,30 +87,38 @@ impl Device {
         self.0
     }
 
+    /// Its duty in the next plan, kept beside the present one. Faults: `NoDuty`.
     pub fn give(&mut self, duty: &Duty) -> Result<(), Fault> {
         done(unsafe { raw::sundial_give(&mut self.0, duty) })
     }
 
+    /// It takes up the given duty at once, as the root of the next plan. Faults: `CounterFell`,
+    /// `CounterTooGreat`, `StampTooGreat`, `NotRoot`.
     pub fn commit(&mut self, counter: u64) -> Result<(), Fault> {
         done(unsafe { raw::sundial_commit(&mut self.0, counter) })
     }
 
+    /// From now on it may move to its backup parent and take over.
     pub fn seal(&mut self) -> Result<(), Fault> {
         done(unsafe { raw::sundial_seal(&mut self.0) })
     }
 
+    /// Sets the clock from outside, within eps of the reference time. Faults: `CounterFell`,
+    /// `CounterTooGreat`, `ClockTooGreat`.
     pub fn fix(&mut self, counter: u64, clock: u64, eps: u64) -> Result<(), Fault> {
         done(unsafe { raw::sundial_fix(&mut self.0, counter, clock, eps) })
     }
 
-    /// Its own timer: what it sends to each device below, if it sends.
+    /// Its own timer: what it sends to each device below, if it sends. Faults: `CounterFell`,
+    /// `CounterTooGreat`, `EstimateTooGreat`, `StampTooGreat`.
     pub fn tick(&mut self, counter: u64) -> Result<Option<Message>, Fault> {
         let mut effect = raw::Effect::default();
         done(unsafe { raw::sundial_tick(&mut self.0, counter, &mut effect) })?;
         Ok(sent(&effect))
     }
 
-    /// A message that came over this link: what it sends on, if it accepts it.
+    /// A message that came over this link: what it sends on, if it accepts it. A message that it does
+    /// not accept is no fault. Faults: those of a tick, and `MessageTooGreat`.
     pub fn receive(
         &mut self,
         link: u32,
@@ -104,6 +130,8 @@ impl Device {
         Ok(sent(&effect))
     }
 
+    /// What it takes the reference time for. Faults: `CounterFell`, `CounterTooGreat`,
+    /// `EstimateTooGreat`.
     pub fn report(&self, counter: u64) -> Result<Report, Fault> {
         let mut report = raw::Report::default();
         done(unsafe { raw::sundial_report(&self.0, counter, &mut report) })?;
@@ -113,12 +141,14 @@ impl Device {
         })
     }
 
+    /// The number of the device that it follows, if it follows one.
     pub fn parent(&self) -> Result<Option<u32>, Fault> {
         let mut parent = raw::Parent::default();
         done(unsafe { raw::sundial_parent(&self.0, &mut parent) })?;
         Ok((parent.has_parent != 0).then_some(parent.parent))
     }
 
+    /// Whether it acts as root.
     pub fn acts(&self) -> Result<bool, Fault> {
         let mut acts = 0;
         done(unsafe { raw::sundial_acts(&self.0, &mut acts) })?;
@@ -143,7 +173,7 @@ fn sent(effect: &raw::Effect) -> Option<Message> {
 
 fn done(answer: u32) -> Result<(), Fault> {
     Err(match answer {
-        0 => return Ok(()),
+        raw::DONE => return Ok(()),
         1 => Fault::NoDevice,
         2 => Fault::NoDuty,
         3 => Fault::RatesTooGreat,

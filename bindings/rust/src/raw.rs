@@ -1,10 +1,25 @@
-//! The calls and structs of `include/sundial_device.h`, as they are.
+//! The calls and structs of `include/sundial_device.h`, as they are. That header has the units, the
+//! ranges and the faults.
+
+/// The answer of a call that was made.
+pub const DONE: u32 = 0;
+
+/// The roles of a duty.
+pub const ROOT: u8 = 0;
+pub const BACKUP_ROOT: u8 = 1;
+pub const ORDINARY: u8 = 2;
+
+/// The modes of a device.
+pub const PRIMARY: u8 = 0;
+pub const BACKUP: u8 = 1;
+pub const ACTING: u8 = 2;
+pub const IDLE: u8 = 3;
 
 macro_rules! plain {
     ($(#[$doc:meta])* $name:ident $size:literal { $($field:ident: $kind:ty),* $(,)? }) => {
         $(#[$doc])*
         #[repr(C)]
-        #[derive(Clone, Copy, Debug, Default)]
+        #[derive(Clone, Copy, Debug, Default, PartialEq, Eq)]
         pub struct $name { $(pub $field: $kind),* }
         const _: () = assert!(std::mem::size_of::<$name>() == $size);
     };
