@@ -271,8 +271,8 @@ uint32_t sundial_give(struct sundial_device *device, const struct sundial_duty *
  * Faults: NO_DEVICE, COUNTER_FELL, COUNTER_TOO_GREAT, STAMP_TOO_GREAT, NOT_ROOT. */
 uint32_t sundial_commit(struct sundial_device *device, uint64_t counter);
 
-/* From now on it may move to its backup parent and take over (event `seal`). A device that goes over
- * to a new plan does neither until this call. Make it once all devices have gone over.
+/* From now on it may move to its backup parent and take over (event `seal`). A device that goes
+ * over to a new plan does neither until this call. Make it once all devices have gone over.
  * Faults: NO_DEVICE. */
 uint32_t sundial_seal(struct sundial_device *device);
 

@@ -1,11 +1,13 @@
 /* A small fabric whose devices run the library. Its root is fixed and fails. The backup root takes
- * over and is fixed. A renewal leaves the failed device out, and a second one takes it in again.
+ * over and is fixed. A renewal leaves the failed device out. A message is lost, a link fails, and a
+ * second renewal takes device and link in again.
  *
- *     embed SEED SCHEDULE [drift|tick]
+ *     embed SEED SCHEDULE [log|drift|tick]
  *
  * prints a line for each report, as `sundial replay` prints it, and writes the schedule of all that
- * happened. `drift` lets one oscillator run too fast from the middle on, `tick` lets one device
- * miss its ticks for a while. Without them each report has to contain the reference time. */
+ * happened, or with `log` a log of the same. `drift` lets one oscillator run too fast from the
+ * middle on, `tick` lets one device miss its ticks for a while. Without these two each report has
+ * to contain the reference time. */
 #include <inttypes.h>
 #include <stdio.h>
 #include <stdlib.h>
@@ -18,7 +20,8 @@ enum { FLIGHTS = 4096 };
 
 /* When what happens, in ps of the reference time. */
 static const uint64_t FIX_FIRST = 300000000, FAIL = 600000000, FIX_SECOND = 3600000000,
-                      RENEW = 4000000000, SEAL = 4600000000, RESTART = 4800000000,
+                      LOSE = 3800000000, RENEW = 4000000000, SEAL = 4600000000,
+                      CUT = 4700000000, RESTART = 4800000000,
                       REPAIR = 5000000000, SEAL_AGAIN = 5600000000, END = 6600000000;
 
 static const uint64_t ROOT_EPS = 500, EPS = 1000000; /* of clocks that are set, in ps */
@@ -47,7 +50,8 @@ static struct node nodes[DEVICES];
 static struct flight flights[FLIGHTS];
 static uint64_t now, reports, word;
 static struct sundial_recorder recorder;
-static int is_fast, is_late, is_faulty;
+static int is_down[LINKS]; /* which links have failed */
+static int is_fast, is_late, is_faulty, has_lost;
 
 static void stop(const char *why)
 {
@@ -128,7 +132,7 @@ static void send_on(uint32_t sender, const struct sundial_effect *effect)
         if (!follows(&DUTIES[epoch - 1][receiver], sender, link))
             continue;
         uint64_t message = sundial_record_sent(&recorder);
-        if (!nodes[receiver].is_up)
+        if (!nodes[receiver].is_up || is_down[link])
             continue;
         struct flight *flight = free_place();
         flight->number = message;
@@ -191,9 +195,16 @@ static void receive(struct flight *flight)
     struct node *node = &nodes[number];
     uint64_t counter = counter_of(node);
     flight->is_used = 0;
+    if (!has_lost && now > LOSE) {
+        has_lost = 1;
+        recorded(sundial_record_lose(&recorder, now, number, flight->link, &flight->message,
+                                     flight->number));
+        return;
+    }
     check(sundial_receive(&node->device, flight->link, &flight->message, counter, &effect),
           "receive");
-    recorded(sundial_record_receive(&recorder, now, number, counter, flight->number));
+    recorded(sundial_record_receive(&recorder, now, number, counter, flight->link, &flight->message,
+                                    flight->number));
     send_on(number, &effect);
 }
 
@@ -285,10 +296,22 @@ static void renew(void)
     go_over(2);
 }
 
-/* s0 is repaired, and plan 3 takes it in again. */
+/* The link from s2 to l0 fails. */
+static void cut(void)
+{
+    is_down[S2_L0] = 1;
+    for (int i = 0; i < FLIGHTS; i++)
+        if (flights[i].link == S2_L0)
+            flights[i].is_used = 0;
+    recorded(sundial_record_fail_link(&recorder, now, S2_L0));
+}
+
+/* s0 and the link are repaired, and plan 3 takes s0 in again. */
 static void repair(void)
 {
     recorded(sundial_record_stage(&recorder, now));
+    recorded(sundial_record_mend_link(&recorder, now, S2_L0));
+    is_down[S2_L0] = 0;
     recorded(sundial_record_mend_device(&recorder, now, S0));
     join(S0);
     ask(S0);
@@ -378,7 +401,7 @@ static uint32_t first_to_tick(void)
 int main(int count, char **words)
 {
     if (count < 3) {
-        fprintf(stderr, "embed SEED SCHEDULE [drift|tick]\n");
+        fprintf(stderr, "embed SEED SCHEDULE [log|drift|tick]\n");
         return 2;
     }
     word = strtoull(words[1], NULL, 10) * 2 + 1;
@@ -387,14 +410,19 @@ int main(int count, char **words)
         perror(words[2]);
         return 1;
     }
-    recorder = (struct sundial_recorder){write_file, schedule, 0, 0, 0};
+    recorder = (struct sundial_recorder){.write = write_file, .to = schedule};
+    if (count > 3 && strcmp(words[3], "log") == 0) {
+        recorder.devices = NAMES;
+        recorder.links = LINK_NAMES;
+    }
     is_fast = count > 3 && strcmp(words[3], "drift") == 0;
     is_late = count > 3 && strcmp(words[3], "tick") == 0;
     is_faulty = is_fast || is_late;
 
     struct { uint64_t at; void (*act)(void); } acts[] = {
         {FIX_FIRST, fix_first}, {FAIL, fail_root}, {FIX_SECOND, fix_second}, {RENEW, renew},
-        {SEAL, seal}, {RESTART, restart}, {REPAIR, repair}, {SEAL_AGAIN, seal}, {END, finish},
+        {SEAL, seal}, {CUT, cut}, {RESTART, restart}, {REPAIR, repair}, {SEAL_AGAIN, seal},
+        {END, finish},
     };
     size_t act = 0;
     uint64_t next_ask = PAUSE;

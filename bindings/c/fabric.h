@@ -10,7 +10,11 @@ enum { DEVICES = 5, LINKS = 6, PLANS = 3 };
 
 enum { S0, S1, S2, L0, L1 };
 
+enum { S2_L0 = 4 };
+
 static const char *const NAMES[DEVICES] = {"s0", "s1", "s2", "l0", "l1"};
+
+static const char *const LINK_NAMES[LINKS] = {"s0-l0", "s0-l1", "s1-l0", "s1-l1", "s2-l0", "s2-l1"};
 
 static const uint32_t ENDS[LINKS][2] = {{S0, L0}, {S0, L1}, {S1, L0}, {S1, L1}, {S2, L0}, {S2, L1}};
 

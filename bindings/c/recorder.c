@@ -1,22 +1,31 @@
-/* The lines of a schedule: recorder.h. */
+/* The lines of a schedule or of a log: recorder.h. */
 #include "recorder.h"
 
-/* Longer than any line: a word, five numbers of at most 20 digits, `device`, and the spaces. */
-enum { MOST_BYTES = 128, MOST_DIGITS = 20 };
+/* A line of a log has at most two names of 64 bytes, six numbers of 20 digits, and eight keys. */
+enum { MOST_BYTES = 512, MOST_DIGITS = 20 };
 
 struct line {
     char text[MOST_BYTES];
     size_t bytes;
+    int is_log;
+    int is_cut; /* some text had no room, as where a name is too long */
 };
+
+static void put_byte(struct line *line, char byte)
+{
+    if (line->bytes < MOST_BYTES)
+        line->text[line->bytes++] = byte;
+    else
+        line->is_cut = 1;
+}
 
 static void put(struct line *line, const char *text)
 {
     while (*text != '\0')
-        line->text[line->bytes++] = *text++;
+        put_byte(line, *text++);
 }
 
-/* A space, and the number in decimal. */
-static void put_number(struct line *line, uint64_t number)
+static void put_decimal(struct line *line, uint64_t number)
 {
     char digits[MOST_DIGITS];
     int count = 0;
@@ -24,172 +33,224 @@ static void put_number(struct line *line, uint64_t number)
         digits[count++] = (char)('0' + number % 10);
         number /= 10;
     } while (number != 0);
-    put(line, " ");
     while (count > 0)
-        line->text[line->bytes++] = digits[--count];
+        put_byte(line, digits[--count]);
 }
 
-static struct line line_of(const char *word, uint64_t reference)
+/* What stands before a value: its key in a log, a space in a schedule. */
+static void put_key(struct line *line, const char *key)
+{
+    put(line, line->is_log ? ", \"" : " ");
+    if (line->is_log) {
+        put(line, key);
+        put(line, "\": ");
+    }
+}
+
+static void put_number(struct line *line, const char *key, uint64_t number)
+{
+    put_key(line, key);
+    put_decimal(line, number);
+}
+
+/* A device or a link: its name in a log, its number in a schedule. */
+static void put_thing(struct line *line, const char *key, const char *const *names, uint32_t number)
+{
+    put_key(line, key);
+    if (!line->is_log) {
+        put_decimal(line, number);
+        return;
+    }
+    put(line, "\"");
+    put(line, names[number]);
+    put(line, "\"");
+}
+
+/* Which message: its link and its stamp in a log, its number in a schedule. */
+static void put_message(struct line *line, const struct sundial_recorder *recorder, uint32_t link,
+                        const struct sundial_message *message, uint64_t number)
+{
+    if (!line->is_log) {
+        put_number(line, "", number);
+        return;
+    }
+    put_thing(line, "link", recorder->links, link);
+    put_number(line, "epoch", message->epoch);
+    put_number(line, "term", message->stamp.term);
+    put_number(line, "round", message->stamp.round);
+}
+
+static struct line line_of(const struct sundial_recorder *recorder, const char *event,
+                           uint64_t reference)
 {
     struct line line;
     line.bytes = 0;
-    put(&line, word);
-    put_number(&line, reference);
+    line.is_log = recorder->devices != NULL;
+    line.is_cut = 0;
+    put(&line, line.is_log ? "{\"event\": \"" : "");
+    put(&line, event);
+    put(&line, line.is_log ? "\"" : "");
+    put_number(&line, "reference_ps", reference);
+    return line;
+}
+
+static struct line line_of_device(const struct sundial_recorder *recorder, const char *event,
+                                  uint64_t reference, uint32_t device)
+{
+    struct line line = line_of(recorder, event, reference);
+    put_thing(&line, "device", recorder->devices, device);
     return line;
 }
 
 static uint64_t finish(struct sundial_recorder *recorder, struct line *line)
 {
-    put(line, "\n");
-    if (recorder->failed || recorder->write(recorder->to, line->text, line->bytes) != 0) {
+    put(line, line->is_log ? "}\n" : "\n");
+    if (recorder->failed || line->is_cut
+        || recorder->write(recorder->to, line->text, line->bytes) != 0) {
         recorder->failed = 1;
         return 0;
     }
     return ++recorder->lines;
 }
 
-static uint64_t of_device(struct sundial_recorder *recorder, const char *word, uint64_t reference,
-                          uint32_t device)
+static uint64_t record_counter(struct sundial_recorder *recorder, const char *event,
+                               uint64_t reference, uint32_t device, uint64_t counter)
 {
-    struct line line = line_of(word, reference);
-    put_number(&line, device);
+    struct line line = line_of_device(recorder, event, reference, device);
+    put_number(&line, "counter_ps", counter);
     return finish(recorder, &line);
 }
 
-static uint64_t of_counter(struct sundial_recorder *recorder, const char *word, uint64_t reference,
-                           uint32_t device, uint64_t counter)
+static uint64_t record_clock(struct sundial_recorder *recorder, const char *event,
+                             uint64_t reference, uint32_t device, uint64_t counter,
+                             uint64_t clock, uint64_t eps)
 {
-    struct line line = line_of(word, reference);
-    put_number(&line, device);
-    put_number(&line, counter);
+    struct line line = line_of_device(recorder, event, reference, device);
+    put_number(&line, "counter_ps", counter);
+    put_number(&line, "clock_ps", clock);
+    put_number(&line, "eps_ps", eps);
     return finish(recorder, &line);
 }
 
-static uint64_t of_clock(struct sundial_recorder *recorder, const char *word, uint64_t reference,
-                         uint32_t device, uint64_t counter, uint64_t clock, uint64_t eps)
+/* A thing that stops or works again: a schedule has its kind before its number. */
+static uint64_t record_thing(struct sundial_recorder *recorder, const char *event,
+                             uint64_t reference, const char *kind, const char *const *names,
+                             uint32_t number)
 {
-    struct line line = line_of(word, reference);
-    put_number(&line, device);
-    put_number(&line, counter);
-    put_number(&line, clock);
-    put_number(&line, eps);
-    return finish(recorder, &line);
-}
-
-static uint64_t of_thing(struct sundial_recorder *recorder, const char *word, uint64_t reference,
-                         const char *thing, uint32_t number)
-{
-    struct line line = line_of(word, reference);
-    put(&line, " ");
-    put(&line, thing);
-    put_number(&line, number);
-    return finish(recorder, &line);
-}
-
-static uint64_t of_none(struct sundial_recorder *recorder, const char *word, uint64_t reference)
-{
-    struct line line = line_of(word, reference);
+    struct line line = line_of(recorder, event, reference);
+    if (!line.is_log) {
+        put(&line, " ");
+        put(&line, kind);
+    }
+    put_thing(&line, kind, names, number);
     return finish(recorder, &line);
 }
 
 uint64_t sundial_record_start(struct sundial_recorder *recorder, uint64_t reference,
                               uint32_t device, uint64_t counter, uint64_t clock, uint64_t eps)
 {
-    return of_clock(recorder, "start", reference, device, counter, clock, eps);
+    return record_clock(recorder, "start", reference, device, counter, clock, eps);
 }
 
 uint64_t sundial_record_join(struct sundial_recorder *recorder, uint64_t reference,
                              uint32_t device, uint64_t counter, uint64_t clock, uint64_t eps)
 {
-    return of_clock(recorder, "join", reference, device, counter, clock, eps);
+    return record_clock(recorder, "join", reference, device, counter, clock, eps);
 }
 
 uint64_t sundial_record_fix(struct sundial_recorder *recorder, uint64_t reference,
                             uint32_t device, uint64_t counter, uint64_t clock, uint64_t eps)
 {
-    return of_clock(recorder, "fix", reference, device, counter, clock, eps);
+    return record_clock(recorder, "fix", reference, device, counter, clock, eps);
 }
 
 uint64_t sundial_record_tick(struct sundial_recorder *recorder, uint64_t reference,
                              uint32_t device, uint64_t counter)
 {
-    return of_counter(recorder, "tick", reference, device, counter);
+    return record_counter(recorder, "tick", reference, device, counter);
 }
 
 uint64_t sundial_record_receive(struct sundial_recorder *recorder, uint64_t reference,
-                                uint32_t device, uint64_t counter, uint64_t message)
+                                uint32_t device, uint64_t counter, uint32_t link,
+                                const struct sundial_message *message, uint64_t number)
 {
-    struct line line = line_of("recv", reference);
-    put_number(&line, device);
-    put_number(&line, counter);
-    put_number(&line, message);
+    struct line line = line_of_device(recorder, "recv", reference, device);
+    put_number(&line, "counter_ps", counter);
+    put_message(&line, recorder, link, message, number);
     return finish(recorder, &line);
 }
 
 uint64_t sundial_record_report(struct sundial_recorder *recorder, uint64_t reference,
                                uint32_t device, uint64_t counter)
 {
-    return of_counter(recorder, "ask", reference, device, counter);
+    return record_counter(recorder, "ask", reference, device, counter);
 }
 
 uint64_t sundial_record_give(struct sundial_recorder *recorder, uint64_t reference,
                              uint32_t device)
 {
-    return of_device(recorder, "give", reference, device);
+    struct line line = line_of_device(recorder, "give", reference, device);
+    return finish(recorder, &line);
 }
 
 uint64_t sundial_record_commit(struct sundial_recorder *recorder, uint64_t reference,
                                uint32_t device, uint64_t counter)
 {
-    return of_counter(recorder, "commit", reference, device, counter);
+    return record_counter(recorder, "commit", reference, device, counter);
 }
 
 uint64_t sundial_record_seal(struct sundial_recorder *recorder, uint64_t reference,
                              uint32_t device)
 {
-    return of_device(recorder, "seal", reference, device);
+    struct line line = line_of_device(recorder, "seal", reference, device);
+    return finish(recorder, &line);
 }
 
 uint64_t sundial_record_stage(struct sundial_recorder *recorder, uint64_t reference)
 {
-    return of_none(recorder, "stage", reference);
+    struct line line = line_of(recorder, "stage", reference);
+    return finish(recorder, &line);
 }
 
 uint64_t sundial_record_fail_device(struct sundial_recorder *recorder, uint64_t reference,
                                     uint32_t device)
 {
-    return of_thing(recorder, "fail", reference, "device", device);
+    return record_thing(recorder, "fail", reference, "device", recorder->devices, device);
 }
 
 uint64_t sundial_record_fail_link(struct sundial_recorder *recorder, uint64_t reference,
                                   uint32_t link)
 {
-    return of_thing(recorder, "fail", reference, "link", link);
+    return record_thing(recorder, "fail", reference, "link", recorder->links, link);
 }
 
 uint64_t sundial_record_mend_device(struct sundial_recorder *recorder, uint64_t reference,
                                     uint32_t device)
 {
-    return of_thing(recorder, "mend", reference, "device", device);
+    return record_thing(recorder, "mend", reference, "device", recorder->devices, device);
 }
 
 uint64_t sundial_record_mend_link(struct sundial_recorder *recorder, uint64_t reference,
                                   uint32_t link)
 {
-    return of_thing(recorder, "mend", reference, "link", link);
+    return record_thing(recorder, "mend", reference, "link", recorder->links, link);
 }
 
 uint64_t sundial_record_lose(struct sundial_recorder *recorder, uint64_t reference,
-                             uint64_t message)
+                             uint32_t device, uint32_t link,
+                             const struct sundial_message *message, uint64_t number)
 {
-    struct line line = line_of("lose", reference);
-    put_number(&line, message);
+    struct line line = line_of(recorder, "lose", reference);
+    if (line.is_log)
+        put_thing(&line, "device", recorder->devices, device);
+    put_message(&line, recorder, link, message, number);
     return finish(recorder, &line);
 }
 
 uint64_t sundial_record_end(struct sundial_recorder *recorder, uint64_t reference)
 {
-    return of_none(recorder, "end", reference);
+    struct line line = line_of(recorder, "end", reference);
+    return finish(recorder, &line);
 }
 
 uint64_t sundial_record_sent(struct sundial_recorder *recorder)

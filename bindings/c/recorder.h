@@ -1,31 +1,36 @@
-/* Writes what happens to the devices of a fabric as a schedule, which `sundial replay` judges.
+/* Writes what happens to the devices of a fabric, for `sundial replay` to judge.
  *
  * Compile recorder.c into your program. It needs no library and allocates nothing.
  *
- *     struct sundial_recorder recorder = {write_file, file, 0, 0, 0};
+ *     struct sundial_recorder recorder = {.write = write_file, .to = file};
  *     ...
  *     if (sundial_tick(&device, counter, &effect) == SUNDIAL_DONE)
  *         sundial_record_tick(&recorder, reference, number, counter);
  *     ...
  *     sundial_record_end(&recorder, reference);
  *
+ * It writes one of two forms.
+ *   - A schedule, where `devices` and `links` are null: docs/RULES.md. One recorder sees all
+ *     devices, in one order, as in a test bench. `sundial replay` reads it.
+ *   - A log, where they are the names of the topology: docs/RECORD.md. Each device of a fabric has
+ *     a recorder of its own, and the operator has one for what no device sees. sundial-record makes
+ *     one schedule of all logs.
+ *
  * What to tell it
  *   - Each call of the library that answered SUNDIAL_DONE, with the counter that the call had, and
- *     at once: before the next call of any device. A call that answered otherwise changed nothing
- *     and has no line. made, parent, acts and epoch have none either.
+ *     at once: before the next call of any device that it records. A call that answered otherwise
+ *     changed nothing and has no line. made, parent, acts and epoch have none either.
  *   - What no device sees: failures, repairs, losses that are known, and the begin of a renewal.
  *   - The reference time of each, in ps from one origin, which never falls. It comes from outside
  *     the fabric: a measuring clock, or the simulated time of a test.
  *   - Numbers: a device and a link have the number of their place in the topology, from 0.
  *
- * Messages. The replay numbers messages by itself, so the recorder has to count them alike. Where
- * a call's effect says that it sends, call sundial_record_sent once for each link below the sender,
+ * Messages. The replay numbers messages by itself, so a schedule has to count them alike. Where a
+ * call's effect says that it sends, call sundial_record_sent once for each link below the sender,
  * by ascending number of the link: those of the devices whose duty of the sender's epoch names the
  * sender and the link as primary or backup. A message over a failed link, or to a device that is
- * down, counts too. Keep the number beside the message, and tell it with the receipt.
- *
- * One recorder sees the whole fabric, in one order. In a fabric of several machines each device
- * writes a log of its own in place of this, and sundial-record makes the schedule (docs/RECORD.md).
+ * down, counts too. Keep the number beside the message, and tell it with the receipt. A log needs
+ * no numbers: any will do.
  *
  * docs/FLEET.md says what each line means and when a replay refuses it. Times are at most 2^60 ps.
  * Calls of one recorder must not overlap.
@@ -36,6 +41,8 @@
 #include <stddef.h>
 #include <stdint.h>
 
+#include "../../include/sundial_device.h"
+
 #ifdef __cplusplus
 extern "C" {
 #endif
@@ -43,14 +50,16 @@ extern "C" {
 struct sundial_recorder {
     /* Writes this text, one whole line with its newline. 0 where all of it is written. */
     int (*write)(void *to, const char *text, size_t bytes);
-    void *to;          /* handed to `write` */
-    uint64_t lines;    /* how many lines were written; 0 at first */
-    uint64_t messages; /* the number of the latest message; 0 at first */
-    int failed;        /* set once `write` failed: nothing is written from then on; 0 at first */
+    void *to;                   /* handed to `write` */
+    const char *const *devices; /* names by number, of at most 64 bytes; null for a schedule */
+    const char *const *links;   /* the same of the links */
+    uint64_t lines;             /* how many lines were written; 0 at first */
+    uint64_t messages;          /* the number of the latest message; 0 at first */
+    int failed; /* set once a line could not be written: none is from then on; 0 at first */
 };
 
-/* Each of these writes one line and answers its number, from 1, which is the number that the replay
- * prints. The answer is 0 where a write failed, now or before: the schedule then ends too early. */
+/* Each of these writes one line and answers its number, from 1, which is the number that a replay
+ * of the schedule prints. The answer is 0 where a line could not be written, now or before. */
 
 uint64_t sundial_record_start(struct sundial_recorder *recorder, uint64_t reference,
                               uint32_t device, uint64_t counter, uint64_t clock, uint64_t eps);
@@ -64,9 +73,10 @@ uint64_t sundial_record_fix(struct sundial_recorder *recorder, uint64_t referenc
 uint64_t sundial_record_tick(struct sundial_recorder *recorder, uint64_t reference,
                              uint32_t device, uint64_t counter);
 
-/* The device received this message, whether it accepted it or not. */
+/* The device received the message of this number over the link, whether it accepted it or not. */
 uint64_t sundial_record_receive(struct sundial_recorder *recorder, uint64_t reference,
-                                uint32_t device, uint64_t counter, uint64_t message);
+                                uint32_t device, uint64_t counter, uint32_t link,
+                                const struct sundial_message *message, uint64_t number);
 
 /* The device reported. */
 uint64_t sundial_record_report(struct sundial_recorder *recorder, uint64_t reference,
@@ -94,9 +104,11 @@ uint64_t sundial_record_mend_device(struct sundial_recorder *recorder, uint64_t 
 uint64_t sundial_record_mend_link(struct sundial_recorder *recorder, uint64_t reference,
                                   uint32_t link);
 
-/* This message is known to be lost. A message that is not received needs no such line. */
+/* The message of this number to the device over the link is known to be lost. A message that is not
+ * received needs no such line. */
 uint64_t sundial_record_lose(struct sundial_recorder *recorder, uint64_t reference,
-                             uint64_t message);
+                             uint32_t device, uint32_t link,
+                             const struct sundial_message *message, uint64_t number);
 
 /* The recording ends: the last line. A replay refuses a schedule without it. */
 uint64_t sundial_record_end(struct sundial_recorder *recorder, uint64_t reference);

@@ -129,7 +129,7 @@ impl Fabric {
             }
             "commit" => self.device(n(2)).commit(n(3)).unwrap(),
             "seal" => self.device(n(2)).seal().unwrap(),
-            "fail" => self.devices[n(3) as usize] = None,
+            "fail" if words[2] == "device" => self.devices[n(3) as usize] = None,
             "ask" => {
                 let kept = self.device(n(2)).kept();
                 let report = Device::restore(kept).unwrap().report(n(3)).unwrap();
@@ -137,7 +137,7 @@ impl Fabric {
                 let name = NAMES[n(2) as usize];
                 return Some(format!("report {line} {name} {} {}", report.clock, report.eps));
             }
-            "mend" | "end" => (),
+            "fail" | "mend" | "lose" | "end" => (),
             other => panic!("{other}"),
         }
         None
