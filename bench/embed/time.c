@@ -1,4 +1,4 @@
-/* Times each call of the library of a device: least and median, in ns a call, over rounds of many
+/* Times each call of the library of a device: minimum and median, in ns a call, over rounds of many
  * calls; together at least a million. */
 #define _POSIX_C_SOURCE 199309L
 #include <stdint.h>
@@ -88,7 +88,7 @@ int main(void)
     root_duty.has_primary = root_duty.has_backup = 0;
     printf("device %zu bytes, message %zu, effect %zu, report %zu\n", sizeof device, sizeof message,
            sizeof effect, sizeof report);
-    printf("%-18s %8s %8s  ns a call\n", "call", "least", "median");
+    printf("%-18s %8s %8s  ns a call\n", "call", "minimum", "median");
     for (size_t i = 0; i < sizeof TIMED / sizeof TIMED[0]; i++) {
         for (int round = 0; round < ROUNDS; round++) {
             counter = 0;
