@@ -39,9 +39,9 @@ struct flight {
 
 struct node {
     struct sundial_device device;
-    uint64_t first; /* its counter at reference 0 */
-    uint64_t millionths; /* how far it advances in 1000000 ps of the reference time */
-    uint64_t changed_at; /* since when it does */
+    uint64_t first;      /* its counter at `changed_at` */
+    uint64_t millionths; /* how far it advances since then in 1000000 ps of the reference time */
+    uint64_t changed_at; /* a reference time: that of its begin at first */
     uint64_t next_tick;
     int is_up;
 };
