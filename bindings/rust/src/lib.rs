@@ -49,6 +49,11 @@ impl Report {
     pub fn latest(self) -> u128 {
         self.clock + self.eps
     }
+
+    /// Whether the reference time has surely passed the stamp, in ps: the end of a commit wait.
+    pub fn has_passed(self, stamp: u128) -> bool {
+        self.earliest() > stamp
+    }
 }
 
 /// A device: plain numbers, which may be copied and kept.

@@ -133,7 +133,7 @@ impl Fabric {
             "ask" => {
                 let kept = self.device(n(2)).kept();
                 let report = Device::restore(kept).unwrap().report(n(3)).unwrap();
-                assert!(report.earliest() <= n(1).into() && report.latest() >= n(1).into());
+                assert!(!report.has_passed(n(1).into()) && report.latest() >= n(1).into());
                 let name = NAMES[n(2) as usize];
                 return Some(format!("report {line} {name} {} {}", report.clock, report.eps));
             }
