@@ -1,0 +1,265 @@
+-- A plan whose hops all lead to the root or to the backup root is accepted where tests that compute hold of each domain and each device.
+use Rattle.std.specs.Prelude.{◌≡◌, ◌≢◌, ℕ, zero, suc, ◌+◌, ◌<◌, ◌≤◌, Bool, true, false, ◌&&◌, ◌||◌, not, List, [], ◌∷◌, ◌++◌, length, nat_eq, find, slice_get, Option, Some, None, option_to_list, option_map, is_none, IsTrue, ◌⊎◌, if◌then◌else◌}
+use Rattle.std.specs.List.{list_any, list_all}
+use Rattle.std.proofs.Common.{refl, sym, ap, ◌∙◌, subst, arith, inl, inr}
+use Rattle.std.proofs.lemmas.Bool.{and_parts, and_from, or_cases, eqb-true, not-true, not-false, not_from_false, cases_lt, cases_Bool, both_ways, false_from_ne_true}
+use Rattle.std.proofs.lemmas.Option.{slice_get_past, same_Some}
+use Rattle.sd_proof_bound.specs.Drill.Num.Lists.{of_some}
+use Rattle.sd_proof_bound.specs.Drill.Topo.Network.{Network, device_numbers, Each}
+use Rattle.sd_proof_bound.specs.Drill.Domain.Domains.{domains, holds_device, holds_link, hits}
+use Rattle.sd_proof_bound.specs.Drill.Domain.declared.DomainId.{DomainId}
+use Rattle.sd_proof_bound.specs.Drill.Plan.declared.Hop.{Hop}
+use Rattle.sd_proof_bound.specs.Drill.Plan.declared.PlanRow.{PlanRow}
+use Rattle.sd_proof_bound.specs.Drill.Plan.declared.Plan.{Plan}
+use Rattle.sd_proof_bound.specs.Drill.Plan.Plans.{Fits, is_member, is_root, row_of, primary_of, backup_of}
+use Rattle.sd_proof_bound.specs.Drill.Plan.Walks.{hops, is_end, is_hit, end_of, things_of}
+use Rattle.sd_proof_bound.specs.Drill.Plan.Structure.{structure_breach, ancestor_breach}
+use Rattle.sd_proof_bound.specs.Drill.CheckRoot.Timing.{timing_breach}
+use Rattle.sd_proof_bound.specs.Drill.CheckRoot.Roots.{root_breach}
+use Rattle.sd_proof_bound.specs.Drill.CheckLoop.Loops.{hops_of, same_hop, is_walk, HasNoCycle}
+use Rattle.sd_proof_bound.specs.Drill.CheckReach.Reach.{acting_end, is_sound, next_hop, Fed, acts, stands_by, spared, turns, LosesBackup, DomainHolds, ReachHolds}
+use Rattle.sd_proof_bound.specs.Drill.Checker.Verdicts.{IsAccepted}
+use Rattle.sd_proof_bound.proofs.Drill.Plan.Numbered.{none_found}
+
+-- Lists
+
+-- what passes a test that each element passes has what the test tells
+each_of : {A : Type 0} (P : A → Type 0) (test : A → Bool) (xs : List A) → ((x : A) → test x ≡ true → P x) → list_all test xs ≡ true → Each P xs
+each_of P test [] tells all i x at = absurd (nothing i x at)
+  where
+    nothing : {A : Type 0} (i : ℕ) (x : A) → slice_get [] i ≡ Some x → ⊥
+    nothing i x at = cc
+each_of P test (y ∷ ys) tells all zero x at = subst P (same_Some y x at) (tells y (and_parts (test y) (list_all test ys) all).0)
+each_of P test (y ∷ ys) tells all (suc i) x at = each_of P test ys tells (and_parts (test y) (list_all test ys) all).1 i x at
+
+-- a hop that is one of those that pass
+among : (test : Hop → Bool) (hop : Hop) (hs : List Hop) → list_all test hs ≡ true → list_any (same_hop hop) hs ≡ true → test hop ≡ true
+among test hop [] all any = cc
+among test hop (h ∷ hs) all any =
+    let (here, rest) = and_parts (test h) (list_all test hs) all in
+    elim (or_cases (same_hop hop h) (list_any (same_hop hop) hs) any) [
+      | inl same ↦ subst (λ x. test x ≡ true) (sym (one hop h same)) here
+      | inr there ↦ among test hop hs rest there
+    ]
+  where
+    one : (a b : Hop) → same_hop a b ≡ true → a ≡ b
+    one a b same =
+        let (parent, link) = and_parts (nat_eq a.parent b.parent) (nat_eq a.link b.link) same in
+        let made : ℕ → ℕ → Hop = λ p l. record { parent = p; link = l } in
+        ap (λ p. made p a.link) (eqb-true a.parent b.parent parent) ∙ ap (made b.parent) (eqb-true a.link b.link link)
+
+-- Tests
+
+-- no device fails the test
+abbrev pub all_pass : Network → (ℕ → Bool) → Bool
+all_pass net test = is_none (find (λ d. not (test d)) (device_numbers net))
+
+passes : (net : Network) (test : ℕ → Bool) (d : ℕ) → all_pass net test ≡ true → d < length net.devices → test d ≡ true
+passes net test d all within =
+    not-false (test d) (none_found (λ x. not (test x)) (length net.devices) d (none (find (λ x. not (test x)) (device_numbers net)) all) within)
+  where
+    none : (o : Option ℕ) → is_none o ≡ true → o ≡ None
+    none None is = refl
+    none (Some x) is = cc
+
+-- the hops of a device lead to the root or the backup root
+abbrev pub leads_to_ends : Network → Plan → DomainId → ℕ → Bool
+leads_to_ends net plan f d = list_all (λ hop. is_end plan hop.parent) (hops_of net plan f d)
+
+-- the device is hit, and the domain has its backup
+abbrev pub loses : Network → Plan → DomainId → ℕ → Bool
+loses net plan f d =
+    not (is_end plan d) && is_hit net plan f d && of_some (backup_of plan d) false (λ hop. holds_link net f hop.link || holds_device net f hop.parent)
+
+-- the device comes to hear the acting end over at most n turns
+abbrev pub is_fed : Network → Plan → DomainId → ℕ → ℕ → Bool
+is_fed net plan f zero d = false
+is_fed net plan f (suc n) d =
+    is_sound net plan f d
+    && (nat_eq d (acting_end net plan f)
+    || (nat_eq d plan.backup_root
+    || (not (is_hit net plan f d)
+    || of_some (next_hop plan d) false (λ hop. not (holds_link net f hop.link) && not (holds_device net f hop.parent) && is_fed net plan f n hop.parent))))
+
+-- what is asked of each domain
+abbrev pub withstands : Network → Plan → DomainId → Bool
+withstands net plan f =
+    is_none (root_breach net plan f)
+    && (all_pass net (leads_to_ends net plan f)
+    && (all_pass net (λ d. not (loses net plan f d))
+    && all_pass net (λ d. not (is_sound net plan f d) || is_fed net plan f 3 d)))
+
+abbrev pub is_accepted : Network → Plan → Bool
+is_accepted net plan =
+    is_none (structure_breach net plan)
+    && (is_none (ancestor_breach net plan) && (is_none (timing_breach net plan) && list_all (withstands net plan) (domains net)))
+
+-- What they tell
+
+is_none-None : {A : Type 0} (o : Option A) → is_none o ≡ true → o ≡ None
+is_none-None None is = refl
+is_none-None (Some x) is = cc
+
+pub fed_by : (net : Network) (plan : Plan) (f : DomainId) (n d : ℕ) → is_fed net plan f n d ≡ true → Fed net plan f d
+fed_by net plan f zero d fed = cc
+fed_by net plan f (suc n) d fed =
+    let turned : Bool =
+    of_some (next_hop plan d) false (λ hop. not (holds_link net f hop.link) && not (holds_device net f hop.parent) && is_fed net plan f n hop.parent) in
+    let (sound, how) =
+    and_parts (is_sound net plan f d) (nat_eq d (acting_end net plan f) || (nat_eq d plan.backup_root || (not (is_hit net plan f d) || turned))) fed in
+    elim (or_cases (nat_eq d (acting_end net plan f)) (nat_eq d plan.backup_root || (not (is_hit net plan f d) || turned)) how) [
+      | inl is ↦ acts sound (eqb-true d (acting_end net plan f) is)
+      | inr other ↦ elim (or_cases (nat_eq d plan.backup_root) (not (is_hit net plan f d) || turned) other) [
+        | inl is ↦ stands_by sound (eqb-true d plan.backup_root is)
+        | inr ordinary ↦ elim (or_cases (not (is_hit net plan f d)) turned ordinary) [
+          | inl unhit ↦ spared sound unhit
+          | inr turning ↦ elim (cases_Bool (is_hit net plan f d)) [
+            | inl hit ↦ by (next_hop plan d) refl sound hit (λ e. fed_by net plan f n e) turning
+            | inr unhit ↦ spared sound (not_from_false (is_hit net plan f d) unhit)
+          ]
+        ]
+      ]
+    ]
+  where
+    by : (next : Option Hop) → next_hop plan d ≡ next → is_sound net plan f d ≡ true → is_hit net plan f d ≡ true
+        → ((e : ℕ) → is_fed net plan f n e ≡ true → Fed net plan f e)
+        → of_some next false (λ hop. not (holds_link net f hop.link) && not (holds_device net f hop.parent) && is_fed net plan f n hop.parent) ≡ true
+        → Fed net plan f d
+    by None is sound hit rest turning = cc
+    by (Some hop) is sound hit rest turning =
+        let (free, fed) = and_parts (not (holds_link net f hop.link) && not (holds_device net f hop.parent)) (is_fed net plan f n hop.parent) turning in
+        let (link, parent) = and_parts (not (holds_link net f hop.link)) (not (holds_device net f hop.parent)) free in
+        turns hop sound hit is link parent (rest hop.parent fed)
+
+-- the hops from a first one on
+abbrev onward : (ℕ → Bool) → (ℕ → List Hop) → Option Hop → List Hop
+onward ends more found = elim found [ None ↦ [] | Some hop ↦ hop ∷ (elim (ends hop.parent) [ true ↦ [] | false ↦ more hop.parent ]) ]
+
+-- the four parts of a test of a domain
+record Parts (net : Network) (plan : Plan) (f : DomainId) : Type 0 where
+  root : is_none (root_breach net plan f) ≡ true
+  ends : all_pass net (leads_to_ends net plan f) ≡ true
+  backups : all_pass net (λ d. not (loses net plan f d)) ≡ true
+  fed : all_pass net (λ d. not (is_sound net plan f d) || is_fed net plan f 3 d) ≡ true
+
+parts : (net : Network) (plan : Plan) (f : DomainId) → withstands net plan f ≡ true → Parts net plan f
+parts net plan f holds =
+    let ends : Bool = all_pass net (leads_to_ends net plan f) in
+    let backups : Bool = all_pass net (λ d. not (loses net plan f d)) in
+    let fed : Bool = all_pass net (λ d. not (is_sound net plan f d) || is_fed net plan f 3 d) in
+    let (one, rest) = and_parts (is_none (root_breach net plan f)) (ends && (backups && fed)) holds in
+    let (two, rest) = and_parts ends (backups && fed) rest in
+    let (three, four) = and_parts backups fed rest in
+    record { root = one; ends = two; backups = three; fed = four }
+
+module _ (net : Network) (plan : Plan) (fits : Fits net plan) where
+  rowless : (d : ℕ) → length net.devices ≤ d → row_of plan d ≡ None
+  rowless d past = ap (λ (o : Option (Option PlanRow)). of_some o None (λ row. row)) (slice_get_past plan.rows d (omega (arith, fits.entries)))
+
+  no_primary : (d : ℕ) → length net.devices ≤ d → primary_of plan d ≡ None
+  no_primary d past = ap (option_map (λ (row : PlanRow). row.primary)) (rowless d past)
+
+  no_backup : (d : ℕ) → length net.devices ≤ d → backup_of plan d ≡ None
+  no_backup d past = ap (λ (o : Option PlanRow). of_some o None (λ row. row.backup)) (rowless d past)
+
+  no_hops : (f : DomainId) (d : ℕ) → length net.devices ≤ d → hops_of net plan f d ≡ []
+  no_hops f d past = by (is_member plan d && not (is_end plan d)) (is_hit net plan f d) (primary_of plan d) (backup_of plan d) (no_primary d past) (no_backup d past)
+    where
+      by : (b hit : Bool) (primary backup : Option Hop) → primary ≡ None → backup ≡ None
+          → (if b then option_to_list primary ++ (if hit then option_to_list backup else []) else []) ≡ []
+      by true true None None p q = refl
+      by true false None backup p q = refl
+      by true hit (Some x) backup p q = cc
+      by true true None (Some y) p q = cc
+      by false hit primary backup p q = refl
+
+  unhit : (f : DomainId) (d : ℕ) → length net.devices ≤ d → is_hit net plan f d ≡ false
+  unhit f d past = by (is_root plan d)
+    where
+      none : (n : ℕ) → primary_of plan d ≡ None → hops (is_end plan) plan n d ≡ []
+      none zero p = refl
+      none (suc n) p = ap (onward (is_end plan) (hops (is_end plan) plan n)) p
+
+      by : (root : Bool) → hits net f (things_of (if root then [] else hops (is_end plan) plan net.params.depth d)) ≡ false
+      by true = refl
+      by false = ap (λ (hs : List Hop). hits net f (things_of hs)) (none net.params.depth (no_primary d past))
+
+  -- the hops of every device lead to ends
+  all_to_ends : (f : DomainId) → all_pass net (leads_to_ends net plan f) ≡ true → (d : ℕ) → leads_to_ends net plan f d ≡ true
+  all_to_ends f all d =
+      elim (cases_lt d (length net.devices)) [
+        | inl within ↦ passes net (leads_to_ends net plan f) d all within
+        | inr past ↦ ap (list_all (λ (hop : Hop). is_end plan hop.parent)) (no_hops f d past)
+      ]
+
+  -- only a device that is no end has hops
+  no_end : (f : DomainId) (d : ℕ) (hop : Hop) → list_any (same_hop hop) (hops_of net plan f d) ≡ true → is_end plan d ≡ false
+  no_end f d hop any = by (is_member plan d) (is_end plan d) any
+    where
+      by : (member ends : Bool) → list_any (same_hop hop)
+          (if member && not ends then option_to_list (primary_of plan d) ++ (if is_hit net plan f d then option_to_list (backup_of plan d) else []) else []) ≡ true
+          → ends ≡ false
+      by true true any = cc
+      by true false any = refl
+      by false ends any = cc
+
+  -- a walk has one hop at most
+  pub one_hop : (f : DomainId) → all_pass net (leads_to_ends net plan f) ≡ true → (d : ℕ) (hop : Hop) (hs : List Hop) → is_walk net plan f d (hop ∷ hs) ≡ true
+      → (hs ≡ []) × (list_any (same_hop hop) (hops_of net plan f d) ≡ true) × (is_end plan hop.parent ≡ true)
+  one_hop f all d hop hs walked =
+      let (here, rest) = and_parts (list_any (same_hop hop) (hops_of net plan f d)) (is_walk net plan f hop.parent hs) walked in
+      let ends = among (λ x. is_end plan x.parent) hop (hops_of net plan f d) (all_to_ends f all d) here in
+      (by hs ends rest, here, ends)
+    where
+      by : (hs : List Hop) → is_end plan hop.parent ≡ true → is_walk net plan f hop.parent hs ≡ true → hs ≡ []
+      by [] ends rest = refl
+      by (next ∷ hs) ends rest =
+          absurd (both_ways (is_end plan hop.parent)
+          (no_end f hop.parent next (and_parts (list_any (same_hop next) (hops_of net plan f hop.parent)) (is_walk net plan f next.parent hs) rest).0) ends)
+
+  no_cycle : (f : DomainId) → all_pass net (leads_to_ends net plan f) ≡ true → HasNoCycle net plan f
+  no_cycle f all d hop hs walked same =
+      let (none, here, ends) = one_hop f all d hop hs walked in
+      let back : hop.parent ≡ d = sym (ap (end_of hop.parent) none) ∙ same in
+      both_ways (is_end plan d) (no_end f d hop here) (subst (λ x. is_end plan x ≡ true) back ends)
+
+  keeps_backups : (f : DomainId) → all_pass net (λ d. not (loses net plan f d)) ≡ true → DomainHolds net plan f
+  keeps_backups f all d lost =
+      elim (cases_lt d (length net.devices)) [
+        | inl within ↦ both_ways (loses net plan f d) (not-true (loses net plan f d) (passes net (λ x. not (loses net plan f x)) d all within))
+            (and_from (not (is_end plan d) && is_hit net plan f d)
+            (of_some (backup_of plan d) false (λ hop. holds_link net f hop.link || holds_device net f hop.parent))
+            (and_from (not (is_end plan d)) (is_hit net plan f d) lost.no_root lost.hit)
+            (subst (λ (o : Option Hop). of_some o false (λ hop. holds_link net f hop.link || holds_device net f hop.parent) ≡ true) (sym lost.has_backup) lost.lost))
+        | inr past ↦ none (backup_of plan d) (no_backup d past) lost.has_backup
+      ]
+    where
+      none : (o : Option Hop) → o ≡ None → o ≡ Some lost.backup → ⊥
+      none o is some = cc
+
+  reaches : (f : DomainId) → all_pass net (λ d. not (is_sound net plan f d) || is_fed net plan f 3 d) ≡ true → ReachHolds net plan f
+  reaches f all d sound =
+      elim (cases_lt d (length net.devices)) [
+        | inl within ↦ inl (fed_by net plan f 3 d
+            (by (is_sound net plan f d) (is_fed net plan f 3 d) sound (passes net (λ x. not (is_sound net plan f x) || is_fed net plan f 3 x) d all within)))
+        | inr past ↦ inl (spared sound (not_from_false (is_hit net plan f d) (unhit f d past)))
+      ]
+    where
+      by : (a b : Bool) → a ≡ true → (not a || b) ≡ true → b ≡ true
+      by true b is holds = holds
+      by false b is holds = cc
+
+  pub accepted_by : is_accepted net plan ≡ true → IsAccepted net plan
+  accepted_by tests =
+      let (structure, rest) = and_parts (is_none (structure_breach net plan)) (is_none (ancestor_breach net plan) && (is_none (timing_breach net plan) && list_all (withstands net plan) (domains net))) tests in
+      let (ancestor, rest) = and_parts (is_none (ancestor_breach net plan)) (is_none (timing_breach net plan) && list_all (withstands net plan) (domains net)) rest in
+      let (timing, all) = and_parts (is_none (timing_breach net plan)) (list_all (withstands net plan) (domains net)) rest in
+      record {
+        structure = is_none-None (structure_breach net plan) structure;
+        ancestor = is_none-None (ancestor_breach net plan) ancestor;
+        timing = is_none-None (timing_breach net plan) timing;
+        root = each_of (λ f. root_breach net plan f ≡ None) (withstands net plan) (domains net) (λ f holds. is_none-None (root_breach net plan f) (parts net plan f holds).root) all;
+        loop = each_of (HasNoCycle net plan) (withstands net plan) (domains net) (λ f holds. no_cycle f (parts net plan f holds).ends) all;
+        domain = each_of (DomainHolds net plan) (withstands net plan) (domains net) (λ f holds. keeps_backups f (parts net plan f holds).backups) all;
+        reach = each_of (ReachHolds net plan) (withstands net plan) (domains net) (λ f holds. reaches f (parts net plan f holds).fed) all;
+      }

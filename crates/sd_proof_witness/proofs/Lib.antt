@@ -1,0 +1,5 @@
+-- The witnesses: texts that mean a network, plans and a history, which meet all that safety and the recovery bound ask for.
+mod Accepting
+mod Histories
+mod Read
+pub mod Renewed

@@ -1,0 +1,4 @@
+pub mod Texts
+pub mod Schedules
+pub mod Values
+pub mod Witnesses

@@ -1,0 +1,89 @@
+-- What the texts of `Texts` say: a network of three devices with two links between any two of them, two plans, and the events of the schedule.
+use Rattle.std.specs.Prelude.{ℕ, List, [], ◌∷◌, Some, None, Result, Ok, Err, codes}
+use Rattle.sd_proof_bound.specs.Drill.Num.declared.Rates.{Rates}
+use Rattle.sd_proof_bound.specs.Drill.Topo.Network.{Network, Device, Link}
+use Rattle.sd_proof_bound.specs.Drill.Topo.declared.Side.TheVariants.{Root}
+use Rattle.sd_proof_bound.specs.Drill.Plan.declared.Hop.{Hop}
+use Rattle.sd_proof_bound.specs.Drill.Plan.declared.Plan.{Plan}
+use Rattle.sd_proof_bound.specs.History.Sched.declared.Event.{Event}
+use Rattle.sd_proof_bound.specs.History.Sched.declared.LineFault.{LineFault}
+use Rattle.sd_proof_bound.specs.History.World.{Setting}
+use Rattle.sd_proof_bound.specs.Drill.declared.Budget.{Budget}
+use Rattle.sd_proof_witness.specs.Texts.{text_of, schedule_lines}
+use Rattle.sd_proof_witness.specs.Schedules.{events_of}
+
+-- a device with the rates of the topology
+abbrev pub device : List ℕ → Device
+device name = record { name = name; side = Root; rates = record { ppm = 200; grain = 1000 } }
+
+-- a link with the delays that all links here have
+abbrev pub link : List ℕ → ℕ → ℕ → Link
+link name a b = record { name = name; entry = record { end_a = a; end_b = b; min = 400000; max = 1000000; back_min = 400000; back_max = 1000000 } }
+
+abbrev pub hop : ℕ → ℕ → Hop
+hop parent link = record { parent = parent; link = link }
+
+-- r is device 0, b is 1, x is 2
+abbrev pub network : Network
+network =
+    record {
+      version = 1;
+      params = record { ppm = 200; grain = 1000; period = 100000000; tick = 90000000; loss = 1; depth = 2 };
+      devices = device (codes "r") ∷ device (codes "b") ∷ device (codes "x") ∷ [];
+      links =
+          link (codes "rb1") 0 1
+          ∷ link (codes "rb2") 0 1
+          ∷ link (codes "rx1") 0 2
+          ∷ link (codes "rx2") 0 2
+          ∷ link (codes "bx1") 1 2
+          ∷ link (codes "bx2") 1 2
+          ∷ [];
+      domains = [];
+      roots = 0 ∷ 1 ∷ 2 ∷ [];
+    }
+
+-- r is the root and b the backup root, which falls back on r; x follows r and falls back on b
+abbrev pub first_plan : Plan
+first_plan =
+    record {
+      root = 0;
+      backup_root = 1;
+      wait_first = 1344395880;
+      wait_second = 1344395880;
+      wait = 6723055132;
+      absent = record { devices = []; links = [] };
+      rows =
+          None
+          ∷ Some (record { primary = hop 0 0; backup = Some (hop 0 1) })
+          ∷ Some (record { primary = hop 0 2; backup = Some (hop 1 4) })
+          ∷ [];
+    }
+
+-- without r: b is the root, and x the backup root, which falls back on b
+abbrev pub second_plan : Plan
+second_plan =
+    record {
+      root = 1;
+      backup_root = 2;
+      wait_first = 1344395880;
+      wait_second = 1344395880;
+      wait = 6723055132;
+      absent = record { devices = 0 ∷ []; links = [] };
+      rows = None ∷ None ∷ Some (record { primary = hop 1 4; backup = Some (hop 1 5) }) ∷ [];
+    }
+
+abbrev pub setting : Setting
+setting = record { net = network; plans = first_plan ∷ second_plan ∷ [] }
+
+-- the events that were read, and none where a line has a fault
+abbrev pub read_events : Result (List Event) LineFault → List Event
+read_events (Ok events) = events
+read_events (Err fault) = []
+
+-- the events of the schedule
+unfoldable pub events : List Event
+events = read_events (events_of (text_of schedule_lines))
+
+-- clocks are set within 1 us, and a root that acts holds its estimate for 3 ms at most
+abbrev pub budget : Budget
+budget = record { base = 1000000; hold = 3000000000 }

@@ -1,0 +1,28 @@
+//! Witnesses: a worked network with worked histories that meet all that safety and the recovery
+//! bound ask for, so neither theorem speaks of nothing. The prover computes them. No function here
+//! has a body: this crate has texts, what is said of them, and proofs.
+//!
+//! # The texts
+//!
+//! `Texts` has the topology, the two plans and the schedule of examples/triangle, line by line, and
+//! what `sundial replay` prints of them. `.ci/witness` sees that they are the files. `Read` shows
+//! what they mean, by the definitions that the program is proved against: so the program reads and
+//! replays what the theorems speak of.
+//!
+//! # The theorems
+//!
+//! - `renewal` (proofs/Renewed): the plans are accepted, the schedule is a history, and each of the
+//!   seven premises holds to its end. The root fails at line 20, the backup root acts from line 85
+//!   on, a plan is staged, given, committed and sealed from line 90 on, the window closes at line
+//!   101, and the two devices of the new plan report at lines 108 and 109 (`IsRenewal`). What is
+//!   printed of it is the output of the example. `stays_safe` speaks of this history.
+//! - `recovery` (proofs/Recovered): the first 89 lines are a history to which the bound of the drill
+//!   applies. The root fails and the backup root takes over. Each of the two reports that follow
+//!   stands beside its bound (`IsRecovery`), and is below it by `bound_holds`.
+//!
+//! # How
+//!
+//! `Values` has what the texts say. `Accepting` is a test of a plan that computes, and that only an
+//! accepted plan passes: it is for plans whose hops all lead to the root or to the backup root.
+//! `Histories` does the same for histories. All other facts compute.
+#![tactic(auto)]
