@@ -1,8 +1,8 @@
 -- A plan whose hops all lead to the root or to the backup root is accepted where tests that compute hold of each domain and each device.
-use Rattle.std.specs.Prelude.{◌≡◌, ◌≢◌, ℕ, zero, suc, ◌+◌, ◌<◌, ◌≤◌, Bool, true, false, ◌&&◌, ◌||◌, not, List, [], ◌∷◌, ◌++◌, length, nat_eq, find, slice_get, Option, Some, None, option_to_list, option_map, is_none, IsTrue, ◌⊎◌, if◌then◌else◌}
+use Rattle.std.specs.Prelude.{◌≡◌, ℕ, zero, suc, ◌<◌, ◌≤◌, Bool, true, false, ◌&&◌, ◌||◌, not, List, [], ◌∷◌, ◌++◌, length, nat_eq, find, slice_get, Option, Some, None, option_to_list, option_map, is_none, if◌then◌else◌}
 use Rattle.std.specs.List.{list_any, list_all}
 use Rattle.std.proofs.Common.{refl, sym, ap, ◌∙◌, subst, arith, inl, inr}
-use Rattle.std.proofs.lemmas.Bool.{and_parts, and_from, or_cases, eqb-true, not-true, not-false, not_from_false, cases_lt, cases_Bool, both_ways, false_from_ne_true}
+use Rattle.std.proofs.lemmas.Bool.{and_parts, and_from, or_cases, eqb-true, not-true, not-false, not_from_false, cases_lt, cases_Bool, both_ways}
 use Rattle.std.proofs.lemmas.Option.{slice_get_past, same_Some}
 use Rattle.sd_proof_bound.specs.Drill.Num.Lists.{of_some}
 use Rattle.sd_proof_bound.specs.Drill.Topo.Network.{Network, device_numbers, Each}
@@ -17,14 +17,15 @@ use Rattle.sd_proof_bound.specs.Drill.Plan.Structure.{structure_breach, ancestor
 use Rattle.sd_proof_bound.specs.Drill.CheckRoot.Timing.{timing_breach}
 use Rattle.sd_proof_bound.specs.Drill.CheckRoot.Roots.{root_breach}
 use Rattle.sd_proof_bound.specs.Drill.CheckLoop.Loops.{hops_of, same_hop, is_walk, HasNoCycle}
-use Rattle.sd_proof_bound.specs.Drill.CheckReach.Reach.{acting_end, is_sound, next_hop, Fed, acts, stands_by, spared, turns, LosesBackup, DomainHolds, ReachHolds}
+use Rattle.sd_proof_bound.specs.Drill.CheckReach.Reach.{acting_end, is_sound, next_hop, Fed, acts, stands_by, spared, turns, DomainHolds, ReachHolds}
 use Rattle.sd_proof_bound.specs.Drill.Checker.Verdicts.{IsAccepted}
 use Rattle.sd_proof_bound.proofs.Drill.Plan.Numbered.{none_found}
 
 -- Lists
 
 -- what passes a test that each element passes has what the test tells
-each_of : {A : Type 0} (P : A → Type 0) (test : A → Bool) (xs : List A) → ((x : A) → test x ≡ true → P x) → list_all test xs ≡ true → Each P xs
+each_of : {A : Type 0} (P : A → Type 0) (test : A → Bool) (xs : List A) → ((x : A) → test x ≡ true → P x) → list_all test xs ≡ true
+    → Each P xs
 each_of P test [] tells all i x at = absurd (nothing i x at)
   where
     nothing : {A : Type 0} (i : ℕ) (x : A) → slice_get [] i ≡ Some x → ⊥
@@ -33,7 +34,7 @@ each_of P test (y ∷ ys) tells all zero x at = subst P (same_Some y x at) (tell
 each_of P test (y ∷ ys) tells all (suc i) x at = each_of P test ys tells (and_parts (test y) (list_all test ys) all).1 i x at
 
 -- a hop that is one of those that pass
-among : (test : Hop → Bool) (hop : Hop) (hs : List Hop) → list_all test hs ≡ true → list_any (same_hop hop) hs ≡ true → test hop ≡ true
+pub among : (test : Hop → Bool) (hop : Hop) (hs : List Hop) → list_all test hs ≡ true → list_any (same_hop hop) hs ≡ true → test hop ≡ true
 among test hop [] all any = cc
 among test hop (h ∷ hs) all any =
     let (here, rest) = and_parts (test h) (list_all test hs) all in
@@ -54,13 +55,14 @@ among test hop (h ∷ hs) all any =
 abbrev pub all_pass : Network → (ℕ → Bool) → Bool
 all_pass net test = is_none (find (λ d. not (test d)) (device_numbers net))
 
+pub is_none-None : {A : Type 0} (o : Option A) → is_none o ≡ true → o ≡ None
+is_none-None None is = refl
+is_none-None (Some x) is = cc
+
 passes : (net : Network) (test : ℕ → Bool) (d : ℕ) → all_pass net test ≡ true → d < length net.devices → test d ≡ true
 passes net test d all within =
-    not-false (test d) (none_found (λ x. not (test x)) (length net.devices) d (none (find (λ x. not (test x)) (device_numbers net)) all) within)
-  where
-    none : (o : Option ℕ) → is_none o ≡ true → o ≡ None
-    none None is = refl
-    none (Some x) is = cc
+    let fails : ℕ → Bool = λ x. not (test x) in
+    not-false (test d) (none_found fails (length net.devices) d (is_none-None (find fails (device_numbers net)) all) within)
 
 -- the hops of a device lead to the root or the backup root
 abbrev pub leads_to_ends : Network → Plan → DomainId → ℕ → Bool
@@ -95,10 +97,6 @@ is_accepted net plan =
     && (is_none (ancestor_breach net plan) && (is_none (timing_breach net plan) && list_all (withstands net plan) (domains net)))
 
 -- What they tell
-
-is_none-None : {A : Type 0} (o : Option A) → is_none o ≡ true → o ≡ None
-is_none-None None is = refl
-is_none-None (Some x) is = cc
 
 pub fed_by : (net : Network) (plan : Plan) (f : DomainId) (n d : ℕ) → is_fed net plan f n d ≡ true → Fed net plan f d
 fed_by net plan f zero d fed = cc
@@ -163,7 +161,8 @@ module _ (net : Network) (plan : Plan) (fits : Fits net plan) where
   no_backup d past = ap (λ (o : Option PlanRow). of_some o None (λ row. row.backup)) (rowless d past)
 
   no_hops : (f : DomainId) (d : ℕ) → length net.devices ≤ d → hops_of net plan f d ≡ []
-  no_hops f d past = by (is_member plan d && not (is_end plan d)) (is_hit net plan f d) (primary_of plan d) (backup_of plan d) (no_primary d past) (no_backup d past)
+  no_hops f d past =
+      by (is_member plan d && not (is_end plan d)) (is_hit net plan f d) (primary_of plan d) (backup_of plan d) (no_primary d past) (no_backup d past)
     where
       by : (b hit : Bool) (primary backup : Option Hop) → primary ≡ None → backup ≡ None
           → (if b then option_to_list primary ++ (if hit then option_to_list backup else []) else []) ≡ []
@@ -196,15 +195,17 @@ module _ (net : Network) (plan : Plan) (fits : Fits net plan) where
   no_end : (f : DomainId) (d : ℕ) (hop : Hop) → list_any (same_hop hop) (hops_of net plan f d) ≡ true → is_end plan d ≡ false
   no_end f d hop any = by (is_member plan d) (is_end plan d) any
     where
-      by : (member ends : Bool) → list_any (same_hop hop)
-          (if member && not ends then option_to_list (primary_of plan d) ++ (if is_hit net plan f d then option_to_list (backup_of plan d) else []) else []) ≡ true
-          → ends ≡ false
+      rest : List Hop
+      rest = option_to_list (primary_of plan d) ++ (if is_hit net plan f d then option_to_list (backup_of plan d) else [])
+
+      by : (member ends : Bool) → list_any (same_hop hop) (if member && not ends then rest else []) ≡ true → ends ≡ false
       by true true any = cc
       by true false any = refl
       by false ends any = cc
 
   -- a walk has one hop at most
-  pub one_hop : (f : DomainId) → all_pass net (leads_to_ends net plan f) ≡ true → (d : ℕ) (hop : Hop) (hs : List Hop) → is_walk net plan f d (hop ∷ hs) ≡ true
+  pub one_hop : (f : DomainId) → all_pass net (leads_to_ends net plan f) ≡ true → (d : ℕ) (hop : Hop) (hs : List Hop)
+      → is_walk net plan f d (hop ∷ hs) ≡ true
       → (hs ≡ []) × (list_any (same_hop hop) (hops_of net plan f d) ≡ true) × (is_end plan hop.parent ≡ true)
   one_hop f all d hop hs walked =
       let (here, rest) = and_parts (list_any (same_hop hop) (hops_of net plan f d)) (is_walk net plan f hop.parent hs) walked in
@@ -227,13 +228,15 @@ module _ (net : Network) (plan : Plan) (fits : Fits net plan) where
   keeps_backups f all d lost =
       elim (cases_lt d (length net.devices)) [
         | inl within ↦ both_ways (loses net plan f d) (not-true (loses net plan f d) (passes net (λ x. not (loses net plan f x)) d all within))
-            (and_from (not (is_end plan d) && is_hit net plan f d)
-            (of_some (backup_of plan d) false (λ hop. holds_link net f hop.link || holds_device net f hop.parent))
+            (and_from (not (is_end plan d) && is_hit net plan f d) (takes (backup_of plan d))
             (and_from (not (is_end plan d)) (is_hit net plan f d) lost.no_root lost.hit)
-            (subst (λ (o : Option Hop). of_some o false (λ hop. holds_link net f hop.link || holds_device net f hop.parent) ≡ true) (sym lost.has_backup) lost.lost))
+            (subst (λ (o : Option Hop). takes o ≡ true) (sym lost.has_backup) lost.lost))
         | inr past ↦ none (backup_of plan d) (no_backup d past) lost.has_backup
       ]
     where
+      takes : Option Hop → Bool
+      takes o = of_some o false (λ hop. holds_link net f hop.link || holds_device net f hop.parent)
+
       none : (o : Option Hop) → o ≡ None → o ≡ Some lost.backup → ⊥
       none o is some = cc
 
@@ -251,15 +254,21 @@ module _ (net : Network) (plan : Plan) (fits : Fits net plan) where
 
   pub accepted_by : is_accepted net plan ≡ true → IsAccepted net plan
   accepted_by tests =
-      let (structure, rest) = and_parts (is_none (structure_breach net plan)) (is_none (ancestor_breach net plan) && (is_none (timing_breach net plan) && list_all (withstands net plan) (domains net))) tests in
-      let (ancestor, rest) = and_parts (is_none (ancestor_breach net plan)) (is_none (timing_breach net plan) && list_all (withstands net plan) (domains net)) rest in
-      let (timing, all) = and_parts (is_none (timing_breach net plan)) (list_all (withstands net plan) (domains net)) rest in
+      let all : Bool = list_all (withstands net plan) (domains net) in
+      let timed : Bool = is_none (timing_breach net plan) in
+      let (structure, rest) = and_parts (is_none (structure_breach net plan)) (is_none (ancestor_breach net plan) && (timed && all)) tests in
+      let (ancestor, rest) = and_parts (is_none (ancestor_breach net plan)) (timed && all) rest in
+      let (timing, each) = and_parts timed all rest in
       record {
         structure = is_none-None (structure_breach net plan) structure;
         ancestor = is_none-None (ancestor_breach net plan) ancestor;
         timing = is_none-None (timing_breach net plan) timing;
-        root = each_of (λ f. root_breach net plan f ≡ None) (withstands net plan) (domains net) (λ f holds. is_none-None (root_breach net plan f) (parts net plan f holds).root) all;
-        loop = each_of (HasNoCycle net plan) (withstands net plan) (domains net) (λ f holds. no_cycle f (parts net plan f holds).ends) all;
-        domain = each_of (DomainHolds net plan) (withstands net plan) (domains net) (λ f holds. keeps_backups f (parts net plan f holds).backups) all;
-        reach = each_of (ReachHolds net plan) (withstands net plan) (domains net) (λ f holds. reaches f (parts net plan f holds).fed) all;
+        root = of_each (λ f. root_breach net plan f ≡ None) each (λ f of_domain. is_none-None (root_breach net plan f) of_domain.root);
+        loop = of_each (HasNoCycle net plan) each (λ f of_domain. no_cycle f of_domain.ends);
+        domain = of_each (DomainHolds net plan) each (λ f of_domain. keeps_backups f of_domain.backups);
+        reach = of_each (ReachHolds net plan) each (λ f of_domain. reaches f of_domain.fed);
       }
+    where
+      of_each : (P : DomainId → Type 0) → list_all (withstands net plan) (domains net) ≡ true → ((f : DomainId) → Parts net plan f → P f)
+          → Each P (domains net)
+      of_each P each tells = each_of P (withstands net plan) (domains net) (λ f holds. tells f (parts net plan f holds)) each

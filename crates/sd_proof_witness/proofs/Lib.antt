@@ -3,3 +3,4 @@ mod Accepting
 mod Histories
 mod Read
 pub mod Renewed
+pub mod Recovered

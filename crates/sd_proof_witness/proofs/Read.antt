@@ -1,5 +1,5 @@
 -- What the texts mean, by the definitions of the readers.
-use Rattle.std.specs.Prelude.{◌≡◌, ℕ, zero, suc, Option, Some, None, Ok, refl}
+use Rattle.std.specs.Prelude.{◌≡◌, Option, Some, None, Ok, refl}
 use Rattle.std.specs.Str.Lossy.{utf8_valid_len}
 use Rattle.std.specs.Str.{is_utf8, chars}
 use Rattle.toml.proofs.OnLiterals.{toml_on_literals}

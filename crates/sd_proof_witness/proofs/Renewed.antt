@@ -1,5 +1,5 @@
 -- The texts say a history to which the theorem on safety applies: the root fails, the backup root takes over, and another plan comes into force.
-use Rattle.std.specs.Prelude.{◌≡◌, ℕ, zero, suc, true, List, [], ◌∷◌, reverse, slice_get, Some, None, refl}
+use Rattle.std.specs.Prelude.{◌≡◌, zero, suc, true, [], ◌∷◌, reverse, refl}
 use Rattle.std.proofs.Common.{subst, arith}
 use Rattle.std.proofs.lemmas.Option.{same_Some}
 use Rattle.sd_proof_bound.specs.Drill.Topo.Network.{Each}

@@ -1,6 +1,5 @@
 -- What the texts of `Texts` say: a network of three devices with two links between any two of them, two plans, and the events of the schedule.
 use Rattle.std.specs.Prelude.{ℕ, List, [], ◌∷◌, Some, None, Result, Ok, Err, codes}
-use Rattle.sd_proof_bound.specs.Drill.Num.declared.Rates.{Rates}
 use Rattle.sd_proof_bound.specs.Drill.Topo.Network.{Network, Device, Link}
 use Rattle.sd_proof_bound.specs.Drill.Topo.declared.Side.TheVariants.{Root}
 use Rattle.sd_proof_bound.specs.Drill.Plan.declared.Hop.{Hop}
