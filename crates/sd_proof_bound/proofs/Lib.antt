@@ -8,5 +8,5 @@ pub mod histories
 pub mod timeouts
 pub mod traces
 -- Handed on: what crates above name of those below.
-pub use Rattle.sd_proof_safety.proofs as Safety
 pub use Rattle.sd_drill.proofs as Drill
+pub use Rattle.sd_proof_safety.proofs as ProofSafety

@@ -7,6 +7,6 @@ pub mod chains
 pub mod timeouts
 pub mod traces
 -- Handed on: what crates above name of those below.
-pub use Rattle.sd_proof_safety.specs.History as History
-pub use Rattle.sd_proof_safety.specs as Safety
 pub use Rattle.sd_drill.specs as Drill
+pub use Rattle.sd_proof_safety.specs.History as History
+pub use Rattle.sd_proof_safety.specs as ProofSafety

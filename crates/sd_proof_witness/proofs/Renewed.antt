@@ -6,8 +6,8 @@ use Rattle.sd_proof_bound.specs.Drill.Topo.Network.{Each}
 use Rattle.sd_proof_bound.specs.Drill.Plan.Plans.{Fits}
 use Rattle.sd_proof_bound.specs.Drill.Checker.Verdicts.{IsAccepted}
 use Rattle.sd_proof_bound.specs.History.Sched.Lines.{event_of_line}
-use Rattle.sd_proof_bound.specs.Safety.invariant.Coming.{IsFair, IsClean}
-use Rattle.sd_proof_bound.proofs.Safety.whole.Safe.{stays_safe}
+use Rattle.sd_proof_bound.specs.ProofSafety.invariant.Coming.{IsFair, IsClean}
+use Rattle.sd_proof_bound.proofs.ProofSafety.whole.Safe.{stays_safe}
 use Rattle.sd_proof_witness.specs.Texts.{schedule_lines}
 use Rattle.sd_proof_witness.specs.Values.{network, first_plan, second_plan, setting, events}
 use Rattle.sd_proof_witness.specs.Witnesses.{MeetsAll, TakesOver, Commits, Closes, BothReport, IsRenewal}

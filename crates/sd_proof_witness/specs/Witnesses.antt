@@ -20,8 +20,8 @@ use Rattle.sd_proof_bound.specs.History.Steps.{Step, seen_of, epoch_in, given_in
 use Rattle.sd_proof_bound.specs.History.Chronicle.{chronicle, IsHistory}
 use Rattle.sd_proof_bound.specs.History.Premises.{start_holds, drift_holds, delay_holds, tick_holds, loss_holds, domain_holds, renew_holds, all_hold}
 use Rattle.sd_proof_bound.specs.History.Lines.{report_of, reports, roots}
-use Rattle.sd_proof_bound.specs.Safety.invariant.Coming.{IsFair, IsClean}
-use Rattle.sd_proof_bound.specs.Safety.invariant.Kept.{IsSafe}
+use Rattle.sd_proof_bound.specs.ProofSafety.invariant.Coming.{IsFair, IsClean}
+use Rattle.sd_proof_bound.specs.ProofSafety.invariant.Kept.{IsSafe}
 use Rattle.sd_proof_bound.specs.Bound.{alone, FailsAtOnce}
 use Rattle.sd_proof_bound.specs.Recovering.{Recovers, steps_under}
 use Rattle.sd_proof_witness.specs.Texts.{text_of, topology_lines, first_plan_lines, second_plan_lines, schedule_lines}
