@@ -1,0 +1,41 @@
+-- A plan that is accepted is accepted with less slack, too.
+use Rattle.std.proofs.Common.{sym, ◌∙◌}
+use Rattle.sd_drill.specs.Topo.Network.{Network}
+use Rattle.sd_drill.specs.Domain.Domains.{domains}
+use Rattle.sd_drill.specs.Domain.declared.DomainId.{DomainId}
+use Rattle.sd_drill.specs.Plan.declared.Plan.{Plan}
+use Rattle.sd_drill.specs.CheckLoop.Loops.{HasNoCycle}
+use Rattle.sd_drill.specs.CheckReach.Reach.{DomainHolds, ReachHolds}
+use Rattle.sd_drill.specs.Checker.Conditions.{OfEachDomain, RootHolds}
+use Rattle.sd_drill.specs.Checker.Verdicts.{IsAccepted}
+use Rattle.sd_proof_slack.specs.Tighter.{IsTighter}
+use Rattle.sd_proof_slack.specs.Slack.{StaysAccepted}
+use Rattle.sd_proof_slack.proofs.Alike.{HasShape, HasThings, structure_same, ancestor_same, root_same, no_cycle_kept, domain_kept, reach_kept}
+use Rattle.sd_proof_slack.proofs.Matching.{each_of, one_of, shape_of, things_of, was_there}
+use Rattle.sd_proof_slack.proofs.Waits.{timing_kept}
+
+module _ (before after : Network) (tighter : IsTighter before after) where
+  -- what is kept from each domain to the same one is kept of all
+  of_each : (P Q : DomainId → Type 0) → ((f g : DomainId) → HasThings before f after g → P f → Q g) → OfEachDomain before P → OfEachDomain after Q
+  of_each P Q kept holds = each_of Q (domains after) (λ g some.
+      (let (f, among, same) = was_there before after tighter g some in kept f g (things_of before after tighter f g same) (one_of P (domains before) f holds among)))
+
+  module _ (plan : Plan) (accepted : IsAccepted before plan) where
+    abbrev shape : HasShape before after
+    shape = shape_of before after tighter
+
+    pub is_accepted : IsAccepted after plan
+    is_accepted =
+        record {
+          structure = sym (structure_same before after shape plan) ∙ accepted.structure;
+          ancestor = sym (ancestor_same before after shape plan) ∙ accepted.ancestor;
+          timing = timing_kept before after tighter plan accepted.timing;
+          root = of_each (RootHolds before plan) (RootHolds after plan) (λ f g same none. sym (root_same before f after g shape same plan) ∙ none) accepted.root;
+          loop = of_each (HasNoCycle before plan) (HasNoCycle after plan) (λ f g same none. no_cycle_kept before f after g shape same plan none) accepted.loop;
+          domain = of_each (DomainHolds before plan) (DomainHolds after plan) (λ f g same held. domain_kept before f after g shape same plan held) accepted.domain;
+          reach = of_each (ReachHolds before plan) (ReachHolds after plan) (λ f g same held. reach_kept before f after g shape same plan held) accepted.reach;
+        }
+
+-- the theorem
+pub stays_accepted : (before after : Network) → StaysAccepted before after
+stays_accepted before after tighter plan accepted = is_accepted before after tighter plan accepted

@@ -1,0 +1,5 @@
+mod Numbers
+mod Waits
+mod Alike
+mod Matching
+pub mod Accepted

@@ -1,0 +1,2 @@
+pub mod Tighter
+pub mod Slack

@@ -1,0 +1,19 @@
+-- What less slack keeps: plans stay accepted, and no bound of the drill rises.
+use Rattle.std.specs.Prelude.{ℕ, ◌≤◌}
+use Rattle.sd_drill.specs.Topo.Network.{Network}
+use Rattle.sd_drill.specs.Domain.declared.DomainId.{DomainId}
+use Rattle.sd_drill.specs.Plan.declared.Plan.{Plan}
+use Rattle.sd_drill.specs.Checker.Verdicts.{IsAccepted}
+use Rattle.sd_drill.specs.Drill.{IsWorst}
+use Rattle.sd_drill.specs.declared.Budget.{Budget}
+use Rattle.sd_proof_slack.specs.Tighter.{IsTighter, IsSameDomain}
+
+-- a plan that is accepted is accepted with less slack, too
+abbrev pub StaysAccepted : Network → Network → Type 0
+StaysAccepted before after = IsTighter before after → (plan : Plan) → IsAccepted before plan → IsAccepted after plan
+
+-- a device that has a bound under a domain has one with less slack, too, and it is no greater
+abbrev pub NoBoundRises : Network → Network → Type 0
+NoBoundRises before after =
+    IsTighter before after → (plan : Plan) (budget : Budget) (f g : DomainId) → IsSameDomain before f after g → (d w : ℕ)
+    → IsWorst before plan budget f d w → (v : ℕ) × IsWorst after plan budget g d v × (v ≤ w)
