@@ -3,3 +3,6 @@ mod Waits
 mod Alike
 mod Matching
 pub mod Accepted
+mod Sums
+mod Ages
+pub mod Bounded

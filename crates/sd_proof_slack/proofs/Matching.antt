@@ -22,7 +22,7 @@ use Rattle.sd_proof_slack.proofs.Alike.{HasShape, HasThings}
 pub entry_same : (entry : LinkEntry) → IsTighterEntry entry entry
 entry_same entry = record { end_a = refl; end_b = refl; delay = (omega arith, omega arith); back_delay = (omega arith, omega arith) }
 
-entries : (xs ys : List Link) → AllZip IsTighterLink xs ys → (l : ℕ)
+pub entries : (xs ys : List Link) → AllZip IsTighterLink xs ys → (l : ℕ)
     → IsTighterEntry (at_place xs l no_link (λ link. link.entry)) (at_place ys l no_link (λ link. link.entry))
 entries [] [] zip l = entry_same no_link
 entries [] (y ∷ ys) zip l = absurd zip

@@ -1,10 +1,11 @@
 -- What less slack keeps: plans stay accepted, and no bound of the drill rises.
-use Rattle.std.specs.Prelude.{ℕ, ◌≤◌}
+use Rattle.std.specs.Prelude.{◌≡◌, ℕ, ◌<◌, ◌≤◌, List, length, Option, Some}
 use Rattle.sd_drill.specs.Topo.Network.{Network}
 use Rattle.sd_drill.specs.Domain.declared.DomainId.{DomainId}
 use Rattle.sd_drill.specs.Plan.declared.Plan.{Plan}
 use Rattle.sd_drill.specs.Checker.Verdicts.{IsAccepted}
 use Rattle.sd_drill.specs.Drill.{IsWorst}
+use Rattle.sd_drill.specs.Bounds.{AreBounds, bound_at}
 use Rattle.sd_drill.specs.declared.Budget.{Budget}
 use Rattle.sd_proof_slack.specs.Tighter.{IsTighter, IsSameDomain}
 
@@ -17,3 +18,10 @@ abbrev pub NoBoundRises : Network → Network → Type 0
 NoBoundRises before after =
     IsTighter before after → (plan : Plan) (budget : Budget) (f g : DomainId) → IsSameDomain before f after g → (d w : ℕ)
     → IsWorst before plan budget f d w → (v : ℕ) × IsWorst after plan budget g d v × (v ≤ w)
+
+-- the same of what the drill lists for the devices of the two topologies
+abbrev pub NoListedBoundRises : Network → Network → Type 0
+NoListedBoundRises before after =
+    IsTighter before after → (plan : Plan) (budget : Budget) (f g : DomainId) → IsSameDomain before f after g → (bounds others : List (Option ℕ))
+    → AreBounds before plan budget f bounds → AreBounds after plan budget g others → (d : ℕ) → d < length before.devices → (w : ℕ)
+    → bound_at bounds d ≡ Some w → (v : ℕ) × (bound_at others d ≡ Some v) × (v ≤ w)

@@ -4,10 +4,16 @@
 //!
 //! # The results
 //!
-//! `stays_accepted` (proofs/Accepted) is `StaysAccepted before after` for all topologies: a plan that
-//! is accepted for `before` is accepted for `after`. `IsTighter before after` (specs/Tighter) says
-//! what may differ. Nothing else is assumed: neither that the two are within the limits of
-//! topologies, nor that the plan fits them.
+//! `IsTighter before after` (specs/Tighter) says what may differ. For all topologies `before` and
+//! `after` that it relates (specs/Slack):
+//!
+//! - `stays_accepted` (proofs/Accepted): a plan that is accepted for `before` is accepted for `after`.
+//! - `no_bound_rises` (proofs/Bounded): a device that has a bound under a fault domain of both has one
+//!   for `after`, too, and it is no greater. `no_listed_bound_rises` says so of the numbers that the
+//!   drill lists.
+//!
+//! Nothing else is assumed: neither that the topologies are within their limits, nor that the plan
+//! fits them, nor, for the bounds, that it is accepted.
 //!
 //! # The route
 //!
@@ -18,4 +24,6 @@
 //!    (`HasShape`, `HasThings`), each condition says the same of both.
 //! 3. `Matching`: a tighter topology has the same shape, and each of its domains was there before.
 //!    `Accepted` puts the three together.
+//! 4. `Sums`: sums of halves fall, and where walks have a greatest length they have a greatest sum.
+//!    `Ages`: the oldest age falls. `Bounded`: so does each bound, which is a sum of such parts.
 #![tactic(auto)]
