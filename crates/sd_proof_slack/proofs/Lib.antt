@@ -6,3 +6,4 @@ pub mod Accepted
 mod Sums
 mod Ages
 pub mod Bounded
+mod Rows

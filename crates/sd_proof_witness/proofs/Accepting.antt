@@ -12,7 +12,7 @@ use Rattle.sd_proof_bound.specs.Drill.Plan.declared.Hop.{Hop}
 use Rattle.sd_proof_bound.specs.Drill.Plan.declared.PlanRow.{PlanRow}
 use Rattle.sd_proof_bound.specs.Drill.Plan.declared.Plan.{Plan}
 use Rattle.sd_proof_bound.specs.Drill.Plan.Plans.{Fits, is_member, is_root, row_of, primary_of, backup_of}
-use Rattle.sd_proof_bound.specs.Drill.Plan.Walks.{hops, is_end, is_hit, end_of, things_of}
+use Rattle.sd_proof_bound.specs.Drill.Plan.Walks.{hops, ends_walks, is_hit, end_of, things_of}
 use Rattle.sd_proof_bound.specs.Drill.Plan.Structure.{structure_breach, ancestor_breach}
 use Rattle.sd_proof_bound.specs.Drill.CheckRoot.Timing.{timing_breach}
 use Rattle.sd_proof_bound.specs.Drill.CheckRoot.Roots.{root_breach}
@@ -66,12 +66,12 @@ passes net test d all within =
 
 -- the hops of a device lead to the root or the backup root
 abbrev pub leads_to_ends : Network → Plan → DomainId → ℕ → Bool
-leads_to_ends net plan f d = list_all (λ hop. is_end plan hop.parent) (hops_of net plan f d)
+leads_to_ends net plan f d = list_all (λ hop. ends_walks plan hop.parent) (hops_of net plan f d)
 
 -- the device is hit, and the domain has its backup
 abbrev pub loses : Network → Plan → DomainId → ℕ → Bool
 loses net plan f d =
-    not (is_end plan d) && is_hit net plan f d && of_some (backup_of plan d) false (λ hop. holds_link net f hop.link || holds_device net f hop.parent)
+    not (ends_walks plan d) && is_hit net plan f d && of_some (backup_of plan d) false (λ hop. holds_link net f hop.link || holds_device net f hop.parent)
 
 -- the device comes to hear the acting end over at most n turns
 abbrev pub is_fed : Network → Plan → DomainId → ℕ → ℕ → Bool
@@ -162,7 +162,7 @@ module _ (net : Network) (plan : Plan) (fits : Fits net plan) where
 
   no_hops : (f : DomainId) (d : ℕ) → length net.devices ≤ d → hops_of net plan f d ≡ []
   no_hops f d past =
-      by (is_member plan d && not (is_end plan d)) (is_hit net plan f d) (primary_of plan d) (backup_of plan d) (no_primary d past) (no_backup d past)
+      by (is_member plan d && not (ends_walks plan d)) (is_hit net plan f d) (primary_of plan d) (backup_of plan d) (no_primary d past) (no_backup d past)
     where
       by : (b hit : Bool) (primary backup : Option Hop) → primary ≡ None → backup ≡ None
           → (if b then option_to_list primary ++ (if hit then option_to_list backup else []) else []) ≡ []
@@ -175,11 +175,11 @@ module _ (net : Network) (plan : Plan) (fits : Fits net plan) where
   unhit : (f : DomainId) (d : ℕ) → length net.devices ≤ d → is_hit net plan f d ≡ false
   unhit f d past = by (is_root plan d)
     where
-      none : (n : ℕ) → primary_of plan d ≡ None → hops (is_end plan) plan n d ≡ []
+      none : (n : ℕ) → primary_of plan d ≡ None → hops (ends_walks plan) plan n d ≡ []
       none zero p = refl
-      none (suc n) p = ap (onward (is_end plan) (hops (is_end plan) plan n)) p
+      none (suc n) p = ap (onward (ends_walks plan) (hops (ends_walks plan) plan n)) p
 
-      by : (root : Bool) → hits net f (things_of (if root then [] else hops (is_end plan) plan net.params.depth d)) ≡ false
+      by : (root : Bool) → hits net f (things_of (if root then [] else hops (ends_walks plan) plan net.params.depth d)) ≡ false
       by true = refl
       by false = ap (λ (hs : List Hop). hits net f (things_of hs)) (none net.params.depth (no_primary d past))
 
@@ -188,12 +188,12 @@ module _ (net : Network) (plan : Plan) (fits : Fits net plan) where
   all_to_ends f all d =
       elim (cases_lt d (length net.devices)) [
         | inl within ↦ passes net (leads_to_ends net plan f) d all within
-        | inr past ↦ ap (list_all (λ (hop : Hop). is_end plan hop.parent)) (no_hops f d past)
+        | inr past ↦ ap (list_all (λ (hop : Hop). ends_walks plan hop.parent)) (no_hops f d past)
       ]
 
   -- only a device that is no end has hops
-  no_end : (f : DomainId) (d : ℕ) (hop : Hop) → list_any (same_hop hop) (hops_of net plan f d) ≡ true → is_end plan d ≡ false
-  no_end f d hop any = by (is_member plan d) (is_end plan d) any
+  no_end : (f : DomainId) (d : ℕ) (hop : Hop) → list_any (same_hop hop) (hops_of net plan f d) ≡ true → ends_walks plan d ≡ false
+  no_end f d hop any = by (is_member plan d) (ends_walks plan d) any
     where
       rest : List Hop
       rest = option_to_list (primary_of plan d) ++ (if is_hit net plan f d then option_to_list (backup_of plan d) else [])
@@ -206,30 +206,30 @@ module _ (net : Network) (plan : Plan) (fits : Fits net plan) where
   -- a walk has one hop at most
   pub one_hop : (f : DomainId) → all_pass net (leads_to_ends net plan f) ≡ true → (d : ℕ) (hop : Hop) (hs : List Hop)
       → is_walk net plan f d (hop ∷ hs) ≡ true
-      → (hs ≡ []) × (list_any (same_hop hop) (hops_of net plan f d) ≡ true) × (is_end plan hop.parent ≡ true)
+      → (hs ≡ []) × (list_any (same_hop hop) (hops_of net plan f d) ≡ true) × (ends_walks plan hop.parent ≡ true)
   one_hop f all d hop hs walked =
       let (here, rest) = and_parts (list_any (same_hop hop) (hops_of net plan f d)) (is_walk net plan f hop.parent hs) walked in
-      let ends = among (λ x. is_end plan x.parent) hop (hops_of net plan f d) (all_to_ends f all d) here in
+      let ends = among (λ x. ends_walks plan x.parent) hop (hops_of net plan f d) (all_to_ends f all d) here in
       (by hs ends rest, here, ends)
     where
-      by : (hs : List Hop) → is_end plan hop.parent ≡ true → is_walk net plan f hop.parent hs ≡ true → hs ≡ []
+      by : (hs : List Hop) → ends_walks plan hop.parent ≡ true → is_walk net plan f hop.parent hs ≡ true → hs ≡ []
       by [] ends rest = refl
       by (next ∷ hs) ends rest =
-          absurd (both_ways (is_end plan hop.parent)
+          absurd (both_ways (ends_walks plan hop.parent)
           (no_end f hop.parent next (and_parts (list_any (same_hop next) (hops_of net plan f hop.parent)) (is_walk net plan f next.parent hs) rest).0) ends)
 
   no_cycle : (f : DomainId) → all_pass net (leads_to_ends net plan f) ≡ true → HasNoCycle net plan f
   no_cycle f all d hop hs walked same =
       let (none, here, ends) = one_hop f all d hop hs walked in
       let back : hop.parent ≡ d = sym (ap (end_of hop.parent) none) ∙ same in
-      both_ways (is_end plan d) (no_end f d hop here) (subst (λ x. is_end plan x ≡ true) back ends)
+      both_ways (ends_walks plan d) (no_end f d hop here) (subst (λ x. ends_walks plan x ≡ true) back ends)
 
   keeps_backups : (f : DomainId) → all_pass net (λ d. not (loses net plan f d)) ≡ true → DomainHolds net plan f
   keeps_backups f all d lost =
       elim (cases_lt d (length net.devices)) [
         | inl within ↦ both_ways (loses net plan f d) (not-true (loses net plan f d) (passes net (λ x. not (loses net plan f x)) d all within))
-            (and_from (not (is_end plan d) && is_hit net plan f d) (takes (backup_of plan d))
-            (and_from (not (is_end plan d)) (is_hit net plan f d) lost.no_root lost.hit)
+            (and_from (not (ends_walks plan d) && is_hit net plan f d) (takes (backup_of plan d))
+            (and_from (not (ends_walks plan d)) (is_hit net plan f d) lost.no_root lost.hit)
             (subst (λ (o : Option Hop). takes o ≡ true) (sym lost.has_backup) lost.lost))
         | inr past ↦ none (backup_of plan d) (no_backup d past) lost.has_backup
       ]

@@ -12,7 +12,8 @@ use Rattle.sd_plantext.specs.Meaning as plan
 use Rattle.sd_plantext.specs.Meaning.{plan_of}
 use Rattle.sd_plantext.specs.Reading as json
 use Rattle.sd_plantext.proofs.Sound.{plan_ok}
-use Rattle.sd_proof_bound.specs.Drill.Topo.Network.{Network, IsNetwork}
+use Rattle.sd_proof_bound.specs.Drill.Topo.Network.{Network}
+use Rattle.sd_proof_bound.specs.Drill.Topo.Limits.{IsNetwork}
 use Rattle.sd_proof_bound.specs.Drill.Plan.declared.Plan.{Plan}
 use Rattle.sd_proof_bound.specs.Drill.Plan.Plans.{Fits}
 use Rattle.sd_proof_bound.specs.History.Sched.Lines.{event_of_line}

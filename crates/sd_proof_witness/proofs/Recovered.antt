@@ -8,7 +8,7 @@ use Rattle.sd_proof_bound.specs.Drill.Topo.Network.{rates_of}
 use Rattle.sd_proof_bound.specs.Drill.Topo.declared.Thing.{Thing}
 use Rattle.sd_proof_bound.specs.Drill.Topo.declared.Thing.TheVariants as thing
 use Rattle.sd_proof_bound.specs.Drill.Domain.Domains.{holds}
-use Rattle.sd_proof_bound.specs.Drill.Domain.Failures.{same_thing}
+use Rattle.sd_proof_bound.specs.Drill.Domain.Things.{same_thing}
 use Rattle.sd_proof_bound.specs.Drill.Domain.declared.DomainId.{DomainId}
 use Rattle.sd_proof_bound.specs.Drill.Domain.declared.DomainId.TheVariants as domain
 use Rattle.sd_proof_bound.specs.Drill.Plan.declared.Hop.{Hop}

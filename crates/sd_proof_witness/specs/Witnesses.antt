@@ -19,7 +19,7 @@ use Rattle.sd_proof_bound.specs.History.World.{Setting, Seen, has_failed, window
 use Rattle.sd_proof_bound.specs.History.Steps.{Step, seen_of, epoch_in, given_in, has_settled}
 use Rattle.sd_proof_bound.specs.History.Chronicle.{chronicle, IsHistory}
 use Rattle.sd_proof_bound.specs.History.Premises.{start_holds, drift_holds, delay_holds, tick_holds, loss_holds, domain_holds, renew_holds, all_hold}
-use Rattle.sd_proof_bound.specs.History.Lines.{report_of, reports, roots}
+use Rattle.sd_proof_bound.specs.History.Lines.{asked_report, reports, roots}
 use Rattle.sd_proof_bound.specs.ProofSafety.invariant.Coming.{IsFair, IsClean}
 use Rattle.sd_proof_bound.specs.ProofSafety.invariant.Kept.{IsSafe}
 use Rattle.sd_proof_bound.specs.Bound.{alone, FailsAtOnce}
@@ -31,7 +31,7 @@ use Rattle.sd_proof_witness.specs.Values.{network, first_plan, second_plan, sett
 -- the report of the last step, with its device
 abbrev pub last_report : List Step → Option (ℕ × Report)
 last_report [] = None
-last_report (s ∷ earlier) = report_of s
+last_report (s ∷ earlier) = asked_report s
 
 -- the device counted as live when the last step came
 abbrev pub was_counted : Setting → List Step → ℕ → Bool
