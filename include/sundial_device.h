@@ -18,7 +18,7 @@
  * test the rest. docs/PREMISES.md has each premise exactly.
  *   - counter: one for each device, which never falls between its start and its end. Read it anew
  *              for each call. A fall below a counter that the device keeps is answered by
- *              COUNTER_FELL.
+ *              COUNTER_FELL; a smaller one goes unseen.
  *   - limits:  counters, and clocks and uncertainties that you set, are at most 2^60 ps (13 days).
  *   - struct:  these calls alone change it. One that is no device, or has a number past its limit,
  *              is answered by NO_DEVICE; another change within the limits goes unseen.
@@ -35,8 +35,9 @@
  *   - domain:  at most one fault domain fails between two renewals.
  *   - renew:   a renewal keeps its order: the duties to all, the commit by the root that acts, and
  *              the seals once all have gone over.
- * The interval is right while the first seven hold. That no two devices act as root together, and
- * that reports stay narrow after a failure, needs all of them.
+ * The interval is right while the first seven hold at every device of the fabric. That no two
+ * devices act as root together, and that reports stay narrow after a failure, needs all of them and
+ * a plan that `sundial check` accepts.
  *
  * Units. Counters, clocks, uncertainties (eps), delays, waits and grains are in picoseconds, ppm
  * in parts per million. A number of 128 bits is two of 64. A flag is set where its byte is not 0.
