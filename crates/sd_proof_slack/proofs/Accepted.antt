@@ -11,13 +11,13 @@ use Rattle.sd_drill.specs.Checker.Verdicts.{IsAccepted}
 use Rattle.sd_proof_slack.specs.Tighter.{IsTighter}
 use Rattle.sd_proof_slack.specs.Slack.{StaysAccepted}
 use Rattle.sd_proof_slack.proofs.Alike.{HasShape, HasThings, structure_same, ancestor_same, root_same, no_cycle_kept, domain_kept, reach_kept}
-use Rattle.sd_proof_slack.proofs.Matching.{each_of, one_of, shape_of, things_of, was_there}
+use Rattle.sd_proof_slack.proofs.Matching.{each_from, one_of, shape_of, things_of, was_there}
 use Rattle.sd_proof_slack.proofs.Waits.{timing_kept}
 
 module _ (before after : Network) (tighter : IsTighter before after) where
   -- what is kept from each domain to the same one is kept of all
   of_each : (P Q : DomainId → Type 0) → ((f g : DomainId) → HasThings before f after g → P f → Q g) → OfEachDomain before P → OfEachDomain after Q
-  of_each P Q kept holds = each_of Q (domains after) (λ g some.
+  of_each P Q kept holds = each_from Q (domains after) (λ g some.
       (let (f, among, same) = was_there before after tighter g some in kept f g (things_of before after tighter f g same) (one_of P (domains before) f holds among)))
 
   module _ (plan : Plan) (accepted : IsAccepted before plan) where

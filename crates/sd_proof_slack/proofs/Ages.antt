@@ -1,9 +1,11 @@
 -- The oldest age: there is one with less slack, and neither it nor what grows in it is more.
-use Rattle.std.specs.Prelude.{◌≡◌, ℕ, zero, suc, ◌<◌, ◌≤◌, ◌⊎◌}
+use Rattle.std.specs.Prelude.{◌≡◌, ℕ, zero, suc, ◌+◌, ◌-◌, ◌*◌, ◌/◌, ◌<◌, ◌≤◌, ◌⊎◌}
 use Rattle.std.proofs.Common.{arith, subst, inl, inr}
 use Rattle.std.proofs.lemmas.Bool.{cases_lt}
+use Rattle.std.proofs.lemmas.Nat.{mul-le}
 use Rattle.sd_drill.specs.Num.Numbers.{grow, low}
 use Rattle.sd_drill.specs.Num.declared.Rates.{Rates}
+use Rattle.sd_drill.specs.Topo.Limits.{IsRates}
 use Rattle.sd_drill.specs.ages.Ages.{IsOldest, ageing}
 use Rattle.sd_proof_slack.specs.Tighter.{AreTighterRates}
 use Rattle.sd_proof_slack.proofs.Numbers.{grow_falls, low_rises}
@@ -25,6 +27,16 @@ oldest_below rates s (suc n) most = by (λ less. oldest_below rates s n less) (c
             let same : y ≡ suc n = omega (arith, few, many) in
             let also : low rates (suc n) ≤ s = subst (λ (x : ℕ). low rates x ≤ s) same young in
             absurd (omega (arith, above, also))
+
+-- a counter shows at most twice the time and the grain, and some
+few : (x s grain grown : ℕ) → grown ≤ 100000 * x → x - (grown + 999999) / 1000000 - grain ≤ s → x ≤ 2 * (s + grain + 1)
+few x s grain grown slow young = omega (arith, slow, young)
+
+-- within the limits of rates some age is the oldest
+pub some_oldest : (rates : Rates) (s : ℕ) → IsRates rates → (x : ℕ) × IsOldest rates s x
+some_oldest rates s is =
+    oldest_below rates s (2 * (s + rates.grain + 1))
+    (λ y young. few y s rates.grain (rates.ppm * y) (mul-le rates.ppm y 100000 y is.0 (omega arith)) young)
 
 module _ (before after : Rates) (tighter : AreTighterRates before after) where
   pub ageing_falls : (x y : ℕ) → y ≤ x → ageing after y ≤ ageing before x

@@ -1,12 +1,12 @@
 -- A device that has a bound has one with less slack, too, and it is no greater.
 use Rattle.std.specs.Prelude.{◌≡◌, ℕ, zero, suc, ◌+◌, ◌*◌, ◌<◌, ◌≤◌, List, [], ◌∷◌, length, max, Option, Some, None}
 use Rattle.std.specs.List.{AllZip}
-use Rattle.std.proofs.Common.{arith, refl, sym, ◌∙◌, subst}
+use Rattle.std.proofs.Common.{arith, refl, sym, subst}
 use Rattle.std.proofs.lemmas.Nat.{mul-le}
 use Rattle.sd_drill.specs.Num.Lists.{at_place}
+use Rattle.sd_drill.specs.Topo.Limits.{IsNetwork}
 use Rattle.sd_drill.specs.Topo.Network.{Network, Device, no_rates, rates_of, greatest_up}
 use Rattle.sd_drill.specs.Domain.declared.DomainId.{DomainId}
-use Rattle.sd_drill.specs.Plan.declared.Hop.{Hop}
 use Rattle.sd_drill.specs.Plan.declared.Plan.{Plan}
 use Rattle.sd_drill.specs.CheckRoot.Timing.{silence}
 use Rattle.sd_drill.specs.ages.Ages.{ageing}
@@ -14,13 +14,15 @@ use Rattle.sd_drill.specs.recovery.Walks.{halves, IsWalk, IsGreatestOf}
 use Rattle.sd_drill.specs.Drill.{root_halves, settling, quiet, source, IsWorst, IsListed}
 use Rattle.sd_drill.specs.Bounds.{bound_at}
 use Rattle.sd_drill.specs.declared.Budget.{Budget}
+use Rattle.sd_drill.proofs.Plan.Topo.Laws.{rates_law}
 use Rattle.sd_proof_slack.specs.Tighter.{AreTighterRates, IsTighterDevice, IsTighter, IsSameDomain}
-use Rattle.sd_proof_slack.specs.Slack.{NoBoundRises, NoListedBoundRises}
-use Rattle.sd_proof_slack.proofs.Ages.{ageing_falls, younger_falls, oldest_after}
-use Rattle.sd_proof_slack.proofs.Alike.{HasShape, HasThings, is_walk_same, fed_kept}
+use Rattle.sd_proof_slack.specs.Slack.{NoBoundRises, NoListedBoundRises, NoBoundAppears}
+use Rattle.sd_proof_slack.proofs.Ages.{some_oldest, ageing_falls, younger_falls, oldest_after}
+use Rattle.sd_proof_slack.proofs.Alike.{HasShape, HasThings, shape_back, things_back}
+use Rattle.sd_proof_slack.proofs.Walks.{back, same_long, bound_over}
 use Rattle.sd_proof_slack.proofs.Matching.{shape_of, things_of}
 use Rattle.sd_proof_slack.proofs.Numbers.{greatest_up_falls, silence_falls}
-use Rattle.sd_proof_slack.proofs.Sums.{halves_fall, root_halves_fall, HasFewer, GreatestFrom, greatest_sum}
+use Rattle.sd_proof_slack.proofs.Sums.{halves_fall, root_halves_fall}
 
 rates_at : (xs ys : List Device) → AllZip IsTighterDevice xs ys → (d : ℕ)
     → AreTighterRates (at_place xs d no_rates (λ device. device.rates)) (at_place ys d no_rates (λ device. device.rates))
@@ -83,34 +85,17 @@ module _ (before after : Network) (tighter : IsTighter before after) where
         abbrev things : HasThings before f after g
         things = things_of before after tighter f g same
 
-        -- the walks are the same
-        forth : (hs : List Hop) → IsWalk before plan f d hs → IsWalk after plan g d hs
-        forth hs walked = sym (is_walk_same before f after g shape things plan d hs) ∙ walked
-
-        back : (hs : List Hop) → IsWalk after plan g d hs → IsWalk before plan f d hs
-        back hs walked = is_walk_same before f after g shape things plan d hs ∙ walked
-
-        longest : (n : ℕ) → IsGreatestOf (IsWalk before plan f d) length n → IsGreatestOf (IsWalk after plan g d) length n
-        longest n is =
-            record { hops = is.hops; has = forth is.hops is.has; reached = is.reached; greatest = λ others walked. is.greatest others (back others walked) }
-
-        -- so is the greatest length, and no sum of halves is greater
-        same_long : (m n : ℕ) → IsGreatestOf (IsWalk before plan f d) length m → IsGreatestOf (IsWalk after plan g d) length n → n ≡ m
-        same_long m n was is =
-            let most : length is.hops ≤ m = was.greatest is.hops (back is.hops is.has) in
-            let least : length was.hops ≤ n = is.greatest was.hops (forth was.hops was.has) in
-            omega (arith, most, least, was.reached, is.reached)
-
+        -- no sum of halves is greater
         far_falls : (m n : ℕ) → IsGreatestOf (IsWalk before plan f d) (halves before d) m → IsGreatestOf (IsWalk after plan g d) (halves after d) n → n ≤ m
         far_falls m n was is =
             let less : halves after d is.hops ≤ halves before d is.hops = halves_fall before after tighter d is.hops in
-            let most : halves before d is.hops ≤ m = was.greatest is.hops (back is.hops is.has) in
+            let most : halves before d is.hops ≤ m = was.greatest is.hops (back before f after g shape things plan d is.hops is.has) in
             omega (arith, less, most, is.reached)
 
         -- no bound is above one before
         pub at_most : (w v : ℕ) → IsWorst before plan budget f d w → IsWorst after plan budget g d v → v ≤ w
         at_most w v was is =
-            let long : is.long ≡ was.long = same_long was.long is.long was.is_long is.is_long in
+            let long : is.long ≡ was.long = same_long before f after g shape things plan d was.long is.long was.is_long is.is_long in
             let shorter : quiet after plan is.long ≤ quiet before plan was.long =
             subst (λ (n : ℕ). quiet after plan n ≤ quiet before plan was.long) (sym long) (quiet_falls was.long) in
             let younger : is.oldest ≤ was.oldest =
@@ -121,31 +106,17 @@ module _ (before after : Network) (tighter : IsTighter before after) where
             (far_falls was.far is.far was.is_far is.is_far) (ageing_falls (rates_of before d) (rates_of after d) (rates d) was.oldest is.oldest younger)
 
         -- and there is one
-        module _ (w : ℕ) (was : IsWorst before plan budget f d w) where
-          fewer : HasFewer after plan g (suc was.long) d
-          fewer hs walked = let few : length hs ≤ was.long = was.is_long.greatest hs (back hs walked) in omega (arith, few)
+        pub has_bound : (w : ℕ) → IsWorst before plan budget f d w → (v : ℕ) × IsWorst after plan budget g d v
+        has_bound w was =
+            bound_over before f after g shape things plan d budget w was
+            (oldest_after (rates_of before d) (rates_of after d) (rates d) (quiet before plan was.long) (quiet after plan was.long) was.oldest
+            (quiet_falls was.long) was.is_oldest)
 
-          sums : GreatestFrom after plan g d
-          sums = greatest_sum after plan g (suc was.long) d fewer
-
-          pub has_bound : (v : ℕ) × IsWorst after plan budget g d v
-          has_bound =
-              let (oldest, is_oldest) =
-              oldest_after (rates_of before d) (rates_of after d) (rates d) (quiet before plan was.long) (quiet after plan was.long) was.oldest
-              (quiet_falls was.long) was.is_oldest in (
-                source after plan budget + root_halves after plan + sums.0 + ageing (rates_of after d) oldest,
-                record {
-                  fed = fed_kept before f after g shape things plan was.fed;
-                  far = sums.0;
-                  is_far = sums.1;
-                  long = was.long;
-                  is_long = longest was.long was.is_long;
-                  short_enough = subst (λ (n : ℕ). was.long ≤ n + 1) (sym tighter.depth) was.short_enough;
-                  oldest = oldest;
-                  is_oldest = is_oldest;
-                  sum = refl;
-                },
-              )
+        -- nor has a device one that had none
+        pub had_bound : IsNetwork before → d < length before.devices → (v : ℕ) → IsWorst after plan budget g d v → (w : ℕ) × IsWorst before plan budget f d w
+        had_bound law within v is =
+            bound_over after g before f (shape_back before after shape) (things_back before f after g things) plan d budget v is
+            (some_oldest (rates_of before d) (quiet before plan is.long) (rates_law before d law within))
 
 -- the theorem
 pub no_bound_rises : (before after : Network) → NoBoundRises before after
@@ -172,3 +143,8 @@ no_listed_bound_rises before after tighter plan budget f g same xs ys was is d w
         let (v, some) = has_bound before after tighter plan budget f g same d w worst in
         absurd (listed None none v some)
     by (Some v) some = (v, some, at_most before after tighter plan budget f g same d w v worst (listed (Some v) some))
+
+-- less slack gives no device a bound that had none
+pub no_bound_appears : (before after : Network) → NoBoundAppears before after
+no_bound_appears before after tighter law plan budget f g same d within v is =
+    had_bound before after tighter plan budget f g same d law within v is

@@ -5,5 +5,6 @@ mod Matching
 pub mod Accepted
 mod Sums
 mod Ages
+mod Walks
 pub mod Bounded
 mod Rows

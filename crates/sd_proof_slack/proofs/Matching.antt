@@ -1,11 +1,9 @@
 -- Each domain of a topology with less slack is one of the topology before, with the same things.
-use Rattle.std.specs.Prelude.{◌≡◌, ℕ, zero, suc, ◌<◌, ◌≤◌, false, List, [], ◌∷◌, ◌++◌, length, map, get_or, nat_eq, Option, Some}
+use Rattle.std.specs.Prelude.{◌≡◌, ℕ, zero, suc, ◌<◌, false, List, [], ◌∷◌, ◌++◌, length, map, get_or, nat_eq, Option, Some}
 use Rattle.std.specs.List.{AllZip, Contains}
 use Rattle.std.proofs.Common.{arith, refl, sym, ap, ◌∙◌, subst, inl, inr}
 use mathlib.Core.Path.{fun_ext}
-use Rattle.std.proofs.lemmas.Bool.{cases_lt}
-use Rattle.std.proofs.lemmas.List.{length-map, get_or-map}
-use Rattle.std.proofs.lemmas.List.Elements.{length_all_zip, Contains-get_or, Contains-append_left, Contains-append_right, Contains-push, Contains-push_cases, Contains-append_cases}
+use Rattle.std.proofs.lemmas.List.Elements.{length_all_zip, Contains-append_left, Contains-append_right, Contains-append_cases}
 use Rattle.std.proofs.lemmas.Option.{slice_get-get_or, slice_get_within, get_or_from_slice_get}
 use Rattle.sd_drill.specs.Num.Lists.{below, has, of_some, at_place}
 use Rattle.sd_drill.specs.Topo.Network.{Network, Link, Domain, Each, no_link, link_of, joins}
@@ -14,6 +12,7 @@ use Rattle.sd_drill.specs.Topo.declared.LinkEntry.{LinkEntry}
 use Rattle.sd_drill.specs.Domain.Domains.{domains}
 use Rattle.sd_drill.specs.Domain.declared.DomainId.{DomainId}
 use Rattle.sd_drill.specs.Domain.declared.DomainId.TheVariants as domain
+use Rattle.sd_drill.proofs.Plan.Numbered.{length-numbered, get_or-numbered}
 use Rattle.sd_proof_slack.specs.Tighter.{IsTighterEntry, IsTighterDevice, IsTighterLink, IsTighter, IsSameDomain}
 use Rattle.sd_proof_slack.proofs.Alike.{HasShape, HasThings}
 
@@ -30,38 +29,19 @@ entries (x ∷ xs) [] zip l = absurd zip
 entries (x ∷ xs) (y ∷ ys) zip zero = zip.0.entry
 entries (x ∷ xs) (y ∷ ys) zip (suc l) = entries xs ys zip.1 l
 
--- Lists of numbers and of domains
+-- Lists of domains
 
-below_has : (n x : ℕ) → x < n → Contains (below n) x
-below_has zero x within = absurd (omega (arith, within))
-below_has (suc n) x within =
-    elim (cases_lt x n) [
-      | inl before ↦ Contains-append_left (below n) (n ∷ []) x (below_has n x before)
-      | inr last ↦ subst (λ (y : ℕ). Contains (below n ++ n ∷ []) y) (same last) (Contains-push (below n) n)
-    ]
-  where
-    same : n ≤ x → n ≡ x
-    same last = omega (arith, last, within)
+numbered : {X : Type 0} (f : ℕ → X) (n k : ℕ) → k < n → Contains (map f (below n)) (f k)
+numbered f n k within = (k, omega (arith, within, length-numbered f n), get_or-numbered f n k (f k) within)
 
-has_below : (n x : ℕ) → Contains (below n) x → x < n
-has_below zero x (k, within, is) = absurd (omega (arith, within))
-has_below (suc n) x some =
-    elim (Contains-push_cases (below n) n x some) [ inl before ↦ less (has_below n x before) | inr last ↦ omega (arith, last) ]
-  where
-    less : x < n → x < suc n
-    less before = omega (arith, before)
-
-map_has : {X : Type 0} (f : ℕ → X) (xs : List ℕ) (x : ℕ) → Contains xs x → Contains (map f xs) (f x)
-map_has f xs x (k, within, is) = (k, omega (arith, within, length-map xs f), get_or-map f xs k x (f x) within ∙ ap f is)
-
-has_map : {X : Type 0} (f : ℕ → X) (xs : List ℕ) (y : X) → Contains (map f xs) y → (x : ℕ) × Contains xs x × (f x ≡ y)
-has_map f xs y (k, within, is) =
-    let inside : k < length xs = omega (arith, within, length-map xs f) in
-    (get_or xs k 0, Contains-get_or xs k 0 inside, sym (get_or-map f xs k 0 y inside) ∙ is)
+numbered_as : {X : Type 0} (f : ℕ → X) (n : ℕ) (x : X) → Contains (map f (below n)) x → (k : ℕ) × (k < n) × (f k ≡ x)
+numbered_as f n x (k, within, is) =
+    let inside : k < n = omega (arith, within, length-numbered f n) in
+    (k, inside, sym (get_or-numbered f n k x inside) ∙ is)
 
 -- each element of a list meets P
-pub each_of : {A : Type 0} (P : A → Type 0) (xs : List A) → ((x : A) → Contains xs x → P x) → Each P xs
-each_of P xs all i x at = all x (i, slice_get_within xs i x at, get_or_from_slice_get xs i x x at)
+pub each_from : {A : Type 0} (P : A → Type 0) (xs : List A) → ((x : A) → Contains xs x → P x) → Each P xs
+each_from P xs all i x at = all x (i, slice_get_within xs i x at, get_or_from_slice_get xs i x x at)
 
 pub one_of : {A : Type 0} (P : A → Type 0) (xs : List A) (x : A) → Each P xs → Contains xs x → P x
 one_of P xs x each (k, within, is) = each k x (slice_get-get_or xs k x within ∙ ap (λ y. Some y) is)
@@ -118,7 +98,7 @@ module _ (before after : Network) (tighter : IsTighter before after) where
         domain.Listed j,
         Contains-append_left (listed_before ++ devices_before) links_before (domain.Listed j)
             (Contains-append_left listed_before devices_before (domain.Listed j)
-            (map_has domain.Listed (below (length before.domains)) j (below_has (length before.domains) j inside))),
+            (numbered domain.Listed (length before.domains) j inside)),
         (listed, slice_get-get_or before.domains j listed inside ∙ ap (λ (x : Domain). Some x) is, slice_get-get_or after.domains k no_domain within),
       )
 
@@ -128,7 +108,7 @@ module _ (before after : Network) (tighter : IsTighter before after) where
         domain.Device d,
         Contains-append_left (listed_before ++ devices_before) links_before (domain.Device d)
             (Contains-append_right listed_before devices_before (domain.Device d)
-            (map_has domain.Device (below (length before.devices)) d (below_has (length before.devices) d inside))),
+            (numbered domain.Device (length before.devices) d inside)),
         refl,
       )
 
@@ -137,7 +117,7 @@ module _ (before after : Network) (tighter : IsTighter before after) where
       let inside : l < length before.links = omega (arith, within, shape_of.links) in (
         domain.Link l,
         Contains-append_right (listed_before ++ devices_before) links_before (domain.Link l)
-            (map_has domain.Link (below (length before.links)) l (below_has (length before.links) l inside)),
+            (numbered domain.Link (length before.links) l inside),
         refl,
       )
 
@@ -148,11 +128,11 @@ module _ (before after : Network) (tighter : IsTighter before after) where
       let links = map domain.Link (below (length after.links)) in
       elim (Contains-append_cases (listed ++ devices) links g some) [
         | inl first ↦ elim (Contains-append_cases listed devices g first) [
-          | inl one ↦ (let (k, among, is) = has_map domain.Listed (below (length after.domains)) g one in
-              subst WasThere is (listed_was k (has_below (length after.domains) k among)))
-          | inr two ↦ (let (d, among, is) = has_map domain.Device (below (length after.devices)) g two in
-              subst WasThere is (device_was d (has_below (length after.devices) d among)))
+          | inl one ↦ (let (k, within, is) = numbered_as domain.Listed (length after.domains) g one in
+              subst WasThere is (listed_was k within))
+          | inr two ↦ (let (d, within, is) = numbered_as domain.Device (length after.devices) g two in
+              subst WasThere is (device_was d within))
         ]
-        | inr three ↦ (let (l, among, is) = has_map domain.Link (below (length after.links)) g three in
-            subst WasThere is (link_was l (has_below (length after.links) l among)))
+        | inr three ↦ (let (l, within, is) = numbered_as domain.Link (length after.links) g three in
+            subst WasThere is (link_was l within))
       ]

@@ -1,12 +1,12 @@
 -- Less slack of a small fabric, worked out by hand.
-use Rattle.std.specs.Prelude.{◌≡◌, ℕ, ◌≤◌, List, [], ◌∷◌, None, codes}
+use Rattle.std.specs.Prelude.{◌≡◌, ℕ, List, [], ◌∷◌, None, codes}
 use Rattle.std.specs.List.{Contains}
 use Rattle.std.proofs.Common.{arith, refl}
 use Rattle.std.proofs.lemmas.List.Elements.{All-cons, All-nil, Contains-get_or}
 use Rattle.sd_drill.specs.Topo.Network.{Network, Device, Link, Domain}
 use Rattle.sd_drill.specs.Plan.Examples.{device, device_with, fabric, fabric_params, fabric_plan, link, link_with}
 use Rattle.sd_drill.specs.CheckRoot.Timing.{silence, timing_breach}
-use Rattle.sd_proof_slack.specs.Tighter.{IsTighterEntry, IsTighterDevice, IsTighterLink, IsTighter}
+use Rattle.sd_proof_slack.specs.Tighter.{IsTighterDevice, IsTighterLink, IsTighter}
 use Rattle.sd_proof_slack.proofs.Matching.{entry_same}
 
 abbrev tray : Domain

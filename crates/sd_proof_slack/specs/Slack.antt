@@ -1,6 +1,7 @@
 -- What less slack keeps: plans stay accepted, and no bound of the drill rises.
 use Rattle.std.specs.Prelude.{◌≡◌, ℕ, ◌<◌, ◌≤◌, List, length, Option, Some}
 use Rattle.sd_drill.specs.Topo.Network.{Network}
+use Rattle.sd_drill.specs.Topo.Limits.{IsNetwork}
 use Rattle.sd_drill.specs.Domain.declared.DomainId.{DomainId}
 use Rattle.sd_drill.specs.Plan.declared.Plan.{Plan}
 use Rattle.sd_drill.specs.Checker.Verdicts.{IsAccepted}
@@ -25,3 +26,9 @@ NoListedBoundRises before after =
     IsTighter before after → (plan : Plan) (budget : Budget) (f g : DomainId) → IsSameDomain before f after g → (bounds others : List (Option ℕ))
     → AreBounds before plan budget f bounds → AreBounds after plan budget g others → (d : ℕ) → d < length before.devices → (w : ℕ)
     → bound_at bounds d ≡ Some w → (v : ℕ) × (bound_at others d ≡ Some v) × (v ≤ w)
+
+-- and a device that has no bound gets none by less slack
+abbrev pub NoBoundAppears : Network → Network → Type 0
+NoBoundAppears before after =
+    IsTighter before after → IsNetwork before → (plan : Plan) (budget : Budget) (f g : DomainId) → IsSameDomain before f after g
+    → (d : ℕ) → d < length before.devices → (v : ℕ) → IsWorst after plan budget g d v → (w : ℕ) × IsWorst before plan budget f d w

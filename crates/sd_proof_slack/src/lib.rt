@@ -11,9 +11,11 @@
 //! - `no_bound_rises` (proofs/Bounded): a device that has a bound under a fault domain of both has one
 //!   for `after`, too, and it is no greater. `no_listed_bound_rises` says so of the numbers that the
 //!   drill lists.
+//! - `no_bound_appears` (proofs/Bounded): a device that has no bound there gets none by less slack.
 //!
 //! Nothing else is assumed: neither that the topologies are within their limits, nor that the plan
-//! fits them, nor, for the bounds, that it is accepted.
+//! fits them, nor, for the bounds, that it is accepted. Only the last result asks that `before` is
+//! within its limits.
 //!
 //! # The route
 //!
@@ -25,5 +27,8 @@
 //! 3. `Matching`: a tighter topology has the same shape, and each of its domains was there before.
 //!    `Accepted` puts the three together.
 //! 4. `Sums`: sums of halves fall, and where walks have a greatest length they have a greatest sum.
-//!    `Ages`: the oldest age falls. `Bounded`: so does each bound, which is a sum of such parts.
+//!    `Ages`: the oldest age falls. `Walks`: over both topologies a device has the same walks, and a
+//!    bound. `Bounded`: the bound falls, as a sum of parts that do.
+//!
+//! `Rows` has an example, worked out by hand.
 #![tactic(auto)]
