@@ -8,6 +8,7 @@ pub mod Stepping
 pub mod Outcoming
 pub mod Adding
 pub mod Firsts
+pub mod Calm
 pub mod Keeping
 pub mod Room
 pub mod Replies

@@ -1,6 +1,7 @@
 -- What a fabric keeps, and for which steps it stands.
 pub mod Registers
 pub mod Causes
+pub mod Calm
 pub mod Doing
 pub mod Sending
 pub mod Sound

@@ -1,7 +1,8 @@
 //! Why an event is refused: the first of seventeen causes that holds.
-ghost use Rattle.std.specs.Prelude.{◌≡◌, ◌<◌, length, None, IfSome};
+ghost use Rattle.std.specs.Prelude.{◌≡◌, ◌<◌, length, None, IfSome, true};
 ghost use Rattle.sd_sched.specs.Events.{device_of, link_of};
-ghost use Rattle.sd_fleet_fabric.specs.Causes.{first_of, place_causes, message_causes, device_causes, window_causes, late_causes, refusal_in};
+ghost use Rattle.sd_fleet_fabric.specs.Causes.{first_of, place_causes, message_causes, device_causes, window_causes, late_causes, refusal_in, flight_at};
+ghost use Rattle.sd_fleet_fabric.specs.Calm.{is_on_time, is_calm};
 
 use crate::Fabric;
 use sd_fleet_state::world::message_of;
@@ -12,6 +13,57 @@ use sd_sched::Event;
 impl Fabric {
     /// The first cause for which an event is refused, if there is one.
     pub fn refusal(&self, event: &Event) -> Option<ApplyFault>
+        ensures { result ≡ refusal_in self.now event.now }
+    {
+        if self.is_calm(event) {
+            return None;
+        }
+        self.first_refusal(event)
+    }
+
+    /// Whether the event is a tick or a receipt against which nothing stands. Nearly all events
+    /// are, so that no cause is looked for.
+    #[inline(always)]
+    fn is_calm(&self, event: &Event) -> bool
+        ensures calm { result ≡ is_calm self.now event.now }
+        ensures accepted { result ≡ true → refusal_in self.now event.now ≡ None }
+    {
+        match *event {
+            Event::Tick {
+                reference,
+                device,
+                counter,
+            } => self
+                .membership
+                .world()
+                .admits_call(reference, device, counter),
+            Event::Recv {
+                reference,
+                device,
+                counter,
+                message,
+            } => {
+                self.membership
+                    .world()
+                    .admits_call(reference, device, counter)
+                    && self.is_on_time(reference, device, message)
+            }
+            _ => false,
+        }
+    }
+
+    /// Whether the message is on its way to the device, and has not ended at the reference time.
+    fn is_on_time(&self, reference: u64, d: u32, message: u64) -> bool
+        ensures { result ≡ is_on_time reference d (flight_at self.now message) }
+    {
+        match self.book.find(message) {
+            Ok(flight) => flight.last >= reference && flight.receiver == d,
+            Err(_) => false,
+        }
+    }
+
+    /// The first cause that holds, one after the other.
+    fn first_refusal(&self, event: &Event) -> Option<ApplyFault>
         ensures { result ≡ refusal_in self.now event.now }
     {
         let place = self.place_refusal(event);

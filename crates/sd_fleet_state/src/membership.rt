@@ -3,9 +3,10 @@
 //!
 //! `Registers` of the specs is what is kept. `Stands` says for which steps of a history it is kept,
 //! and the proofs (`Laws`) that its words are those of histories then.
-ghost use Rattle.std.specs.Prelude.{◌≡◌, ◌≤◌, ◌<◌, ◌^◌, ℕ, [], Some, None, IsTrue, IfSome, IfOk, length, replicate, true, option_map};
+ghost use Rattle.std.specs.Prelude.{◌≡◌, ◌≤◌, ◌<◌, ◌^◌, ℕ, [], Some, None, IsTrue, IfSome, IfOk, length, replicate, true, false, option_map};
 ghost use Rattle.sd_topo.specs.Topologies.{network};
 ghost use Rattle.sd_sched.specs.Events.{device_of, is_stage};
+ghost use Rattle.sd_sched.specs.declared.Event.TheVariants as events_of;
 ghost use Rattle.sd_history.specs.World.{Setting};
 ghost use Rattle.sd_fleet_state.specs.world.Registers.{is_open, HasNamed};
 ghost use Rattle.sd_fleet_state.specs.membership.Plans.{AreSound, AreTables, IsNumber, root_numbered, row_numbered, is_member_numbered};
@@ -222,6 +223,23 @@ impl Membership {
             answers: &self.answers,
         }
         .after(event, others);
+    }
+
+    /// A tick or a receipt while no window is open, and what its device answers from then on.
+    #[inline(always)]
+    pub fn note_call(&mut self, reference: u64, d: u32, counter: u64, answers: &Answered)
+        requires room { self.old.world.events < 2 ^ 63 }
+        requires range { d < length self.old.answers }
+        requires closed { is_open self.old.world.window ≡ false }
+        ensures tick { self.new
+            ≡ registers_after self.old (events_of.Tick reference d counter) (Some answers.now) }
+        ensures receipt { (message : ℕ) → self.new
+            ≡ registers_after self.old (events_of.Recv reference d counter message)
+            (Some answers.now) }
+        ensures sound { IsSound self.new }
+    {
+        self.world.note_call(reference, d, counter);
+        self.answers[d as usize] = Some(*answers);
     }
 
     /// Whether the open window can close: it has its commit, some member of the staged plan is up,

@@ -5,8 +5,9 @@
 //! of histories), and `Stands` says that the registers hold just these.
 ghost use Rattle.std.specs.Prelude.{◌≡◌, ℕ, ◌||◌, ◌-◌, ◌<◌, ◌^◌, List, [], ◌∷◌, length, true, false, IfSome, IfOk};
 ghost use Rattle.sd_sched.specs.Events.{device_of, link_of, is_stage, is_end_event};
+ghost use Rattle.sd_sched.specs.declared.Event.TheVariants as events_of;
 ghost use Rattle.sd_history.specs.World.{Setting, Seen};
-ghost use Rattle.sd_fleet_state.specs.world.Registers.{up_at, failed_at, ever_failed_at, made_at, reading_at, joins_at, HasThing, HasNamed, devices_after, links_after, first_registers, registers_after, registers_closed};
+ghost use Rattle.sd_fleet_state.specs.world.Registers.{up_at, failed_at, ever_failed_at, made_at, reading_at, joins_at, admits_call, HasThing, HasNamed, devices_after, links_after, first_registers, registers_after, registers_closed};
 ghost use Rattle.sd_fleet_state.specs.world.Standing.{Stands};
 
 mod device;
@@ -21,6 +22,9 @@ use std::alloc::Global;
 use std::marker::Model;
 pub use things::{failure_of, link_of, mended, message_of};
 pub use window::Window;
+
+/// So many events are accepted at most.
+const MOST_EVENTS: u64 = 1 << 26;
 
 /// The world of the events that it observed. Only `new` takes memory.
 #[derive(Drop)]
@@ -198,6 +202,38 @@ impl World {
         ensures { result ≡ self.now.epoch }
     {
         self.epoch
+    }
+
+    /// Whether a device may be called at this reference time and this counter: it is there and up,
+    /// neither of the two falls, and the schedule goes on.
+    #[inline(always)]
+    pub fn admits_call(&self, reference: u64, d: u32, counter: u64) -> bool
+        ensures { result ≡ admits_call self.now reference d counter }
+    {
+        if (d as usize) >= self.devices.len() {
+            return false;
+        }
+        let device = &self.devices[d as usize];
+        device.up
+            && !device.failed
+            && device.reading <= counter
+            && self.reference <= reference
+            && !self.ended
+            && self.events < MOST_EVENTS
+    }
+
+    /// A tick or a receipt: of the two a world keeps the same.
+    #[inline(always)]
+    pub fn note_call(&mut self, reference: u64, d: u32, counter: u64)
+        requires room { self.old.events < 2 ^ 63 }
+        requires range { d < length self.old.devices }
+        ensures tick { self.new ≡ registers_after self.old (events_of.Tick reference d counter) }
+        ensures receipt { (message : ℕ)
+            → self.new ≡ registers_after self.old (events_of.Recv reference d counter message) }
+    {
+        self.devices[d as usize].reading = counter;
+        self.reference = reference;
+        self.events += 1;
     }
 
     /// The next event, with which the window does not close.

@@ -1,5 +1,5 @@
 -- The registers of a world, and what an event makes of them.
-use Rattle.std.specs.Prelude.{ℕ, ◌+◌, ◌<◌, Bool, true, false, ◌&&◌, ◌||◌, List, length, replicate, slice_index_or, slice_set, nat_eq, IfSome, if◌then◌else◌}
+use Rattle.std.specs.Prelude.{ℕ, ◌+◌, ◌^◌, ◌<◌, Bool, true, false, ◌&&◌, ◌||◌, not, List, length, replicate, slice_index_or, slice_set, nat_eq, nat_le, nat_lt, IfSome, if◌then◌else◌}
 use Rattle.sd_num.specs.Lists.{of_some}
 use Rattle.sd_topo.specs.declared.Thing.{Thing}
 use Rattle.sd_topo.specs.declared.Thing.TheVariants as thing
@@ -74,6 +74,12 @@ is_committed Committed = true
 -- the device joined in the open window
 abbrev pub joins_at : Registers → ℕ → Bool
 joins_at r d = is_open r.window && nat_eq (device_at r d).joined r.windows
+
+-- the device is there and up, what it would read and the reference time do not fall, and the schedule goes on
+abbrev pub admits_call : Registers → ℕ → ℕ → ℕ → Bool
+admits_call r reference d counter =
+    nat_lt d (length r.devices) && (up_at r d && (not (failed_at r (thing.Device d)) && (nat_le (reading_at r d) counter
+    && (nat_le r.reference reference && (not r.ended && nat_lt r.events (2 ^ 26))))))
 
 -- What is in range
 

@@ -1,7 +1,7 @@
 -- The first of five parts that has a cause has the first cause.
 use Rattle.std.proofs.Common.{is_some, sym, ◌∙◌, ap}
 use Rattle.sd_fleet_fabric.proofs.Firsts.{at_place, at_device, at_window, at_last}
-use Rattle.sd_fleet_fabric.proofs.fabric.Fabric.refusal.Goals as goal
+use Rattle.sd_fleet_fabric.proofs.fabric.Fabric.first_refusal.Goals as goal
 
 pub returns-then-is_some : goal.returns-then-is_some
 returns-then-is_some c =
