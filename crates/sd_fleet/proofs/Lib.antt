@@ -8,6 +8,7 @@ pub mod Telling
 pub mod Following
 pub mod Applying
 pub mod Reporting
+pub mod Stepping
 pub mod Devices
 -- Handed on: what crates above name of those below.
 pub use Rattle.sd_fleet_fabric.proofs.History as History

@@ -5,7 +5,7 @@ ghost use Rattle.sd_plan.specs.declared.Duty.{Duty};
 ghost use Rattle.sd_core.specs.Limits.{IfSent};
 ghost use Rattle.sd_fleet_fabric.specs.History.Nodes.{answers_of as node_answers};
 ghost use Rattle.sd_fleet_fabric.specs.FleetState.membership.Standing.{summary};
-ghost use Rattle.sd_fleet_fabric.specs.Doing.{making_seen, call_seen, act_seen};
+ghost use Rattle.sd_fleet_fabric.specs.Doing.{making_seen, call_seen, act_seen, replied};
 ghost use Rattle.sd_fleet.specs.Calling.{IsMessage, IsNode, CanMake, CanCall, GivenAfter, MaySend, counter_made, reading_after};
 ghost use Rattle.sd_fleet.specs.Crew.{node_at, MakesAt, IsCallable, CallsAt, AsksAt, CanAct, Acts};
 
@@ -68,11 +68,46 @@ fn call_at<N: Node>(
         → IsCallable N.Node context.now (call_seen called.now) n }
     ensures { CallsAt N.Node nodes.old d (call_seen called.now) context.now result nodes.new }
 {
+    let mut answers = unanswered();
+    let effect = step_at(nodes, d, called, context, &mut answers);
+    Reply::called(effect, answers)
+}
+
+/// Answers to be written over.
+#[inline(always)]
+pub(crate) fn unanswered() -> Answered {
+    Answered {
+        parent: None,
+        acts: false,
+        epoch: 0,
+        given: None,
+        sealed: false,
+    }
+}
+
+/// Calls the node of a device. What it answers from then on is written where the caller wants it.
+// Inlined where the call is known, so that no call and no reply is built.
+#[inline(always)]
+pub(crate) fn step_at<N: Node>(
+    nodes: &mut [Option<N>],
+    d: u32,
+    called: &Call<'_>,
+    context: &CallContext,
+    answers: &mut Answered,
+) -> Effect
+    requires events { context.now.events ≤ 2 ^ 26 }
+    requires place { d < length nodes.old }
+    requires there { node_at nodes.old d ≢ None }
+    requires callable { (n : N) → node_at nodes.old d ≡ Some n
+        → IsCallable N.Node context.now (call_seen called.now) n }
+    ensures { CallsAt N.Node nodes.old d (call_seen called.now) context.now
+        (replied result answers.new) nodes.new }
+{
     match &mut nodes[d as usize] {
         Some(node) => {
             let effect = call(node, called, context);
-            let answers = answers_of(node, given_by(called, context.given));
-            Reply::called(effect, answers)
+            *answers = answers_of(node, given_by(called, context.given));
+            effect
         }
         None => unreachable!(),
     }
@@ -120,6 +155,7 @@ fn made<N: Node>(making: &Making<'_>) -> N
 }
 
 /// Calls a node. A tick and a message alone may send something.
+#[inline(always)]
 fn call<N: Node>(node: &mut N, call: &Call<'_>, context: &CallContext) -> Effect
     requires events { context.now.events ≤ 2 ^ 26 }
     requires numbers { IsNode N.Node context.now.events context.now.reading node.old }
@@ -152,6 +188,7 @@ fn call<N: Node>(node: &mut N, call: &Call<'_>, context: &CallContext) -> Effect
 
 /// What a node answers. It does not say of which plan the duty is that was given to it, so that is
 /// told here.
+#[inline(always)]
 fn answers_of<N: Node>(node: &N, given: Option<u32>) -> Answered
     requires { (duty : Duty) → N.given node.now ≡ Some duty → given ≡ Some duty.epoch }
     ensures { result ≡ summary (node_answers N.Node node.now) }
@@ -166,6 +203,7 @@ fn answers_of<N: Node>(node: &N, given: Option<u32>) -> Answered
 }
 
 /// The number of the plan whose duty the node was given last, with this call.
+#[inline(always)]
 fn given_by(call: &Call<'_>, before: Option<u32>) -> Option<u32>
     ensures { (old new : Option Duty) → GivenAfter (call_seen call.now) old new
         → ((duty : Duty) → old ≡ Some duty → before ≡ Some duty.epoch)

@@ -1,13 +1,15 @@
 //! The fleet: which events are refused, and what each accepted event comes to.
-ghost use Rattle.std.specs.Prelude.{◌≡◌, ◌≤◌, ◌<◌, ◌^◌, ℕ, List, [], length, replicate, IsTrue, Some, None, Err, IfOk, IfErr, IfSome, OnOk};
+ghost use Rattle.std.specs.Prelude.{◌≡◌, ◌≤◌, ◌<◌, ◌^◌, ℕ, List, [], length, replicate, false, IsTrue, Some, None, Err, IfOk, IfErr, IfSome, OnOk};
 ghost use Rattle.sd_topo.specs.Topologies.{network};
 ghost use Rattle.sd_sched.specs.Events.{device_of};
+ghost use Rattle.sd_sched.specs.declared.Event.TheVariants as events_of;
 ghost use Rattle.sd_sched.specs.Spelled.{is_within};
 ghost use Rattle.sd_fleet_fabric.specs.History.World.{Setting, is_up as is_up_seen, is_counted as is_counted_seen};
 ghost use Rattle.sd_fleet_fabric.specs.History.Steps.{seen_of, parent_in, acts_in};
 ghost use Rattle.sd_fleet_fabric.specs.History.Nodes.{NodeStep, steps_of};
 ghost use Rattle.sd_fleet_fabric.specs.History.Refusals.{refusal as refusal_of};
 ghost use Rattle.sd_fleet_fabric.specs.History.flights.Flights.{look_in};
+ghost use Rattle.sd_fleet_fabric.specs.FleetState.world.Registers.{is_open};
 ghost use Rattle.sd_fleet_fabric.specs.FleetState.membership.Plans.{AreSound};
 ghost use Rattle.sd_fleet_fabric.specs.Causes.{refusal_in};
 ghost use Rattle.sd_fleet_fabric.specs.Room.{most_sent_of, most_sent_in};
@@ -16,9 +18,9 @@ ghost use Rattle.sd_fleet_fabric.specs.Stepping.{OnlyRoomGrew};
 ghost use Rattle.sd_fleet.specs.Calling.{IsLimited};
 ghost use Rattle.sd_fleet.specs.Bounds.{IsCrew, context_of};
 
-use crate::crew::{CallContext, perform};
+use crate::crew::{CallContext, perform, step_at, unanswered};
 use sd_core::Node;
-use sd_fleet_fabric::{ApplyFault, Fabric, Outcome};
+use sd_fleet_fabric::{ApplyFault, Call, Fabric, Outcome};
 use sd_msg::{Flight, TakeFault};
 use sd_num::NoMemory;
 use sd_plan::Plan;
@@ -66,6 +68,21 @@ fn context_at(fabric: &Fabric, event: &Event) -> CallContext
             Some(d) => world.reading(d),
             None => 0,
         },
+    }
+}
+
+/// The context of a call of a device.
+#[inline(always)]
+fn context_of_call(fabric: &Fabric, d: u32) -> CallContext
+    requires { d < length fabric.now.net.devices }
+    ensures context { result ≡ context_of fabric.now (events_of.Tick 0 d 0) }
+    ensures sound { IsSound fabric.now }
+{
+    let world = fabric.world();
+    CallContext {
+        given: fabric.given_to(d),
+        events: world.events(),
+        reading: world.reading(d),
     }
 }
 
@@ -168,6 +185,87 @@ impl<N: Node> Fleet<N> {
     /// An event happens for which the fleet was prepared. What comes of it is written into an
     /// outcome that the caller lends.
     pub fn happen(&mut self, event: &Event, outcome: &mut Outcome)
+        requires within { IsTrue (is_within event.now) }
+        requires prepared { IsPrepared self.old.fabric event.now }
+        ensures accepted { (setting : Setting) (run : List (NodeStep N))
+            → StandsFor N.Node self.old setting run
+            → IsAccepted N.Node self.new setting run event.now outcome.new }
+        ensures limited { IfSome outcome.new.report (λ told. IsLimited told.1) }
+        ensures few { outcome.new.sent ≤ most_sent_in self.old.fabric event.now }
+    {
+        if self.fabric.has_window() {
+            return self.happen_any(event, outcome);
+        }
+        match *event {
+            Event::Tick {
+                reference,
+                device,
+                counter,
+            } => self.tick(reference, device, counter, outcome),
+            Event::Recv {
+                reference,
+                device,
+                counter,
+                message,
+            } => self.receive(reference, device, counter, message, outcome),
+            _ => self.happen_any(event, outcome),
+        }
+    }
+
+    /// A tick happens while no window is open.
+    fn tick(&mut self, reference: u64, d: u32, counter: u64, outcome: &mut Outcome)
+        requires within { IsTrue (is_within (events_of.Tick reference d counter)) }
+        requires prepared { IsPrepared self.old.fabric (events_of.Tick reference d counter) }
+        requires shut { is_open self.old.fabric.membership.world.window ≡ false }
+        ensures accepted { (setting : Setting) (run : List (NodeStep N))
+            → StandsFor N.Node self.old setting run
+            → IsAccepted N.Node self.new setting run (events_of.Tick reference d counter)
+            outcome.new }
+        ensures limited { IfSome outcome.new.report (λ told. IsLimited told.1) }
+        ensures few { outcome.new.sent
+            ≤ most_sent_in self.old.fabric (events_of.Tick reference d counter) }
+    {
+        let context = context_of_call(&self.fabric, d);
+        let mut answers = unanswered();
+        let call = Call::Tick { counter };
+        let effect = step_at(&mut self.nodes, d, &call, &context, &mut answers);
+        outcome.taken = None;
+        self.fabric
+            .tick(reference, d, counter, &effect, &answers, outcome);
+    }
+
+    /// A receipt happens while no window is open: its flight is taken, and then it is as a tick.
+    fn receive(&mut self, reference: u64, d: u32, counter: u64, message: u64, outcome: &mut Outcome)
+        requires within { IsTrue (is_within (events_of.Recv reference d counter message)) }
+        requires prepared { IsPrepared self.old.fabric
+            (events_of.Recv reference d counter message) }
+        requires shut { is_open self.old.fabric.membership.world.window ≡ false }
+        ensures accepted { (setting : Setting) (run : List (NodeStep N))
+            → StandsFor N.Node self.old setting run
+            → IsAccepted N.Node self.new setting run (events_of.Recv reference d counter message)
+            outcome.new }
+        ensures limited { IfSome outcome.new.report (λ told. IsLimited told.1) }
+        ensures few { outcome.new.sent
+            ≤ most_sent_in self.old.fabric (events_of.Recv reference d counter message) }
+    {
+        let context = context_of_call(&self.fabric, d);
+        self.fabric.take(d, message, &mut outcome.taken);
+        let Some(flight) = &outcome.taken else {
+            unreachable!()
+        };
+        let mut answers = unanswered();
+        let call = Call::Receive {
+            link: flight.link,
+            message: &flight.message,
+            counter,
+        };
+        let effect = step_at(&mut self.nodes, d, &call, &context, &mut answers);
+        self.fabric
+            .tick(reference, d, counter, &effect, &answers, outcome);
+    }
+
+    /// Any event happens for which the fleet was prepared.
+    fn happen_any(&mut self, event: &Event, outcome: &mut Outcome)
         requires within { IsTrue (is_within event.now) }
         requires prepared { IsPrepared self.old.fabric event.now }
         ensures accepted { (setting : Setting) (run : List (NodeStep N))

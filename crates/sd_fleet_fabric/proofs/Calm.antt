@@ -1,6 +1,6 @@
 -- Nothing refuses a calm event; and a receipt that is not refused is admitted as a tick of its device.
-use Rattle.std.specs.Prelude.{◌≡◌, ℕ, ◌^◌, ◌<◌, Bool, true, false, ◌&&◌, not, List, [], ◌∷◌, length, nat_eq, nat_le, nat_lt, Option, Some, None, Result, Ok, Err, refl}
-use Rattle.std.proofs.Common.{arith, sym, ◌∙◌, ap}
+use Rattle.std.specs.Prelude.{◌≡◌, ℕ, ◌^◌, ◌<◌, true, false, not, List, [], ◌∷◌, length, nat_eq, nat_le, nat_lt, Some, None, Result, Ok, Err, refl}
+use Rattle.std.proofs.Common.{arith, sym, ap}
 use Rattle.std.proofs.lemmas.Bool.{and_parts, ltb-true, leb-true, eqb-true, eq-eqb, le-ltb, lt-leb, not-true}
 use Rattle.sd_topo.specs.declared.Thing.TheVariants as thing
 use Rattle.sd_msg.specs.declared.Flight.{Flight}

@@ -9,6 +9,7 @@ pub mod Outcoming
 pub mod Adding
 pub mod Firsts
 pub mod Calm
+pub mod Steady
 pub mod Keeping
 pub mod Room
 pub mod Replies

@@ -5,6 +5,7 @@ use Rattle.sd_num.specs.Lists.{of_some}
 use Rattle.sd_plan.specs.declared.End.{End}
 use Rattle.sd_msg.specs.declared.Message.{Message}
 use Rattle.sd_msg.specs.declared.Flight.{Flight}
+use Rattle.sd_core.specs.declared.Effect.{Effect}
 use Rattle.sd_core.specs.declared.Effect.TheVariants.{Quiet, Send}
 use Rattle.sd_sched.specs.declared.Event.{Event}
 use Rattle.sd_sched.specs.Events.{reference_of, device_of}
@@ -45,16 +46,22 @@ module _ (r : Registers) (e : Event) (reply : Reply) where
       ∙ ap (λ o. of_some o [] (λ (a : Answered). sent_by r (reference_of e) d a.epoch reply.effect)) answered
       ∙ ap (sent_by r (reference_of e) d a.epoch) sends
 
+-- what a device that answers sends
+pub sent_as : (r : Registers) (e : Event) (reply : Reply) (reference : ℕ) (device : Option ℕ) (d : ℕ) (a : Answered) → reference ≡ reference_of e
+    → device ≡ device_of e → device ≡ Some d → reply.answers ≡ Some a → sent_in r e reply ≡ sent_by r reference d a.epoch reply.effect
+sent_as r e reply reference device d a at named is answered =
+    ap (λ o. of_some o [] (λ d. of_some reply.answers [] (λ (a : Answered). sent_by r (reference_of e) d a.epoch reply.effect))) (sym named ∙ is)
+    ∙ ap (λ o. of_some o [] (λ (a : Answered). sent_by r (reference_of e) d a.epoch reply.effect)) answered
+    ∙ ap (λ n. sent_by r n d a.epoch reply.effect) (sym at)
+
 -- as many messages as ends
-pub sent_size : (r : Registers) (e : Event) (reply : Reply) (ends : List End) (device : Option ℕ) (d : ℕ) (a : Answered) (m : Message)
-    → ends ≡ ends_below r.membership a.epoch d → device ≡ device_of e → device ≡ Some d → reply.answers ≡ Some a
-    → reply.effect ≡ Send m → length ends ≡ length (sent_in r e reply)
-sent_size r e reply ends device d a m are named is answered sends =
+pub sent_size : (r : Registers) (reference d epoch : ℕ) (ends : List End) (effect : Effect) (m : Message) → ends ≡ ends_below r.membership epoch d
+    → effect ≡ Send m → length ends ≡ length (sent_by r reference d epoch effect)
+sent_size r reference d epoch ends effect m are sends =
     ap length are
     ∙ sym
-    (ap length (sent_over r e reply d a m (sym named ∙ is) answered sends)
-    ∙ length-over r.net r.membership.world (record { reference = reference_of e; sender = d; message = m }) (r.book.last + 1)
-    (ends_below r.membership a.epoch d))
+    (ap (λ x. length (sent_by r reference d epoch x)) sends
+    ∙ length-over r.net r.membership.world (record { reference = reference; sender = d; message = m }) (r.book.last + 1) (ends_below r.membership epoch d))
 
 pub covers_sound : (r : Registers) → IsSound r → Covers r.net r.membership.world
 covers_sound r sound = record { net = sound.net; devices = sound.membership.devices ∙ sound.answers; links = sound.links }

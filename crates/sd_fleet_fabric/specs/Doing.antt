@@ -1,10 +1,11 @@
 -- What an event does to the device that it names, by what a fabric keeps.
-use Rattle.std.specs.Prelude.{◌≡◌, ℕ, Bool, true, false, Option, is_some, option_map, option_and_then, Result, Ok, Err}
+use Rattle.std.specs.Prelude.{◌≡◌, ℕ, Bool, true, false, Option, Some, None, is_some, option_map, option_and_then, Result, Ok, Err}
 use Rattle.sd_num.specs.Lists.{of_some}
 use Rattle.sd_topo.specs.Network.{rates_of}
 use Rattle.sd_plan.specs.declared.Duty.{Duty}
 use Rattle.sd_msg.specs.declared.Flight.{Flight}
 use Rattle.sd_msg.specs.declared.TakeFault.{TakeFault}
+use Rattle.sd_core.specs.declared.Effect.{Effect}
 use Rattle.sd_core.specs.declared.Effect.TheVariants.{Quiet}
 use Rattle.sd_core.specs.Calls as calls
 use Rattle.sd_sched.specs.declared.Event.{Event}
@@ -17,6 +18,7 @@ use Rattle.sd_fleet_fabric.specs.declared.Call.{Call}
 use Rattle.sd_fleet_fabric.specs.declared.Call.TheVariants as call
 use Rattle.sd_fleet_fabric.specs.declared.Act.{Act}
 use Rattle.sd_fleet_fabric.specs.declared.Act.TheVariants as act
+use Rattle.sd_fleet_state.specs.declared.membership.Answered.{Answered}
 use Rattle.sd_fleet_state.specs.membership.Standing.{summary}
 use Rattle.sd_fleet_fabric.specs.declared.Reply.{Reply}
 use Rattle.sd_fleet_state.specs.membership.Plans.{row_numbered}
@@ -50,6 +52,10 @@ pub record Says (reply : Reply) (told : steps.Told) : Type 0 where
   pub effect : reply.effect ≡ told.effect
   pub answers : reply.answers ≡ option_map summary told.answers
   pub report : reply.report ≡ told.report
+
+-- the reply of a device that was called, and did and answers this
+abbrev pub replied : Effect → Answered → Reply
+replied effect answers = record { effect = effect; answers = Some answers; report = None }
 
 -- What an event wants to be told
 

@@ -5,7 +5,7 @@ use Rattle.std.specs.Result.{result_ok}
 use Rattle.sd_num.specs.Lists.{of_some}
 use Rattle.sd_clock.specs.declared.Report.{Report}
 use Rattle.sd_msg.specs.declared.Flight.{Flight}
-use Rattle.sd_msg.specs.Books.{Book, found, is_current}
+use Rattle.sd_msg.specs.Books.{Book, found, without, is_current}
 use Rattle.sd_sched.specs.declared.Event.{Event}
 use Rattle.sd_sched.specs.declared.Event.TheVariants as event
 use Rattle.sd_sched.specs.Events.{reference_of, device_of, message_of, is_end_event}
@@ -93,6 +93,18 @@ outcome_in r e reply =
       closed = can_close_in (membership_after r e reply);
       ended = is_end_event e;
     }
+
+-- what comes of it, where this flight is received
+abbrev pub outcome_with : Option Flight → Registers → Event → Reply → Outcome
+outcome_with taken r e reply = record (outcome_in r e reply) { taken = taken }
+
+-- the flight with this number was taken away, and nothing else but room changed
+pub record IsWithout (number : ℕ) (old new : Registers) : Type 0 where
+  pub net : new.net ≡ old.net
+  pub membership : new.membership ≡ old.membership
+  pub flights : new.book.flights ≡ without number old.book.flights
+  pub last : new.book.last ≡ old.book.last
+  pub room : old.book.room ≤ new.book.room
 
 -- nothing but the room for flights changed, and this did not fall
 pub record OnlyRoomGrew (old new : Registers) : Type 0 where

@@ -12,12 +12,9 @@ ghost use Rattle.sd_fleet_fabric.specs.Causes.{past_preparing_in, is_out_of_orde
 
 use crate::Fabric;
 use crate::events::makes_some;
-use sd_fleet_state::world::{Window, failure_of, link_of, mended};
+use sd_fleet_state::world::{MOST_EVENTS, Window, failure_of, link_of, mended};
 use sd_sched::Event;
 use sd_topo::Thing;
-
-/// So many events are accepted at most.
-const MOST_EVENTS: u64 = 1 << 26;
 
 /// What an event names.
 impl Fabric {

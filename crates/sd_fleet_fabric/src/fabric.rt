@@ -6,7 +6,7 @@ ghost use Rattle.sd_sched.specs.Events.{device_of};
 ghost use Rattle.sd_history.specs.World.{Setting};
 ghost use Rattle.sd_history.specs.Steps.{Step};
 ghost use Rattle.sd_history.specs.flights.Flights.{look_in};
-ghost use Rattle.sd_fleet_state.specs.world.Registers.{up_at};
+ghost use Rattle.sd_fleet_state.specs.world.Registers.{up_at, is_open};
 ghost use Rattle.sd_fleet_state.specs.membership.Plans.{AreSound};
 ghost use Rattle.sd_fleet_state.specs.membership.Memberships.{live_at, is_counted_at};
 ghost use Rattle.sd_fleet_fabric.specs.Sound.{IsSound};
@@ -112,13 +112,29 @@ impl Fabric {
         requires { IfSome (device_of event.now) (λ d. d < length self.now.net.devices) }
         ensures { result ≡ given_in self.now event.now }
     {
-        let Some(d) = event.device() else {
-            return None;
-        };
+        match event.device() {
+            Some(d) => self.given_to(d),
+            None => None,
+        }
+    }
+
+    /// The same of the device with a number.
+    #[inline(always)]
+    pub fn given_to(&self, d: u32) -> Option<u32>
+        requires { d < length self.now.net.devices }
+        ensures { result ≡ option_and_then (λ a. a.given) (live_at self.now.membership d) }
+    {
         match self.membership.answered(d) {
             Some(answered) => answered.given,
             None => None,
         }
+    }
+
+    /// Whether a plan is staged.
+    pub fn has_window(&self) -> bool
+        ensures { result ≡ is_open self.now.membership.world.window }
+    {
+        self.membership.world().window().is_open()
     }
 
     /// The flight of a number, or why there is none: `Unknown` or `Spent`.

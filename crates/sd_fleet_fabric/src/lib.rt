@@ -17,6 +17,7 @@ mod messages;
 mod parent_table;
 mod refusals;
 mod steps;
+mod ticks;
 
 pub use fabric::Fabric;
 use sd_clock::Report;

@@ -8,7 +8,7 @@ ghost use Rattle.sd_sched.specs.Events.{reference_of, device_of};
 ghost use Rattle.sd_fleet_state.specs.membership.Plans.{IsEnd};
 ghost use Rattle.sd_fleet_fabric.specs.Registers.{kept};
 ghost use Rattle.sd_fleet_fabric.specs.Sound.{IsSound};
-ghost use Rattle.sd_fleet_fabric.specs.Sending.{flight_over, flights_over, sent_in, Covers};
+ghost use Rattle.sd_fleet_fabric.specs.Sending.{flight_over, flights_over, sent_by, sent_in, Covers};
 ghost use Rattle.sd_fleet_fabric.specs.Outcomes.{first_number};
 
 use crate::Reply;
@@ -138,6 +138,51 @@ impl Ways<'_> {
     }
 }
 
+/// What a device sends at a reference time, in the plan with a number, where this is its effect.
+pub(crate) fn send_by(
+    topology: &Topology,
+    membership: &Membership,
+    book: &mut FlightBook,
+    reference: u64,
+    sender: u32,
+    epoch: u32,
+    effect: &Effect,
+) -> Sent
+    requires sound { IsSound (kept (network topology.now) membership.now book.old) }
+    requires known { sender < length (network topology.now).devices }
+    requires reference { reference ≤ 2 ^ 60 }
+    requires room { length (sent_by (kept (network topology.now) membership.now book.old) reference
+        sender epoch effect.now) ≤ book.old.room }
+    ensures given { AreGiven book.new }
+    ensures flights { book.new.flights ≡ book.old.flights
+        ++ filter (λ f. f.reaches) (sent_by (kept (network topology.now) membership.now book.old) reference sender epoch effect.now) }
+    ensures last { book.new.last ≡ book.old.last + length
+        (sent_by (kept (network topology.now) membership.now book.old) reference sender epoch
+        effect.now) }
+    ensures first { result.first
+        ≡ first_number
+        (sent_by (kept (network topology.now) membership.now book.old) reference sender epoch
+        effect.now) }
+    ensures count { result.count
+        ≡ length (sent_by (kept (network topology.now) membership.now book.old) reference sender
+        epoch effect.now) }
+{
+    let Effect::Send(message) = effect else {
+        return Sent::none();
+    };
+    let sending = Sending {
+        reference,
+        sender,
+        message: *message,
+    };
+    let ways = Ways {
+        topology,
+        world: membership.world(),
+    };
+    let ends = membership.ends_below(epoch, sender);
+    ways.send(book, ends, &sending)
+}
+
 /// What the named device sends at the event, as it replied.
 pub(crate) fn send(
     topology: &Topology,
@@ -169,18 +214,13 @@ pub(crate) fn send(
     let Some(answers) = &reply.answers else {
         return Sent::none();
     };
-    let Effect::Send(message) = &reply.effect else {
-        return Sent::none();
-    };
-    let sending = Sending {
-        reference: event.reference(),
-        sender,
-        message: *message,
-    };
-    let ways = Ways {
+    send_by(
         topology,
-        world: membership.world(),
-    };
-    let ends = membership.ends_below(answers.epoch, sender);
-    ways.send(book, ends, &sending)
+        membership,
+        book,
+        event.reference(),
+        sender,
+        answers.epoch,
+        &reply.effect,
+    )
 }

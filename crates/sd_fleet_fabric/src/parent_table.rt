@@ -1,6 +1,6 @@
 //! How the named device stands to its plans, before an event and after it.
 ghost use Rattle.std.specs.Prelude.{◌≡◌, ◌<◌, length, IfSome};
-ghost use Rattle.sd_fleet_state.specs.membership.Memberships.{IsSound, can_close_in};
+ghost use Rattle.sd_fleet_state.specs.membership.Memberships.{IsSound, acts_at as acts_of, can_close_in};
 ghost use Rattle.sd_fleet_fabric.specs.Stepping.{acts_named, is_new_named, closed_if_can};
 
 use sd_fleet_state::membership::Membership;
@@ -10,9 +10,18 @@ pub(crate) fn acts(membership: &Membership, device: Option<u32>) -> bool
     requires { IfSome device (λ d. d < length membership.now.answers) }
     ensures { result ≡ acts_named membership.now device }
 {
-    let Some(d) = device else {
-        return false;
-    };
+    match device {
+        Some(d) => acts_at(membership, d),
+        None => false,
+    }
+}
+
+/// The same of the device with a number.
+#[inline(always)]
+pub(crate) fn acts_at(membership: &Membership, d: u32) -> bool
+    requires { d < length membership.now.answers }
+    ensures { result ≡ acts_of membership.now d }
+{
     match membership.answered(d) {
         Some(answered) => answered.acts,
         None => false,

@@ -24,7 +24,7 @@ pub use things::{failure_of, link_of, mended, message_of};
 pub use window::Window;
 
 /// So many events are accepted at most.
-const MOST_EVENTS: u64 = 1 << 26;
+pub const MOST_EVENTS: u64 = 1 << 26;
 
 /// The world of the events that it observed. Only `new` takes memory.
 #[derive(Drop)]

@@ -178,7 +178,8 @@ module _ (a : Network) (f : DomainId) (b : Network) (g : DomainId) (shape : HasS
   fed_kept (stands_by {d = d} sound backup_root) = stands_by (met sound_same d sound) backup_root
   fed_kept (spared {d = d} sound unhit) = spared (met sound_same d sound) (subst (λ (t : Bool). IsTrue (not t)) (hit_same d) unhit)
   fed_kept (turns {d = d} hop sound hit next link parent fed) =
-      turns hop (met sound_same d sound) (sym (hit_same d) ∙ hit) next (met_not same.links hop.link link) (met_not same.devices hop.parent parent) (fed_kept fed)
+      turns hop (met sound_same d sound) (sym (hit_same d) ∙ hit) next (met_not same.links hop.link link) (met_not same.devices hop.parent parent)
+      (fed_kept fed)
 
   joined_kept : (may_pass may_cross : ℕ → Bool) {d e : ℕ} → Joined a may_pass may_cross d e → Joined b may_pass may_cross d e
   joined_kept may_pass may_cross here = here

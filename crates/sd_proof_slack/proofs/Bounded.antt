@@ -59,7 +59,8 @@ module _ (before after : Network) (tighter : IsTighter before after) where
     quiet_falls : (n : ℕ) → quiet after plan n ≤ quiet before plan n
     quiet_falls n =
         let product : 2 * silence after * (n + 1) ≤ 2 * silence before * (n + 1) =
-        mul-le (2 * silence after) (n + 1) (2 * silence before) (n + 1) (double (silence after) (silence before) (silence_falls before after tighter)) (omega arith) in
+        mul-le (2 * silence after) (n + 1) (2 * silence before) (n + 1) (double (silence after) (silence before) (silence_falls before after tighter))
+        (omega arith) in
         sum (settling after plan) (2 * silence after * (n + 1)) (settling before plan) (2 * silence before * (n + 1)) settling_falls product
       where
         double : (a b : ℕ) → a ≤ b → 2 * a ≤ 2 * b
@@ -74,7 +75,8 @@ module _ (before after : Network) (tighter : IsTighter before after) where
 
       source_falls : source after plan budget ≤ source before plan budget
       source_falls =
-          sum_of_four budget.base (root_halves after plan) (ageing (rates_of after plan.root) budget.hold) (ageing (rates_of after plan.backup_root) budget.hold)
+          sum_of_four budget.base (root_halves after plan) (ageing (rates_of after plan.root) budget.hold)
+          (ageing (rates_of after plan.backup_root) budget.hold)
           (root_halves before plan) (ageing (rates_of before plan.root) budget.hold) (ageing (rates_of before plan.backup_root) budget.hold)
           (root_halves_fall before after tighter plan) (held plan.root) (held plan.backup_root)
 

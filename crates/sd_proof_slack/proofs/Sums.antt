@@ -53,7 +53,8 @@ module _ (before after : Network) (tighter : IsTighter before after) where
 
     primary_falls : over_primary after ≤ over_primary before
     primary_falls =
-        subst (λ (hs : List Hop). halves after plan.backup_root hs ≤ over_primary before) (walk_same before after (shape_of before after tighter) plan plan.backup_root)
+        subst (λ (hs : List Hop). halves after plan.backup_root hs ≤ over_primary before)
+        (walk_same before after (shape_of before after tighter) plan plan.backup_root)
         (halves_fall plan.backup_root (walk before plan plan.backup_root))
 
     backup_falls : (o : Option Hop) → over_backup after o ≤ over_backup before o
@@ -127,7 +128,8 @@ module _ (net : Network) (plan : Plan) (f : DomainId) where
           ]
 
       by : ((bounds_of net h.link d).half + g < r) ⊎ (r ≤ (bounds_of net h.link d).half + g) → HasGreatest (BeginsAmong (h ∷ firsts)) d
-      by (inl less) = (r, record { hops = rest.hops; has = widened rest.hops rest.has; reached = rest.reached; greatest = most r (omega (arith, less)) (omega arith) })
+      by (inl less) =
+          (r, record { hops = rest.hops; has = widened rest.hops rest.has; reached = rest.reached; greatest = most r (omega (arith, less)) (omega arith) })
       by (inr more) = (
         (bounds_of net h.link d).half + g,
         record {
@@ -155,7 +157,8 @@ module _ (net : Network) (plan : Plan) (f : DomainId) where
 
   as_walks : (d : ℕ) → HasGreatest (BeginsAmong (hops_of net plan f d)) d → GreatestFrom d
   as_walks d (g, is) =
-      (g, record { hops = is.hops; has = to_walk d is.hops is.has; reached = is.reached; greatest = λ others walked. is.greatest others (from_walk d others walked) })
+      let most = λ (others : List Hop) (walked : IsWalk net plan f d others). is.greatest others (from_walk d others walked) in
+      (g, record { hops = is.hops; has = to_walk d is.hops is.has; reached = is.reached; greatest = most })
 
   -- no walk has n hops
   abbrev pub HasFewer : ℕ → ℕ → Type 0

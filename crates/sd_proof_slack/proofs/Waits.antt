@@ -51,7 +51,8 @@ module _ (before after : Network) (tighter : IsTighter before after) (plan : Pla
   second_up : greatest_up after plan.wait_second ≤ greatest_up before plan.wait_second
   second_up = greatest_up_falls before after tighter plan.wait_second
 
-  flight_falls : 2 * (after.params.depth + 1) * greatest_delay after + after.params.tick ≤ 2 * (before.params.depth + 1) * greatest_delay before + before.params.tick
+  flight_falls : 2 * (after.params.depth + 1) * greatest_delay after + after.params.tick
+      ≤ 2 * (before.params.depth + 1) * greatest_delay before + before.params.tick
   flight_falls =
       sum (2 * (after.params.depth + 1) * greatest_delay after) after.params.tick (2 * (before.params.depth + 1) * greatest_delay before) before.params.tick
       (times_depth_fall before after tighter 2) tighter.tick

@@ -20,7 +20,8 @@ module _ (a : Network) (f : DomainId) (b : Network) (g : DomainId) (shape : HasS
   back hs walked = is_walk_same a f b g shape same plan d hs ∙ walked
 
   longest : (n : ℕ) → IsGreatestOf (IsWalk a plan f d) length n → IsGreatestOf (IsWalk b plan g d) length n
-  longest n is = record { hops = is.hops; has = forth is.hops is.has; reached = is.reached; greatest = λ others walked. is.greatest others (back others walked) }
+  longest n is =
+      record { hops = is.hops; has = forth is.hops is.has; reached = is.reached; greatest = λ others walked. is.greatest others (back others walked) }
 
   -- the greatest length is the same
   pub same_long : (m n : ℕ) → IsGreatestOf (IsWalk a plan f d) length m → IsGreatestOf (IsWalk b plan g d) length n → n ≡ m

@@ -1,48 +1,39 @@
--- What is sent goes over the ends below the sender, which are sound.
-use Rattle.std.proofs.Common.{◌≡◌, length, sym, ◌∙◌, ap, subst, arith}
+-- What the named device sends is what a device sends that replies so.
+use Rattle.std.proofs.Common.{◌≡◌, ◌≤◌, ◌++◌, ◌+◌, List, length, filter, sym, ◌∙◌, ap, subst}
 use Rattle.sd_topo.specs.Topologies.{network}
-use Rattle.sd_topo.specs.Network.{Each}
-use Rattle.sd_fleet_state.specs.membership.Plans.{IsEnd}
+use Rattle.sd_msg.specs.declared.Flight.{Flight}
 use Rattle.sd_fleet_fabric.specs.Registers.{kept}
-use Rattle.sd_fleet_fabric.specs.Sending.{sent_in}
-use Rattle.sd_fleet_fabric.proofs.Keeping.{ends_sound}
-use Rattle.sd_fleet_fabric.proofs.Replies.{sent_size}
+use Rattle.sd_fleet_fabric.specs.Sending.{sent_by, sent_in}
+use Rattle.sd_fleet_fabric.specs.Outcomes.{first_number}
+use Rattle.sd_fleet_fabric.proofs.Replies.{sent_as}
 use Rattle.sd_fleet_fabric.proofs.messages.send.Goals as goal
 
-pub send-requires-clause-ends : goal.send-requires-clause-ends
-send-requires-clause-ends c =
-    subst (λ es. Each (IsEnd (network c.args.topology.now)) es) (sym c.ends_below-ends.ensures)
-    (ends_sound (kept (network c.args.topology.now) c.args.membership.now c.args.book.now) c.in-Some-answers.answers.epoch c.in-Some.sender
-    c.requires.sound).each
+-- what is sent is what its answers and its effect send
+same : (c : goal.After-send_by)
+    → sent_in (kept (network c.args.topology.now) c.args.membership.now c.args.book.now) c.args.event.now c.args.reply.now
+    ≡ sent_by (kept (network c.args.topology.now) c.args.membership.now c.args.book.now) c.reference.result c.in-Some.sender
+    c.in-Some-answers.answers.epoch c.args.reply.now.effect
+same c =
+    sent_as (kept (network c.args.topology.now) c.args.membership.now c.args.book.now) c.args.event.now c.args.reply.now c.reference.result c.device.result
+    c.in-Some.sender c.in-Some-answers.answers
+    c.reference.ensures c.device.ensures c.in-Some.is c.in-Some-answers.is
 
-pub send-requires-clause-few : goal.send-requires-clause-few
-send-requires-clause-few c =
-    let same = ap length c.ends_below-ends.ensures in
-    let few = (ends_sound (kept (network c.args.topology.now) c.args.membership.now c.args.book.now) c.in-Some-answers.answers.epoch c.in-Some.sender
-    c.requires.sound).few in
-    omega (arith, same, few, c.requires.sound.net.links)
+pub send_by-requires-clause-room : goal.send_by-requires-clause-room
+send_by-requires-clause-room c =
+    subst (λ (fs : List Flight). length fs ≤ c.args.book.now.room)
+    (sent_as (kept (network c.args.topology.now) c.args.membership.now c.args.book.now) c.args.event.now c.args.reply.now c.reference.result c.device.result
+    c.in-Some.sender c.in-Some-answers.answers
+    c.reference.ensures c.device.ensures c.in-Some.is c.in-Some-answers.is)
+    c.requires.room
 
-pub send-requires-clause-room : goal.send-requires-clause-room
-send-requires-clause-room c =
-    let size : length c.ends_below-ends.result.now ≡ length
-    (sent_in (kept (network c.args.topology.now) c.args.membership.now c.args.book.now) c.args.event.now c.args.reply.now) =
-    sent_size (kept (network c.args.topology.now) c.args.membership.now c.args.book.now) c.args.event.now c.args.reply.now c.ends_below-ends.result.now
-    c.device.result c.in-Some.sender c.in-Some-answers.answers c.in-Send.message
-    c.ends_below-ends.ensures c.device.ensures c.in-Some.is c.in-Some-answers.is c.in-Send.is in
-    omega (arith, size, c.requires.room)
+pub returns-clause-flights : goal.returns-clause-flights
+returns-clause-flights c = c.send_by.ensures.flights ∙ ap (λ fs. c.args.book.now.flights ++ filter (λ (f : Flight). f.reaches) fs) (sym (same c))
 
 pub returns-clause-last : goal.returns-clause-last
-returns-clause-last c =
-    let size : length c.ends_below-ends.result.now ≡ length
-    (sent_in (kept (network c.args.topology.now) c.args.membership.now c.args.book.now) c.args.event.now c.args.reply.now) =
-    sent_size (kept (network c.args.topology.now) c.args.membership.now c.args.book.now) c.args.event.now c.args.reply.now c.ends_below-ends.result.now
-    c.device.result c.in-Some.sender c.in-Some-answers.answers c.in-Send.message
-    c.ends_below-ends.ensures c.device.ensures c.in-Some.is c.in-Some-answers.is c.in-Send.is in
-    omega (arith, size, c.send.ensures.last)
+returns-clause-last c = c.send_by.ensures.last ∙ ap (λ (fs : List Flight). c.args.book.now.last + length fs) (sym (same c))
+
+pub returns-clause-first : goal.returns-clause-first
+returns-clause-first c = c.send_by.ensures.first ∙ ap first_number (sym (same c))
 
 pub returns-clause-count : goal.returns-clause-count
-returns-clause-count c =
-    c.send.ensures.count
-    ∙ sent_size (kept (network c.args.topology.now) c.args.membership.now c.args.book.now) c.args.event.now c.args.reply.now c.ends_below-ends.result.now
-    c.device.result c.in-Some.sender c.in-Some-answers.answers c.in-Send.message
-    c.ends_below-ends.ensures c.device.ensures c.in-Some.is c.in-Some-answers.is c.in-Send.is
+returns-clause-count c = c.send_by.ensures.count ∙ ap length (sym (same c))

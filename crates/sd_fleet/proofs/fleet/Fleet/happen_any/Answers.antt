@@ -9,7 +9,7 @@ use Rattle.sd_fleet.specs.Crew.{Acts}
 use Rattle.sd_fleet.proofs.Reporting.{outcome_limited, sent_most}
 use Rattle.sd_fleet.proofs.Telling.{tells}
 use Rattle.sd_fleet.proofs.Applying.{device_if, can_do, length_done, crew_next, accepted_next}
-use Rattle.sd_fleet.proofs.fleet.Fleet.happen.Goals as goal
+use Rattle.sd_fleet.proofs.fleet.Fleet.happen_any.Goals as goal
 
 pub context_at-context-requires : goal.context_at-context-requires
 context_at-context-requires g c = device_if c.args.self.now.fabric c.args.event.now c.requires.prepared.accepted

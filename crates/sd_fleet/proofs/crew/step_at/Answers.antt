@@ -2,7 +2,7 @@
 use Rattle.std.proofs.Common.{rules, ◌≡◌, length, Some, None, refl}
 use Rattle.std.proofs.lemmas.List.{get_or_read_under}
 use Rattle.sd_fleet.specs.Crew.{node_at}
-use Rattle.sd_fleet.proofs.crew.call_at.Goals as goal
+use Rattle.sd_fleet.proofs.crew.step_at.Goals as goal
 
 -- src/crew.rt:125:17
 pub call-effect-requires-clause-can : goal.call-effect-requires-clause-can
@@ -12,8 +12,8 @@ call-effect-requires-clause-can g c =
     (c.requires.callable c.in-Some.node here).can
 
 -- src/crew.rt:126:17
-pub answers_of-answers-requires : goal.answers_of-answers-requires
-answers_of-answers-requires g c =
+pub answers_of-requires : goal.answers_of-requires
+answers_of-requires g c =
     let read = get_or_read_under c.args.nodes.now c.args.d (length c.args.nodes.now) c.index-nodes-d.result None c.index-nodes-d.is c.requires.place refl in
     let here : node_at c.args.nodes.now c.args.d ≡ Some c.in-Some.node = search (rules, read) in
     c.given_by.ensures _ _ c.call-effect.ensures.given (c.requires.callable c.in-Some.node here).given

@@ -1,0 +1,101 @@
+-- What makes a fleet stand for one step more, where the fabric's registers and the outcome are told.
+use Rattle.std.specs.Prelude.{◌≡◌, ℕ, ◌<◌, ◌≤◌, ◌^◌, List, length, Option, Some, None, IsOkAnd, IsTrue, Result, Ok, Err, refl}
+use Rattle.std.specs.Result.{result_ok}
+use Rattle.std.proofs.Common.{arith, sym, ◌∙◌, ap, subst}
+use Rattle.sd_msg.specs.declared.Flight.{Flight}
+use Rattle.sd_msg.specs.declared.TakeFault.{TakeFault}
+use Rattle.sd_core.specs.declared.node.Node.{Ghosts}
+use Rattle.sd_core.specs.Calls as calls
+use Rattle.sd_sched.specs.declared.Event.{Event}
+use Rattle.sd_sched.specs.declared.Event.TheVariants as event
+use Rattle.sd_sched.specs.Spelled.{is_within}
+use Rattle.sd_topo.specs.Network.{Network}
+use Rattle.sd_fleet_fabric.specs.FleetState.membership.Memberships as membership
+use Rattle.sd_fleet_fabric.specs.History.Steps as steps
+use Rattle.sd_fleet_fabric.specs.History.World.{Setting}
+use Rattle.sd_fleet_fabric.specs.History.Nodes.{NodeStep, IsRun, steps_of, node_in}
+use Rattle.sd_fleet_fabric.specs.declared.Reply.{Reply}
+use Rattle.sd_fleet_fabric.specs.declared.Outcome.{Outcome}
+use Rattle.sd_fleet_fabric.specs.Registers.{Registers, kept}
+use Rattle.sd_fleet_fabric.specs.Room.{ends_in}
+use Rattle.sd_fleet_fabric.specs.Sound.{IsSound}
+use Rattle.sd_fleet_fabric.specs.Causes.{refusal_in, flight_at}
+use Rattle.sd_fleet_fabric.specs.Doing.{act_in, receipt, Tells}
+use Rattle.sd_fleet_fabric.specs.Standing.{Stands}
+use Rattle.sd_fleet_fabric.specs.Stepping.{IsAfter, IsWithout, outcome_in}
+use Rattle.sd_fleet_fabric.proofs.Stepping.{stands_next}
+use Rattle.sd_fleet_fabric.proofs.Outcoming.{outcome_is}
+use Rattle.sd_fleet.specs.declared.crew.CallContext.{CallContext}
+use Rattle.sd_fleet.specs.Crew.{node_at, CanAct, CallsAt, Acts}
+use Rattle.sd_fleet.specs.Bounds.{IsCrew, context_of}
+use Rattle.sd_fleet.proofs.Applying.{GoesOn, can_do, accepted_next}
+
+pub goes_further : {N : Type 0} (g : Ghosts N) (r new : Registers) (e : Event) (nodes given after left : List (Option N)) (context : CallContext)
+    (reply : Reply) (outcome : Outcome) → given ≡ nodes → Acts g given (act_in r e) context reply after → left ≡ after → IsCrew g r nodes
+    → refusal_in r e ≡ None → Tells e reply → IsAfter r e reply new → outcome ≡ outcome_in r e reply → (setting : Setting) (run : List (NodeStep N))
+    → IsRun g setting run → Stands r setting (steps_of run) → ((d : ℕ) → d < length setting.net.devices → node_at nodes d ≡ node_in run d)
+    → GoesOn g new left setting run e outcome
+goes_further g r new e nodes given after left context reply outcome same acts ends crew accepted tells step comes setting run earlier stands kept =
+    accepted_next g r new e nodes given after left context (act_in r e) reply outcome setting run same refl acts ends crew.places accepted earlier stands kept
+    (λ told says. stands_next setting r (steps_of run) stands e reply told accepted says tells new step)
+    (λ told says. comes ∙ outcome_is setting r (steps_of run) stands e reply told accepted says tells)
+
+-- a context is within the limits
+pub context_few : (r : Registers) (e : Event) (context : CallContext) → context ≡ context_of r e → IsSound r → context.events ≤ 2 ^ 26
+context_few r e context at sound = subst (λ (m : CallContext). m.events ≤ 2 ^ 26) (sym at) sound.events
+
+pub can_tick : {N : Type 0} (g : Ghosts N) (r : Registers) (reference d counter : ℕ) (nodes given : List (Option N)) (context : CallContext) → given ≡ nodes
+    → context ≡ context_of r (event.Tick 0 d 0) → IsCrew g r nodes → IsSound r → refusal_in r (event.Tick reference d counter) ≡ None
+    → IsTrue (is_within (event.Tick reference d counter)) → CanAct g given context (steps.Calls d (calls.Tick counter))
+can_tick g r reference d counter nodes given context same at crew sound accepted within =
+    can_do g r (event.Tick reference d counter) nodes given context (steps.Calls d (calls.Tick counter)) same at refl crew sound accepted within
+
+-- A receipt
+
+pub can_receive : {N : Type 0} (g : Ghosts N) (r : Registers) (reference d counter message : ℕ) (f : Flight) (nodes given : List (Option N))
+    (context : CallContext) → given ≡ nodes → context ≡ context_of r (event.Tick 0 d 0) → flight_at r message ≡ Ok f → IsCrew g r nodes → IsSound r
+    → refusal_in r (event.Recv reference d counter message) ≡ None → IsTrue (is_within (event.Recv reference d counter message))
+    → CanAct g given context (steps.Calls d (calls.Receive f.link f.message counter))
+can_receive g r reference d counter message f nodes given context same at found crew sound accepted within =
+    can_do g r (event.Recv reference d counter message) nodes given context (steps.Calls d (calls.Receive f.link f.message counter)) same at
+    (sym (ap (λ o. receipt o d counter) found)) crew sound accepted within
+
+-- the flight is there for its receiver
+pub for_receiver : (look : Result Flight TakeFault) (reference d : ℕ) → IsOkAnd look (λ f. (reference ≤ f.last) × (f.receiver ≡ d))
+    → IsOkAnd look (λ f. f.receiver ≡ d)
+for_receiver (Ok f) reference d is = is.1
+for_receiver (Err e) reference d is = is
+
+pub taken_there : (look : Result Flight TakeFault) (taken : Option Flight) (reference d : ℕ) → IsOkAnd look (λ f. (reference ≤ f.last) × (f.receiver ≡ d))
+    → taken ≡ result_ok look → taken ≡ None → ⊥
+taken_there look taken reference d there is none = by look there (sym is ∙ none)
+  where
+    by : (o : Result Flight TakeFault) → IsOkAnd o (λ f. (reference ≤ f.last) × (f.receiver ≡ d)) → result_ok o ≡ None → ⊥
+    by (Ok f) there' none' = cc
+    by (Err e) there' none' = there'
+
+-- there is room as before
+pub room_without : (old mid : Registers) (d message : ℕ) → IsWithout message old mid → ends_in old d ≤ old.book.room → ends_in mid d ≤ mid.book.room
+room_without old mid d message left room =
+    let same : ends_in mid d ≡ ends_in old d =
+    ap (λ (n : Network). ends_in (kept n mid.membership mid.book) d) left.net
+    ∙ ap (λ (m : membership.Registers). ends_in (kept old.net m mid.book) d) left.membership in
+    omega (arith, same, left.room, room)
+
+-- the flight that was taken is the one that was found
+pub found_taken : (look : Result Flight TakeFault) (taken : Option Flight) (f : Flight) → taken ≡ result_ok look → taken ≡ Some f → look ≡ Ok f
+found_taken look taken f is some = by look (sym is ∙ some)
+  where
+    by : (o : Result Flight TakeFault) → result_ok o ≡ Some f → o ≡ Ok f
+    by (Ok x) here = ap Ok (same x here)
+      where
+        same : (x : Flight) → Some x ≡ Some f → x ≡ f
+        same x here = cc
+    by (Err e) here = cc
+
+-- the call of that flight is what the event does
+pub received_acts : {N : Type 0} (g : Ghosts N) (given after : List (Option N)) (context : CallContext) (reply : Reply) (look : Result Flight TakeFault)
+    (f : Flight) (d counter : ℕ) → look ≡ Ok f → CallsAt g given d (calls.Receive f.link f.message counter) context reply after
+    → Acts g given (receipt look d counter) context reply after
+received_acts g given after context reply look f d counter found calls_ =
+    subst (λ (o : Result Flight TakeFault). Acts g given (receipt o d counter) context reply after) (sym found) calls_
