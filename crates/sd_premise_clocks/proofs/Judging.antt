@@ -56,7 +56,7 @@ up_made (s ∷ earlier) d up = by (makes d s.event) (fails (thing.Device d) s.ev
     by false true up before = cc
     by false false up before = before up
 
-untouched_down : (seen : List Seen) (d : ℕ) → is_untouched seen d ≡ true → is_up seen d ≡ false
+pub untouched_down : (seen : List Seen) (d : ℕ) → is_untouched seen d ≡ true → is_up seen d ≡ false
 untouched_down seen d untouched = by (is_up seen d) refl
   where
     by : (b : Bool) → is_up seen d ≡ b → b ≡ false

@@ -21,7 +21,7 @@ pub record Observes (setting : Setting) (s : Seen) (earlier : List Seen) (all : 
   pub places : length new.owed ≡ length old.owed
   pub is_all : all ≡ (is_none old.ticks.first || s.closed || is_stage s.event)
   pub each : all ≡ true → AreOwed setting (s ∷ earlier) new.owed
-  pub named : all ≡ false → (d : ℕ) → device_of s.event ≡ Some d → get_or new.owed d 0 ≡ owed_at setting (s ∷ earlier) d
+  pub named : all ≡ false → (d : ℕ) → d < length old.owed → device_of s.event ≡ Some d → get_or new.owed d 0 ≡ owed_at setting (s ∷ earlier) d
   pub others : all ≡ false → (k : ℕ) → (device_of s.event ≡ Some k → ⊥) → get_or new.owed k 0 ≡ get_or old.owed k 0
 
 -- the premise is judged by the references since which the devices owe a tick
@@ -54,7 +54,7 @@ owed_after setting s (x ∷ earlier) all old new stands observes some k within =
     by : (named : Option ℕ) → device_of s.event ≡ named → get_or new.owed k 0 ≡ owed_at setting (s ∷ x ∷ earlier) k
     by None names = other (none_some (device_of s.event) names)
     by (Some d) names = elim (cases_eq k d) [
-      | inl same ↦ observes.named some k (names ∙ ap Some (sym same))
+      | inl same ↦ observes.named some k (subst (λ (n : ℕ). k < n) observes.places within) (names ∙ ap Some (sym same))
       | inr apart ↦ other (λ at. apart (same_Some k d (sym at ∙ names)))
     ]
 

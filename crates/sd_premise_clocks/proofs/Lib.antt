@@ -7,3 +7,5 @@ pub mod Rows
 pub mod Ticking
 pub mod Judging
 pub mod Late
+pub mod Passing
+pub mod Skipping

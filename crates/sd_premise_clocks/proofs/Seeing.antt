@@ -1,16 +1,17 @@
 -- What an event keeps that may be seen after what was seen: references and counters do not fall.
-use Rattle.std.proofs.Common.{◌≡◌, ℕ, ◌≤◌, Bool, true, false, not, ◌&&◌, ◌||◌, nat_lt, List, Option, Some, sym, ap, ◌∙◌}
-use Rattle.std.proofs.lemmas.Bool.{or_parts, not-true, ltb-false}
+use Rattle.std.proofs.Common.{◌≡◌, ℕ, ◌≤◌, Bool, true, false, not, ◌&&◌, ◌||◌, nat_lt, List, Option, Some, sym, ap, ◌∙◌, subst}
+use Rattle.std.proofs.lemmas.Bool.{or_parts, not-true, not-false, ltb-false}
 use Rattle.sd_num.specs.Lists.{of_some}
 use Rattle.sd_sched.specs.declared.Event.{Event}
+use Rattle.sd_sched.specs.declared.Event.TheVariants.{Tick, Recv}
 use Rattle.sd_sched.specs.Events.{reference_of, device_of, counter_of}
-use Rattle.sd_fleet_state.specs.History.World.{Setting, Seen, latest_reference, latest_reading}
-use Rattle.sd_fleet_state.specs.History.Refusals.{makes_some, unknown_device, unknown_link, dead_device, dead_link, time_falls, counter_falls, not_started, started_twice, no_plan_left, window_order_seen, after_end, not_failed, not_member, too_many}
-use Rattle.sd_fleet_state.specs.History.Open.{may_be_seen}
+use Rattle.sd_fleet_state.specs.History.World.{Setting, Seen, is_up, latest_reference, latest_reading}
+use Rattle.sd_fleet_state.specs.History.Refusals.{may_be_seen, makes_some, unknown_device, unknown_link, dead_device, dead_link, time_falls, counter_falls, not_started, started_twice, no_plan_left, window_order_seen, after_end, not_failed, not_member, too_many}
 
--- two of fourteen causes that do not hold
-two_of : (a b c d e f g h i j k l m n : Bool) → not (a || b || c || d || e || f || g || h || i || j || k || l || m || n) ≡ true → (e ≡ false) × (f ≡ false)
-two_of a b c d e f g h i j k l m n none =
+-- three of fourteen causes that do not hold
+three_of : (a b c d e f g h i j k l m n : Bool) → not (a || b || c || d || e || f || g || h || i || j || k || l || m || n) ≡ true
+    → (e ≡ false) × (f ≡ false) × (g ≡ false)
+three_of a b c d e f g h i j k l m n none =
     let at_n = not-true (a || b || c || d || e || f || g || h || i || j || k || l || m || n) none in
     let at_m = (or_parts (a || b || c || d || e || f || g || h || i || j || k || l || m) n at_n).0 in
     let at_l = (or_parts (a || b || c || d || e || f || g || h || i || j || k || l) m at_m).0 in
@@ -19,14 +20,14 @@ two_of a b c d e f g h i j k l m n none =
     let at_i = (or_parts (a || b || c || d || e || f || g || h || i) j at_j).0 in
     let at_h = (or_parts (a || b || c || d || e || f || g || h) i at_i).0 in
     let at_g = (or_parts (a || b || c || d || e || f || g) h at_h).0 in
-    let at_f = (or_parts (a || b || c || d || e || f) g at_g).0 in
-    let last = or_parts (a || b || c || d || e) f at_f in
-    ((or_parts (a || b || c || d) e last.0).1, last.1)
+    let at_f = or_parts (a || b || c || d || e || f) g at_g in
+    let last = or_parts (a || b || c || d || e) f at_f.0 in
+    ((or_parts (a || b || c || d) e last.0).1, last.1, at_f.1)
 
 neither_falls : (setting : Setting) (earlier : List Seen) (e : Event) → may_be_seen setting earlier e ≡ true
-    → (time_falls earlier e ≡ false) × (counter_falls earlier e ≡ false)
+    → (time_falls earlier e ≡ false) × (counter_falls earlier e ≡ false) × (not_started earlier e ≡ false)
 neither_falls setting earlier e may =
-    two_of (unknown_device setting e) (unknown_link setting e) (dead_device earlier e) (dead_link earlier e) (time_falls earlier e) (counter_falls earlier e)
+    three_of (unknown_device setting e) (unknown_link setting e) (dead_device earlier e) (dead_link earlier e) (time_falls earlier e) (counter_falls earlier e)
     (not_started earlier e)
     (started_twice setting earlier e) (no_plan_left setting earlier e) (window_order_seen setting earlier e) (after_end earlier) (not_failed earlier e)
     (not_member setting earlier e) (too_many earlier) may
@@ -45,3 +46,15 @@ counter_rises setting earlier e d c may makes device counter =
     ∙ ap (λ (o : Option ℕ). of_some o false (λ d. of_some (counter_of e) false (λ c. nat_lt c (latest_reading earlier d)))) device
     ∙ ap (λ (o : Option ℕ). of_some o false (λ c. nat_lt c (latest_reading earlier d))) counter in
     ltb-false c (latest_reading earlier d) (sym at ∙ falls)
+
+-- the device of a tick or a receipt is up
+
+pub ticking_up : (setting : Setting) (earlier : List Seen) (e : Event) (t d c : ℕ) → may_be_seen setting earlier e ≡ true → e ≡ Tick t d c
+    → is_up earlier d ≡ true
+ticking_up setting earlier e t d c may is =
+    not-false (is_up earlier d) (subst (λ (x : Event). not_started earlier x ≡ false) is (neither_falls setting earlier e may).2)
+
+pub receiving_up : (setting : Setting) (earlier : List Seen) (e : Event) (t d c n : ℕ) → may_be_seen setting earlier e ≡ true → e ≡ Recv t d c n
+    → is_up earlier d ≡ true
+receiving_up setting earlier e t d c n may is =
+    not-false (is_up earlier d) (subst (λ (x : Event). not_started earlier x ≡ false) is (neither_falls setting earlier e may).2)

@@ -34,35 +34,47 @@ fails_not : (e : Event) (d : ℕ) → NamesNot e d → fails (thing.Device d) e 
 fails_not (FailDevice reference device) d apart = ne_eqb d device (λ same. apart (ap Some (sym same)))
 fails_not _ d apart = refl
 
+-- an event with which the device neither ticks, nor is made, nor fails
+pub record Spares (e : Event) (d : ℕ) : Type 0 where
+  pub ticks : same_number (ticked e) d ≡ false
+  pub makes : makes d e ≡ false
+  pub fails : fails (thing.Device d) e ≡ false
+
+spares : (e : Event) (d : ℕ) → NamesNot e d → Spares e d
+spares e d apart = record { ticks = ticks_not e d apart; makes = makes_not e d apart; fails = fails_not e d apart }
+
 -- the latest tick as the event leaves it
-abbrev tick_then : Bool → Bool → ℕ → ℕ → ℕ
+abbrev pub tick_then : Bool → Bool → ℕ → ℕ → ℕ
 tick_then ticks makes reference before = of_some (cond (ticks || makes) (Some reference) None) before (λ t. t)
 
-pub tick_kept : (s : Seen) (earlier : List Seen) (d : ℕ) → NamesNot s.event d → latest_tick (s ∷ earlier) d ≡ latest_tick earlier d
-tick_kept s earlier d apart =
-    ap (λ (b : Bool). tick_then b (makes d s.event) (reference_of s.event) (latest_tick earlier d)) (ticks_not s.event d apart)
-    ∙ ap (λ (b : Bool). tick_then false b (reference_of s.event) (latest_tick earlier d)) (makes_not s.event d apart)
+pub tick_kept : (s : Seen) (earlier : List Seen) (d : ℕ) → Spares s.event d → latest_tick (s ∷ earlier) d ≡ latest_tick earlier d
+tick_kept s earlier d spared =
+    ap (λ (b : Bool). tick_then b (makes d s.event) (reference_of s.event) (latest_tick earlier d)) spared.ticks
+    ∙ ap (λ (b : Bool). tick_then false b (reference_of s.event) (latest_tick earlier d)) spared.makes
 
 -- whether a device was made or failed, and is no more untouched
 abbrev touched_then : Bool → Bool → Bool → Bool → Bool
 touched_then makes made fails failed = not (makes || made) && not (fails || failed)
 
-untouched_kept : (s : Seen) (earlier : List Seen) (d : ℕ) → NamesNot s.event d → is_untouched (s ∷ earlier) d ≡ is_untouched earlier d
-untouched_kept s earlier d apart =
-    ap (λ (b : Bool). touched_then b (was_made earlier d) (fails (thing.Device d) s.event) (has_ever_failed earlier d)) (makes_not s.event d apart)
-    ∙ ap (λ (b : Bool). touched_then false (was_made earlier d) b (has_ever_failed earlier d)) (fails_not s.event d apart)
+untouched_kept : (s : Seen) (earlier : List Seen) (d : ℕ) → makes d s.event ≡ false → fails (thing.Device d) s.event ≡ false
+    → is_untouched (s ∷ earlier) d ≡ is_untouched earlier d
+untouched_kept s earlier d unmade unfailed =
+    ap (λ (b : Bool). touched_then b (was_made earlier d) (fails (thing.Device d) s.event) (has_ever_failed earlier d)) unmade
+    ∙ ap (λ (b : Bool). touched_then false (was_made earlier d) b (has_ever_failed earlier d)) unfailed
 
-pub awaited_kept : (setting : Setting) (s : Seen) (earlier : List Seen) (d : ℕ) → NamesNot s.event d
+pub awaited_kept : (setting : Setting) (s : Seen) (earlier : List Seen) (d : ℕ) → makes d s.event ≡ false → fails (thing.Device d) s.event ≡ false
     → is_awaited setting (s ∷ earlier) d ≡ is_awaited setting earlier d
-awaited_kept setting s earlier d apart = ap (λ (b : Bool). b && is_member (plan_numbered setting 1) d) (untouched_kept s earlier d apart)
+awaited_kept setting s earlier d unmade unfailed =
+    ap (λ (b : Bool). b && is_member (plan_numbered setting 1) d) (untouched_kept s earlier d unmade unfailed)
 
 abbrev up_then : Bool → Bool → Bool → Bool
 up_then makes fails before = of_some (cond makes (Some true) (cond fails (Some false) None)) before (λ up. up)
 
-up_kept : (s : Seen) (earlier : List Seen) (d : ℕ) → NamesNot s.event d → is_up (s ∷ earlier) d ≡ is_up earlier d
-up_kept s earlier d apart =
-    ap (λ (b : Bool). up_then b (fails (thing.Device d) s.event) (is_up earlier d)) (makes_not s.event d apart)
-    ∙ ap (λ (b : Bool). up_then false b (is_up earlier d)) (fails_not s.event d apart)
+pub up_kept : (s : Seen) (earlier : List Seen) (d : ℕ) → makes d s.event ≡ false → fails (thing.Device d) s.event ≡ false
+    → is_up (s ∷ earlier) d ≡ is_up earlier d
+up_kept s earlier d unmade unfailed =
+    ap (λ (b : Bool). up_then b (fails (thing.Device d) s.event) (is_up earlier d)) unmade
+    ∙ ap (λ (b : Bool). up_then false b (is_up earlier d)) unfailed
 
 -- An event with which no plan comes in or goes out
 
@@ -81,7 +93,7 @@ window_kept s earlier stays stages =
     ap (λ (b : Bool). cond b None (cond (is_stage s.event) (Some []) (option_map (λ w. s ∷ w) (window earlier)))) stays
     ∙ ap (λ (b : Bool). cond b (Some []) (option_map (λ w. s ∷ w) (window earlier))) stages
 
-current_kept : (setting : Setting) (s : Seen) (earlier : List Seen) (d : ℕ) → s.closed ≡ false → is_stage s.event ≡ false
+pub current_kept : (setting : Setting) (s : Seen) (earlier : List Seen) (d : ℕ) → s.closed ≡ false → is_stage s.event ≡ false
     → is_current_member setting (s ∷ earlier) d ≡ is_current_member setting earlier d
 current_kept setting s earlier d stays stages =
     ap (λ (e : ℕ). is_member (plan_numbered setting e) d || of_some (option_map (λ w. plan_numbered setting (e + 1)) (window (s ∷ earlier))) false
@@ -98,22 +110,26 @@ current_kept setting s earlier d stays stages =
     by None = refl
     by (Some w) = refl
 
-abbrev owed_by : Bool → Bool → ℕ → Bool → Option ℕ → Option ℕ
+abbrev pub owed_by : Bool → Bool → ℕ → Bool → Option ℕ → Option ℕ
 owed_by up current tick awaited first = cond (up && current) (Some tick) (cond awaited first None)
 
 -- the device owes its tick since when it owed it before
-pub owed_kept : (setting : Setting) (s x : Seen) (earlier : List Seen) (d : ℕ) → NamesNot s.event d → s.closed ≡ false → is_stage s.event ≡ false
+pub owed_spared : (setting : Setting) (s x : Seen) (earlier : List Seen) (d : ℕ) → Spares s.event d → s.closed ≡ false → is_stage s.event ≡ false
     → owed_at setting (s ∷ x ∷ earlier) d ≡ owed_at setting (x ∷ earlier) d
-owed_kept setting s x earlier d apart stays stages =
+owed_spared setting s x earlier d spared stays stages =
     ap (λ (o : Option ℕ). unwrap_or o (2 ^ 64 - 1))
     (ap (λ (b : Bool). owed_by b (is_current_member setting (s ∷ x ∷ earlier) d) (latest_tick (s ∷ x ∷ earlier) d) (is_awaited setting (s ∷ x ∷ earlier) d)
-    (first_of (x ∷ earlier))) (up_kept s (x ∷ earlier) d apart)
+    (first_of (x ∷ earlier))) (up_kept s (x ∷ earlier) d spared.makes spared.fails)
     ∙ ap (λ (b : Bool). owed_by (is_up (x ∷ earlier) d) b (latest_tick (s ∷ x ∷ earlier) d) (is_awaited setting (s ∷ x ∷ earlier) d) (first_of (x ∷ earlier)))
     (current_kept setting s (x ∷ earlier) d stays stages)
     ∙ ap (λ (t : ℕ). owed_by (is_up (x ∷ earlier) d) (is_current_member setting (x ∷ earlier) d) t (is_awaited setting (s ∷ x ∷ earlier) d)
-    (first_of (x ∷ earlier))) (tick_kept s (x ∷ earlier) d apart)
+    (first_of (x ∷ earlier))) (tick_kept s (x ∷ earlier) d spared)
     ∙ ap (λ (b : Bool). owed_by (is_up (x ∷ earlier) d) (is_current_member setting (x ∷ earlier) d) (latest_tick (x ∷ earlier) d) b (first_of (x ∷ earlier)))
-    (awaited_kept setting s (x ∷ earlier) d apart))
+    (awaited_kept setting s (x ∷ earlier) d spared.makes spared.fails))
+
+pub owed_kept : (setting : Setting) (s x : Seen) (earlier : List Seen) (d : ℕ) → NamesNot s.event d → s.closed ≡ false → is_stage s.event ≡ false
+    → owed_at setting (s ∷ x ∷ earlier) d ≡ owed_at setting (x ∷ earlier) d
+owed_kept setting s x earlier d apart stays stages = owed_spared setting s x earlier d (spares s.event d apart) stays stages
 
 -- An event that names the device
 
@@ -153,8 +169,8 @@ at_named setting x s earlier d names stands = record {
 at_unnamed : (setting : Setting) (x : TickState) (s : Seen) (earlier : List Seen) (d : ℕ) → NamesNot s.event d → TicksStandAt setting x earlier d
     → TicksStandAt setting x (s ∷ earlier) d
 at_unnamed setting x s earlier d apart stands = record {
-  latest = stands.latest ∙ sym (tick_kept s earlier d apart);
-  awaited = stands.awaited ∙ sym (awaited_kept setting s earlier d apart);
+  latest = stands.latest ∙ sym (tick_kept s earlier d (spares s.event d apart));
+  awaited = stands.awaited ∙ sym (awaited_kept setting s earlier d (makes_not s.event d apart) (fails_not s.event d apart));
 }
 
 first_after : (s : Seen) (earlier : List Seen) → Some (unwrap_or (first_of earlier) (reference_of s.event)) ≡ first_of (s ∷ earlier)

@@ -5,6 +5,7 @@ use Rattle.sd_sched.specs.declared.Event.{Event}
 use Rattle.sd_sched.specs.Events.{reference_of, device_of, counter_of}
 use Rattle.sd_fleet_state.specs.History.World.{Setting, Seen, latest_reference, latest_reading}
 use Rattle.sd_fleet_state.specs.History.Premises.{readings, drift_holds}
+use Rattle.sd_fleet_state.specs.History.Refusals.{makes_some}
 use Rattle.sd_premise_clocks.specs.declared.offsets.Reading.{Reading}
 use Rattle.sd_premise_clocks.specs.declared.offsets.Offsets.{Offsets}
 use Rattle.sd_premise_clocks.specs.Readings.{least_offsets, is_after_each}
@@ -21,6 +22,11 @@ reading_with _ _ reference = None
 -- the reading that the event is, with its device: it names a device and a counter
 abbrev pub reading_of : Event → Option (ℕ × Reading)
 reading_of e = reading_with (device_of e) (counter_of e) (reference_of e)
+
+-- the event is this reading, and begins a life or goes on with one
+pub record IsReading (e : Event) (device reference counter : ℕ) (begins : Bool) : Type 0 where
+  pub reading : reading_of e ≡ Some (device, record { reference = reference; counter = counter })
+  pub life : begins ≡ makes_some e
 
 -- what is kept stands for what was seen
 pub record DriftStands (setting : Setting) (kept : DriftKept) (seen : List Seen) : Type 0 where

@@ -1,4 +1,5 @@
 pub mod Sights
+pub mod Kinds
 pub mod Starts
 pub mod Delays
 pub mod Readings

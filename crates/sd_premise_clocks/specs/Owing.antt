@@ -49,6 +49,10 @@ state_after (event.Join reference device counter clock eps) x = record { latest 
 state_after (event.FailDevice reference device) x = record x { awaited = false }
 state_after _ x = x
 
+-- a device ticks
+abbrev pub ticked_at : List TickState → ℕ → ℕ → List TickState
+ticked_at states d reference = slice_set states d (record (slice_index_or states d no_state) { latest = reference })
+
 abbrev pub ticks_after : Event → TicksKept → TicksKept
 ticks_after e kept =
     record {

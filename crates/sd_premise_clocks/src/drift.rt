@@ -10,7 +10,7 @@ ghost use Rattle.sd_fleet_state.specs.History.Refusals.{makes_some};
 ghost use Rattle.sd_fleet_state.specs.History.Open.{may_be_seen};
 ghost use Rattle.sd_premise_clocks.specs.Sights.{sight_of};
 ghost use Rattle.sd_premise_clocks.specs.Readings.{no_offsets};
-ghost use Rattle.sd_premise_clocks.specs.Drifts.{reading_of, DriftStands};
+ghost use Rattle.sd_premise_clocks.specs.Drifts.{reading_of, IsReading, DriftStands};
 
 use crate::Seen;
 use crate::offsets::{Offsets, Reading};
@@ -86,13 +86,47 @@ impl DriftMonitor {
             → result ≡ drift_holds setting (sight_of seen.now ∷ earlier) }
         ensures devices { length self.new.lives ≡ length self.old.lives }
     {
-        if let Some((device, reading)) = reading_of(&seen.event) {
-            let rates = topo.rates(device);
-            let offsets = Offsets::at(rates, reading);
-            let life = self.life_before(device, begins_life(&seen.event));
-            self.holds &= life.allow(rates.grain, offsets);
-            self.lives[device as usize] = life.with_reading(offsets);
+        match reading_of(&seen.event) {
+            Some((device, reading)) => {
+                let begins = begins_life(&seen.event);
+                self.read(topo, device, reading.reference, reading.counter, begins)
+            }
+            None => self.holds,
         }
+    }
+
+    /// Sees a reading of a device, which begins a life or goes on with one, and tells whether the
+    /// premise holds still.
+    #[inline(always)]
+    pub fn read(
+        &mut self,
+        topo: &Topology,
+        device: u32,
+        reference: u64,
+        counter: u64,
+        begins: bool,
+    ) -> bool
+        requires topology { length self.old.lives ≡ length (network topo.now).devices }
+        requires device { device < length (network topo.now).devices }
+        ensures stands { (setting : Setting) (earlier : List Sight) (s : Sight)
+            → setting.net ≡ network topo.now
+            → IsReading s.event device reference counter begins
+            → DriftStands setting self.old earlier
+            → IsTrue (may_be_seen setting earlier s.event)
+            → DriftStands setting self.new (s ∷ earlier) }
+        ensures holds { (setting : Setting) (earlier : List Sight) (s : Sight)
+            → setting.net ≡ network topo.now
+            → IsReading s.event device reference counter begins
+            → DriftStands setting self.old earlier
+            → IsTrue (may_be_seen setting earlier s.event)
+            → result ≡ drift_holds setting (s ∷ earlier) }
+        ensures devices { length self.new.lives ≡ length self.old.lives }
+    {
+        let rates = topo.rates(device);
+        let offsets = Offsets::at(rates, Reading { reference, counter });
+        let life = self.life_before(device, begins);
+        self.holds &= life.allow(rates.grain, offsets);
+        self.lives[device as usize] = life.with_reading(offsets);
         self.holds
     }
 

@@ -1,19 +1,21 @@
 //! The premise on ticks: each device that is up and a member of a plan that counts ticks often
 //! enough, and each member of the first plan starts soon.
-ghost use Rattle.std.specs.Prelude.{◌≡◌, ◌≢◌, ℕ, ◌<◌, ◌||◌, ◌&&◌, ◌∷◌, [], List, length, nat_le, slice_index, is_none, IfOk};
+ghost use Rattle.std.specs.Prelude.{◌≡◌, ◌≢◌, ℕ, ◌-◌, ◌^◌, ◌<◌, ◌≤◌, ◌==◌, ◌||◌, ◌&&◌, ◌∷◌, [], List, length, nat_le, slice_index, is_none, IsTrue, IfOk, if◌then◌else◌};
 ghost use Rattle.std.specs.List.{list_all};
 ghost use Rattle.std.specs.Option.{ForSome};
 ghost use Rattle.sd_topo.specs.Topologies.{network};
 ghost use Rattle.sd_sched.specs.Events.{device_of, is_stage};
 ghost use Rattle.sd_fleet_state.specs.History.World.{Setting, Seen as Sight};
-ghost use Rattle.sd_fleet_state.specs.History.Premises.{tick_holds};
+ghost use Rattle.sd_fleet_state.specs.History.Premises.{latest_tick, tick_holds};
+ghost use Rattle.sd_fleet_state.specs.History.Refusals.{may_be_seen};
 ghost use Rattle.sd_fleet_state.specs.world.Standing.{Stands};
 ghost use Rattle.sd_premise_clocks.specs.Sights.{sight_of};
+ghost use Rattle.sd_premise_clocks.specs.Kinds.{IsTick, IsReceipt};
 ghost use Rattle.sd_premise_clocks.specs.Memberships.{AreMembers};
 ghost use Rattle.sd_premise_clocks.specs.Owing.{owed_at};
 ghost use Rattle.sd_premise_clocks.specs.Tickings.{AreOwed, TickStands, TellOf};
 
-use crate::ticks::Ticks;
+use crate::ticks::{NEVER, Ticks};
 use crate::tournament::Tournament;
 use crate::{PresentRows, Seen};
 use sd_fleet_state::world::World;
@@ -82,13 +84,27 @@ fn note_all(owed: &mut Tournament, ticks: &Ticks, members: &PresentRows, world: 
     }
 }
 
-/// Whether the premise held so far, and no device owes a tick since before `due`. Once it is broken
-/// no device is looked at: it stays so.
-fn holds_still(held: bool, owed: &mut Tournament, due: u64) -> bool
-    ensures answer { result ≡ (held && list_all (nat_le due) owed.old) }
+/// Whether the premise held so far, and no device owes a tick for longer than the limit at the
+/// reference. Once it is broken no device is looked at: it stays so.
+fn holds_still(held: bool, owed: &mut Tournament, limit: u64, reference: u64) -> bool
+    ensures answer { result ≡ (held && list_all (nat_le (reference - limit)) owed.old) }
     ensures same { owed.new ≡ owed.old }
 {
-    held && owed.has_none_below(due)
+    held && owed.has_none_below(reference.saturating_sub(limit))
+}
+
+/// Notes a tick of a device, which changes since when it owes one, if it owes one.
+fn renew(owed: &mut Tournament, d: u32, reference: u64)
+    requires { d < length owed.old }
+    ensures places { length owed.new ≡ length owed.old }
+    ensures others { (k : ℕ) → k ≢ d → slice_index owed.new k ≡ slice_index owed.old k }
+    ensures here { slice_index owed.new d
+        ≡ (if slice_index owed.old d == 2 ^ 64 - 1 then 2 ^ 64 - 1 else reference) }
+{
+    let place = d as usize;
+    if owed.at(place) != NEVER {
+        owed.set(place, reference);
+    }
 }
 
 impl TickMonitor {
@@ -128,8 +144,8 @@ impl TickMonitor {
             → result ≡ tick_holds setting (sight_of seen.now ∷ earlier) }
         ensures devices { length self.new.owed ≡ length self.old.owed }
     {
-        let due = seen.event.reference().saturating_sub(self.limit);
-        self.holds = holds_still(self.holds, &mut self.owed, due);
+        let reference = seen.event.reference();
+        self.holds = holds_still(self.holds, &mut self.owed, self.limit, reference);
         let all = self.is_changed_for_all(seen);
         self.ticks.observe(&seen.event);
         if all {
@@ -137,6 +153,52 @@ impl TickMonitor {
         } else if let Some(d) = seen.event.device() {
             note(&mut self.owed, &self.ticks, members, after, d);
         }
+        self.holds
+    }
+
+    /// Sees a tick of a device, and tells whether the premise holds still.
+    #[inline(always)]
+    pub fn tick(&mut self, device: u32, reference: u64) -> bool
+        requires { device < length self.old.owed }
+        ensures stands { (setting : Setting) (earlier : List Sight) (s : Sight) (counter : ℕ)
+            → IsTick s reference device counter
+            → IsTrue (may_be_seen setting earlier s.event)
+            → latest_tick earlier device ≤ reference
+            → TickStands setting self.old earlier
+            → TickStands setting self.new (s ∷ earlier) }
+        ensures holds { (setting : Setting) (earlier : List Sight) (s : Sight) (counter : ℕ)
+            → IsTick s reference device counter
+            → IsTrue (may_be_seen setting earlier s.event)
+            → latest_tick earlier device ≤ reference
+            → TickStands setting self.old earlier
+            → result ≡ tick_holds setting (s ∷ earlier) }
+        ensures devices { length self.new.owed ≡ length self.old.owed }
+    {
+        self.holds = holds_still(self.holds, &mut self.owed, self.limit, reference);
+        self.ticks.tick(device, reference);
+        renew(&mut self.owed, device, reference);
+        self.holds
+    }
+
+    /// Sees a receipt, which changes of no device since when it owes a tick, and tells whether the
+    /// premise holds still.
+    #[inline(always)]
+    pub fn receive(&mut self, reference: u64) -> bool
+        ensures stands { (setting : Setting) (earlier : List Sight) (s : Sight)
+            (device counter message : ℕ)
+            → IsReceipt s reference device counter message
+            → IsTrue (may_be_seen setting earlier s.event)
+            → TickStands setting self.old earlier
+            → TickStands setting self.new (s ∷ earlier) }
+        ensures holds { (setting : Setting) (earlier : List Sight) (s : Sight)
+            (device counter message : ℕ)
+            → IsReceipt s reference device counter message
+            → IsTrue (may_be_seen setting earlier s.event)
+            → TickStands setting self.old earlier
+            → result ≡ tick_holds setting (s ∷ earlier) }
+        ensures devices { length self.new.owed ≡ length self.old.owed }
+    {
+        self.holds = holds_still(self.holds, &mut self.owed, self.limit, reference);
         self.holds
     }
 

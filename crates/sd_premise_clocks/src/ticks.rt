@@ -7,7 +7,7 @@ ghost use Rattle.sd_fleet_state.specs.History.World.{Setting, Seen as Sight};
 ghost use Rattle.sd_fleet_state.specs.History.Premises.{is_current_member};
 ghost use Rattle.sd_fleet_state.specs.world.Standing.{Stands};
 ghost use Rattle.sd_premise_clocks.specs.Memberships.{AreMembers};
-ghost use Rattle.sd_premise_clocks.specs.Owing.{state_after, ticks_after, owed_at, TicksStand};
+ghost use Rattle.sd_premise_clocks.specs.Owing.{state_after, ticks_after, ticked_at, owed_at, TicksStand};
 
 use crate::PresentRows;
 use sd_fleet_state::world::World;
@@ -17,7 +17,7 @@ use std::alloc::Global;
 use std::marker::Model;
 
 /// Stands for the reference of a device that owes no tick: no event comes later.
-const NEVER: u64 = u64::MAX;
+pub const NEVER: u64 = u64::MAX;
 
 /// What is kept of one device.
 #[derive(Clone, Copy)]
@@ -120,6 +120,14 @@ impl Ticks {
             self.states[d as usize].observe(event);
         }
         self.first = Some(self.first.unwrap_or(event.reference()));
+    }
+
+    /// The device ticks, and the event is not the first.
+    pub fn tick(&mut self, d: u32, reference: u64)
+        requires { d < length self.old.states }
+        ensures { self.new ≡ record self.old { states = ticked_at self.old.states d reference } }
+    {
+        self.states[d as usize].latest = reference;
     }
 
     /// The reference since which a device owes a tick, in ps, and the greatest number where it

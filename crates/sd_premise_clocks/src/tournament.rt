@@ -82,6 +82,14 @@ impl Tournament {
         }
     }
 
+    /// The number at a place.
+    pub fn at(&self, place: usize) -> u64
+        requires { place < length self.now }
+        ensures { result ≡ slice_index self.now place }
+    {
+        self.nodes[self.places + place]
+    }
+
     /// Writes the number at a place.
     pub fn set(&mut self, place: usize, number: u64)
         requires { place < length self.old }

@@ -28,16 +28,15 @@ observes : (c : goal.Joined-all) (setting : Setting) (earlier : List Seen) (owed
     → get_or owed k 0 ≡ get_or c.holds_still-self-inside.new.owed k 0)
     → Observes setting (sight_of c.args.seen.now) earlier c.is_changed_for_all-all.result (tick_kept c.self.inside) (kept_with c owed)
 observes c setting earlier owed places each named others = record {
-  small = (let is = c.reference.ensures in omega arith);
+  small = (let is = c.reference-reference.ensures in omega arith);
   holds = c.holds_still-self-inside.ensures.answer
-      ∙ ap (λ (n : ℕ). c.self.inside.holds && list_all (nat_le n) c.self.inside.owed)
-      (c.saturating_sub-due.ensures ∙ ap (λ (n : ℕ). n - c.self.inside.limit) c.reference.ensures);
+      ∙ ap (λ (n : ℕ). c.self.inside.holds && list_all (nat_le (n - c.self.inside.limit)) c.self.inside.owed) c.reference-reference.ensures;
   limit = refl;
   ticks = c.observe.ensures;
   places = places ∙ ap (λ (xs : List ℕ). length xs) c.holds_still-self-inside.ensures.same;
   is_all = c.is_changed_for_all-all.ensures;
   each = each;
-  named = named;
+  named = λ some d within at. named some d at;
   others = λ some k apart. others some k apart ∙ ap (λ (xs : List ℕ). get_or xs k 0) c.holds_still-self-inside.ensures.same;
 }
 
