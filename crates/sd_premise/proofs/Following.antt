@@ -1,16 +1,16 @@
 -- What an event that can follow is for each monitor.
-use Rattle.std.proofs.Common.{◌≡◌, ◌+◌, ◌<◌, true, List, [], ◌∷◌, length, get_or, nat_le, Option, Some, None, ◌⊎◌, inl, inr, refl, arith}
-use Rattle.std.specs.Prelude.{Contains}
+use Rattle.std.proofs.Common.{◌≡◌, ℕ, ◌+◌, ◌<◌, ◌≤◌, Bool, true, false, ◌||◌, List, [], ◌∷◌, length, get_or, nat_le, Option, Some, None, ◌⊎◌, inl, inr, refl, arith}
+use Rattle.std.specs.Prelude.{Contains, if◌then◌else◌}
 use Rattle.std.proofs.lemmas.Bool.{le-leb}
 use Rattle.std.proofs.lemmas.List.Elements.{Contains-append_cases, All-contains}
-use Rattle.sd_num.specs.Lists.{of_some}
+use Rattle.sd_num.specs.Lists.{of_some, same_number}
 use Rattle.sd_topo.specs.Network.{delay_of}
 use Rattle.sd_msg.specs.declared.Flight.{Flight}
-use Rattle.sd_sched.specs.Events.{reference_of}
-use Rattle.sd_history.specs.World.{Setting, Seen}
-use Rattle.sd_history.specs.Premises.{reaching_flights}
+use Rattle.sd_sched.specs.Events.{reference_of, ticked}
+use Rattle.sd_history.specs.World.{Setting, Seen, makes, latest_reference}
+use Rattle.sd_history.specs.Premises.{flights, latest_tick}
 use Rattle.sd_premise_loss.specs.rounds.Order as rounds
-use Rattle.sd_premise_loss.proofs.rounds.InOrder.{le_greatest}
+use Rattle.sd_premise_loss.proofs.rounds.InOrder.{le_greatest, time_rises}
 use Rattle.sd_premise.specs.Order.{IsSentAt, CanFollow, ComesInOrder}
 
 -- for the monitor of loss
@@ -38,3 +38,19 @@ sent_known setting (s ∷ earlier) f order sent =
         → f.link < length setting.net.links
     by (inl now) rest = (All-contains (λ (g : Flight). IsSentAt setting (reference_of s.event) g) s.sent f order.1.sent now).link
     by (inr before) rest = rest before
+
+-- the latest tick of a device comes no later than the latest event
+latest_low : (setting : Setting) (seen : List Seen) (d : ℕ) → ComesInOrder setting seen → latest_tick seen d ≤ latest_reference seen
+latest_low setting [] d order = omega arith
+latest_low setting (s ∷ earlier) d order = by (same_number (ticked s.event) d || makes d s.event) (latest_low setting earlier d order.0)
+  where
+    by : (b : Bool) → latest_tick earlier d ≤ latest_reference earlier
+        → of_some (if b then Some (reference_of s.event) else None) (latest_tick earlier d) (λ t. t) ≤ reference_of s.event
+    by true before = omega arith
+    by false before = omega (arith, before, time_rises setting earlier s.event order.1.allowed)
+
+-- nor than an event that follows
+pub tick_before : (setting : Setting) (earlier : List Seen) (s : Seen) (d t : ℕ) → ComesInOrder setting earlier → CanFollow setting earlier s
+    → reference_of s.event ≡ t → latest_tick earlier d ≤ t
+tick_before setting earlier s d t order can at =
+    omega (arith, latest_low setting earlier d order, time_rises setting earlier s.event can.allowed, at)

@@ -1,5 +1,5 @@
 -- Where each monitor stands for what was seen, all of them do, and what they answer is what breaks.
-use Rattle.std.proofs.Common.{◌≡◌, Bool, not, List, ◌∷◌}
+use Rattle.std.proofs.Common.{◌≡◌, Bool, not, List, ◌∷◌, ap, ◌∙◌}
 use Rattle.sd_history.specs.declared.BrokenSet.{BrokenSet}
 use Rattle.sd_history.specs.World.{Setting, Seen}
 use Rattle.sd_history.specs.Premises.{start_holds, drift_holds, delay_holds, tick_holds, loss_holds, domain_holds, renew_holds, broken_in, newly, breaks}
@@ -12,6 +12,26 @@ pub answered : (setting : Setting) (seen : List Seen) (start drift delay tick lo
     ≡ broken_in setting seen
 answered setting seen start drift delay tick loss domain renew a b c d e f g i =
     record { start = not (a i); drift = not (b i); delay = not (c i); tick = not (d i); loss = not (e i); domain = not (f i); renew = not (g i) }
+
+-- an event that cannot break the premises on starts, delays, failures and renewals
+pub tick_answered : (setting : Setting) (s : Seen) (earlier : List Seen) (before : BrokenSet) (drift tick loss : Bool) → before ≡ broken_in setting earlier
+    → start_holds earlier ≡ start_holds (s ∷ earlier) → drift ≡ drift_holds setting (s ∷ earlier)
+    → delay_holds setting earlier ≡ delay_holds setting (s ∷ earlier) → tick ≡ tick_holds setting (s ∷ earlier) → loss ≡ loss_holds setting (s ∷ earlier)
+    → domain_holds setting earlier ≡ domain_holds setting (s ∷ earlier) → renew_holds setting earlier ≡ renew_holds setting (s ∷ earlier)
+    → record before { drift = not drift; tick = not tick; loss = not loss } ≡ broken_in setting (s ∷ earlier)
+tick_answered setting s earlier before drift tick loss is a b c d e f g =
+    ap (λ (x : BrokenSet). record x { drift = not drift; tick = not tick; loss = not loss }) is
+    ∙ (λ i. record { start = not (a i); drift = not (b i); delay = not (c i); tick = not (d i); loss = not (e i); domain = not (f i); renew = not (g i) })
+
+-- one that can break that on delays too
+pub receipt_answered : (setting : Setting) (s : Seen) (earlier : List Seen) (before : BrokenSet) (drift delay tick loss : Bool)
+    → before ≡ broken_in setting earlier → start_holds earlier ≡ start_holds (s ∷ earlier) → drift ≡ drift_holds setting (s ∷ earlier)
+    → delay ≡ delay_holds setting (s ∷ earlier) → tick ≡ tick_holds setting (s ∷ earlier) → loss ≡ loss_holds setting (s ∷ earlier)
+    → domain_holds setting earlier ≡ domain_holds setting (s ∷ earlier) → renew_holds setting earlier ≡ renew_holds setting (s ∷ earlier)
+    → record before { drift = not drift; delay = not delay; tick = not tick; loss = not loss } ≡ broken_in setting (s ∷ earlier)
+receipt_answered setting s earlier before drift delay tick loss is a b c d e f g =
+    ap (λ (x : BrokenSet). record x { drift = not drift; delay = not delay; tick = not tick; loss = not loss }) is
+    ∙ (λ i. record { start = not (a i); drift = not (b i); delay = not (c i); tick = not (d i); loss = not (e i); domain = not (f i); renew = not (g i) })
 
 -- what breaks with an event
 pub breaks_with : (setting : Setting) (s : Seen) (earlier : List Seen) (before now : BrokenSet) → before ≡ broken_in setting earlier

@@ -40,7 +40,7 @@ pub struct Rounds {
 }
 
 impl Rounds {
-    ghost use Rattle.sd_premise_loss.specs.rounds.Standing.{StandsFor, IsTold, room_of};
+    ghost use Rattle.sd_premise_loss.specs.rounds.Standing.{StandsFor, IsTold, IsShown, room_of};
 
     /// The monitor before any event.
     pub fn new(alloc: Global, topo: &Topology) -> Result<Rounds, NoMemory>
@@ -84,12 +84,35 @@ impl Rounds {
             → StandsFor self.old setting earlier → result ≡ loss_holds setting (s ∷ earlier) }
         ensures room { room_of self.old ≤ room_of self.new + length sent.now }
     {
+        self.see(event.reference(), failed(event), taken, sent)
+    }
+
+    /// Sees an event at a reference, with the thing that it fails, the number of the flight that it
+    /// received and the flights that it sent and that reach, and answers whether the premise still
+    /// holds. It takes no memory.
+    #[inline(always)]
+    pub fn see(
+        &mut self,
+        reference: u64,
+        failed: Option<Thing>,
+        taken: Option<u64>,
+        sent: &[Flight],
+    ) -> bool
+        requires room { length sent.now ≤ room_of self.old }
+        ensures stands { (setting : Setting) (earlier : List Seen) (s : Seen)
+            → IsShown reference failed taken sent.now s → Follows setting earlier s
+            → StandsFor self.old setting earlier → StandsFor self.new setting (s ∷ earlier) }
+        ensures holds { (setting : Setting) (earlier : List Seen) (s : Seen)
+            → IsShown reference failed taken sent.now s → Follows setting earlier s
+            → StandsFor self.old setting earlier → result ≡ loss_holds setting (s ∷ earlier) }
+        ensures room { room_of self.old ≤ room_of self.new + length sent.now }
+    {
         if !self.holds {
             return false;
         }
         self.waiting.receive(taken);
-        self.interruptions.fail(failed(event));
-        self.holds = self.judge(event.reference());
+        self.interruptions.fail(failed);
+        self.holds = self.judge(reference);
         self.send(sent);
         self.holds
     }

@@ -7,3 +7,4 @@ pub mod Apart
 pub mod Ready
 pub mod Allowed
 pub mod Orderly
+pub mod Skipping

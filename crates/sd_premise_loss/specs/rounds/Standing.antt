@@ -3,6 +3,8 @@ use Rattle.std.specs.Prelude.{◌≡◌, ℕ, ◌-◌, true, List, length, min, 
 use Rattle.sd_topo.specs.declared.Thing.{Thing}
 use Rattle.sd_msg.specs.declared.Flight.{Flight}
 use Rattle.sd_sched.specs.declared.Event.{Event}
+use Rattle.sd_sched.specs.Events.{reference_of}
+use Rattle.sd_history.specs.Things.{failure_of}
 use Rattle.sd_history.specs.World.{Setting, Seen}
 use Rattle.sd_history.specs.Premises.{loss_holds}
 use Rattle.sd_premise_loss.specs.rounds.Order.{last_sent, IsInOrder}
@@ -31,6 +33,13 @@ pub record StandsFor (rounds : Rounds) (setting : Setting) (seen : List Seen) : 
 -- what the monitor is told is what is seen of the event
 pub record IsTold (told : Event) (received : Option ℕ) (flights : List Flight) (s : Seen) : Type 0 where
   pub event : s.event ≡ told
+  pub taken : number_taken s ≡ received
+  pub sent : s.sent ≡ flights
+
+-- the same, of an event that comes at a reference and fails one thing or nothing
+pub record IsShown (at : ℕ) (fails : Option Thing) (received : Option ℕ) (flights : List Flight) (s : Seen) : Type 0 where
+  pub reference : reference_of s.event ≡ at
+  pub failed : failure_of s.event ≡ fails
   pub taken : number_taken s ≡ received
   pub sent : s.sent ≡ flights
 

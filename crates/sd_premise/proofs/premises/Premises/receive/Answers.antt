@@ -1,0 +1,59 @@
+use Rattle.std.proofs.Common.{◌≤◌, false, None, length, subst, refl, sym, ap, ◌∙◌}
+use Rattle.sd_topo.specs.Network.{Network}
+use Rattle.sd_sched.specs.Events.{reference_of}
+use Rattle.sd_history.specs.Premises.{clock_set}
+use Rattle.sd_history.specs.Refusals.{makes_some}
+use Rattle.sd_history.specs.Things.{failure_of}
+use Rattle.sd_history.specs.World.{Seen}
+use Rattle.sd_premise_clocks.specs.Drifts.{reading_of, IsReading}
+use Rattle.sd_premise_clocks.specs.Sights.{sight_of}
+use Rattle.sd_premise_clocks.proofs.Skipping.{start_skips}
+use Rattle.sd_premise_loss.specs.rounds.Standing.{IsShown}
+use Rattle.sd_premise_renewal.proofs.Skipping.{domain_skips, renewal_skips_receipt}
+use Rattle.sd_premise.proofs.Following.{follows}
+use Rattle.sd_premise.proofs.Judging.{receipt_answered}
+use Rattle.sd_premise.proofs.premises.Premises.receive.Goals as goal
+
+pub returns-clause-stands : goal.returns-clause-stands
+returns-clause-stands c setting earlier can stands =
+    let s : Seen = sight_of c.args.seen.now in
+    let is = c.requires.receipt in
+    let at = ap reference_of is.event in
+    let reading : IsReading s.event c.args.device c.args.reference c.args.counter false = record { reading = ap reading_of is.event; life = sym (ap makes_some is.event) } in
+    let shown : IsShown c.args.reference None c.number_taken.result c.args.seen.now.sent.now s = record {
+      reference = at;
+      failed = ap failure_of is.event;
+      taken = sym c.number_taken.ensures;
+      sent = refl;
+    } in
+    let start = start_skips c.args.self.now.start s earlier (ap clock_set is.event) stands.start in
+    let some : 1 ≤ length setting.net.devices =
+    subst (λ (n : Network). 1 ≤ length n.devices) (sym stands.net) c.args.self.now.topology.is_network.devices.0 in
+    let domain = domain_skips setting c.args.self.now.domain s earlier (ap failure_of is.event) is.stays some stands.domain in
+    let renew = renewal_skips_receipt setting c.args.self.now.renew s earlier c.args.reference c.args.device c.args.counter c.args.message is
+    c.requires.activated can.allowed stands.renew in
+    record {
+      order = (stands.order, can);
+      net = stands.net;
+      count = stands.count;
+      sound = stands.sound;
+      members = stands.members;
+      links = stands.links;
+      world = c.observe_world.ensures.stands setting earlier stands.world;
+      start = start;
+      drift = c.read.ensures.stands setting earlier s stands.net reading stands.drift can.allowed;
+      delay = c.observe.ensures.stands setting earlier stands.net stands.delay;
+      tick = c.receive.ensures.stands setting earlier s c.args.device c.args.counter c.args.message is can.allowed stands.tick;
+      loss = c.see.ensures.stands setting earlier s shown (follows setting earlier s can) stands.loss;
+      domain = domain;
+      renew = renew;
+      broken =
+          receipt_answered setting s earlier c.args.self.now.broken c.read.result c.observe.result c.receive.result c.see.result stands.broken
+          (sym stands.start.holds ∙ start.holds)
+          (c.read.ensures.holds setting earlier s stands.net reading stands.drift can.allowed)
+          (c.observe.ensures.holds setting earlier stands.net stands.delay)
+          (c.receive.ensures.holds setting earlier s c.args.device c.args.counter c.args.message is can.allowed stands.tick)
+          (c.see.ensures.holds setting earlier s shown (follows setting earlier s can) stands.loss)
+          (sym stands.domain.holds ∙ domain.holds)
+          (sym stands.renew.holds ∙ renew.holds);
+    }

@@ -1,0 +1,62 @@
+use Rattle.std.proofs.Common.{◌≤◌, false, None, length, Option, option_map, subst, refl, sym, ap, ◌∙◌}
+use Rattle.sd_topo.specs.Network.{Network}
+use Rattle.sd_msg.specs.declared.Flight.{Flight}
+use Rattle.sd_sched.specs.Events.{reference_of}
+use Rattle.sd_history.specs.Premises.{clock_set}
+use Rattle.sd_history.specs.Refusals.{makes_some}
+use Rattle.sd_history.specs.Things.{failure_of}
+use Rattle.sd_history.specs.World.{Seen}
+use Rattle.sd_premise_clocks.specs.Drifts.{reading_of, IsReading}
+use Rattle.sd_premise_clocks.specs.Sights.{sight_of}
+use Rattle.sd_premise_clocks.proofs.Skipping.{start_skips, delay_skips}
+use Rattle.sd_premise_loss.specs.rounds.Standing.{IsShown}
+use Rattle.sd_premise_renewal.proofs.Skipping.{domain_skips, renewal_skips_tick}
+use Rattle.sd_premise.proofs.Following.{follows, tick_before}
+use Rattle.sd_premise.proofs.Judging.{tick_answered}
+use Rattle.sd_premise.proofs.premises.Premises.tick.Goals as goal
+
+pub returns-clause-stands : goal.returns-clause-stands
+returns-clause-stands c setting earlier can stands =
+    let s : Seen = sight_of c.args.seen.now in
+    let is = c.requires.tick in
+    let at = ap reference_of is.event in
+    let reading : IsReading s.event c.args.device c.args.reference c.args.counter false = record { reading = ap reading_of is.event; life = sym (ap makes_some is.event) } in
+    let low = tick_before setting earlier s c.args.device c.args.reference stands.order can at in
+    let shown : IsShown c.args.reference None None c.args.seen.now.sent.now s = record {
+      reference = at;
+      failed = ap failure_of is.event;
+      taken = ap (λ (o : Option Flight). option_map (λ f. f.number) o) c.requires.taken;
+      sent = refl;
+    } in
+    let start = start_skips c.args.self.now.start s earlier (ap clock_set is.event) stands.start in
+    let delay = delay_skips setting c.args.self.now.delay s earlier c.requires.taken stands.delay in
+    let some : 1 ≤ length setting.net.devices =
+    subst (λ (n : Network). 1 ≤ length n.devices) (sym stands.net) c.args.self.now.topology.is_network.devices.0 in
+    let domain = domain_skips setting c.args.self.now.domain s earlier (ap failure_of is.event) is.stays some stands.domain in
+    let renew = renewal_skips_tick setting c.args.self.now.renew s earlier c.args.reference c.args.device c.args.counter is c.requires.activated
+    can.allowed stands.renew in
+    record {
+      order = (stands.order, can);
+      net = stands.net;
+      count = stands.count;
+      sound = stands.sound;
+      members = stands.members;
+      links = stands.links;
+      world = c.observe_world.ensures.stands setting earlier stands.world;
+      start = start;
+      drift = c.read.ensures.stands setting earlier s stands.net reading stands.drift can.allowed;
+      delay = delay;
+      tick = c.tick.ensures.stands setting earlier s c.args.counter is can.allowed low stands.tick;
+      loss = c.see.ensures.stands setting earlier s shown (follows setting earlier s can) stands.loss;
+      domain = domain;
+      renew = renew;
+      broken =
+          tick_answered setting s earlier c.args.self.now.broken c.read.result c.tick.result c.see.result stands.broken
+          (sym stands.start.holds ∙ start.holds)
+          (c.read.ensures.holds setting earlier s stands.net reading stands.drift can.allowed)
+          (sym stands.delay.holds ∙ delay.holds)
+          (c.tick.ensures.holds setting earlier s c.args.counter is can.allowed low stands.tick)
+          (c.see.ensures.holds setting earlier s shown (follows setting earlier s can) stands.loss)
+          (sym stands.domain.holds ∙ domain.holds)
+          (sym stands.renew.holds ∙ renew.holds);
+    }
