@@ -13,7 +13,7 @@ use Rattle.sd_sched.specs.declared.Event.TheVariants.{Recv}
 use Rattle.sd_sched.specs.Events.{reference_of, device_of, ticked, is_stage}
 use Rattle.sd_fleet_state.specs.History.World.{Setting, Seen, makes, fails, is_up, is_untouched, plan_numbered}
 use Rattle.sd_fleet_state.specs.History.Premises.{latest_tick, is_current_member}
-use Rattle.sd_fleet_state.specs.History.Refusals.{may_be_seen}
+use Rattle.sd_fleet_state.specs.History.Open.{may_be_seen}
 use Rattle.sd_premise_clocks.specs.Kinds.{IsTick, IsReceipt}
 use Rattle.sd_premise_clocks.specs.Owing.{is_awaited, first_of, owed_at, no_state, ticks_after, ticked_at}
 use Rattle.sd_premise_clocks.specs.Tickings.{TickKept, TickStands}

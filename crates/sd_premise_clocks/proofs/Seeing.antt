@@ -6,7 +6,8 @@ use Rattle.sd_sched.specs.declared.Event.{Event}
 use Rattle.sd_sched.specs.declared.Event.TheVariants.{Tick, Recv}
 use Rattle.sd_sched.specs.Events.{reference_of, device_of, counter_of}
 use Rattle.sd_fleet_state.specs.History.World.{Setting, Seen, is_up, latest_reference, latest_reading}
-use Rattle.sd_fleet_state.specs.History.Refusals.{may_be_seen, makes_some, unknown_device, unknown_link, dead_device, dead_link, time_falls, counter_falls, not_started, started_twice, no_plan_left, window_order_seen, after_end, not_failed, not_member, too_many}
+use Rattle.sd_fleet_state.specs.History.Refusals.{makes_some, unknown_device, unknown_link, dead_device, dead_link, time_falls, counter_falls, not_started, started_twice, no_plan_left, window_order_seen, after_end, not_failed, not_member, too_many}
+use Rattle.sd_fleet_state.specs.History.Open.{may_be_seen}
 
 -- three of fourteen causes that do not hold
 three_of : (a b c d e f g h i j k l m n : Bool) → not (a || b || c || d || e || f || g || h || i || j || k || l || m || n) ≡ true

@@ -5,7 +5,8 @@ use Rattle.sd_num.specs.Numbers.{distance}
 use Rattle.sd_msg.specs.declared.Flight.{Flight}
 use Rattle.sd_sched.specs.Events.{reference_of}
 use Rattle.sd_fleet_state.specs.History.World.{Setting, Seen}
-use Rattle.sd_fleet_state.specs.History.Premises.{clock_set, start_holds, is_in_time, delay_holds}
+use Rattle.sd_sched.specs.Honesty.{clock_set}
+use Rattle.sd_fleet_state.specs.History.Premises.{start_holds, is_in_time, delay_holds}
 use Rattle.sd_premise_clocks.specs.Starts.{StartStands}
 use Rattle.sd_premise_clocks.specs.Delays.{DelayStands}
 

@@ -7,7 +7,7 @@ ghost use Rattle.sd_topo.specs.Topologies.{network};
 ghost use Rattle.sd_sched.specs.Events.{device_of, is_stage};
 ghost use Rattle.sd_fleet_state.specs.History.World.{Setting, Seen as Sight};
 ghost use Rattle.sd_fleet_state.specs.History.Premises.{latest_tick, tick_holds};
-ghost use Rattle.sd_fleet_state.specs.History.Refusals.{may_be_seen};
+ghost use Rattle.sd_fleet_state.specs.History.Open.{may_be_seen};
 ghost use Rattle.sd_fleet_state.specs.world.Standing.{Stands};
 ghost use Rattle.sd_premise_clocks.specs.Sights.{sight_of};
 ghost use Rattle.sd_premise_clocks.specs.Kinds.{IsTick, IsReceipt};

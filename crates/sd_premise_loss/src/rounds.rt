@@ -134,6 +134,9 @@ impl Rounds {
         ensures interruptions { self.new.interruptions ≡ self.old.interruptions }
         ensures limit { self.new.limit ≡ self.old.limit }
     {
+        if !self.waiting.may_be_overdue(reference) {
+            return true;
+        }
         'overdue: while let Some(flight) = self.waiting.next_overdue(reference) {
             if self.interruptions.interrupted(&flight) {
                 continue;

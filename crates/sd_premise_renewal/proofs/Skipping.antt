@@ -5,7 +5,7 @@ use Rattle.sd_sched.specs.declared.Event.{Event}
 use Rattle.sd_sched.specs.declared.Event.TheVariants.{Tick, Recv}
 use Rattle.sd_fleet_state.specs.History.Things.{failure_of}
 use Rattle.sd_fleet_state.specs.History.World.{Setting, Seen}
-use Rattle.sd_fleet_state.specs.History.Refusals.{may_be_seen}
+use Rattle.sd_fleet_state.specs.History.Open.{may_be_seen}
 use Rattle.sd_premise_clocks.specs.Kinds.{IsTick, IsReceipt}
 use Rattle.sd_premise_renewal.specs.Domains.{DomainKept, with_failure, if_closed, DomainStands}
 use Rattle.sd_premise_renewal.specs.Judging.{is_orderly}

@@ -91,11 +91,27 @@ impl Orderly {
         ensures waited { result ≡ is_some (orderly_at self.old number) }
         ensures flights { (n : ℕ)
             → orderly_at self.new n ≡ (if nat_eq number n then None else orderly_at self.old n) }
-        ensures count { orderly_count self.new ≡ orderly_count self.old }
-        ensures room { orderly_room self.new ≡ orderly_room self.old }
+        ensures count { orderly_count self.new ≤ orderly_count self.old }
+        ensures room { orderly_room self.old ≤ orderly_room self.new }
     {
         match place_of(&self.entries, number) {
-            Some(place) => strike(&mut self.entries, place),
+            Some(place) => {
+                let waited = strike(&mut self.entries, place);
+                drop_received(&mut self.entries);
+                waited
+            }
+            None => false,
+        }
+    }
+
+    /// Whether the first flight lies past its due at the reference: if not, none does that waits.
+    #[inline(always)]
+    pub fn may_be_overdue(&self, reference: u64) -> bool
+        ensures { result ≡ false → (n : ℕ) (f : Flight) → orderly_at self.now n ≡ Some f
+            → reference ≤ f.due }
+    {
+        match self.entries.front() {
+            Some(first) => first.flight.due < reference,
             None => false,
         }
     }

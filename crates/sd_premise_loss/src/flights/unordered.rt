@@ -89,6 +89,15 @@ impl Unordered {
         let _received = self.flights.remove(&number);
     }
 
+    /// Whether the least due lies before the reference: if not, no flight is overdue.
+    #[inline(always)]
+    pub fn may_be_overdue(&self, reference: u64) -> bool
+        ensures { result ≡ false → (n : ℕ) (f : Flight) → unordered_at self.now n ≡ Some f
+            → reference ≤ f.due }
+    {
+        begin_before(&self.dues, reference)
+    }
+
     /// Takes out a flight whose due lies before the reference, as long as there is one.
     pub fn next_overdue(&mut self, reference: u64) -> Option<Flight>
         ensures flight { IfSome result (λ f. (unordered_at self.old f.number ≡ Some f) × (f.due < reference)) }
@@ -138,6 +147,17 @@ fn list(dues: &mut BinaryHeap<Reverse<(u64, u64)>>, due: u64, number: u64)
     match dues.push(Reverse((due, number))) {
         Ok(()) => {}
         Err(_) => unreachable!(),
+    }
+}
+
+/// Whether the least due of the heap lies before the reference.
+fn begin_before(dues: &BinaryHeap<Reverse<(u64, u64)>>, reference: u64) -> bool
+    requires { IsHeap by_due (heap_items dues.now) }
+    ensures { result ≡ false → All (λ e. reference ≤ e.0.0) (heap_items dues.now) }
+{
+    match dues.peek() {
+        Some(Reverse((due, _))) => *due < reference,
+        None => false,
     }
 }
 

@@ -85,6 +85,16 @@ impl Waiting {
         }
     }
 
+    /// Whether some flight may be overdue at the reference: if not, none is. Mostly it is not, and
+    /// one look at each of the two first dues tells.
+    #[inline(always)]
+    pub fn may_be_overdue(&self, reference: u64) -> bool
+        ensures { result ≡ false → (n : ℕ) (f : Flight) → waiting_at self.now n ≡ Some f
+            → reference ≤ f.due }
+    {
+        self.orderly.may_be_overdue(reference) || self.others.may_be_overdue(reference)
+    }
+
     /// Takes out a flight whose due lies before the reference, as long as there is one.
     pub fn next_overdue(&mut self, reference: u64) -> Option<Flight>
         ensures flight { IfSome result (λ f. (waiting_at self.old f.number ≡ Some f) × (f.due < reference)) }

@@ -1,7 +1,7 @@
 use Rattle.std.proofs.Common.{◌≤◌, false, None, length, subst, refl, sym, ap, ◌∙◌}
 use Rattle.sd_topo.specs.Network.{Network}
 use Rattle.sd_sched.specs.Events.{reference_of}
-use Rattle.sd_history.specs.Premises.{clock_set}
+use Rattle.sd_sched.specs.Honesty.{clock_set}
 use Rattle.sd_history.specs.Refusals.{makes_some}
 use Rattle.sd_history.specs.Things.{failure_of}
 use Rattle.sd_history.specs.World.{Seen}

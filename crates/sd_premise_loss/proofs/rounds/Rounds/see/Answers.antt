@@ -1,7 +1,7 @@
 use Rattle.std.proofs.Common.{◌≡◌, ℕ, ◌&&◌, max, cond, true, false, List, ◌∷◌, None, sym, ◌∙◌, ap, subst, arith}
 use Rattle.sd_num.specs.Lists.{of_some, same_number}
 use Rattle.sd_topo.specs.declared.Thing.{Thing}
-use Rattle.sd_history.specs.Domain.Failures.{same_thing}
+use Rattle.sd_history.specs.Domain.Things.{same_thing}
 use Rattle.sd_sched.specs.Events.{reference_of}
 use Rattle.sd_history.specs.World.{Setting, Seen}
 use Rattle.sd_premise_loss.specs.rounds.Order.{last_sent, Follows}
