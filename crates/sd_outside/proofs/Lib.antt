@@ -1,3 +1,4 @@
 pub mod Files
 pub mod Written
+pub mod Cutting
 pub mod Printing

@@ -1,6 +1,8 @@
 pub mod Causes
 pub mod LastFaults
 pub mod Prefixes
+pub mod Pieces
+pub mod Shelves
 pub mod Texts
 pub mod TextsView
 pub mod MemShelf

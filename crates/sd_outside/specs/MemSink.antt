@@ -1,14 +1,26 @@
 -- What a sink over memory is seen as, and what each of its writes keeps.
-use Rattle.std.specs.Prelude.{ℕ, ◌-◌, min, List, [], ◌∷◌, Option, None, Some, nat_eq, if◌then◌else◌, length, unwrap_or}
+use Rattle.std.specs.Prelude.{ℕ, ◌+◌, ◌-◌, min, List, [], ◌∷◌, Option, None, Some, nat_eq, if◌then◌else◌, length, take, drop, unwrap_or}
 use Rattle.sd_outside.specs.Causes.{raised}
+use Rattle.sd_outside.specs.Pieces.{Pieces}
 
 -- what is seen of a sink in memory
 pub record Kept : Type 0 where
+  pub pieces : Pieces
   pub bytes : List ℕ
   pub room : ℕ
   pub failing : List (ℕ × ℕ)
   pub calls : ℕ
   pub faults : ℕ
+
+-- how many bytes these are together
+abbrev pub total : List ℕ → ℕ
+total [] = 0
+total (n ∷ ns) = n + total ns
+
+-- bytes in pieces of so many bytes each
+abbrev pub cut_by : List ℕ → List ℕ → Pieces
+cut_by [] bytes = []
+cut_by (n ∷ ns) bytes = take n bytes ∷ cut_by ns (drop n bytes)
 
 -- how many bytes a write keeps, where it is listed: the first of two entries with one number counts
 abbrev pub kept_in : List (ℕ × ℕ) → ℕ → Option ℕ

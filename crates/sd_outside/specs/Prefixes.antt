@@ -1,4 +1,4 @@
--- What a failed write has added.
+-- What a failed write has added to the bytes of a writer.
 use Rattle.std.specs.Prelude.{ℕ, List, Option, take}
 use Rattle.std.specs.Io.KnownBytes.{Appends}
 

@@ -1,11 +1,11 @@
 //! Bytes in memory as a sink, which fails where it is told to.
 ghost use Rattle.std.specs.Prelude.{◌≡◌, ◌+◌, ◌≤◌, ◌++◌, ◌||◌, [], Some, length, take, vec_len, IfOk, OnOk, OnErr, is_some, is_err, nat_lt};
-ghost use Rattle.std.specs.Io.KnownBytes.{Appends};
 ghost use Rattle.sd_outside.specs.Causes.{HasCause, faults_after, raised};
-ghost use Rattle.sd_outside.specs.Prefixes.{WritesPrefix};
+ghost use Rattle.std.specs.List.{concat};
+ghost use Rattle.sd_outside.specs.Pieces.{AddsFront, AddsPieces, piece_of};
 ghost use Rattle.sd_outside.specs.MemSink.{added_count, kept_in, listed_count, room_left};
 
-use crate::room::append;
+use crate::room::add_piece;
 use crate::shelf::Failed;
 use crate::sink::Sink;
 use sd_num::NoMemory;
@@ -17,6 +17,8 @@ use std::marker::Model;
 #[derive(Drop)]
 pub struct MemSink {
     bytes: Vec<u8>,
+    /// How many bytes each write has added, of those that added some.
+    counts: Vec<usize>,
     room: usize,
     failing: Vec<(u64, usize)>,
     calls: u64,
@@ -48,38 +50,44 @@ fn kept_at(failing: &[(u64, usize)], call: u64) -> Option<usize>
 }
 
 impl MemSink {
-    /// Takes its memory for `room` bytes here; no write takes memory. An entry of `failing` is the
+    /// Takes its memory for `room` bytes and as many pieces here; no write takes memory. An entry of `failing` is the
     /// number of a write, from 1, and how many of its first bytes that write adds before it fails.
     /// Of two entries with one number the first counts.
     pub fn new(alloc: Global, room: usize, failing: Vec<(u64, usize)>) -> Result<MemSink, NoMemory>
         ensures bytes { IfOk result (λ s. s.bytes ≡ []) }
+        ensures pieces { IfOk result (λ s. s.pieces ≡ []) }
         ensures room { IfOk result (λ s. s.room ≡ room) }
         ensures failing { IfOk result (λ s. s.failing ≡ failing.items) }
         ensures calls { IfOk result (λ s. s.calls ≡ 0) }
         ensures faults { IfOk result (λ s. s.faults ≡ 0) }
     {
-        match Vec::with_capacity(alloc, room) {
-            Ok(bytes) => Ok(MemSink {
-                bytes,
-                room,
-                failing,
-                calls: 0,
-                faults: 0,
-            }),
-            Err(_) => Err(NoMemory),
-        }
+        let (Ok(bytes), Ok(counts)) = (
+            Vec::with_capacity(alloc, room),
+            Vec::with_capacity(alloc, room),
+        ) else {
+            return Err(NoMemory);
+        };
+        Ok(MemSink {
+            bytes,
+            counts,
+            room,
+            failing,
+            calls: 0,
+            faults: 0,
+        })
     }
 
-    /// All bytes so far.
+    /// All bytes so far, which are those of the pieces.
     pub fn bytes(&self) -> &[u8]
-        ensures { result.now ≡ self.now.bytes }
+        ensures bytes { result.now ≡ self.now.bytes }
+        ensures pieces { result.now ≡ concat self.now.pieces }
     {
         self.bytes.as_slice()
     }
 }
 
 impl Sink for MemSink {
-    ghost written = { λ s. Some s.bytes };
+    ghost written = { λ s. Some s.pieces };
 
     ghost faults = { λ s. s.faults };
 
@@ -89,8 +97,12 @@ impl Sink for MemSink {
             || nat_lt (room_left self.old) (length bytes.now)) }
         ensures bytes { self.new.bytes ≡ self.old.bytes
             ++ take (added_count self.old bytes.now) bytes.now }
-        ensures all { OnOk result (Appends (Some self.old.bytes) (Some self.new.bytes) bytes.now) }
-        ensures front { OnErr result (WritesPrefix (Some self.old.bytes) (Some self.new.bytes) bytes.now) }
+        ensures piece { self.new.pieces ≡ self.old.pieces
+            ++ piece_of (take (added_count self.old bytes.now) bytes.now) }
+        ensures all { OnOk result
+            (AddsPieces (Some self.old.pieces) (Some self.new.pieces) (piece_of bytes.now)) }
+        ensures front { OnErr result
+            (AddsFront (Some self.old.pieces) (Some self.new.pieces) (piece_of bytes.now)) }
         ensures cause { HasCause self.old.faults self.new.faults result }
 
         ensures calls { self.new.calls ≡ raised self.old.calls }
@@ -102,7 +114,7 @@ impl Sink for MemSink {
         let left = self.room - self.bytes.len();
         let listed = kept_at(&self.failing, self.calls);
         let count = listed.unwrap_or(bytes.len()).min(bytes.len().min(left));
-        append(&mut self.bytes, &bytes[..count]);
+        add_piece(&mut self.bytes, &mut self.counts, &bytes[..count]);
         if listed.is_some() || left < bytes.len() {
             self.faults = self.faults.saturating_add(1);
             return Err(Failed);

@@ -1,9 +1,9 @@
 //! A shelf and a sink over memory that never fail.
 ghost use Rattle.std.specs.Prelude.{◌≡◌, [], min, None, Some, true, false, length, IsTrue, IsOk, IfOk, OnOk, OnErr};
 ghost use Rattle.std.specs.Io.{ReadsAtMost};
-ghost use Rattle.std.specs.Io.KnownBytes.{Appends, ReadConsumes, IsAtEnd};
+ghost use Rattle.std.specs.Io.KnownBytes.{ReadConsumes, IsAtEnd};
 ghost use Rattle.sd_outside.specs.Causes.{HasCause};
-ghost use Rattle.sd_outside.specs.Prefixes.{WritesPrefix};
+ghost use Rattle.sd_outside.specs.Pieces.{AddsFront, AddsPieces, piece_of};
 ghost use Rattle.sd_outside.specs.Texts.{RestIs, files_seen, text_in};
 
 use crate::shelf::{Failed, Shelf};
@@ -99,8 +99,8 @@ impl Sink for NoFaultSink {
 
     fn write(&mut self, _bytes: &[u8]) -> Result<(), Failed>
         ensures never { IsOk result }
-        ensures all { OnOk result (Appends None None _bytes.now) }
-        ensures front { OnErr result (WritesPrefix None None _bytes.now) }
+        ensures all { OnOk result (AddsPieces None None (piece_of _bytes.now)) }
+        ensures front { OnErr result (AddsFront None None (piece_of _bytes.now)) }
         ensures cause { HasCause 0 0 result }
     {
         Ok(())

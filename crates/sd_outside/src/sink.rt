@@ -1,22 +1,21 @@
 //! What a sink is: where bytes go to.
-ghost use Rattle.std.specs.Prelude.{ℕ, List, Option, OnOk, OnErr};
-ghost use Rattle.std.specs.Io.KnownBytes.{Appends};
+ghost use Rattle.std.specs.Prelude.{ℕ, Option, OnOk, OnErr};
 ghost use Rattle.sd_outside.specs.Causes.{HasCause};
-ghost use Rattle.sd_outside.specs.Prefixes.{WritesPrefix};
+ghost use Rattle.sd_outside.specs.Pieces.{AddsFront, AddsPieces, Pieces, piece_of};
 
 use crate::shelf::Failed;
 
 /// Where bytes go.
 pub trait Sink {
-    /// All bytes so far, where they are told.
-    ghost written: { Self → Option (List ℕ) };
+    /// The bytes of each write so far, in order, where they are told. A write of no bytes is none.
+    ghost written: { Self → Option Pieces };
 
     /// How often the outside has failed, counted up to the end of a `u64`.
     ghost faults: { Self → ℕ };
 
-    /// Adds all of the bytes, or fails and has added a front of them.
+    /// Adds all of the bytes as one piece, or fails and has added a front of them.
     fn write(&mut self, bytes: &[u8]) -> Result<(), Failed>
-        ensures all { OnOk result (Appends (written self.old) (written self.new) bytes.now) }
-        ensures front { OnErr result (WritesPrefix (written self.old) (written self.new) bytes.now) }
+        ensures all { OnOk result (AddsPieces (written self.old) (written self.new) (piece_of bytes.now)) }
+        ensures front { OnErr result (AddsFront (written self.old) (written self.new) (piece_of bytes.now)) }
         ensures cause { HasCause (faults self.old) (faults self.new) result };
 }

@@ -3,6 +3,7 @@ ghost use Rattle.std.specs.Prelude.{◌≡◌, None, OnOk, OnErr};
 ghost use Rattle.std.specs.Io.KnownBytes.{Appends};
 ghost use Rattle.sd_outside.specs.Causes.{HasCause, faults_after};
 ghost use Rattle.sd_outside.specs.LastFaults.{KeepsReason};
+ghost use Rattle.sd_outside.specs.Pieces.{AddsFront, AddsPieces, piece_of};
 ghost use Rattle.sd_outside.specs.Prefixes.{WritesPrefix};
 
 use crate::again::write_whole;
@@ -55,8 +56,8 @@ impl<W: Write> Sink for StdSink<W> {
     ghost faults = { λ s. s.faults };
 
     fn write(&mut self, bytes: &[u8]) -> Result<(), Failed>
-        ensures all { OnOk result (Appends None None bytes.now) }
-        ensures front { OnErr result (WritesPrefix None None bytes.now) }
+        ensures all { OnOk result (AddsPieces None None (piece_of bytes.now)) }
+        ensures front { OnErr result (AddsFront None None (piece_of bytes.now)) }
         // The writer itself, where its type tells what it holds.
         ensures writer_all { OnOk result (Appends self.old.taken self.new.taken bytes.now) }
         ensures writer_front { OnErr result (WritesPrefix self.old.taken self.new.taken bytes.now) }

@@ -5,7 +5,7 @@ use Rattle.std.specs.Borrow.{Fml, RattleType, Bor, MutBor}
 use Rattle.std.specs.Io.BufRead.{Rests}
 use Rattle.std.specs.Io.KnownBytes.{prepend_known, Keeps}
 use mir.Syntax.{named}
-use Rattle.sd_outside.specs.Causes.{Rose}
+use Rattle.sd_outside.specs.Shelves.{KeepsShelf}
 use Rattle.sd_outside.specs.declared.shelf.Shelf.{Ghosts}
 use Rattle.sd_stream.specs.Lines.{after_line}
 use Rattle.sd_stream.specs.Limits.{answer_of}
@@ -56,6 +56,10 @@ pub record GoesPast (old new : ℕ) (left : Option (List ℕ)) (text : List ℕ)
   pub after : left ≡ Some (after_line text)
   pub count : new + length (after_line text) ≡ old + length text
 
+-- no line was passed: the same text is left, behind as many bytes
+abbrev pub StaysAt : {S : Type 0} (g : Ghosts S) → LineReader S Buffer g → LineReader S Buffer g → Type 0
+StaysAt g old new = Keeps (text_left g old) (text_left g new) × (bytes_before new ≡ bytes_before old)
+
 -- what a call leaves once its line is no longer borrowed
 pub record HasRead {S : Type 0} (g : Ghosts S) (old : LineReader S Buffer g) (result : Result (Option (Bor (List ℕ))) StreamFault)
     (new : LineReader S Buffer g) : Type 0 where
@@ -64,16 +68,12 @@ pub record HasRead {S : Type 0} (g : Ghosts S) (old : LineReader S Buffer g) (re
   pub past : OnOk result (IfSome (text_left g old) (GoesPast (bytes_before old) (bytes_before new) (text_left g new)))
   pub moves : IfOk result (λ line. OnSome line (bytes_before old < bytes_before new))
   -- where no line was lent
-  pub kept : OnErr result (Keeps (text_left g old) (text_left g new))
-  pub same_before : OnErr result (bytes_before new ≡ bytes_before old)
+  pub kept : OnErr result (StaysAt g old new)
   pub settled : IfErr result (λ f. f ≢ ReadFault → buffered_answer new ≡ Err f)
-  pub fault : IsErrOf result ReadFault → Rose (g.faults (shelf_of old).now) (g.faults (shelf_of new).now)
   -- always
-  pub later : g.faults (shelf_of old).now ≤ g.faults (shelf_of new).now
   pub near : IsNear (text_left g old) (g.rest (shelf_of new).now)
   pub within : bytes_before new ≤ 2 ^ 32
-  pub same_held : g.held (shelf_of new).now ≡ g.held (shelf_of old).now
-  pub same_names : g.serves (shelf_of new).now ≡ g.serves (shelf_of old).now
+  pub shelf : KeepsShelf g (IsErrOf result ReadFault) (shelf_of old).now (shelf_of new).now
 
 -- once the line that a call lent is no longer borrowed, the reader is as `HasRead` says
 abbrev pub LeavesReader : (S : RattleType) (g : Ghosts S.Denot) → MutBor (LineReader S.Denot Buffer g) → Result (Option (Bor (List ℕ))) StreamFault → Fml

@@ -2,7 +2,7 @@
 ghost use Rattle.std.specs.Prelude.{◌≡◌, ◌≢◌, ◌≤◌, ◌+◌, ◌^◌, ◌<◌, length, take, drop, [], Some, Err, true, IsTrue, IfOk, IfSome, IfErr, OnOk, OnErr, OnSome, slice_range};
 ghost use Rattle.std.specs.Result.{IsErrOf};
 ghost use Rattle.std.specs.Io.KnownBytes.{Keeps};
-ghost use Rattle.sd_outside.specs.Causes.{Rose};
+ghost use Rattle.sd_outside.specs.Shelves.{KeepsShelf};
 ghost use Rattle.sd_stream.specs.Limits.{answer_of, Answers};
 ghost use Rattle.sd_stream.specs.Buffered.{buffered};
 
@@ -38,7 +38,7 @@ pub struct LineReader<'s, S: Shelf, B = Buffer> {
 }
 
 impl<'s, S: Shelf> LineReader<'s, S> {
-    ghost use Rattle.sd_stream.specs.Reader.{shelf_of, text_left, bytes_before, buffered_answer, IsNear, AnswersAt, GoesPast, LeavesReader};
+    ghost use Rattle.sd_stream.specs.Reader.{shelf_of, text_left, bytes_before, buffered_answer, IsNear, AnswersAt, GoesPast, StaysAt, LeavesReader};
     ghost use Rattle.std.specs.Borrow.{sem};
 
     /// Takes one buffer, all the memory that a reader needs.
@@ -99,16 +99,12 @@ impl<'s, S: Shelf> LineReader<'s, S> {
         ensures past { OnOk result (IfSome (text_left S.Shelf self.old)
             (GoesPast (bytes_before self.old) (bytes_before self.new) (text_left S.Shelf self.new))) }
         ensures moves { IfOk result (λ place. OnSome place (bytes_before self.old < bytes_before self.new)) }
-        ensures kept { OnErr result (Keeps (text_left S.Shelf self.old) (text_left S.Shelf self.new)) }
-        ensures same_before { OnErr result (bytes_before self.new ≡ bytes_before self.old) }
+        ensures kept { OnErr result (StaysAt S.Shelf self.old self.new) }
         ensures settled { IfErr result (λ f. f ≢ StreamFault.ReadFault → buffered_answer self.new ≡ Err f) }
-        ensures fault { IsErrOf result StreamFault.ReadFault
-            → Rose (S.faults self.old.shelf.now) (S.faults self.new.shelf.now) }
-        ensures later { S.faults self.old.shelf.now ≤ S.faults self.new.shelf.now }
         ensures near { IsNear (text_left S.Shelf self.old) (S.rest self.new.shelf.now) }
         ensures same_shelf { self.new.shelf.ghost_name ≡ self.old.shelf.ghost_name }
-        ensures same_held { S.held self.new.shelf.now ≡ S.held self.old.shelf.now }
-        ensures same_names { S.serves self.new.shelf.now ≡ S.serves self.old.shelf.now }
+        ensures shelf { KeepsShelf S.Shelf (IsErrOf result StreamFault.ReadFault)
+            self.old.shelf.now self.new.shelf.now }
     {
         let mut searched = 0;
         'turns: loop {

@@ -1,7 +1,7 @@
 //! Lines from any pieces, refusals, and a caller's loop.
 ghost use Rattle.std.specs.Prelude.{◌≡◌, ◌≤◌, [], length, IsTrue, IfOk, IfSome};
 ghost use Rattle.std.specs.Result.{IsErrOf};
-ghost use Rattle.sd_outside.specs.Causes.{Rose};
+ghost use Rattle.sd_outside.specs.Shelves.{KeepsShelf};
 ghost use Rattle.sd_stream.specs.Lines.{lines};
 ghost use Rattle.sd_stream.specs.Buffered.{buffered};
 
@@ -18,12 +18,8 @@ fn count_lines<S: Shelf>(shelf: &mut S, buffer: Buffer) -> Result<u64, StreamFau
     requires begun { IsTrue (S.begun shelf.old) }
     requires empty { buffered buffer ≡ [] }
     ensures count { IfOk result (λ n. IfSome (S.rest shelf.old) (λ text. n ≡ length (lines text))) }
-    ensures fault { IsErrOf result StreamFault.ReadFault
-        → Rose (S.faults shelf.old) (S.faults shelf.new) }
-    ensures later { S.faults shelf.old ≤ S.faults shelf.new }
     ensures begun { IsTrue (S.begun shelf.new) }
-    ensures same_held { S.held shelf.new ≡ S.held shelf.old }
-    ensures same_names { S.serves shelf.new ≡ S.serves shelf.old }
+    ensures shelf { KeepsShelf S.Shelf (IsErrOf result StreamFault.ReadFault) shelf.old shelf.new }
 {
     let mut reader = LineReader::over(shelf, buffer);
     let mut count = 0;

@@ -1,8 +1,8 @@
 //! A text read whole.
-ghost use Rattle.std.specs.Prelude.{◌≡◌, ◌^◌, ◌<◌, ◌≤◌, ℕ, List, length, IsTrue, IfOk, OnOk, OnErr, IfSome, vec_len};
+ghost use Rattle.std.specs.Prelude.{◌≡◌, ◌^◌, ◌<◌, ◌≤◌, ℕ, List, length, Err, IsTrue, IfOk, OnOk, OnErr, IfSome, vec_len};
 ghost use Rattle.std.specs.Result.{IsErrOf};
 ghost use Rattle.std.specs.Io.KnownBytes.{Consumes, IsAtEnd};
-ghost use Rattle.sd_outside.specs.Causes.{Rose};
+ghost use Rattle.sd_outside.specs.Shelves.{KeepsShelf};
 
 use crate::faults::WholeFault;
 use sd_outside::Shelf;
@@ -23,14 +23,10 @@ pub fn read_whole<S: Shelf>(alloc: Global, shelf: &mut S) -> Result<Vec<u8>, Who
     // Each fault. After it the shelf has given a prefix of what was left.
     ensures too_long { IsErrOf result WholeFault.TooLong
         → IfSome (S.rest shelf.old) (λ bytes. 2 ^ 26 < length bytes) }
-    ensures read_fault { IsErrOf result WholeFault.ReadFault
-        → Rose (S.faults shelf.old) (S.faults shelf.new) }
     ensures given { OnErr result ((front : List ℕ) × Consumes (S.rest shelf.old) (S.rest shelf.new) front) }
 
-    ensures later { S.faults shelf.old ≤ S.faults shelf.new }
     ensures begun { IsTrue (S.begun shelf.new) }
-    ensures same_held { S.held shelf.new ≡ S.held shelf.old }
-    ensures same_names { S.serves shelf.new ≡ S.serves shelf.old }
+    ensures shelf { KeepsShelf S.Shelf (result ≡ Err WholeFault.ReadFault) shelf.old shelf.new }
 {
     let mut bytes = Vec::new(alloc);
     let mut piece = [0u8; 4096];

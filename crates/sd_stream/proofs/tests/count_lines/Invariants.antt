@@ -10,7 +10,7 @@ invariant-lines g l =
       counted : Counted (shelf.rest l.fn.shelf) (text_left shelf l.reader) l.count;
       within : bytes_before l.reader ≤ 2 ^ 32;
       fits : l.count ≤ bytes_before l.reader;
-      later : shelf.faults l.fn.shelf ≤ shelf.faults (shelf_of l.reader).now;
+      steady : shelf.faults (shelf_of l.reader).now ≡ shelf.faults l.fn.shelf;
       same_shelf : (shelf_of l.reader).ghost_name ≡ (shelf_of l.initial.reader).ghost_name;
       same_held : shelf.held (shelf_of l.reader).now ≡ shelf.held l.fn.shelf;
       same_names : shelf.serves (shelf_of l.reader).now ≡ shelf.serves l.fn.shelf;

@@ -11,7 +11,7 @@ invariant-loop-piece g l =
       short : vec_len l.bytes ≤ 2 ^ 26 + 4096;
       room : 4096 ≡ length l.piece;
       begun : IsTrue (shelf.begun l.shelf);
-      later : shelf.faults l.fn.shelf ≤ shelf.faults l.shelf;
+      steady : shelf.faults l.shelf ≡ shelf.faults l.fn.shelf;
       same_held : shelf.held l.shelf ≡ shelf.held l.fn.shelf;
       same_names : shelf.serves l.shelf ≡ shelf.serves l.fn.shelf;
     }

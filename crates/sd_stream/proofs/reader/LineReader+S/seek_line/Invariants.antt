@@ -17,7 +17,7 @@ invariant-turns g l =
       among : l.searched ≤ length (buffered l.self.buffer);
       short : l.searched ≤ 4096;
       within : bytes_before l.self + l.searched ≤ 2 ^ 32;
-      later : shelf.faults l.fn.self.shelf.now ≤ shelf.faults l.self.shelf.now;
+      steady : shelf.faults l.self.shelf.now ≡ shelf.faults l.fn.self.shelf.now;
       same_shelf : l.self.shelf.ghost_name ≡ l.fn.self.shelf.ghost_name;
       same_held : shelf.held l.self.shelf.now ≡ shelf.held l.fn.self.shelf.now;
       same_names : shelf.serves l.self.shelf.now ≡ shelf.serves l.fn.self.shelf.now;
