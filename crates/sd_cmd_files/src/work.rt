@@ -11,7 +11,6 @@ ghost use Rattle.sd_cmd_files.specs.work.Taking.{Takes};
 
 mod drive;
 mod progress;
-mod taking;
 
 use crate::{IoError, Status};
 pub use drive::work_through;

@@ -1,7 +1,7 @@
 -- How far a run has come, line by line, and that it then ends as its outcome says.
-use Rattle.std.proofs.Common.{◌≡◌, ℕ, ◌+◌, Bool, true, List, [], ◌∷◌, ◌++◌, Option, Some, None, Result, Ok, Err, refl, inr, sym, ap, ◌∙◌, subst, length, take, drop, append_assoc, append-nil, take-append-drop, arith}
+use Rattle.std.proofs.Common.{◌≡◌, ℕ, ◌+◌, true, List, [], ◌∷◌, ◌++◌, Option, Some, None, Ok, Err, refl, inr, sym, ap, ◌∙◌, subst, length, take, drop, append_assoc, take-append-drop, arith}
 use Rattle.std.proofs.Math.Seq.{take-append_seam}
-use Rattle.std.specs.Prelude.{IfSome, IsErrAnd, IsTrue}
+use Rattle.std.specs.Prelude.{IfSome}
 use Rattle.std.specs.Io.KnownBytes.{Appends, Keeps}
 use Rattle.std.proofs.KnownBytes.{Appends-nil, Appends-trans, Appends-kept}
 use Rattle.sd_outside.specs.declared.shelf.Shelf.{Ghosts}
@@ -17,7 +17,7 @@ use Rattle.sd_cmd_files.specs.declared.command_error.IoError.TheVariants as stop
 use Rattle.sd_cmd_files.specs.work.Works.{Work, Reading, IsOutcome, WritesWhole, reading, reading_from, all_bytes, last_bytes, written_for, status_for, refused_part, text_behind}
 use Rattle.sd_cmd_files.specs.work.Leaving.{WritesLines, LeavesAt, are_lines}
 use Rattle.sd_cmd_files.specs.work.Steps.{Step, step_of, step_bytes}
-use Rattle.sd_cmd_files.specs.work.Comes.{HasCome, Makes}
+use Rattle.sd_cmd_files.specs.work.Comes.{HasCome}
 use Rattle.sd_cmd_files.proofs.work.Reading.{reads_on, reads_end, EndsWith, begins_with_step}
 use Rattle.sd_cmd_files.proofs.work.Whole.{append_whole}
 use Rattle.sd_cmd_files.proofs.work.Writing.{AddsNext, MakesNext}
@@ -196,24 +196,15 @@ pub told_comes : {S E : Type 0} (g : Ghosts S) (work : Work E) (Stands : List E
 told_comes g work Stands None reader out stands left none = tt
 told_comes g work Stands (Some text) reader out stands left none = comes g work Stands text reader out stands left none (Appends-nil out)
 
--- the answer of a line that is not the last
-abbrev pub goes_on : Result (Option Status) IoError
-goes_on = Ok None
-
 pub told_comes_on : {S E : Type 0} (g : Ghosts S) (work : Work E) (Stood Stands : Work E → List E
     → Type 0) (rest : Option (List ℕ)) (old new : LineReader S Buffer g) (first before after : Option (List ℕ))
     → IfSome rest (λ text. HasCome g work (Stood work) text old first before) → MakesNext (text_left g old) (bytes_before old) Stood Stands (Ok None)
     → AddsNext {T = Option Status} (text_left g old) (bytes_before old) Stood before after (Ok None)
-    → IfSome (text_left g old) (λ text. goes_on ≡ Ok None → GoesPast (bytes_before old) (bytes_before new) (text_left g new) text)
+    → IfSome (text_left g old) (GoesPast (bytes_before old) (bytes_before new) (text_left g new))
     → IfSome rest (λ text. HasCome g work (Stands work) text new first after)
 told_comes_on g work Stood Stands None old new first before after h makes adds past = tt
 told_comes_on g work Stood Stands (Some text) old new first before after h makes adds past =
-    comes_on g work Stood Stands text old new first before after h makes adds (when (text_left g old) past)
-  where
-    when : (left : Option (List ℕ)) → IfSome left (λ t. goes_on ≡ Ok None → GoesPast (bytes_before old) (bytes_before new) (text_left g new) t)
-        → IfSome left (GoesPast (bytes_before old) (bytes_before new) (text_left g new))
-    when None gone = tt
-    when (Some t) gone = gone refl
+    comes_on g work Stood Stands text old new first before after h makes adds past
 
 pub told_stops : {S E : Type 0} (g : Ghosts S) (work : Work E) (Stood : Work E → List E
     → Type 0) (rest : Option (List ℕ)) (reader : LineReader S Buffer g) (first before after : Option (List ℕ)) (why : IoError) → WritesWhole work
@@ -241,8 +232,3 @@ pub told_near : {S E : Type 0} (g : Ghosts S) (work : Work E) (Stood Stands : Wo
 told_near g work Stood Stands None shelf reader first before status h makes near = tt
 told_near g work Stood Stands (Some text) shelf reader first before status h makes near =
     subst (λ (l : Option (List ℕ)). IsNear l shelf) (ends_behind g work Stood Stands text reader first before status h makes) near
-
--- a stop that is handed on stays what it was
-pub handed_on : (result : Result Status IoError) (why : IoError) → IsErrAnd result (λ other. other ≡ why) → Err why ≡ result
-handed_on (Ok status) why same = absurd same
-handed_on (Err other) why same = ap Err (sym same)

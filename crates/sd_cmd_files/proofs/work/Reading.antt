@@ -1,5 +1,5 @@
 -- How the reading of a text goes on from line to line, and what is written for it begins.
-use Rattle.std.proofs.Common.{◌≡◌, ℕ, ◌+◌, ◌-◌, ◌<◌, Bool, true, false, cond, List, [], ◌∷◌, ◌++◌, Option, Some, None, Result, Ok, Err, refl, sym, ap, ◌∙◌, arith, length, take, append_assoc, append-nil}
+use Rattle.std.proofs.Common.{◌≡◌, ℕ, ◌+◌, ◌-◌, ◌<◌, Bool, true, false, cond, List, [], ◌∷◌, ◌++◌, Some, None, Result, Ok, Err, refl, sym, ap, ◌∙◌, arith, length, take, append_assoc, append-nil}
 use Rattle.std.specs.List.{list_any}
 use Rattle.std.specs.Prelude.{codes}
 use Rattle.sd_stream.specs.Lines.{lines, line_len, after_line}
@@ -7,7 +7,7 @@ use Rattle.sd_stream.proofs.LineLaws.{length-take-line_len, length-after_line, l
 use Rattle.sd_cmd_files.specs.declared.Status.{Status}
 use Rattle.sd_cmd_files.specs.declared.Status.TheVariants.{InputRefused}
 use Rattle.sd_cmd_files.specs.work.Works.{Work, Reading, judged, read_on, reading_from, written_for, last_bytes, status_for, all_bytes, refused_line}
-use Rattle.sd_cmd_files.specs.work.Steps.{Step, Next, Last, step_for, step_of, step_bytes, end_step, refused_step}
+use Rattle.sd_cmd_files.specs.work.Steps.{Next, Last, step_for, step_of, step_bytes, refused_step}
 
 -- where no line is left it does not matter where they would begin
 same_start : {E : Type 0} (work : Work E) (total start other : ℕ) (xs : List E) (text : List ℕ) → (0 < length text → start ≡ other)

@@ -1,5 +1,5 @@
 -- What the reader answers is the step that the definition says comes next.
-use Rattle.std.proofs.Common.{◌≡◌, ℕ, ◌+◌, ◌^◌, ◌<◌, ◌≤◌, Bool, true, false, cond, List, [], ◌∷◌, Option, Some, None, Result, Ok, Err, refl, sym, ap, ◌∙◌, subst, arith, length, IfOk}
+use Rattle.std.proofs.Common.{◌≡◌, ℕ, ◌+◌, ◌^◌, ◌<◌, ◌≤◌, Bool, true, false, cond, List, [], Option, Some, None, Ok, Err, refl, sym, ap, ◌∙◌, subst, arith, length}
 use Rattle.std.specs.Prelude.{nat_le, nat_lt, IfSome, codes}
 use Rattle.std.specs.Option.{option_copied}
 use Rattle.std.specs.Borrow.{Bor}
@@ -9,12 +9,8 @@ use Rattle.sd_stream.specs.Limits.{Answers, answer_of, is_long, is_past}
 use Rattle.sd_stream.specs.declared.faults.StreamFault.{StreamFault}
 use Rattle.sd_stream.specs.declared.faults.StreamFault.TheVariants as stream
 use Rattle.sd_stream.proofs.LineLaws.{line_len-le-length, length-take-line_len, next_of-none, length-next_of, lines-more, lines-some}
-use Rattle.sd_cmd_files.specs.declared.command_error.IoError.{IoError}
-use Rattle.sd_cmd_files.specs.work.Works.{Work, judged}
+use Rattle.sd_cmd_files.specs.work.Works.{Work}
 use Rattle.sd_cmd_files.specs.work.Steps.{Step, step_for, step_of, end_step, refused_step}
-use Rattle.sd_cmd_files.specs.work.Comes.{Finds}
-use Rattle.sd_cmd_files.specs.declared.work.taking.Found.{Found}
-use Rattle.sd_cmd_files.specs.declared.work.taking.Found.TheVariants as found
 
 -- which tests hold where an answer is known
 long_holds : (long past : Bool) (line : Option (List ℕ)) → cond long (Err stream.LongLine) (cond past (Err stream.Limit) (Ok line)) ≡ Err stream.LongLine
@@ -76,46 +72,32 @@ step_end work before text xs answer =
     let used_up : text ≡ [] = next_of-none text tests.2 in
     rw used_up refl
 
--- what is found in the text that is left, if that is told: whatever work was done, with what it took, it is done on
-abbrev pub FindsNext : {E : Type 0} → Option (List ℕ) → ℕ → (Stood Stands : Work E → List E → Type 0) → (printed : List ℕ) → Found → Type 0
-FindsNext {E = E} left before Stood Stands printed what =
-    IfSome left (λ text. (w : Work E) (xs : List E) → Stood w xs → Finds w (step_of w (before + length text) before xs (lines text)) xs (Stands w) printed what)
+-- what holds of the step that an answer calls for, whatever work is done, holds of the next step of the text that is left, if that is told
+abbrev pub HoldsNext : {E : Type 0} → (Work E → List E → Step E → Type 0) → Option (List ℕ) → ℕ → Type 0
+HoldsNext {E = E} P left before = IfSome left (λ text. (w : Work E) (xs : List E) → P w xs (step_of w (before + length text) before xs (lines text)))
 
-finds_line : {E : Type 0} (left : Option (List ℕ)) (before : ℕ) (Stood Stands : Work E → List E
-    → Type 0) (printed : List ℕ) (what : Found) (field : Option (Bor (List ℕ))) (line : Bor (List ℕ)) → field ≡ Some line
-    → IfSome left (λ text. Answers (answer_of before text) (Ok field))
-    → ((w : Work E) (xs : List E) → Stood w xs → Finds w (step_for w xs (w.says xs line.now)) xs (Stands w) printed what)
-    → FindsNext left before Stood Stands printed what
-finds_line None before Stood Stands printed what field line is answer judged = tt
-finds_line {E = E} (Some text) before Stood Stands printed what field line is answer judged =
-    λ w xs h. subst (λ (step : Step E). Finds w step xs (Stands w) printed what)
-    (sym (step_line w before text line.now xs (answer ∙ ap (λ (f : Option (Bor (List ℕ))). Ok (option_copied f)) is))) (judged w xs h)
+pub next_line : {E : Type 0} (P : Work E → List E → Step E → Type 0) (left : Option (List ℕ)) (before : ℕ) (field : Option (Bor (List ℕ))) (line : Bor (List ℕ))
+    → field ≡ Some line → IfSome left (λ text. Answers (answer_of before text) (Ok field))
+    → ((w : Work E) (xs : List E) → P w xs (step_for w xs (w.says xs line.now))) → HoldsNext P left before
+next_line P None before field line is answer holds = tt
+next_line P (Some text) before field line is answer holds =
+    λ w xs. subst (P w xs) (sym (step_line w before text line.now xs (answer ∙ ap (λ (f : Option (Bor (List ℕ))). Ok (option_copied f)) is))) (holds w xs)
 
--- the same of what is answered
-pub finds_taken : {E : Type 0} (left : Option (List ℕ)) (before : ℕ) (Stood Stands : Work E → List E
-    → Type 0) (printed : List ℕ) (result : Result Found IoError) (field : Option (Bor (List ℕ))) (line : Bor (List ℕ)) → field ≡ Some line
-    → IfSome left (λ text. Answers (answer_of before text) (Ok field))
-    → IfOk result (λ what. (w : Work E) (xs : List E) → Stood w xs → Finds w (step_for w xs (w.says xs line.now)) xs (Stands w) printed what)
-    → IfOk result (λ what. FindsNext left before Stood Stands printed what)
-finds_taken left before Stood Stands printed (Ok what) field line is answer judged =
-    finds_line left before Stood Stands printed what field line is answer judged
-finds_taken left before Stood Stands printed (Err why) field line is answer judged = tt
-
-pub finds_end : {E : Type 0} (left : Option (List ℕ)) (before : ℕ) (Stood : Work E → List E → Type 0) (printed : List ℕ) (field : Option (Bor (List ℕ)))
+pub next_end : {E : Type 0} (P : Work E → List E → Step E → Type 0) (left : Option (List ℕ)) (before : ℕ) (field : Option (Bor (List ℕ)))
     → field ≡ None → IfSome left (λ text. Answers (answer_of before text) (Ok field))
-    → FindsNext left before Stood Stood printed found.Ended
-finds_end None before Stood printed field is answer = tt
-finds_end (Some text) before Stood printed field is answer =
-    λ w xs h. (step_end w before text xs (answer ∙ ap (λ (f : Option (Bor (List ℕ))). Ok (option_copied f)) is), h)
+    → ((w : Work E) (xs : List E) → P w xs (end_step w xs)) → HoldsNext P left before
+next_end P None before field is answer holds = tt
+next_end P (Some text) before field is answer holds =
+    λ w xs. subst (P w xs) (sym (step_end w before text xs (answer ∙ ap (λ (f : Option (Bor (List ℕ))). Ok (option_copied f)) is))) (holds w xs)
 
-pub finds_long : {E : Type 0} (left : Option (List ℕ)) (before : ℕ) (Stood : Work E → List E → Type 0) (printed : List ℕ) (why : StreamFault)
-    → why ≡ stream.LongLine → IfSome left (λ text. Answers (answer_of before text) (Err why))
-    → FindsNext left before Stood Stood printed found.LongLine
-finds_long None before Stood printed why is answer = tt
-finds_long (Some text) before Stood printed why is answer = λ w xs h. (step_long w before text xs (rw is at answer), h)
+pub next_long : {E : Type 0} (P : Work E → List E → Step E → Type 0) (left : Option (List ℕ)) (before : ℕ) (why : StreamFault) → why ≡ stream.LongLine
+    → IfSome left (λ text. Answers (answer_of before text) (Err why))
+    → ((w : Work E) (xs : List E) → P w xs (refused_step w xs (codes "LongLine"))) → HoldsNext P left before
+next_long P None before why is answer holds = tt
+next_long P (Some text) before why is answer holds = λ w xs. subst (P w xs) (sym (step_long w before text xs (rw is at answer))) (holds w xs)
 
-pub finds_past : {E : Type 0} (left : Option (List ℕ)) (before : ℕ) (Stood : Work E → List E → Type 0) (printed : List ℕ) (why : StreamFault) → before ≤ 2 ^ 32
+pub next_past : {E : Type 0} (P : Work E → List E → Step E → Type 0) (left : Option (List ℕ)) (before : ℕ) (why : StreamFault) → before ≤ 2 ^ 32
     → why ≡ stream.Limit → IfSome left (λ text. Answers (answer_of before text) (Err why))
-    → FindsNext left before Stood Stood printed found.Limit
-finds_past None before Stood printed why within is answer = tt
-finds_past (Some text) before Stood printed why within is answer = λ w xs h. (step_past w before text xs within (rw is at answer), h)
+    → ((w : Work E) (xs : List E) → P w xs (refused_step w xs (codes "Limit"))) → HoldsNext P left before
+next_past P None before why within is answer holds = tt
+next_past P (Some text) before why within is answer holds = λ w xs. subst (P w xs) (sym (step_past w before text xs within (rw is at answer))) (holds w xs)

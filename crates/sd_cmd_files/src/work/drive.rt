@@ -1,22 +1,21 @@
 //! The way through a text: every line is taken, and what is due for it is written.
-ghost use Rattle.std.specs.Prelude.{◌≡◌, ◌<◌, ◌≤◌, ◌+◌, ◌^◌, ◌∷◌, [], List, length, true, Ok, Err, Some, None, IsTrue, IfOk, IfSome};
+ghost use Rattle.std.specs.Prelude.{◌≡◌, ◌≤◌, ◌+◌, ◌^◌, ◌∷◌, [], List, length, true, Ok, Err, Some, None, IsTrue, IfOk, IfSome};
 ghost use Rattle.sd_outside.specs.Causes.{Rose};
 ghost use Rattle.sd_stream.specs.Lines.{lines};
-ghost use Rattle.sd_stream.specs.Reader.{text_left, bytes_before, IsNear, GoesPast};
+ghost use Rattle.sd_stream.specs.Reader.{text_left, bytes_before, IsNear};
 ghost use Rattle.sd_cmd_files.specs.Statuses.{is_among};
 ghost use Rattle.sd_cmd_files.specs.Writes.{Adds};
 ghost use Rattle.sd_cmd_files.specs.work.Leaving.{LeavesAt};
 ghost use Rattle.sd_cmd_files.specs.work.Works.{Work, IsOutcome, WritesWhole, refused_part};
 ghost use Rattle.sd_cmd_files.specs.work.Steps.{step_bytes, step_of};
-ghost use Rattle.sd_cmd_files.specs.work.Comes.{Makes};
+ghost use Rattle.sd_cmd_files.specs.work.Comes.{HasTaken, Makes};
 ghost use Rattle.sd_cmd_files.specs.work.Progresses.{Holds};
 
 use crate::work::LineWork;
 use crate::work::progress::Progress;
-use crate::work::taking::{Found, find};
 use crate::{IoError, Status};
 use sd_outside::{LineBuffer, Shelf, Sink};
-use sd_stream::{Buffer, LineReader};
+use sd_stream::{Buffer, LineReader, StreamFault};
 use std::alloc::Global;
 
 /// Goes through the begun text of a shelf line by line, and writes what the work makes of it. One
@@ -82,28 +81,15 @@ fn take_line<S: Shelf, O: Sink, W: LineWork>(
     ensures counts { result ≡ Ok None → progress.new.taken ≡ progress.old.taken + 1 }
     ensures gives { IfOk result
         (λ last. IfSome last (λ status. IsTrue (is_among (Status.InputRefused ∷ W.gives) status))) }
-    ensures passes { IfSome (text_left S.Shelf reader.old) (λ text. result ≡ Ok None
-        → GoesPast (bytes_before reader.old) (bytes_before reader.new)
-        (text_left S.Shelf reader.new) text) }
-    ensures moves { result ≡ Ok None → bytes_before reader.old < bytes_before reader.new }
-    ensures within { bytes_before reader.new ≤ 2 ^ 32 }
-    ensures near { IsNear (text_left S.Shelf reader.old) (S.rest reader.new.shelf.now) }
-    ensures shelf { result ≡ Err IoError.Shelf
-        → Rose (S.faults reader.old.shelf.now) (S.faults reader.new.shelf.now) }
+    ensures reader { HasTaken S.Shelf reader.old result reader.new }
     ensures sink { result ≡ Err IoError.Sink → Rose (O.faults out.old) (O.faults out.new) }
-    ensures later { S.faults reader.old.shelf.now ≤ S.faults reader.new.shelf.now }
     ensures sink_later { O.faults out.old ≤ O.faults out.new }
-    ensures same_shelf { reader.new.shelf.ghost_name ≡ reader.old.shelf.ghost_name }
-    ensures same_held { S.held reader.new.shelf.now ≡ S.held reader.old.shelf.now }
 {
-    match find(alloc, reader, &mut progress.work)? {
-        Found::Accepted => {
-            progress.write_accepted(out)?;
-            Ok(None)
-        }
-        Found::Refused => Ok(Some(progress.refuse(out)?)),
-        Found::LongLine => Ok(Some(progress.refuse_for(b"LongLine", out)?)),
-        Found::Limit => Ok(Some(progress.refuse_for(b"Limit", out)?)),
-        Found::Ended => Ok(Some(progress.finish(alloc, out)?)),
+    match reader.next_line() {
+        Ok(Some(line)) => progress.take_line(alloc, line, out),
+        Ok(None) => Ok(Some(progress.finish(alloc, out)?)),
+        Err(StreamFault::ReadFault) => Err(IoError::Shelf),
+        Err(StreamFault::LongLine) => Ok(Some(progress.refuse_for(b"LongLine", out)?)),
+        Err(StreamFault::Limit) => Ok(Some(progress.refuse_for(b"Limit", out)?)),
     }
 }

@@ -1,13 +1,15 @@
 //! A work on its way, and what is written for it.
-ghost use Rattle.std.specs.Prelude.{◌≡◌, ◌≢◌, ◌≤◌, ◌<◌, ◌+◌, ◌∷◌, ◌^◌, [], ℕ, List, Ok, Err, IfOk, codes, decimal, length, IsTrue};
+ghost use Rattle.std.specs.Prelude.{◌≡◌, ◌≢◌, ◌≤◌, ◌<◌, ◌+◌, ◌∷◌, ◌^◌, [], ℕ, List, None, Ok, Err, IfOk, IfSome, codes, decimal, length, IsTrue};
 ghost use Rattle.sd_num.specs.Texts.{text_of};
 ghost use Rattle.sd_outside.specs.Causes.{Rose};
 ghost use Rattle.sd_cmd_files.specs.Statuses.{is_among};
 ghost use Rattle.sd_cmd_files.specs.Writes.{Adds};
 ghost use Rattle.sd_cmd_files.specs.work.Works.{Work, refused_line};
-ghost use Rattle.sd_cmd_files.specs.work.Steps.{Last, end_step, step_bytes};
+ghost use Rattle.sd_cmd_files.specs.work.Steps.{Last, end_step, step_bytes, step_for};
+ghost use Rattle.sd_cmd_files.specs.work.Comes.{Makes};
+ghost use Rattle.sd_cmd_files.specs.work.Progresses.{Holds};
 
-use crate::work::LineWork;
+use crate::work::{LineWork, Taken};
 use crate::{IoError, Status, send};
 use sd_outside::{LineBuffer, Sink};
 use std::alloc::Global;
@@ -61,8 +63,39 @@ pub struct Progress<W> {
 }
 
 impl<W: LineWork> Progress<W> {
+    /// Has the work take a line, and writes what is due for it. It answers the status where the
+    /// line is refused.
+    pub fn take_line<O: Sink>(
+        &mut self,
+        alloc: Global,
+        line: &[u8],
+        out: &mut O,
+    ) -> Result<Option<Status>, IoError>
+        requires more { self.old.taken < 2 ^ 63 }
+        ensures makes { (w : Work W.Item) (xs : List W.Item) → Holds W.LineWork self.old w xs
+            → Makes (step_for w xs (w.says xs line.now)) xs (Holds W.LineWork self.new w) result }
+        ensures writes { (w : Work W.Item) (xs : List W.Item) → Holds W.LineWork self.old w xs
+            → Adds (step_bytes w xs (step_for w xs (w.says xs line.now))) (O.written out.old)
+            (O.written out.new) result }
+        ensures counts { result ≡ Ok None → self.new.taken ≡ self.old.taken + 1 }
+        ensures gives { IfOk result
+            (λ last. IfSome last (λ status. status ≡ Status.InputRefused)) }
+        ensures sink { result ≡ Err IoError.Sink → Rose (O.faults out.old) (O.faults out.new) }
+        ensures never_shelf { result ≢ Err IoError.Shelf }
+        ensures later { O.faults out.old ≤ O.faults out.new }
+    {
+        match self.work.take(alloc, line) {
+            Ok(Taken::Accepted) => {
+                self.write_accepted(out)?;
+                Ok(None)
+            }
+            Ok(Taken::Refused) => Ok(Some(self.refuse(out)?)),
+            Err(_) => Err(IoError::Memory),
+        }
+    }
+
     /// Writes what is due for a line that was accepted, by one write, if it is anything.
-    pub fn write_accepted<O: Sink>(&mut self, out: &mut O) -> Result<(), IoError>
+    fn write_accepted<O: Sink>(&mut self, out: &mut O) -> Result<(), IoError>
         requires more { self.old.taken < 2 ^ 63 }
         ensures writes { Adds (W.printing self.old.work) (O.written out.old) (O.written out.new) result }
         ensures same { self.new.work ≡ self.old.work }
@@ -80,11 +113,11 @@ impl<W: LineWork> Progress<W> {
     }
 
     /// Writes that the text is refused at its next line, for the reason that the work has printed.
-    pub fn refuse<O: Sink>(&mut self, out: &mut O) -> Result<Status, IoError>
+    fn refuse<O: Sink>(&mut self, out: &mut O) -> Result<Status, IoError>
         requires more { self.old.taken < 2 ^ 63 }
         requires short { length (W.printing self.old.work) ≤ 64 }
-        ensures writes { (w : Work W.Item) (xs : List W.Item) → W.does self.old.work w xs
-            → Adds (refused_line w (self.old.taken + 1) (W.printing self.old.work))
+        ensures writes { (w : Work W.Item) (xs : List W.Item) → Holds W.LineWork self.old w xs
+            → Adds (refused_line w (length xs + 1) (W.printing self.old.work))
             (O.written out.old) (O.written out.new) result }
         ensures status { IfOk result (λ status. status ≡ Status.InputRefused) }
         ensures same { self.new.work ≡ self.old.work }
@@ -104,9 +137,9 @@ impl<W: LineWork> Progress<W> {
     pub fn refuse_for<O: Sink>(&mut self, why: &[u8], out: &mut O) -> Result<Status, IoError>
         requires more { self.old.taken < 2 ^ 63 }
         requires short { length why.now ≤ 64 }
-        ensures writes { (w : Work W.Item) (xs : List W.Item) → W.does self.old.work w xs
-            → Adds (refused_line w (self.old.taken + 1) why.now) (O.written out.old)
-            (O.written out.new) result }
+        ensures writes { (w : Work W.Item) (xs : List W.Item) → Holds W.LineWork self.old w xs
+            → Adds (refused_line w (length xs + 1) why.now) (O.written out.old) (O.written out.new)
+            result }
         ensures status { IfOk result (λ status. status ≡ Status.InputRefused) }
         ensures same { self.new.work ≡ self.old.work }
         ensures sink { result ≡ Err IoError.Sink → Rose (O.faults out.old) (O.faults out.new) }
@@ -124,12 +157,10 @@ impl<W: LineWork> Progress<W> {
     /// Writes what is due at the end of the text.
     pub fn finish<O: Sink>(&mut self, alloc: Global, out: &mut O) -> Result<Status, IoError>
         requires more { self.old.taken < 2 ^ 63 }
-        ensures writes { (w : Work W.Item) (xs : List W.Item) → W.does self.old.work w xs
-            → self.old.taken ≡ length xs
+        ensures writes { (w : Work W.Item) (xs : List W.Item) → Holds W.LineWork self.old w xs
             → Adds (step_bytes w xs (end_step w xs)) (O.written out.old)
             (O.written out.new) result }
-        ensures makes { (w : Work W.Item) (xs : List W.Item) → W.does self.old.work w xs
-            → self.old.taken ≡ length xs
+        ensures makes { (w : Work W.Item) (xs : List W.Item) → Holds W.LineWork self.old w xs
             → IfOk result (λ status. (bytes : List ℕ) × (end_step w xs ≡ Last bytes status)) }
         ensures gives { IfOk result (λ status. IsTrue (is_among (Status.InputRefused ∷ W.gives) status)) }
         ensures sink { result ≡ Err IoError.Sink → Rose (O.faults out.old) (O.faults out.new) }

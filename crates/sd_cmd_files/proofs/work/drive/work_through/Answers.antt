@@ -1,7 +1,8 @@
-use Rattle.std.proofs.Common.{rules, IfSome, Result, subst, true, refl}
+use Rattle.std.proofs.Common.{rules, IfSome, Ok, Result, ap, subst, true, refl}
 use Rattle.sd_cmd_files.specs.declared.Status.{Status}
 use Rattle.sd_cmd_files.specs.declared.command_error.IoError.{IoError}
-use Rattle.sd_cmd_files.proofs.work.Coming.{told_comes, told_comes_on, told_stops, told_ends, told_near, handed_on}
+use Rattle.sd_cmd_files.proofs.work.Adding.{handed_on}
+use Rattle.sd_cmd_files.proofs.work.Coming.{told_comes, told_comes_on, told_stops, told_ends, told_near}
 use Rattle.sd_cmd_files.specs.work.Progresses.{Holds}
 use Rattle.sd_cmd_files.specs.work.Leaving.{LeavesAt}
 use Rattle.sd_cmd_files.specs.work.Works.{IsOutcome}
@@ -40,7 +41,7 @@ returns-in-Some-clause-near g c =
     let near =
     told_near _ w (Holds g.W.LineWork c.lines.progress) (Holds g.W.LineWork c.take_line.new.progress) (g.S.Shelf.rest c.args.shelf.now)
     (g.S.Shelf.rest c.take_line.new.reader.shelf.now) c.lines.reader _ _ c.in-Some.status
-    (c.lines.invariant.come w fresh) (rw c.in-Some.is at c.in_ok-status.ensures.makes) c.take_line.ensures.near in
+    (c.lines.invariant.come w fresh) (rw c.in-Some.is at c.in_ok-status.ensures.makes) c.take_line.ensures.reader.near in
     search (rules, near)
 
 pub lines-preserved : goal.lines-preserved
@@ -50,7 +51,7 @@ lines-preserved g c =
           λ w fresh.
           told_comes_on _ w (Holds g.W.LineWork c.lines.progress) (Holds g.W.LineWork c.take_line.new.progress) _ c.lines.reader c.take_line.new.reader _ _ _
           (c.lines.invariant.come w fresh) (rw c.in_default.is at c.in_ok-status.ensures.makes)
-          c.in_ok-status.ensures.writes (rw c.in_default.is at c.in_ok-status.ensures.passes);
+          c.in_ok-status.ensures.writes (c.in_ok-status.ensures.reader.past (ap Ok c.in_default.is));
       within = search rules;
       counted = search rules;
       later = search rules;

@@ -6,16 +6,16 @@ use Rattle.sd_cmd_files.proofs.work.progress.Progress.finish.Goals as goal
 
 pub returns-then-not-ended-clause-makes : goal.returns-then-not-ended-clause-makes
 returns-then-not-ended-clause-makes g c =
-    λ w xs h counted.
-    let open_yet : list_any w.ends xs ≡ false = sym (c.ended.ensures w xs h) ∙ c.if-not-ended.true in
+    λ w xs h.
+    let open_yet : list_any w.ends xs ≡ false = sym (c.ended.ensures w xs h.0) ∙ c.if-not-ended.true in
     ends_refused w xs c.refuse_for.result (refused_line w (length xs + 1) (codes "NoEnd")) (rw open_yet refl) c.refuse_for.ensures.status
 
 pub returns-clause-makes : goal.returns-clause-makes
 returns-clause-makes g c =
-    λ w xs h counted.
-    let over : list_any w.ends xs ≡ true = sym (c.ended.ensures w xs h) ∙ c.if-not-ended.false in
-    ends_done (g.W.LineWork.does c.args.self.now.work) w xs c.finish.result h over c.finish.ensures.status
+    λ w xs h.
+    let over : list_any w.ends xs ≡ true = sym (c.ended.ensures w xs h.0) ∙ c.if-not-ended.false in
+    ends_done (g.W.LineWork.does c.args.self.now.work) w xs c.finish.result h.0 over c.finish.ensures.status
 
 pub returns-clause-writes : goal.returns-clause-writes
 returns-clause-writes g c =
-    λ w xs h counted. let over : list_any w.ends xs ≡ true = sym (c.ended.ensures w xs h) ∙ c.if-not-ended.false in rw over (c.finish.ensures.writes w xs h)
+    λ w xs h. let over : list_any w.ends xs ≡ true = sym (c.ended.ensures w xs h.0) ∙ c.if-not-ended.false in rw over (c.finish.ensures.writes w xs h.0)
