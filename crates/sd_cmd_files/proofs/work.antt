@@ -4,3 +4,4 @@ pub mod Reading
 pub mod Whole
 pub mod Coming
 pub mod Adding
+pub mod Leaving

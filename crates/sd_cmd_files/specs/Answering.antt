@@ -1,5 +1,7 @@
 -- What a run that reads its files whole may write and answer.
 use Rattle.std.specs.Prelude.{◌≡◌, ℕ, List, Result, Ok, Err}
+use Rattle.std.specs.List.{concat}
+use Rattle.sd_outside.specs.Pieces.{Pieces, piece_of}
 use Rattle.sd_cmd_files.specs.Reasons.{refusal_line}
 use Rattle.sd_cmd_files.specs.declared.Status.{Status}
 use Rattle.sd_cmd_files.specs.declared.Status.TheVariants.{InputRefused}
@@ -13,3 +15,20 @@ May = List ℕ → Status → Type 0
 abbrev pub After : {X : Type 0} → Result X Refusal → (X → May) → May
 After (Ok x) Then bytes status = Then x bytes status
 After (Err why) Then bytes status = (bytes ≡ refusal_line why) × (status ≡ InputRefused)
+
+-- the writes by which something may be written, with its status
+abbrev pub MayWrite : Type 1
+MayWrite = Pieces → Status → Type 0
+
+-- all of it by one write
+abbrev pub AtOnce : Pieces → Type 0
+AtOnce pieces = pieces ≡ piece_of (concat pieces)
+
+-- what may be written, by such writes
+abbrev pub InWrites : (Pieces → Type 0) → May → MayWrite
+InWrites Cuts Answers pieces status = Answers (concat pieces) status × Cuts pieces
+
+-- behind a file: by the writes for what it says, or by one where it is refused
+abbrev pub WritesAfter : {X : Type 0} → Result X Refusal → (X → Pieces → Type 0) → Pieces → Type 0
+WritesAfter (Ok x) Cuts pieces = Cuts x pieces
+WritesAfter (Err why) Cuts pieces = AtOnce pieces

@@ -8,6 +8,7 @@ pub mod Writes
 pub mod planfiles
 pub mod work
 -- Handed on: what crates above name of those below.
+pub use Rattle.sd_outside.specs as Outside
 pub use Rattle.sd_stream.specs as Stream
 pub use Rattle.sd_topotext.specs as Topotext
 pub use Rattle.sd_plantext.specs as Plantext

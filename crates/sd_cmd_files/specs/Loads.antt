@@ -1,5 +1,5 @@
 -- What loading a file gives.
-use Rattle.std.specs.Prelude.{◌≡◌, ℕ, List, Result, Ok, Err}
+use Rattle.std.specs.Prelude.{◌≡◌, Result, Ok, Err}
 use Rattle.sd_stream.specs.declared.faults.WholeFault.{WholeFault}
 use Rattle.sd_stream.specs.declared.faults.WholeFault.TheVariants as whole
 use Rattle.sd_topotext.specs.declared.fault.TopoFault.{TopoFault}

@@ -1,7 +1,6 @@
 -- What is written of what was made.
 use Rattle.std.specs.Prelude.{◌≡◌, ℕ, List, Option, Result, Ok, Err}
-use Rattle.std.specs.Io.KnownBytes.{Appends, Keeps}
-use Rattle.sd_outside.specs.Prefixes.{WritesPrefix}
+use Rattle.sd_outside.specs.Pieces.{AddsFront, AddsPieces, Pieces, piece_of}
 use Rattle.sd_cmd_files.specs.Answering.{May}
 use Rattle.sd_cmd_files.specs.Reasons.{refusal_line}
 use Rattle.sd_cmd_files.specs.declared.Status.{Status}
@@ -12,19 +11,19 @@ use Rattle.sd_cmd_files.specs.declared.command_error.CommandError.TheVariants as
 use Rattle.sd_cmd_files.specs.declared.command_error.IoError.{IoError}
 use Rattle.sd_cmd_files.specs.declared.command_error.IoError.TheVariants as stop
 
--- the bytes were added; or the run was stopped, and where that was by the sink some front of them was
-abbrev pub Adds : {T : Type 0} → List ℕ → Option (List ℕ) → Option (List ℕ) → Result T IoError → Type 0
-Adds bytes old new (Ok done) = Appends old new bytes
-Adds bytes old new (Err stop.Shelf) = Keeps old new
-Adds bytes old new (Err stop.Sink) = WritesPrefix old new bytes
-Adds bytes old new (Err stop.Memory) = Keeps old new
+-- the pieces were added, each by one write; or the run was stopped, and where that was by the sink some front of them was
+abbrev pub Adds : {T : Type 0} → Pieces → Option Pieces → Option Pieces → Result T IoError → Type 0
+Adds pieces old new (Ok done) = AddsPieces old new pieces
+Adds pieces old new (Err stop.Shelf) = new ≡ old
+Adds pieces old new (Err stop.Sink) = AddsFront old new pieces
+Adds pieces old new (Err stop.Memory) = new ≡ old
 
 -- all of it is written by one write: such bytes with such a status, some front of them where the sink fails, and nothing where the run is stopped before
-abbrev pub WritesOnce : May → Option (List ℕ) → Option (List ℕ) → Result Status IoError → Type 0
-WritesOnce Answers old new (Ok status) = (bytes : List ℕ) × Answers bytes status × Appends old new bytes
-WritesOnce Answers old new (Err stop.Shelf) = Keeps old new
-WritesOnce Answers old new (Err stop.Sink) = (bytes : List ℕ) × (status : Status) × Answers bytes status × WritesPrefix old new bytes
-WritesOnce Answers old new (Err stop.Memory) = Keeps old new
+abbrev pub WritesOnce : May → Option Pieces → Option Pieces → Result Status IoError → Type 0
+WritesOnce Answers old new (Ok status) = (bytes : List ℕ) × Answers bytes status × AddsPieces old new (piece_of bytes)
+WritesOnce Answers old new (Err stop.Shelf) = new ≡ old
+WritesOnce Answers old new (Err stop.Sink) = (bytes : List ℕ) × (status : Status) × Answers bytes status × AddsFront old new (piece_of bytes)
+WritesOnce Answers old new (Err stop.Memory) = new ≡ old
 
 -- the bytes and the status of what was made, or of the file that is refused
 abbrev pub Tells : Result Answer CommandError → List ℕ → Status → Type 0

@@ -1,7 +1,7 @@
 //! The files of a command, each read whole and then as what it says.
 ghost use Rattle.std.specs.Prelude.{◌≡◌, ◌≤◌, ◌&&◌, length, Err, IsTrue, IfOk, IfSome};
 ghost use Rattle.sd_num.specs.Lists.{all_below, ascends};
-ghost use Rattle.sd_outside.specs.Causes.{Rose};
+ghost use Rattle.sd_outside.specs.Shelves.{KeepsShelf};
 ghost use Rattle.sd_plan.specs.Plans.{Fits};
 ghost use Rattle.sd_topo.specs.Topologies.{network};
 ghost use Rattle.sd_cmd_files.specs.Inputs.{topology_of, plan_in_file, absent_in_file};
@@ -26,11 +26,7 @@ pub fn load_topology<S: Shelf>(
     requires { IsTrue (S.serves shelf.old name.now) }
     ensures says { IfSome (S.held shelf.old)
         (λ held. Loads network (topology_of (texts_of held name.now)) result) }
-    ensures shelf { result ≡ Err CommandError.Shelf
-        → Rose (S.faults shelf.old) (S.faults shelf.new) }
-    ensures later { S.faults shelf.old ≤ S.faults shelf.new }
-    ensures same_held { S.held shelf.new ≡ S.held shelf.old }
-    ensures same_names { S.serves shelf.new ≡ S.serves shelf.old }
+    ensures shelf { KeepsShelf S.Shelf (result ≡ Err CommandError.Shelf) shelf.old shelf.new }
 {
     let text = match read_file(alloc, shelf, name) {
         Ok(text) => text,
@@ -55,11 +51,7 @@ pub fn load_plan<S: Shelf>(
         (λ held. Loads (λ plan. plan)
         (plan_in_file (network topo.now) place (texts_of held name.now)) result) }
     ensures fits { IfOk result (Fits (network topo.now)) }
-    ensures shelf { result ≡ Err CommandError.Shelf
-        → Rose (S.faults shelf.old) (S.faults shelf.new) }
-    ensures later { S.faults shelf.old ≤ S.faults shelf.new }
-    ensures same_held { S.held shelf.new ≡ S.held shelf.old }
-    ensures same_names { S.serves shelf.new ≡ S.serves shelf.old }
+    ensures shelf { KeepsShelf S.Shelf (result ≡ Err CommandError.Shelf) shelf.old shelf.new }
 {
     let text = match read_file(alloc, shelf, name) {
         Ok(text) => text,
@@ -88,11 +80,7 @@ pub fn load_absent<S: Shelf>(
     ensures links { IfOk result
         (λ absent. IsTrue (ascends absent.links
         && all_below (length (network topo.now).links) absent.links)) }
-    ensures shelf { result ≡ Err CommandError.Shelf
-        → Rose (S.faults shelf.old) (S.faults shelf.new) }
-    ensures later { S.faults shelf.old ≤ S.faults shelf.new }
-    ensures same_held { S.held shelf.new ≡ S.held shelf.old }
-    ensures same_names { S.serves shelf.new ≡ S.serves shelf.old }
+    ensures shelf { KeepsShelf S.Shelf (result ≡ Err CommandError.Shelf) shelf.old shelf.new }
 {
     let text = match read_file(alloc, shelf, name) {
         Ok(text) => text,

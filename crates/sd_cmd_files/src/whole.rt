@@ -1,6 +1,6 @@
 //! A file that is read whole.
 ghost use Rattle.std.specs.Prelude.{◌≡◌, ◌<◌, ◌≤◌, ◌^◌, length, vec_len, Err, IsTrue, IfOk, IfSome};
-ghost use Rattle.sd_outside.specs.Causes.{Rose};
+ghost use Rattle.sd_outside.specs.Shelves.{KeepsShelf};
 ghost use Rattle.sd_cmd_files.specs.Texts.{texts_of};
 
 use sd_outside::Shelf;
@@ -15,11 +15,7 @@ pub fn read_file<S: Shelf>(alloc: Global, shelf: &mut S, name: &str) -> Result<V
     ensures short { IfOk result (λ text. vec_len text ≤ 2 ^ 26) }
     ensures too_long { result ≡ Err WholeFault.TooLong
         → IfSome (S.held shelf.old) (λ held. 2 ^ 26 < length (texts_of held name.now)) }
-    ensures shelf { result ≡ Err WholeFault.ReadFault
-        → Rose (S.faults shelf.old) (S.faults shelf.new) }
-    ensures later { S.faults shelf.old ≤ S.faults shelf.new }
-    ensures same_held { S.held shelf.new ≡ S.held shelf.old }
-    ensures same_names { S.serves shelf.new ≡ S.serves shelf.old }
+    ensures shelf { KeepsShelf S.Shelf (result ≡ Err WholeFault.ReadFault) shelf.old shelf.new }
 {
     match shelf.begin(name) {
         Ok(()) => read_whole(alloc, shelf),

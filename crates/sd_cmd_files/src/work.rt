@@ -2,7 +2,7 @@
 //! what is due for it is written before the next one is read.
 ghost use Rattle.std.specs.Prelude.{◌≡◌, ◌≢◌, ◌≤◌, ℕ, List, [], length, Err, Ok, IfOk, IsTrue};
 ghost use Rattle.std.specs.List.{list_any};
-ghost use Rattle.sd_outside.specs.Causes.{Rose};
+ghost use Rattle.sd_outside.specs.Causes.{RisesFor};
 ghost use Rattle.sd_cmd_files.specs.Statuses.{is_among};
 ghost use Rattle.sd_cmd_files.specs.Writes.{Adds};
 ghost use Rattle.sd_cmd_files.specs.declared.Status.{Status as AnyStatus};
@@ -63,13 +63,12 @@ pub trait LineWork: Drop {
     /// Writes what is due at the end of the text, each step by one write, and answers the status.
     fn finish<O: Sink>(&mut self, alloc: Global, out: &mut O) -> Result<Status, IoError>
         ensures writes { (work : Work Self.Item) (xs : List Self.Item) → does self.old work xs
-            → Adds (work.last_lines xs) (O.written out.old) (O.written out.new) result }
+            → Adds (work.last_pieces xs) (O.written out.old) (O.written out.new) result }
         ensures status { IfOk result (λ status. (work : Work Self.Item) (xs : List Self.Item)
             → does self.old work xs → status ≡ work.last_status xs) }
         ensures gives { IfOk result (λ status. IsTrue (is_among gives status)) }
-        ensures sink { result ≡ Err IoError.Sink → Rose (O.faults out.old) (O.faults out.new) }
-        ensures never_shelf { result ≢ Err IoError.Shelf }
-        ensures later { O.faults out.old ≤ O.faults out.new };
+        ensures sink { RisesFor (result ≡ Err IoError.Sink) (O.faults out.old) (O.faults out.new) }
+        ensures never_shelf { result ≢ Err IoError.Shelf };
 
     /// Lends what it printed last.
     fn printed(&self) -> &[u8]

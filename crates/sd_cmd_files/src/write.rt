@@ -1,6 +1,7 @@
 //! Writing what a command has made.
-ghost use Rattle.std.specs.Prelude.{◌≡◌, ◌≢◌, ◌≤◌, Err, IfErr, OnErr, IfOk};
-ghost use Rattle.sd_outside.specs.Causes.{Rose};
+ghost use Rattle.std.specs.Prelude.{◌≡◌, ◌≢◌, ◌↔◌, Err, IfErr, IfOk};
+ghost use Rattle.sd_outside.specs.Causes.{RisesFor};
+ghost use Rattle.sd_outside.specs.Pieces.{piece_of};
 ghost use Rattle.sd_cmd_files.specs.Reasons as texts;
 ghost use Rattle.sd_cmd_files.specs.Writes.{Adds, WritesOnce, Tells};
 
@@ -12,10 +13,9 @@ use std::alloc::{AllocError, Global};
 
 /// Writes bytes by one write.
 pub fn send<O: Sink>(out: &mut O, bytes: &[u8]) -> Result<(), IoError>
-    ensures writes { Adds bytes.now (O.written out.old) (O.written out.new) result }
-    ensures sink { OnErr result (Rose (O.faults out.old) (O.faults out.new)) }
+    ensures writes { Adds (piece_of bytes.now) (O.written out.old) (O.written out.new) result }
+    ensures sink { RisesFor (result ≡ Err IoError.Sink) (O.faults out.old) (O.faults out.new) }
     ensures only { IfErr result (λ why. why ≡ IoError.Sink) }
-    ensures later { O.faults out.old ≤ O.faults out.new }
 {
     match out.write(bytes) {
         Ok(()) => Ok(()),
@@ -27,7 +27,7 @@ pub fn send<O: Sink>(out: &mut O, bytes: &[u8]) -> Result<(), IoError>
 fn write_once<O: Sink>(answer: &Answer, out: &mut O) -> Result<Status, IoError>
     ensures writes { WritesOnce (λ bytes status. (bytes ≡ answer.now.text.items)
         × (status ≡ answer.now.status)) (O.written out.old) (O.written out.new) result }
-    ensures sink { result ≡ Err IoError.Sink → Rose (O.faults out.old) (O.faults out.new) }
+    ensures sink { RisesFor (result ≡ Err IoError.Sink) (O.faults out.old) (O.faults out.new) }
     ensures never_shelf { result ≢ Err IoError.Shelf }
 {
     match out.write(answer.text.as_slice()) {
@@ -56,8 +56,8 @@ pub fn write_answer<O: Sink>(
     out: &mut O,
 ) -> Result<Status, IoError>
     ensures writes { WritesOnce (Tells made.now) (O.written out.old) (O.written out.new) result }
-    ensures shelf { result ≡ Err IoError.Shelf → made.now ≡ Err CommandError.Shelf }
-    ensures sink { result ≡ Err IoError.Sink → Rose (O.faults out.old) (O.faults out.new) }
+    ensures shelf { result ≡ Err IoError.Shelf ↔ made.now ≡ Err CommandError.Shelf }
+    ensures sink { RisesFor (result ≡ Err IoError.Sink) (O.faults out.old) (O.faults out.new) }
 {
     match made {
         Ok(answer) => write_once(answer, out),

@@ -63,7 +63,7 @@ one_order topology plans schedule bytes other status also is too = one_run order
 -- Right files
 
 -- what is written of plans that were read and accepted is what comes behind them
-behind_plans : (net : Network) (place : ℕ) (front plans : List Plan) (texts : List (List ℕ)) (Then : List Plan → May) (bytes : List ℕ) (status : Status)
+pub behind_plans : (net : Network) (place : ℕ) (front plans : List Plan) (texts : List (List ℕ)) (Then : List Plan → May) (bytes : List ℕ) (status : Status)
     → AreRead net place texts plans → Each (IsAccepted net) plans
     → AfterPlans net place front texts Then bytes status → Then (front ++ plans) bytes status
 behind_plans net place front [] [] Then bytes status read accepted written = subst (λ (ps : List Plan). Then ps bytes status) (sym (append-nil front)) written

@@ -4,6 +4,7 @@ pub mod Whole
 pub mod Reading
 pub mod Loading
 pub mod Lawful
+pub mod Cuts
 pub mod Stepping
 pub mod Refusing
 pub mod Working

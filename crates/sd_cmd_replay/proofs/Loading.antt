@@ -1,8 +1,8 @@
 -- What is written before a schedule is begun, and that files which were read and accepted lead to the schedule.
 use Rattle.std.proofs.Common.{◌≡◌, ℕ, ◌+◌, true, List, [], ◌∷◌, ◌++◌, Option, Some, None, Result, Ok, Err, refl, inl, inr, sym, ap, ◌∙◌, subst, length, map, append-nil}
 use Rattle.std.specs.Prelude.{IfOk, IfSome, IsErrAnd, IfErr, IsTrue, option_map}
-use Rattle.std.specs.Io.KnownBytes.{Appends}
-use Rattle.sd_outside.specs.Prefixes.{WritesPrefix}
+use Rattle.std.specs.List.{concat}
+use Rattle.sd_outside.specs.Pieces.{Pieces}
 use Rattle.sd_cmd_files.specs.Stream.Reader.{IsNear}
 use Rattle.sd_msg.specs.Topo.Network.{Network, Each}
 use Rattle.sd_core.specs.Plan.declared.Plan.{Plan}
@@ -14,7 +14,7 @@ use Rattle.sd_core.specs.contracts.device.DeviceNode.TheImpl.{ghosts}
 use Rattle.sd_msg.specs.declared.observer.Observer as observers
 use Rattle.sd_sched.specs.declared.Event.{Event}
 use Rattle.sd_replay.specs.History.World.{Setting}
-use Rattle.sd_cmd_files.specs.Answering.{May, After}
+use Rattle.sd_cmd_files.specs.Answering.{AtOnce, InWrites, May, MayWrite, After}
 use Rattle.sd_cmd_files.specs.Inputs.{topology_of, plan_in_file}
 use Rattle.sd_cmd_files.specs.Loads.{Loads}
 use Rattle.sd_cmd_files.specs.Reasons.{refusal_line}
@@ -37,15 +37,21 @@ use Rattle.sd_cmd_files.proofs.planfiles.Reading.{through}
 use Rattle.sd_replay.specs.declared.replay.Replay.{Replay}
 use Rattle.sd_replay.specs.Devices.{HasReplayed}
 use Rattle.sd_replay.specs.Replaying.{StandsFor}
-use Rattle.sd_cmd_files.specs.work.Leaving.{LeavesAt, WritesPart}
-use Rattle.sd_cmd_files.specs.work.Works.{Work, IsOutcome, refused_part}
+use Rattle.sd_cmd_files.specs.work.Leaving.{LeavesAt}
+use Rattle.sd_cmd_files.proofs.work.Leaving.{leaves_more, leaves_once, once_in_steps, told}
+use Rattle.sd_cmd_files.specs.work.Works.{Work, InSteps, IsOutcome, refused_part}
 use Rattle.sd_cmd_replay.specs.Replays.{IsRun, over, refused_over, replay_work}
-use Rattle.sd_cmd_replay.specs.Loaded.{AreLoaded, EndsBefore}
+use Rattle.sd_cmd_replay.specs.Loaded.{AreLoaded, EndsBefore, RunsIn}
+use Rattle.sd_cmd_replay.proofs.Cuts.{cut_before, cut_loaded}
 use Rattle.sd_cmd_replay.specs.Starting.{HasStarted}
 
 -- the texts of a shelf, where they are told
 abbrev Held : Type 0
 Held = Option (List ℕ → Option (List ℕ))
+
+-- what a work makes of a text, each step by one write
+abbrev StepsOf : Work Event → (text : List ℕ) → MayWrite
+StepsOf work text = InWrites (InSteps work text) (IsOutcome work text)
 
 -- the texts of the plans
 abbrev plans_at : (names : List (List ℕ)) → (List ℕ → Option (List ℕ)) → List (List ℕ)
@@ -141,48 +147,24 @@ unsaid topology plans schedule bytes written = by (topology_of topology) written
 
 -- What a run leaves
 
-part_more : (Writes More : May) (old new : Option (List ℕ)) → ((bytes : List ℕ) (status : Status) → Writes bytes status → More bytes status)
-    → WritesPart true Writes old new → WritesPart true More old new
-part_more Writes More old new more (inl kept) = inl kept
-part_more Writes More old new more (inr (bytes, status, written, lines)) = inr (bytes, status, more bytes status written, lines)
-
--- a run that may write more
-pub leaves_more : (Writes More : May) (old new : Option (List ℕ)) (result : Result Status IoError)
-    → ((bytes : List ℕ) (status : Status) → Writes bytes status → More bytes status) → LeavesAt true Writes old new result → LeavesAt true More old new result
-leaves_more Writes More old new (Ok status) more (bytes, written, added) = (bytes, more bytes status written, added)
-leaves_more Writes More old new (Err stop.Sink) more (bytes, status, written, front) = (bytes, status, more bytes status written, front)
-leaves_more Writes More old new (Err stop.Shelf) more part = part_more Writes More old new more part
-leaves_more Writes More old new (Err stop.Memory) more part = part_more Writes More old new more part
-
--- what was made and told may be written
-told : (Writes : May) (made : Result Answer CommandError) (bytes : List ℕ) (status : Status) → Makes Writes made → Tells made bytes status → Writes bytes status
-told Writes (Ok answer) bytes status makes (text, answered) =
-    subst (λ (b : List ℕ). Writes b status) (sym text) (subst (Writes answer.text.items) (sym answered) makes)
-told Writes (Err (ended.Refused why)) bytes status makes (text, answered) = rw (text, answered) makes
-told Writes (Err ended.Shelf) bytes status makes tells = absurd tells
-told Writes (Err ended.Memory) bytes status makes tells = absurd tells
-
-leaves_once : (Writes : May) (made : Result Answer CommandError) (old new : Option (List ℕ)) (result : Result Status IoError) → Makes Writes made
-    → WritesOnce (Tells made) old new result → LeavesAt true Writes old new result
-leaves_once Writes made old new (Ok status) makes (bytes, tells, added) = (bytes, told Writes made bytes status makes tells, added)
-leaves_once Writes made old new (Err stop.Shelf) makes kept = inl kept
-leaves_once Writes made old new (Err stop.Sink) makes (bytes, status, tells, front) = (bytes, status, told Writes made bytes status makes tells, front)
-leaves_once Writes made old new (Err stop.Memory) makes kept = inl kept
-
 module _ (topology : List ℕ) (names : List (List ℕ)) (schedule : List ℕ) where
   -- a command that ended before its schedule
-  pub early_leaves : (work : Setting → Work Event) (held : Held) (early : SetupError) (old new : Option (List ℕ)) (result : Result Status IoError)
+  pub early_leaves : (work : Setting → Work Event) (held : Held) (early : SetupError) (old new : Option Pieces) (result : Result Status IoError)
       → IfSome held (λ h. Makes (EndsBefore (texts_of h topology) (plans_at names h)) (made_of early))
       → WritesOnce (Tells (made_of early)) old new result
-      → IfSome held (λ h. LeavesAt true (IsRun work (texts_of h topology) (plans_at names h) (texts_of h schedule)) old new result)
+      → IfSome held (λ h. LeavesAt true (RunsIn work (texts_of h topology) (plans_at names h) (texts_of h schedule)) old new result)
   early_leaves work None early old new result makes writes = tt
   early_leaves work (Some h) early old new result makes writes =
-      leaves_more (EndsBefore (texts_of h topology) (plans_at names h))
-      (IsRun work (texts_of h topology) (plans_at names h) (texts_of h schedule)) old new result
-      (before_run work (texts_of h topology) (plans_at names h) (texts_of h schedule))
-      (leaves_once (EndsBefore (texts_of h topology) (plans_at names h)) (made_of early) old new result makes writes)
+      leaves_more (InWrites AtOnce (EndsBefore (texts_of h topology) (plans_at names h)))
+      (RunsIn work (texts_of h topology) (plans_at names h) (texts_of h schedule)) old new result
+      (λ pieces status ends. (
+        before_run work (texts_of h topology) (plans_at names h) (texts_of h schedule) (concat pieces) status ends.0,
+        cut_before work (texts_of h topology) (plans_at names h) (texts_of h schedule) pieces status ends,
+      ))
+      (once_in_steps (InWrites AtOnce (EndsBefore (texts_of h topology) (plans_at names h))) old new result
+      (leaves_once (EndsBefore (texts_of h topology) (plans_at names h)) (made_of early) old new result makes writes))
 
-  pub early_near : (held : Held) (early : SetupError) (old new rest : Option (List ℕ)) (result : Result Status IoError)
+  pub early_near : (held : Held) (early : SetupError) (old new : Option Pieces) (rest : Option (List ℕ)) (result : Result Status IoError)
       → IfSome held (λ h. Makes (EndsBefore (texts_of h topology) (plans_at names h)) (made_of early)) → WritesOnce (Tells (made_of early)) old new result
       → result ≡ Ok InputRefused
       → IfSome held
@@ -196,27 +178,30 @@ module _ (topology : List ℕ) (names : List (List ℕ)) (schedule : List ℕ) w
       tt
 
   module _ {V : Type 0} (o : observers.Ghosts V) (work : Setting
-      → Work Event) (replay : Replay Registers V ghosts o) (held later : Held) (same : later ≡ held) (old new : Option (List ℕ))
+      → Work Event) (replay : Replay Registers V ghosts o) (held later : Held) (same : later ≡ held) (old new : Option Pieces)
       (result : Result Status IoError) where
     -- a schedule that was gone through
     pub run_leaves : IfSome held (λ h. HasStarted o (texts_of h topology) (plans_at names h) replay)
         → ((setting : Setting) → HasReplayed o replay setting []
-        → IfSome later (λ h. LeavesAt true (IsOutcome (work setting) (texts_of h schedule)) old new result))
-        → IfSome held (λ h. LeavesAt true (IsRun work (texts_of h topology) (plans_at names h) (texts_of h schedule)) old new result)
+        → IfSome later (λ h. LeavesAt true (StepsOf (work setting) (texts_of h schedule)) old new result))
+        → IfSome held (λ h. LeavesAt true (RunsIn work (texts_of h topology) (plans_at names h) (texts_of h schedule)) old new result)
     run_leaves started leaves =
         by held started
-        (λ setting replayed. subst (λ (h : Held). IfSome h (λ g. LeavesAt true (IsOutcome (work setting) (texts_of g schedule)) old new result)) same
+        (λ setting replayed. subst (λ (h : Held). IfSome h (λ g. LeavesAt true (StepsOf (work setting) (texts_of g schedule)) old new result)) same
         (leaves setting replayed))
       where
         by : (h : Held) → IfSome h (λ g. HasStarted o (texts_of g topology) (plans_at names g) replay)
             → ((setting : Setting) → HasReplayed o replay setting []
-            → IfSome h (λ g. LeavesAt true (IsOutcome (work setting) (texts_of g schedule)) old new result))
-            → IfSome h (λ g. LeavesAt true (IsRun work (texts_of g topology) (plans_at names g) (texts_of g schedule)) old new result)
+            → IfSome h (λ g. LeavesAt true (StepsOf (work setting) (texts_of g schedule)) old new result))
+            → IfSome h (λ g. LeavesAt true (RunsIn work (texts_of g topology) (plans_at names g) (texts_of g schedule)) old new result)
         by None begun left = tt
         by (Some g) begun left =
-            leaves_more (IsOutcome (work begun.setting) (texts_of g schedule))
-            (IsRun work (texts_of g topology) (plans_at names g) (texts_of g schedule)) old new result
-            (λ bytes status. loaded_run work (texts_of g topology) (plans_at names g) (texts_of g schedule) begun.setting bytes status begun.loaded)
+            leaves_more (StepsOf (work begun.setting) (texts_of g schedule))
+            (RunsIn work (texts_of g topology) (plans_at names g) (texts_of g schedule)) old new result
+            (λ pieces status steps. (
+              loaded_run work (texts_of g topology) (plans_at names g) (texts_of g schedule) begun.setting (concat pieces) status begun.loaded steps.0,
+              cut_loaded work (texts_of g topology) (plans_at names g) (texts_of g schedule) pieces begun.setting begun.loaded steps.1,
+            ))
             (left begun.setting begun.replayed)
 
     pub run_near : (rest : Option (List ℕ)) → ((setting : Setting) (text : List ℕ) → refused_part (work setting) text ≡ refused_part (replay_work setting) text)
@@ -330,7 +315,7 @@ early_status (Stopped (ended.Refused why)) bytes status refused (text, answered)
 early_status (Stopped ended.Shelf) bytes status refused tells = absurd tells
 early_status (Stopped ended.Memory) bytes status refused tells = absurd tells
 
-pub early_gives : (early : SetupError) (old new : Option (List ℕ)) (result : Result Status IoError) → IsPlanRefused early
+pub early_gives : (early : SetupError) (old new : Option Pieces) (result : Result Status IoError) → IsPlanRefused early
     → WritesOnce (Tells (made_of early)) old new result
     → IfOk result (λ status. IsTrue (is_among (Done ∷ PlanRefused ∷ InputRefused ∷ Broken ∷ []) status))
 early_gives early old new (Ok status) refused (bytes, tells, added) = early_status early bytes status refused tells

@@ -38,6 +38,8 @@ use Rattle.sd_cmd_files.specs.declared.command_error.Refusal.{Refusal}
 use Rattle.sd_cmd_files.specs.planfiles.PlanFiles.{AfterAllPlans, AfterJudged, AfterPlans, AfterVerdict}
 use Rattle.sd_cmd_files.specs.work.Works.{Reading, Work, IsOutcome, all_bytes, judged, last_bytes, length_fault, read_on, reading, reading_from, refused_line, status_for, unless_too_long, written_for}
 use Rattle.sd_cmd_replay.specs.Replays.{IsOrder, IsReplay, IsRun, accepted, event_said, order_work, over, replay_work, shows_disorder, status_if, unless_refused, waits_after, with_waits}
+use Rattle.std.specs.List.{concat}
+use Rattle.sd_outside.specs.Pieces.{piece_of}
 use Rattle.sd_cmd_replay.proofs.Versions.{bytes_alike, chronicle_alike, lines_alike, refusal_alike}
 
 -- Works that say the same
@@ -47,7 +49,7 @@ pub record AreAlike (one other : Work Event) : Type 0 where
   pub says : (events : List Event) (line : List ℕ) → one.says events line ≡ other.says events line
   pub ends : one.ends ≡ other.ends
   pub bytes : (events : List Event) (e : Event) → one.bytes events e ≡ other.bytes events e
-  pub last_lines : (events : List Event) → one.last_lines events ≡ other.last_lines events
+  pub last_pieces : (events : List Event) → one.last_pieces events ≡ other.last_pieces events
   pub last_status : (events : List Event) → one.last_status events ≡ other.last_status events
 
 module _ (one other : Work Event) (alike : AreAlike one other) where
@@ -81,7 +83,7 @@ module _ (one other : Work Event) (alike : AreAlike one other) where
       ∙ ap (λ (b : List ℕ). all_bytes other earlier ++ b) (alike.bytes earlier e)
 
   last_alike : (events : List Event) (refused : Option (List ℕ)) → last_bytes one events refused ≡ last_bytes other events refused
-  last_alike events None = alike.last_lines events
+  last_alike events None = ap concat (alike.last_pieces events)
   last_alike events (Some why) = ap (λ (name : List ℕ). text_of (codes "input" ∷ name ∷ decimal (length events + 1) ∷ why ∷ [])) alike.name
 
   status_alike : (events : List Event) (refused : Option (List ℕ)) → status_for one events refused ≡ status_for other events refused
@@ -140,7 +142,7 @@ module _ (v w : ℕ) (net : Network) where
           says = λ events line. accepted_alike events (event_of_line line);
           ends = refl;
           bytes = λ events e. ap (bytes_of old) (chronicle_alike v w net plans (e ∷ events)) ∙ bytes_alike v w net plans (chronicle new (e ∷ events));
-          last_lines = λ events. ap done_bytes (chronicle_alike v w net plans events);
+          last_pieces = λ events. ap (λ (steps : List Step). piece_of (done_bytes steps)) (chronicle_alike v w net plans events);
           last_status = λ events. ap (λ (steps : List Step). status_if (shows_trouble (tally_of old steps))) (chronicle_alike v w net plans events)
               ∙ ap status_if (trouble_alike (chronicle new events));
         }
@@ -152,7 +154,8 @@ module _ (v w : ℕ) (net : Network) where
           says = λ events line. accepted_alike events (event_of_line line);
           ends = refl;
           bytes = λ events e. ap (with_waits old) (chronicle_alike v w net plans (e ∷ events)) ∙ waits_alike (chronicle new (e ∷ events));
-          last_lines = λ events. ap (λ (steps : List Step). done_bytes steps ++ waits_line (waits_of (reports steps))) (chronicle_alike v w net plans events);
+          last_pieces = λ events. ap (λ (steps : List Step). piece_of (done_bytes steps) ++ piece_of (waits_line (waits_of (reports steps))))
+              (chronicle_alike v w net plans events);
           last_status = λ events. ap (λ (steps : List Step). status_if (shows_disorder old steps)) (chronicle_alike v w net plans events)
               ∙ ap (λ (trouble : Bool). status_if (trouble || nat_lt 0 (waits_of (reports (chronicle new events))).disorders))
               (trouble_alike (chronicle new events));

@@ -23,7 +23,7 @@ use Rattle.sd_wait.specs.Printed.{waits_line}
 use Rattle.sd_wait.specs.Standing.{StandsFor}
 use Rattle.sd_wait.specs.Waits.{tally_of as waits_of}
 use Rattle.sd_wait.specs.declared.WaitTally.{WaitTally}
-use Rattle.sd_cmd_files.specs.Writes.{Adds}
+use Rattle.sd_outside.specs.Pieces.{piece_of}
 use Rattle.sd_cmd_files.specs.declared.Status.{Status}
 use Rattle.sd_cmd_files.specs.declared.command_error.IoError.{IoError}
 use Rattle.sd_cmd_files.specs.work.Taking.{Takes}
@@ -70,8 +70,9 @@ module _ {V : Type 0} (o : observers.Ghosts V) where
   pub replay_last : (old : Replayed V o) (bytes : List ℕ)
       → ((setting : Setting) (events : List Event) → HasReplayed o old.replay setting events → bytes ≡ done_bytes (chronicle setting events))
       → (work : Work Event) (xs : List Event)
-      → DoesReplay o old work xs → bytes ≡ work.last_lines xs
-  replay_last old bytes says work xs does = subst (λ (w : Work Event). bytes ≡ w.last_lines xs) (sym does.is) (says does.setting xs does.replayed)
+      → DoesReplay o old work xs → piece_of bytes ≡ work.last_pieces xs
+  replay_last old bytes says work xs does =
+      subst (λ (w : Work Event). piece_of bytes ≡ w.last_pieces xs) (sym does.is) (ap piece_of (says does.setting xs does.replayed))
 
   pub replay_status : (old : Replayed V o) (trouble : Bool) (status : Status) → status ≡ status_if trouble
       → ((setting : Setting) (events : List Event) → HasReplayed o old.replay setting events
@@ -148,12 +149,12 @@ waits_as replay tally says setting events replayed =
 pub order_last : (old : Ordered) (done waits : List ℕ) (tally : WaitTally) → waits ≡ waits_line tally
     → ((setting : Setting) (events : List Event) → HasReplayed ghosts old.replayed.replay setting events → done ≡ done_bytes (chronicle setting events))
     → ((told : List ReportAt) → StandsFor old.replayed.replay.observer.waits told → tally ≡ waits_of told) → (work : Work Event) (xs : List Event)
-    → DoesOrder old work xs → done ++ waits ≡ work.last_lines xs
+    → DoesOrder old work xs → piece_of done ++ piece_of waits ≡ work.last_pieces xs
 order_last old done waits tally is says tells work xs does =
     let counted : tally ≡ waits_of (reports (chronicle does.setting xs)) = waits_as old.replayed.replay tally tells does.setting xs does.replayed in
-    subst (λ (w : Work Event). done ++ waits ≡ w.last_lines xs) (sym does.is)
-    (ap (λ (b : List ℕ). b ++ waits) (says does.setting xs does.replayed)
-    ∙ ap (λ (b : List ℕ). done_bytes (chronicle does.setting xs) ++ b) (is ∙ ap waits_line counted))
+    subst (λ (w : Work Event). piece_of done ++ piece_of waits ≡ w.last_pieces xs) (sym does.is)
+    (ap (λ (b : List ℕ). piece_of b ++ piece_of waits) (says does.setting xs does.replayed)
+    ∙ ap (λ (b : List ℕ). piece_of (done_bytes (chronicle does.setting xs)) ++ piece_of b) (is ∙ ap waits_line counted))
 
 pub order_status : (old : Ordered) (trouble : Bool) (status : Status) (tally : WaitTally) → status ≡ status_if (trouble || nat_lt 0 tally.disorders)
     → ((setting : Setting) (events : List Event) → HasReplayed ghosts old.replayed.replay setting events

@@ -2,10 +2,14 @@
 use Rattle.std.specs.Prelude.{◌≡◌, ℕ, List, Ok}
 use Rattle.sd_msg.specs.Topo.Network.{Each}
 use Rattle.sd_cmd_files.specs.Checker.Verdicts.{IsAccepted}
+use Rattle.sd_outside.specs.Pieces.{Pieces}
+use Rattle.sd_sched.specs.declared.Event.{Event}
 use Rattle.sd_replay.specs.History.World.{Setting}
-use Rattle.sd_cmd_files.specs.Answering.{May, After}
+use Rattle.sd_cmd_files.specs.Answering.{AtOnce, InWrites, May, MayWrite, After}
 use Rattle.sd_cmd_files.specs.Inputs.{topology_of}
 use Rattle.sd_cmd_files.specs.planfiles.PlanFiles.{AfterAllPlans, AreRead, Nothing}
+use Rattle.sd_cmd_files.specs.work.Works.{Work, InSteps}
+use Rattle.sd_cmd_replay.specs.Replays.{IsRun}
 
 -- the topology and the plans were read, and each plan is accepted
 pub record AreLoaded (topology : List ℕ) (plans : List (List ℕ)) (setting : Setting) : Type 0 where
@@ -16,3 +20,12 @@ pub record AreLoaded (topology : List ℕ) (plans : List (List ℕ)) (setting : 
 -- what ends a command before its schedule
 abbrev pub EndsBefore : (topology : List ℕ) (plans : List (List ℕ)) → May
 EndsBefore topology plans bytes status = After (topology_of topology) (λ net. AfterAllPlans net plans Nothing) bytes status
+
+-- by which writes: each step of the schedule by one, where the topology and the plans are read and accepted, and else all by one
+pub record RunsInSteps (work : Setting → Work Event) (topology : List ℕ) (plans : List (List ℕ)) (schedule : List ℕ) (pieces : Pieces) : Type 0 where
+  pub loaded : (setting : Setting) → AreLoaded topology plans setting → InSteps (work setting) schedule pieces
+  pub ended : ((setting : Setting) → AreLoaded topology plans setting → ⊥) → AtOnce pieces
+
+-- what may be written, by these writes
+abbrev pub RunsIn : (Setting → Work Event) → (topology : List ℕ) (plans : List (List ℕ)) (schedule : List ℕ) → MayWrite
+RunsIn work topology plans schedule = InWrites (RunsInSteps work topology plans schedule) (IsRun work topology plans schedule)

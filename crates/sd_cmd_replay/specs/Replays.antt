@@ -17,6 +17,7 @@ use Rattle.sd_replay.specs.History.declared.ApplyFault.{ApplyFault}
 use Rattle.sd_replay.specs.Tallies.{tally_of, shows_trouble}
 use Rattle.sd_wait.specs.Waits.{tally_of as waits_of}
 use Rattle.sd_wait.specs.Printed.{bytes_at, waits_line}
+use Rattle.sd_outside.specs.Pieces.{piece_of}
 use Rattle.sd_cmd_files.specs.Answering.{May, After}
 use Rattle.sd_cmd_files.specs.Inputs.{topology_of}
 use Rattle.sd_cmd_files.specs.declared.Status.{Status}
@@ -60,7 +61,7 @@ abbrev pub shows_disorder : Setting → List Step → Bool
 shows_disorder setting steps = shows_trouble (tally_of setting steps) || nat_lt 0 (waits_of (reports steps)).disorders
 
 module _ (setting : Setting) where
-  -- after each event stand its lines, and `done` at the end
+  -- after each event stand its lines, by one write, and `done` at the end
   abbrev pub replay_work : Work Event
   replay_work =
       record {
@@ -68,11 +69,11 @@ module _ (setting : Setting) where
         says = event_said setting;
         ends = is_end_event;
         bytes = λ earlier e. bytes_of setting (chronicle setting (e ∷ earlier));
-        last_lines = λ events. done_bytes (chronicle setting events);
+        last_pieces = λ events. piece_of (done_bytes (chronicle setting events));
         last_status = λ events. status_if (shows_trouble (tally_of setting (chronicle setting events)));
       }
 
-  -- the same with the lines of commit wait
+  -- the same with the lines of commit wait, and their count by a write of its own
   abbrev pub order_work : Work Event
   order_work =
       record {
@@ -80,7 +81,7 @@ module _ (setting : Setting) where
         says = event_said setting;
         ends = is_end_event;
         bytes = λ earlier e. with_waits setting (chronicle setting (e ∷ earlier));
-        last_lines = λ events. done_bytes (chronicle setting events) ++ waits_line (waits_of (reports (chronicle setting events)));
+        last_pieces = λ events. piece_of (done_bytes (chronicle setting events)) ++ piece_of (waits_line (waits_of (reports (chronicle setting events))));
         last_status = λ events. status_if (shows_disorder setting (chronicle setting events));
       }
 

@@ -1,7 +1,8 @@
 //! The files of a replay: the topology and the plans are read and judged before the schedule is
 //! begun.
-ghost use Rattle.std.specs.Prelude.{◌≡◌, ◌≤◌, All, [], Ok, Err, IsTrue, IfErr, IfOk, IfSome, length, map, string_bytes};
-ghost use Rattle.sd_outside.specs.Causes.{Rose};
+ghost use Rattle.std.specs.Prelude.{◌≡◌, ◌≤◌, ◌↔◌, All, [], Ok, Err, IsTrue, IfErr, IfOk, IfSome, length, map, string_bytes};
+ghost use Rattle.sd_outside.specs.Causes.{RisesFor};
+ghost use Rattle.sd_outside.specs.Shelves.{KeepsShelf};
 ghost use Rattle.sd_cmd_files.specs.Texts.{texts_of};
 ghost use Rattle.sd_cmd_files.specs.Writes.{Makes, Tells, WritesOnce};
 ghost use Rattle.sd_cmd_files.specs.planfiles.SetupError.{IsPlanRefused, made_of};
@@ -42,11 +43,7 @@ pub(crate) fn start<S: Shelf, V: Observer>(
     ensures makes { IfErr result (λ early. IfSome (S.held shelf.old) (λ held.
         Makes (EndsBefore (texts_of held files.entry.topology.now) (map (λ name. texts_of held name) (map string_bytes files.entry.plans.now))) (made_of early))) }
     ensures answered { IfErr result IsPlanRefused }
-    ensures shelf { result ≡ Err (SetupError.Stopped CommandError.Shelf)
-        → Rose (S.faults shelf.old) (S.faults shelf.new) }
-    ensures later { S.faults shelf.old ≤ S.faults shelf.new }
-    ensures same_held { S.held shelf.new ≡ S.held shelf.old }
-    ensures same_names { S.serves shelf.new ≡ S.serves shelf.old }
+    ensures shelf { KeepsShelf S.Shelf (result ≡ Err (SetupError.Stopped CommandError.Shelf)) shelf.old shelf.new }
 {
     let topo = load_topology(alloc, shelf, files.topology)?;
     let plans = match load_plans(alloc, shelf, &topo, files.plans) {
@@ -66,8 +63,8 @@ pub(crate) fn end_early<O: Sink>(
     out: &mut O,
 ) -> Result<Status, IoError>
     ensures writes { WritesOnce (Tells (made_of early)) (O.written out.old) (O.written out.new) result }
-    ensures shelf { result ≡ Err IoError.Shelf → early ≡ SetupError.Stopped CommandError.Shelf }
-    ensures sink { result ≡ Err IoError.Sink → Rose (O.faults out.old) (O.faults out.new) }
+    ensures shelf { result ≡ Err IoError.Shelf ↔ early ≡ SetupError.Stopped CommandError.Shelf }
+    ensures sink { RisesFor (result ≡ Err IoError.Sink) (O.faults out.old) (O.faults out.new) }
 {
     write_answer(alloc, &early.made(), out)
 }

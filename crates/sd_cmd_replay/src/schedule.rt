@@ -1,13 +1,16 @@
 //! `replay` and `order`: the schedule behind the topology and the plans, line by line.
 ghost use Rattle.std.specs.Prelude.{◌≡◌, ◌≤◌, All, [], ◌∷◌, true, Ok, Err, IsTrue, IfOk, IfSome, Some, length, map, string_bytes};
-ghost use Rattle.sd_outside.specs.Causes.{Rose};
+ghost use Rattle.sd_outside.specs.Causes.{RisesFor};
+ghost use Rattle.sd_outside.specs.Shelves.{KeepsShelf};
 ghost use Rattle.sd_cmd_files.specs.Stream.Reader.{IsNear};
 ghost use Rattle.sd_cmd_files.specs.Inputs.{topology_of};
 ghost use Rattle.sd_cmd_files.specs.Statuses.{is_among};
 ghost use Rattle.sd_cmd_files.specs.Texts.{texts_of};
 ghost use Rattle.sd_cmd_files.specs.work.Leaving.{LeavesAt};
-ghost use Rattle.sd_cmd_files.specs.work.Works.{Work, IsOutcome, WritesWhole, refused_part};
-ghost use Rattle.sd_cmd_replay.specs.Replays.{IsOrder, IsReplay, refused_over};
+ghost use Rattle.sd_cmd_files.specs.work.Works.{InSteps, IsOutcome, Work, WritesWhole, refused_part};
+ghost use Rattle.sd_cmd_files.specs.Answering.{InWrites};
+ghost use Rattle.sd_cmd_replay.specs.Loaded.{RunsIn};
+ghost use Rattle.sd_cmd_replay.specs.Replays.{order_work, refused_over, replay_work};
 
 use crate::Files;
 use crate::files::{end_early, start};
@@ -34,15 +37,15 @@ pub fn replay<S: Shelf, O: Sink>(
     requires some { 1 ≤ length files.plans.now }
     requires few { length files.plans.now ≤ 64 }
     ensures outcome { IfSome (S.held shelf.old) (λ held.
-        LeavesAt true (IsReplay (texts_of held files.entry.topology.now) (map (λ name. texts_of held name) (map string_bytes files.entry.plans.now)) (texts_of held files.entry.schedule.now)) (O.written out.old) (O.written out.new) result) }
+        LeavesAt true (RunsIn replay_work (texts_of held files.entry.topology.now) (map (λ name. texts_of held name) (map string_bytes files.entry.plans.now)) (texts_of held files.entry.schedule.now)) (O.written out.old) (O.written out.new) result) }
     ensures gives { IfOk result
         (λ status. IsTrue
         (is_among (Status.Done ∷ Status.PlanRefused ∷ Status.InputRefused ∷ Status.Broken ∷ [])
         status)) }
     ensures near { result ≡ Ok Status.InputRefused → IfSome (S.held shelf.old) (λ held.
         IfSome (refused_over (topology_of (texts_of held files.entry.topology.now)) (map (λ name. texts_of held name) (map string_bytes files.entry.plans.now)) (texts_of held files.entry.schedule.now)) (λ part. IsNear (Some part) (S.rest shelf.new))) }
-    ensures shelf { result ≡ Err IoError.Shelf → Rose (S.faults shelf.old) (S.faults shelf.new) }
-    ensures sink { result ≡ Err IoError.Sink → Rose (O.faults out.old) (O.faults out.new) }
+    ensures shelf { KeepsShelf S.Shelf (result ≡ Err IoError.Shelf) shelf.old shelf.new }
+    ensures sink { RisesFor (result ≡ Err IoError.Sink) (O.faults out.old) (O.faults out.new) }
 {
     let line = LineBuffer::new(alloc)?;
     match start(alloc, shelf, files, NoObserver) {
@@ -68,15 +71,15 @@ pub fn order<S: Shelf, O: Sink>(
     requires some { 1 ≤ length files.plans.now }
     requires few { length files.plans.now ≤ 64 }
     ensures outcome { IfSome (S.held shelf.old) (λ held.
-        LeavesAt true (IsOrder (texts_of held files.entry.topology.now) (map (λ name. texts_of held name) (map string_bytes files.entry.plans.now)) (texts_of held files.entry.schedule.now)) (O.written out.old) (O.written out.new) result) }
+        LeavesAt true (RunsIn order_work (texts_of held files.entry.topology.now) (map (λ name. texts_of held name) (map string_bytes files.entry.plans.now)) (texts_of held files.entry.schedule.now)) (O.written out.old) (O.written out.new) result) }
     ensures gives { IfOk result
         (λ status. IsTrue
         (is_among (Status.Done ∷ Status.PlanRefused ∷ Status.InputRefused ∷ Status.Broken ∷ [])
         status)) }
     ensures near { result ≡ Ok Status.InputRefused → IfSome (S.held shelf.old) (λ held.
         IfSome (refused_over (topology_of (texts_of held files.entry.topology.now)) (map (λ name. texts_of held name) (map string_bytes files.entry.plans.now)) (texts_of held files.entry.schedule.now)) (λ part. IsNear (Some part) (S.rest shelf.new))) }
-    ensures shelf { result ≡ Err IoError.Shelf → Rose (S.faults shelf.old) (S.faults shelf.new) }
-    ensures sink { result ≡ Err IoError.Sink → Rose (O.faults out.old) (O.faults out.new) }
+    ensures shelf { KeepsShelf S.Shelf (result ≡ Err IoError.Shelf) shelf.old shelf.new }
+    ensures sink { RisesFor (result ≡ Err IoError.Sink) (O.faults out.old) (O.faults out.new) }
 {
     let line = LineBuffer::new(alloc)?;
     match start(alloc, shelf, files, ToldWaits::new(alloc)) {
@@ -99,16 +102,16 @@ fn go_through<S: Shelf, O: Sink, W: LineWork>(
     requires { IsTrue (S.serves shelf.old schedule.now) }
     ensures outcome { (w : Work W.Item) → W.does work w [] → WritesWhole w
         → IfSome (S.held shelf.old)
-        (λ held. LeavesAt true (IsOutcome w (texts_of held schedule.now)) (O.written out.old)
-        (O.written out.new) result) }
+        (λ held. LeavesAt true
+        (InWrites (InSteps w (texts_of held schedule.now)) (IsOutcome w (texts_of held schedule.now)))
+        (O.written out.old) (O.written out.new) result) }
     ensures gives { IfOk result (λ status. IsTrue (is_among (Status.InputRefused ∷ W.gives) status)) }
     ensures near { (w : Work W.Item) → W.does work w [] → result ≡ Ok Status.InputRefused
         → IfSome (S.held shelf.old)
         (λ held. IsNear (Some (refused_part w (texts_of held schedule.now)))
         (S.rest shelf.new)) }
-    ensures shelf { result ≡ Err IoError.Shelf → Rose (S.faults shelf.old) (S.faults shelf.new) }
-    ensures sink { result ≡ Err IoError.Sink → Rose (O.faults out.old) (O.faults out.new) }
-    ensures later { S.faults shelf.old ≤ S.faults shelf.new }
+    ensures shelf { KeepsShelf S.Shelf (result ≡ Err IoError.Shelf) shelf.old shelf.new }
+    ensures sink { RisesFor (result ≡ Err IoError.Sink) (O.faults out.old) (O.faults out.new) }
 {
     match shelf.begin(schedule) {
         Ok(()) => work_through(alloc, shelf, work, out),

@@ -2,3 +2,4 @@ pub mod Files
 pub mod Written
 pub mod Cutting
 pub mod Printing
+pub mod Adding

@@ -4,7 +4,7 @@ use Rattle.std.proofs.Math.ListN.{get_or}
 use Rattle.std.proofs.Math.Seq.{drop-cons, take-suc, take-length}
 use Rattle.std.proofs.lemmas.List.{get_or-map, length-map}
 use Rattle.std.proofs.lemmas.List.Elements.{All-get_or}
-use Rattle.std.specs.Prelude.{All, IfErr, IfSome, IsErrAnd, slice_get, string_bytes}
+use Rattle.std.specs.Prelude.{All, IfErr, IfSome, IsErrAnd, string_bytes}
 use Rattle.sd_topo.specs.Network.{Network, Each}
 use Rattle.sd_plan.specs.declared.Plan.{Plan}
 use Rattle.sd_checker.specs.Verdicts.{IsAccepted}

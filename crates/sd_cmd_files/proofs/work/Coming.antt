@@ -1,40 +1,41 @@
 -- How far a run has come, line by line, and that it then ends as its outcome says.
-use Rattle.std.proofs.Common.{◌≡◌, ℕ, ◌+◌, true, List, [], ◌∷◌, ◌++◌, Option, Some, None, Ok, Err, refl, inr, sym, ap, ◌∙◌, subst, length, take, drop, append_assoc, take-append-drop, arith}
-use Rattle.std.proofs.Math.Seq.{take-append_seam}
-use Rattle.std.specs.Prelude.{IfSome}
-use Rattle.std.specs.Io.KnownBytes.{Appends, Keeps}
-use Rattle.std.proofs.KnownBytes.{Appends-nil, Appends-trans, Appends-kept}
+use Rattle.std.proofs.Common.{◌≡◌, ℕ, ◌+◌, true, List, [], ◌∷◌, ◌++◌, Option, Some, None, Ok, Err, refl, inr, sym, ap, ◌∙◌, subst, length, append_assoc, arith}
+use Rattle.std.specs.Prelude.{All, IfSome, IsTrue}
+use Rattle.std.specs.List.{concat}
+use Rattle.std.proofs.lemmas.List.Folds.{concat-append}
+use Rattle.std.proofs.lemmas.List.Elements.{All-append, All-cons, All-nil}
 use Rattle.sd_outside.specs.declared.shelf.Shelf.{Ghosts}
-use Rattle.sd_outside.specs.Prefixes.{WritesPrefix}
+use Rattle.sd_outside.specs.Pieces.{AddsFront, AddsPieces, Pieces, piece_of}
+use Rattle.sd_outside.proofs.Adding.{adds_both, adds_none, concat_piece, front_behind}
 use Rattle.sd_stream.specs.Lines.{lines, after_line}
 use Rattle.sd_stream.specs.Reader.{text_left, bytes_before, GoesPast, IsNear}
 use Rattle.sd_stream.specs.declared.reader.LineReader.{LineReader}
 use Rattle.sd_stream.specs.declared.buffer.Buffer.{Buffer}
+use Rattle.sd_cmd_files.specs.Answering.{InWrites}
 use Rattle.sd_cmd_files.specs.Writes.{Adds}
 use Rattle.sd_cmd_files.specs.declared.Status.{Status}
 use Rattle.sd_cmd_files.specs.declared.command_error.IoError.{IoError}
 use Rattle.sd_cmd_files.specs.declared.command_error.IoError.TheVariants as stop
-use Rattle.sd_cmd_files.specs.work.Works.{Work, Reading, IsOutcome, WritesWhole, reading, reading_from, all_bytes, last_bytes, written_for, status_for, refused_part, text_behind}
+use Rattle.sd_cmd_files.specs.work.Works.{Work, Reading, InSteps, IsOutcome, WritesWhole, reading, reading_from, all_bytes, all_pieces, last_bytes, last_pieces_for, pieces_for, refused_line, written_for, status_for, refused_part, text_behind}
 use Rattle.sd_cmd_files.specs.work.Leaving.{WritesLines, LeavesAt, are_lines}
-use Rattle.sd_cmd_files.specs.work.Steps.{Step, step_of, step_bytes}
+use Rattle.sd_cmd_files.specs.work.Steps.{Step, step_of, step_pieces}
 use Rattle.sd_cmd_files.specs.work.Comes.{HasCome}
 use Rattle.sd_cmd_files.proofs.work.Reading.{reads_on, reads_end, EndsWith, begins_with_step}
-use Rattle.sd_cmd_files.proofs.work.Whole.{append_whole}
 use Rattle.sd_cmd_files.proofs.work.Writing.{AddsNext, MakesNext}
 
 -- before the first line
-pub comes : {S E : Type 0} (g : Ghosts S) (work : Work E) (Stands : List E → Type 0) (text : List ℕ) (reader : LineReader S Buffer g) (out : Option (List ℕ))
+pub comes : {S E : Type 0} (g : Ghosts S) (work : Work E) (Stands : List E → Type 0) (text : List ℕ) (reader : LineReader S Buffer g) (out : Option Pieces)
     → Stands [] → text_left g reader ≡ Some text → bytes_before reader ≡ 0
-    → Appends out out [] → HasCome g work Stands text reader out out
-unfolding reading all_bytes
-comes g work Stands text reader out stands left none nothing =
+    → HasCome g work Stands text reader out out
+unfolding reading all_pieces
+comes g work Stands text reader out stands left none =
     record {
       taken = [];
       stands = stands;
       left = left;
       total = ap (λ (n : ℕ). n + length text) none ∙ zero_front (length text);
       further = ap (λ (n : ℕ). reading_from work (length text) n [] (lines text)) (sym none);
-      written = nothing;
+      written = adds_none out;
     }
   where
     zero_front : (n : ℕ) → 0 + n ≡ n
@@ -42,11 +43,11 @@ comes g work Stands text reader out stands left none nothing =
 
 -- after a line that was accepted
 pub comes_on : {S E : Type 0} (g : Ghosts S) (work : Work E) (Stood Stands : Work E → List E
-    → Type 0) (text : List ℕ) (old new : LineReader S Buffer g) (first before after : Option (List ℕ)) → HasCome g work (Stood work) text old first before
+    → Type 0) (text : List ℕ) (old new : LineReader S Buffer g) (first before after : Option Pieces) → HasCome g work (Stood work) text old first before
     → MakesNext (text_left g old) (bytes_before old) Stood Stands (Ok None)
     → AddsNext {T = Option Status} (text_left g old) (bytes_before old) Stood before after (Ok None)
     → IfSome (text_left g old) (GoesPast (bytes_before old) (bytes_before new) (text_left g new)) → HasCome g work (Stands work) text new first after
-unfolding all_bytes
+unfolding all_pieces
 comes_on {E = E} g work Stood Stands text old new first before after h makes adds past =
     let left = text_behind (length h.taken) text in
     let total = bytes_before old + length left in
@@ -65,117 +66,143 @@ comes_on {E = E} g work Stood Stands text old new first before after h makes add
           ∙ subst (λ (n : ℕ). reading_from work n (bytes_before old) h.taken (lines left)
           ≡ reading_from work n (bytes_before new) (made.0 ∷ h.taken) (lines (after_line left))) h.total
           (reads_on work total (bytes_before old) (bytes_before new) h.taken made.0 left made.1 gone.count);
-      written = Appends-trans first before after (all_bytes work h.taken) (work.bytes h.taken made.0) h.written
-          (subst (λ (s : Step E). Appends before after (step_bytes work h.taken s)) made.1 added);
+      written = adds_both first before after (all_pieces work h.taken) (piece_of (work.bytes h.taken made.0)) h.written
+          (subst (λ (s : Step E). AddsPieces before after (step_pieces work h.taken s)) made.1 added);
     }
 
-regroup : (a b c d : List ℕ) → (a ++ (b ++ c)) ++ d ≡ (a ++ b) ++ (c ++ d)
-regroup a b c d = simp append_assoc
+whole_piece : (bytes : List ℕ) → IsTrue (are_lines bytes) → All (λ piece. IsTrue (are_lines piece)) (piece_of bytes)
+whole_piece [] whole = All-nil (λ (piece : List ℕ). IsTrue (are_lines piece))
+whole_piece (byte ∷ bytes) whole =
+    All-cons (λ (piece : List ℕ). IsTrue (are_lines piece)) (byte ∷ bytes) [] whole (All-nil (λ (piece : List ℕ). IsTrue (are_lines piece)))
 
 -- all that is written for lines is whole lines
-all_lines : {E : Type 0} (work : Work E) → WritesWhole work → (xs : List E) → are_lines (all_bytes work xs) ≡ true
-unfolding all_bytes
-all_lines work whole [] = refl
-all_lines work whole (x ∷ earlier) = append_whole (all_bytes work earlier) (work.bytes earlier x) (all_lines work whole earlier) (whole earlier x)
+all_lines : {E : Type 0} (work : Work E) → WritesWhole work → (xs : List E) → All (λ piece. IsTrue (are_lines piece)) (all_pieces work xs)
+unfolding all_pieces
+all_lines work whole [] = All-nil (λ (piece : List ℕ). IsTrue (are_lines piece))
+all_lines work whole (x ∷ earlier) =
+    All-append (λ (piece : List ℕ). IsTrue (are_lines piece)) (all_pieces work earlier) (piece_of (work.bytes earlier x)) (all_lines work whole earlier)
+    (whole_piece (work.bytes earlier x) (whole earlier x))
+
+-- the bytes of the pieces of a reading are all that is written for it
+all_concat : {E : Type 0} (work : Work E) (xs : List E) → concat (all_pieces work xs) ≡ all_bytes work xs
+unfolding all_pieces all_bytes
+all_concat work [] = refl
+all_concat work (x ∷ earlier) =
+    concat-append (all_pieces work earlier) (piece_of (work.bytes earlier x))
+    ∙ ap (λ (l : List ℕ). l ++ concat (piece_of (work.bytes earlier x))) (all_concat work earlier)
+    ∙ ap (λ (l : List ℕ). all_bytes work earlier ++ l) (concat_piece (work.bytes earlier x))
+
+last_concat : {E : Type 0} (work : Work E) (xs : List E) (refused : Option (List ℕ)) → concat (last_pieces_for work xs refused) ≡ last_bytes work xs refused
+last_concat work xs None = refl
+last_concat work xs (Some why) = concat_piece (refused_line work (length xs + 1) why)
+
+written_concat : {E : Type 0} (work : Work E) (r : Reading E) → concat (pieces_for work r) ≡ written_for work r
+written_concat work r =
+    concat-append (all_pieces work r.taken) (last_pieces_for work r.taken r.refused)
+    ∙ ap (λ (l : List ℕ). l ++ concat (last_pieces_for work r.taken r.refused)) (all_concat work r.taken)
+    ∙ ap (λ (l : List ℕ). all_bytes work r.taken ++ l) (last_concat work r.taken r.refused)
+
+-- the pieces of the steps are the outcome
+pub in_steps : {E : Type 0} (work : Work E) (text : List ℕ) (pieces : Pieces) (status : Status) → InSteps work text pieces
+    → status ≡ status_for work (reading work text).taken (reading work text).refused
+    → InWrites (InSteps work text) (IsOutcome work text) pieces status
+in_steps work text pieces status steps is = ((ap concat steps ∙ written_concat work (reading work text), is), steps)
 
 -- the outcome begins with what was written, and goes on with the next step
 outcome_begins : {S E : Type 0} (g : Ghosts S) (work : Work E) (Stands : List E
-    → Type 0) (text : List ℕ) (reader : LineReader S Buffer g) (first before : Option (List ℕ)) (h : HasCome g work Stands text reader first before)
-    → (more : List ℕ)
-    × ((written_for work (reading work text))
-    ≡ (all_bytes work h.taken
-    ++ step_bytes work h.taken
+    → Type 0) (text : List ℕ) (reader : LineReader S Buffer g) (first before : Option Pieces) (h : HasCome g work Stands text reader first before)
+    → (more : Pieces)
+    × ((pieces_for work (reading work text))
+    ≡ (all_pieces work h.taken
+    ++ step_pieces work h.taken
     (step_of work (bytes_before reader + length (text_behind (length h.taken) text)) (bytes_before reader) h.taken
     (lines (text_behind (length h.taken) text)))) ++ more)
 outcome_begins g work Stands text reader first before h =
     let left = text_behind (length h.taken) text in
     let begun = begins_with_step work (bytes_before reader + length left) (bytes_before reader) h.taken (lines left) in
-    (begun.0, ap (written_for work) (h.further ∙ ap (λ (n : ℕ). reading_from work n (bytes_before reader) h.taken (lines left)) (sym h.total)) ∙ begun.1)
+    (begun.0, ap (pieces_for work) (h.further ∙ ap (λ (n : ℕ). reading_from work n (bytes_before reader) h.taken (lines left)) (sym h.total)) ∙ begun.1)
 
 -- a run that was stopped has written a front of its outcome
 pub stops : {S E : Type 0} (g : Ghosts S) (work : Work E) (Stood : Work E → List E
-    → Type 0) (text : List ℕ) (reader : LineReader S Buffer g) (first before after : Option (List ℕ)) (why : IoError) → WritesWhole work
+    → Type 0) (text : List ℕ) (reader : LineReader S Buffer g) (first before after : Option Pieces) (why : IoError) → WritesWhole work
     → HasCome g work (Stood work) text reader first before
     → AddsNext {T = Option Status} (text_left g reader) (bytes_before reader) Stood before after (Err why)
-    → LeavesAt true (IsOutcome work text) first after (Err why)
+    → LeavesAt true (InWrites (InSteps work text) (IsOutcome work text)) first after (Err why)
 stops {E = E} g work Stood text reader first before after why whole h adds =
     by why (outcome_begins g work (Stood work) text reader first before h)
     (subst (λ (l : Option (List ℕ)). AddsNext {T = Option Status} l (bytes_before reader) Stood before after (Err why)) h.left adds work h.taken h.stands)
   where
-    all : List ℕ
-    all = written_for work (reading work text)
+    all : Pieces
+    all = pieces_for work (reading work text)
 
     answer : Status
     answer = status_for work (reading work text).taken (reading work text).refused
 
-    done : List ℕ
-    done = all_bytes work h.taken
+    done : Pieces
+    done = all_pieces work h.taken
 
     left : List ℕ
     left = text_behind (length h.taken) text
 
-    next : List ℕ
-    next = step_bytes work h.taken (step_of work (bytes_before reader + length left) (bytes_before reader) h.taken (lines left))
+    next : Pieces
+    next = step_pieces work h.taken (step_of work (bytes_before reader + length left) (bytes_before reader) h.taken (lines left))
 
-    front : (more : List ℕ) → all ≡ (done ++ next) ++ more → Keeps before after → WritesLines first after all
+    front : (more : Pieces) → all ≡ (done ++ next) ++ more → after ≡ before → WritesLines first after all
     front more same kept =
-        let taken : take (length done) all ≡ done = ap (take (length done)) (same ∙ append_assoc done next more) ∙ take-append_seam done (next ++ more) in (
-          length done,
-          ap are_lines taken
-              ∙ all_lines work whole h.taken,
-          subst (Appends first after) (sym taken) (Appends-kept first before after done h.written kept),
-        )
+        record {
+          whole = done;
+          others = next ++ more;
+          are = same ∙ append_assoc done next more;
+          lines = all_lines work whole h.taken;
+          added = kept ∙ h.written;
+        }
 
-    cut : (more : List ℕ) → all ≡ (done ++ next) ++ more → WritesPrefix before after next → WritesPrefix first after all
-    cut more same written =
-        let part = take written.0 next in
-        let rest = drop written.0 next in
-        let split : all ≡ (done ++ part) ++ (rest ++ more) = same ∙ ap (λ (l : List ℕ). (done ++ l) ++ more) (sym (take-append-drop written.0 next))
-        ∙ regroup done part rest more in (
-          length (done ++ part),
-          subst (Appends first after) (sym (ap (take (length (done ++ part))) split ∙ take-append_seam (done ++ part) (rest ++ more)))
-              (Appends-trans first before after done part h.written written.1),
-        )
+    cut : (more : Pieces) → all ≡ (done ++ next) ++ more → AddsFront before after next → AddsFront first after all
+    cut more same written = subst (AddsFront first after) (sym same) (front_behind first before after done next more h.written written)
 
-    by : (cause : IoError) → (more : List ℕ) × (all ≡ (done ++ next) ++ more) → Adds {T = Option Status} next before after (Err cause)
-        → LeavesAt true (IsOutcome work text) first after (Err cause)
-    by stop.Shelf begun kept = inr (all, answer, (refl, refl), front begun.0 begun.1 kept)
-    by stop.Sink begun written = (all, answer, (refl, refl), cut begun.0 begun.1 written)
-    by stop.Memory begun kept = inr (all, answer, (refl, refl), front begun.0 begun.1 kept)
+    by : (cause : IoError) → (more : Pieces) × (all ≡ (done ++ next) ++ more) → Adds {T = Option Status} next before after (Err cause)
+        → LeavesAt true (InWrites (InSteps work text) (IsOutcome work text)) first after (Err cause)
+    by stop.Shelf begun kept = inr (all, answer, in_steps work text all answer refl refl, front begun.0 begun.1 kept)
+    by stop.Sink begun written = (all, answer, in_steps work text all answer refl refl, cut begun.0 begun.1 written)
+    by stop.Memory begun kept = inr (all, answer, in_steps work text all answer refl refl, front begun.0 begun.1 kept)
 
 -- what is written where a reading ends is all that is written for it
-ends_reading : {E : Type 0} (work : Work E) (r : Reading E) (xs : List E) (bytes : List ℕ) (status : Status) (first after : Option (List ℕ))
-    → EndsWith work r xs bytes status → Appends first after (all_bytes work xs ++ bytes)
-    → (written : List ℕ) × ((written ≡ written_for work r) × (status ≡ status_for work r.taken r.refused)) × Appends first after written
-ends_reading {E = E} work r xs bytes status first after e written =
-    let same : all_bytes work xs ++ bytes ≡ written_for work r =
-    sym (ap (λ (l : List E). all_bytes work l ++ last_bytes work l r.refused) e.taken_are ∙ ap (λ (l : List ℕ). all_bytes work xs ++ l) e.bytes_are) in
-    (all_bytes work xs ++ bytes, (same, sym (ap (λ (l : List E). status_for work l r.refused) e.taken_are ∙ e.status_is)), written)
+ends_reading : {E : Type 0} (work : Work E) (text : List ℕ) (xs : List E) (last : Pieces) (status : Status) (first after : Option Pieces)
+    → EndsWith work (reading work text) xs last status → AddsPieces first after (all_pieces work xs ++ last)
+    → (pieces : Pieces) × InWrites (InSteps work text) (IsOutcome work text) pieces status × AddsPieces first after pieces
+ends_reading {E = E} work text xs last status first after e written =
+    let r = reading work text in
+    let same : all_pieces work xs ++ last ≡ pieces_for work r =
+    sym (ap (λ (l : List E). all_pieces work l ++ last_pieces_for work l r.refused) e.taken_are ∙ ap (λ (l : Pieces). all_pieces work xs ++ l) e.pieces_are) in (
+      all_pieces work xs ++ last,
+      in_steps work text (all_pieces work xs ++ last) status same (sym (ap (λ (l : List E). status_for work l r.refused) e.taken_are ∙ e.status_is)),
+      written,
+    )
 
 -- a run that ended has written its outcome, and answers its status
 pub ends : {S E : Type 0} (g : Ghosts S) (work : Work E) (Stood Stands : Work E → List E
-    → Type 0) (text : List ℕ) (reader : LineReader S Buffer g) (first before after : Option (List ℕ)) (status : Status)
+    → Type 0) (text : List ℕ) (reader : LineReader S Buffer g) (first before after : Option Pieces) (status : Status)
     → HasCome g work (Stood work) text reader first before
     → MakesNext (text_left g reader) (bytes_before reader) Stood Stands (Ok (Some status))
     → AddsNext {T = Option Status} (text_left g reader) (bytes_before reader) Stood before after (Ok (Some status))
-    → LeavesAt true (IsOutcome work text) first after (Ok status)
+    → LeavesAt true (InWrites (InSteps work text) (IsOutcome work text)) first after (Ok status)
 ends {E = E} g work Stood Stands text reader first before after status h makes adds =
     let left = text_behind (length h.taken) text in
     let total = bytes_before reader + length left in
     let made = subst (λ (l : Option (List ℕ)). MakesNext l (bytes_before reader) Stood Stands (Ok (Some status))) h.left makes work h.taken h.stands in
     let added = subst (λ (l : Option (List ℕ)). AddsNext {T = Option Status} l (bytes_before reader) Stood before after (Ok (Some status))) h.left adds work
     h.taken h.stands in
-    let last = subst (λ (s : Step E). Appends before after (step_bytes work h.taken s)) made.1 added in
+    let last = subst (λ (s : Step E). AddsPieces before after (step_pieces work h.taken s)) made.1 added in
     let further : reading work text ≡ reading_from work total (bytes_before reader) h.taken (lines left) =
     h.further ∙ ap (λ (n : ℕ). reading_from work n (bytes_before reader) h.taken (lines left)) (sym h.total) in
     let ended = subst (λ (r : Reading E). EndsWith work r h.taken made.0 status) (sym further)
     (reads_end work total (bytes_before reader) h.taken (lines left) made.0 status made.1) in
-    ends_reading work (reading work text) h.taken made.0 status first after ended
-    (Appends-trans first before after (all_bytes work h.taken) made.0 h.written last)
+    ends_reading work text h.taken made.0 status first after ended
+    (adds_both first before after (all_pieces work h.taken) made.0 h.written last)
 
 -- the line of a text at which its reading ends
 pub ends_behind : {S E : Type 0} (g : Ghosts S) (work : Work E) (Stood Stands : Work E → List E
-    → Type 0) (text : List ℕ) (reader : LineReader S Buffer g) (first before : Option (List ℕ)) (status : Status)
+    → Type 0) (text : List ℕ) (reader : LineReader S Buffer g) (first before : Option Pieces) (status : Status)
     → HasCome g work (Stood work) text reader first before
     → MakesNext (text_left g reader) (bytes_before reader) Stood Stands (Ok (Some status)) → text_left g reader ≡ Some (refused_part work text)
 ends_behind {E = E} g work Stood Stands text reader first before status h makes =
@@ -190,14 +217,14 @@ ends_behind {E = E} g work Stood Stands text reader first before status h makes 
 
 -- the same of a text that is told or not
 pub told_comes : {S E : Type 0} (g : Ghosts S) (work : Work E) (Stands : List E
-    → Type 0) (rest : Option (List ℕ)) (reader : LineReader S Buffer g) (out : Option (List ℕ)) → Stands [] → text_left g reader ≡ rest
+    → Type 0) (rest : Option (List ℕ)) (reader : LineReader S Buffer g) (out : Option Pieces) → Stands [] → text_left g reader ≡ rest
     → bytes_before reader ≡ 0
     → IfSome rest (λ text. HasCome g work Stands text reader out out)
 told_comes g work Stands None reader out stands left none = tt
-told_comes g work Stands (Some text) reader out stands left none = comes g work Stands text reader out stands left none (Appends-nil out)
+told_comes g work Stands (Some text) reader out stands left none = comes g work Stands text reader out stands left none
 
 pub told_comes_on : {S E : Type 0} (g : Ghosts S) (work : Work E) (Stood Stands : Work E → List E
-    → Type 0) (rest : Option (List ℕ)) (old new : LineReader S Buffer g) (first before after : Option (List ℕ))
+    → Type 0) (rest : Option (List ℕ)) (old new : LineReader S Buffer g) (first before after : Option Pieces)
     → IfSome rest (λ text. HasCome g work (Stood work) text old first before) → MakesNext (text_left g old) (bytes_before old) Stood Stands (Ok None)
     → AddsNext {T = Option Status} (text_left g old) (bytes_before old) Stood before after (Ok None)
     → IfSome (text_left g old) (GoesPast (bytes_before old) (bytes_before new) (text_left g new))
@@ -207,25 +234,25 @@ told_comes_on g work Stood Stands (Some text) old new first before after h makes
     comes_on g work Stood Stands text old new first before after h makes adds past
 
 pub told_stops : {S E : Type 0} (g : Ghosts S) (work : Work E) (Stood : Work E → List E
-    → Type 0) (rest : Option (List ℕ)) (reader : LineReader S Buffer g) (first before after : Option (List ℕ)) (why : IoError) → WritesWhole work
+    → Type 0) (rest : Option (List ℕ)) (reader : LineReader S Buffer g) (first before after : Option Pieces) (why : IoError) → WritesWhole work
     → IfSome rest (λ text. HasCome g work (Stood work) text reader first before)
     → AddsNext {T = Option Status} (text_left g reader) (bytes_before reader) Stood before after (Err why)
-    → IfSome rest (λ text. LeavesAt true (IsOutcome work text) first after (Err why))
+    → IfSome rest (λ text. LeavesAt true (InWrites (InSteps work text) (IsOutcome work text)) first after (Err why))
 told_stops g work Stood None reader first before after why whole h adds = tt
 told_stops g work Stood (Some text) reader first before after why whole h adds = stops g work Stood text reader first before after why whole h adds
 
 pub told_ends : {S E : Type 0} (g : Ghosts S) (work : Work E) (Stood Stands : Work E → List E
-    → Type 0) (rest : Option (List ℕ)) (reader : LineReader S Buffer g) (first before after : Option (List ℕ)) (status : Status)
+    → Type 0) (rest : Option (List ℕ)) (reader : LineReader S Buffer g) (first before after : Option Pieces) (status : Status)
     → IfSome rest (λ text. HasCome g work (Stood work) text reader first before)
     → MakesNext (text_left g reader) (bytes_before reader) Stood Stands (Ok (Some status))
     → AddsNext {T = Option Status} (text_left g reader) (bytes_before reader) Stood before after (Ok (Some status))
-    → IfSome rest (λ text. LeavesAt true (IsOutcome work text) first after (Ok status))
+    → IfSome rest (λ text. LeavesAt true (InWrites (InSteps work text) (IsOutcome work text)) first after (Ok status))
 told_ends g work Stood Stands None reader first before after status h makes adds = tt
 told_ends g work Stood Stands (Some text) reader first before after status h makes adds =
     ends g work Stood Stands text reader first before after status h makes adds
 
 pub told_near : {S E : Type 0} (g : Ghosts S) (work : Work E) (Stood Stands : Work E → List E
-    → Type 0) (rest shelf : Option (List ℕ)) (reader : LineReader S Buffer g) (first before : Option (List ℕ)) (status : Status)
+    → Type 0) (rest shelf : Option (List ℕ)) (reader : LineReader S Buffer g) (first before : Option Pieces) (status : Status)
     → IfSome rest (λ text. HasCome g work (Stood work) text reader first before)
     → MakesNext (text_left g reader) (bytes_before reader) Stood Stands (Ok (Some status)) → IsNear (text_left g reader) shelf
     → IfSome rest (λ text. IsNear (Some (refused_part work text)) shelf)

@@ -4,10 +4,11 @@ use Rattle.std.specs.List.{list_any}
 use Rattle.std.specs.Prelude.{codes}
 use Rattle.sd_stream.specs.Lines.{lines, line_len, after_line}
 use Rattle.sd_stream.proofs.LineLaws.{length-take-line_len, length-after_line, lines-more}
+use Rattle.sd_outside.specs.Pieces.{Pieces, piece_of}
 use Rattle.sd_cmd_files.specs.declared.Status.{Status}
 use Rattle.sd_cmd_files.specs.declared.Status.TheVariants.{InputRefused}
-use Rattle.sd_cmd_files.specs.work.Works.{Work, Reading, judged, read_on, reading_from, written_for, last_bytes, status_for, all_bytes, refused_line}
-use Rattle.sd_cmd_files.specs.work.Steps.{Next, Last, step_for, step_of, step_bytes, refused_step}
+use Rattle.sd_cmd_files.specs.work.Works.{Work, Reading, judged, read_on, reading_from, pieces_for, last_pieces_for, status_for, all_pieces, refused_line}
+use Rattle.sd_cmd_files.specs.work.Steps.{Next, Last, step_for, step_of, step_pieces, refused_step}
 
 -- where no line is left it does not matter where they would begin
 same_start : {E : Type 0} (work : Work E) (total start other : ℕ) (xs : List E) (text : List ℕ) → (0 < length text → start ≡ other)
@@ -16,10 +17,10 @@ unfolding reading_from
 same_start work total start other xs [] same = refl
 same_start work total start other xs (byte ∷ bytes) same = ap (λ (s : ℕ). reading_from work total s xs (lines (byte ∷ bytes))) (same (omega arith))
 
-next_only : {E : Type 0} (ended : Bool) (bytes refused : List ℕ) (status : Status) (x : E) → cond ended (Last bytes status) (Last refused InputRefused) ≡ Next x
+next_only : {E : Type 0} (ended : Bool) (pieces refused : Pieces) (status : Status) (x : E) → cond ended (Last pieces status) (Last refused InputRefused) ≡ Next x
     → ⊥
-next_only true bytes refused status x same = cc
-next_only false bytes refused status x same = cc
+next_only true pieces refused status x same = cc
+next_only false pieces refused status x same = cc
 
 taken_next : {E : Type 0} (work : Work E) (xs : List E) (said : Result E (List ℕ)) (x : E) → step_for work xs said ≡ Next x → said ≡ Ok x
 taken_next work xs (Ok other) x same = cc
@@ -34,7 +35,7 @@ pub reads_on : {E : Type 0} (work : Work E) (total start other : ℕ) (xs : List
     → reading_from work total start xs (lines text) ≡ reading_from work total other (x ∷ xs) (lines (after_line text))
 unfolding reading_from
 reads_on work total start other xs x [] step count =
-    absurd (next_only (list_any work.ends xs) (work.last_lines xs) (refused_line work (length xs + 1) (codes "NoEnd")) (work.last_status xs) x step)
+    absurd (next_only (list_any work.ends xs) (work.last_pieces xs) (piece_of (refused_line work (length xs + 1) (codes "NoEnd"))) (work.last_status xs) x step)
 reads_on {E = E} work total start other xs x (byte ∷ bytes) step count = from (byte ∷ bytes) (omega arith) step count
   where
     from : (text : List ℕ) → 0 < length text → step_of work total start xs (lines text) ≡ Next x → other + length (after_line text) ≡ start + length text
@@ -47,64 +48,64 @@ reads_on {E = E} work total start other xs x (byte ∷ bytes) step count = from 
         (next_start start other (line_len text) (length text) (length (after_line text)) (length-after_line text) count))
 
 -- how a reading ends
-pub record EndsWith {E : Type 0} (work : Work E) (r : Reading E) (xs : List E) (bytes : List ℕ) (status : Status) : Type 0 where
+pub record EndsWith {E : Type 0} (work : Work E) (r : Reading E) (xs : List E) (pieces : Pieces) (status : Status) : Type 0 where
   pub taken_are : r.taken ≡ xs
-  pub bytes_are : last_bytes work xs r.refused ≡ bytes
+  pub pieces_are : last_pieces_for work xs r.refused ≡ pieces
   pub status_is : status_for work xs r.refused ≡ status
 
-ends_open : {E : Type 0} (work : Work E) (ended : Bool) (xs : List E) (bytes : List ℕ) (status : Status)
-    → cond ended (Last (work.last_lines xs) (work.last_status xs)) (refused_step work xs (codes "NoEnd")) ≡ Last bytes status
-    → EndsWith work (record { taken = xs; refused = cond ended None (Some (codes "NoEnd")) }) xs bytes status
-ends_open work true xs bytes status same = record { taken_are = refl; bytes_are = cc; status_is = cc }
-ends_open work false xs bytes status same = record { taken_are = refl; bytes_are = cc; status_is = cc }
+ends_open : {E : Type 0} (work : Work E) (ended : Bool) (xs : List E) (pieces : Pieces) (status : Status)
+    → cond ended (Last (work.last_pieces xs) (work.last_status xs)) (refused_step work xs (codes "NoEnd")) ≡ Last pieces status
+    → EndsWith work (record { taken = xs; refused = cond ended None (Some (codes "NoEnd")) }) xs pieces status
+ends_open work true xs pieces status same = record { taken_are = refl; pieces_are = cc; status_is = cc }
+ends_open work false xs pieces status same = record { taken_are = refl; pieces_are = cc; status_is = cc }
 
-ends_at : {E : Type 0} (work : Work E) (xs : List E) (said : Result E (List ℕ)) (next : E → Reading E) (bytes : List ℕ) (status : Status)
-    → step_for work xs said ≡ Last bytes status
-    → EndsWith work (read_on said xs next) xs bytes status
-ends_at work xs (Ok x) next bytes status same = cc
-ends_at work xs (Err why) next bytes status same = record { taken_are = refl; bytes_are = cc; status_is = cc }
+ends_at : {E : Type 0} (work : Work E) (xs : List E) (said : Result E (List ℕ)) (next : E → Reading E) (pieces : Pieces) (status : Status)
+    → step_for work xs said ≡ Last pieces status
+    → EndsWith work (read_on said xs next) xs pieces status
+ends_at work xs (Ok x) next pieces status same = cc
+ends_at work xs (Err why) next pieces status same = record { taken_are = refl; pieces_are = cc; status_is = cc }
 
 -- the last step ends the reading
-pub reads_end : {E : Type 0} (work : Work E) (total start : ℕ) (xs : List E) (ls : List (List ℕ)) (bytes : List ℕ) (status : Status)
-    → step_of work total start xs ls ≡ Last bytes status
-    → EndsWith work (reading_from work total start xs ls) xs bytes status
+pub reads_end : {E : Type 0} (work : Work E) (total start : ℕ) (xs : List E) (ls : List (List ℕ)) (pieces : Pieces) (status : Status)
+    → step_of work total start xs ls ≡ Last pieces status
+    → EndsWith work (reading_from work total start xs ls) xs pieces status
 unfolding reading_from
-reads_end work total start xs [] bytes status step = ends_open work (list_any work.ends xs) xs bytes status step
-reads_end work total start xs (line ∷ others) bytes status step =
-    ends_at work xs (judged work total start xs line) (λ x. reading_from work total (start + length line + 1) (x ∷ xs) others) bytes status step
+reads_end work total start xs [] pieces status step = ends_open work (list_any work.ends xs) xs pieces status step
+reads_end work total start xs (line ∷ others) pieces status step =
+    ends_at work xs (judged work total start xs line) (λ x. reading_from work total (start + length line + 1) (x ∷ xs) others) pieces status step
 
 -- what is written for a reading begins with what is written for its first lines
 pub begins_with : {E : Type 0} (work : Work E) (total start : ℕ) (xs : List E) (ls : List (List ℕ))
-    → (more : List ℕ) × (written_for work (reading_from work total start xs ls) ≡ all_bytes work xs ++ more)
-unfolding reading_from all_bytes
-begins_with work total start xs [] = (last_bytes work xs (cond (list_any work.ends xs) None (Some (codes "NoEnd"))), refl)
+    → (more : Pieces) × (pieces_for work (reading_from work total start xs ls) ≡ all_pieces work xs ++ more)
+unfolding reading_from all_pieces
+begins_with work total start xs [] = (last_pieces_for work xs (cond (list_any work.ends xs) None (Some (codes "NoEnd"))), refl)
 begins_with {E = E} work total start xs (line ∷ others) =
     from (judged work total start xs line) (λ x. begins_with work total (start + length line + 1) (x ∷ xs) others)
   where
     from : (said : Result E (List ℕ))
-        → ((x : E) → (more : List ℕ) × (written_for work (reading_from work total (start + length line + 1) (x ∷ xs) others) ≡ all_bytes work (x ∷ xs) ++ more))
-        → (more : List ℕ)
-        × (written_for work (read_on said xs (λ x. reading_from work total (start + length line + 1) (x ∷ xs) others)) ≡ all_bytes work xs ++ more)
-    from (Ok x) later = (work.bytes xs x ++ (later x).0, (later x).1 ∙ append_assoc (all_bytes work xs) (work.bytes xs x) (later x).0)
-    from (Err why) later = (last_bytes work xs (Some why), refl)
+        → ((x : E) → (more : Pieces) × (pieces_for work (reading_from work total (start + length line + 1) (x ∷ xs) others) ≡ all_pieces work (x ∷ xs) ++ more))
+        → (more : Pieces)
+        × (pieces_for work (read_on said xs (λ x. reading_from work total (start + length line + 1) (x ∷ xs) others)) ≡ all_pieces work xs ++ more)
+    from (Ok x) later = (piece_of (work.bytes xs x) ++ (later x).0, (later x).1 ∙ append_assoc (all_pieces work xs) (piece_of (work.bytes xs x)) (later x).0)
+    from (Err why) later = (last_pieces_for work xs (Some why), refl)
 
 -- and with what its next step writes
 pub begins_with_step : {E : Type 0} (work : Work E) (total start : ℕ) (xs : List E) (ls : List (List ℕ))
-    → (more : List ℕ)
-    × (written_for work (reading_from work total start xs ls) ≡ (all_bytes work xs ++ step_bytes work xs (step_of work total start xs ls)) ++ more)
-unfolding reading_from all_bytes
+    → (more : Pieces)
+    × (pieces_for work (reading_from work total start xs ls) ≡ (all_pieces work xs ++ step_pieces work xs (step_of work total start xs ls)) ++ more)
+unfolding reading_from all_pieces
 begins_with_step {E = E} work total start xs [] = from (list_any work.ends xs)
   where
-    from : (ended : Bool) → (more : List ℕ)
-        × (all_bytes work xs ++ last_bytes work xs (cond ended None (Some (codes "NoEnd")))
-        ≡ (all_bytes work xs ++ step_bytes work xs (cond ended (Last (work.last_lines xs) (work.last_status xs)) (refused_step work xs (codes "NoEnd"))))
+    from : (ended : Bool) → (more : Pieces)
+        × (all_pieces work xs ++ last_pieces_for work xs (cond ended None (Some (codes "NoEnd")))
+        ≡ (all_pieces work xs ++ step_pieces work xs (cond ended (Last (work.last_pieces xs) (work.last_status xs)) (refused_step work xs (codes "NoEnd"))))
         ++ more)
-    from true = ([], sym (append-nil (all_bytes work xs ++ work.last_lines xs)))
-    from false = ([], sym (append-nil (all_bytes work xs ++ refused_line work (length xs + 1) (codes "NoEnd"))))
+    from true = ([], sym (append-nil (all_pieces work xs ++ work.last_pieces xs)))
+    from false = ([], sym (append-nil (all_pieces work xs ++ piece_of (refused_line work (length xs + 1) (codes "NoEnd")))))
 begins_with_step {E = E} work total start xs (line ∷ others) = from (judged work total start xs line)
   where
-    from : (said : Result E (List ℕ)) → (more : List ℕ)
-        × (written_for work (read_on said xs (λ x. reading_from work total (start + length line + 1) (x ∷ xs) others))
-        ≡ (all_bytes work xs ++ step_bytes work xs (step_for work xs said)) ++ more)
+    from : (said : Result E (List ℕ)) → (more : Pieces)
+        × (pieces_for work (read_on said xs (λ x. reading_from work total (start + length line + 1) (x ∷ xs) others))
+        ≡ (all_pieces work xs ++ step_pieces work xs (step_for work xs said)) ++ more)
     from (Ok x) = begins_with work total (start + length line + 1) (x ∷ xs) others
-    from (Err why) = ([], sym (append-nil (all_bytes work xs ++ refused_line work (length xs + 1) why)))
+    from (Err why) = ([], sym (append-nil (all_pieces work xs ++ piece_of (refused_line work (length xs + 1) why))))

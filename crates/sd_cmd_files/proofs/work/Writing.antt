@@ -2,48 +2,49 @@
 use Rattle.std.proofs.Common.{◌≡◌, ℕ, true, refl, List, Option, Result, Ok, Err, sym, subst}
 use Rattle.std.specs.Prelude.{IfOk, IsErrAnd}
 use Rattle.std.specs.List.{list_any}
+use Rattle.sd_outside.specs.Pieces.{Pieces}
 use Rattle.sd_cmd_files.specs.Writes.{Adds}
 use Rattle.sd_cmd_files.specs.declared.Status.{Status}
 use Rattle.sd_cmd_files.specs.declared.Status.TheVariants.{InputRefused}
 use Rattle.sd_cmd_files.specs.declared.command_error.IoError.{IoError}
 use Rattle.sd_cmd_files.specs.work.Works.{Work}
-use Rattle.sd_cmd_files.specs.work.Steps.{Step, Last, end_step, step_bytes}
+use Rattle.sd_cmd_files.specs.work.Steps.{Step, Last, end_step, step_pieces}
 use Rattle.sd_cmd_files.specs.work.Comes.{Makes}
 use Rattle.sd_cmd_files.proofs.work.Stepping.{HoldsNext}
 
 -- a stop is handed on
-pub adds_handed_on : (T : Type 0) {U : Type 0} (result : Result U IoError) (why : IoError) (bytes : List ℕ) (old new : Option (List ℕ))
-    → IsErrAnd result (λ other. other ≡ why) → Adds {T = T} bytes old new (Err why) → Adds bytes old new result
-adds_handed_on T {U = U} (Ok done) why bytes old new same adds = absurd same
-adds_handed_on T {U = U} (Err other) why bytes old new same adds = subst (λ (w : IoError). Adds {T = U} bytes old new (Err w)) (sym same) adds
+pub adds_handed_on : (T : Type 0) {U : Type 0} (result : Result U IoError) (why : IoError) (pieces : Pieces) (old new : Option Pieces)
+    → IsErrAnd result (λ other. other ≡ why) → Adds {T = T} pieces old new (Err why) → Adds pieces old new result
+adds_handed_on T {U = U} (Ok done) why pieces old new same adds = absurd same
+adds_handed_on T {U = U} (Err other) why pieces old new same adds = subst (λ (w : IoError). Adds {T = U} pieces old new (Err w)) (sym same) adds
 
 -- what a step writes was added, whatever work is done
-abbrev pub AddsStep : {E T : Type 0} → (Stood : Work E → List E → Type 0) → Option (List ℕ) → Option (List ℕ) → Result T IoError → Work E → List E → Step E
+abbrev pub AddsStep : {E T : Type 0} → (Stood : Work E → List E → Type 0) → Option Pieces → Option Pieces → Result T IoError → Work E → List E → Step E
     → Type 0
-AddsStep Stood old new result w xs step = Stood w xs → Adds (step_bytes w xs step) old new result
+AddsStep Stood old new result w xs step = Stood w xs → Adds (step_pieces w xs step) old new result
 
 -- a step was made, whatever work is done
 abbrev pub MakesStep : {E : Type 0} → (Stood Stands : Work E → List E → Type 0) → Result (Option Status) IoError → Work E → List E → Step E → Type 0
 MakesStep Stood Stands result w xs step = Stood w xs → Makes step xs (Stands w) result
 
 -- the same of the next step of the text that is left
-abbrev pub AddsNext : {E T : Type 0} → Option (List ℕ) → ℕ → (Stood : Work E → List E → Type 0) → Option (List ℕ) → Option (List ℕ) → Result T IoError → Type 0
+abbrev pub AddsNext : {E T : Type 0} → Option (List ℕ) → ℕ → (Stood : Work E → List E → Type 0) → Option Pieces → Option Pieces → Result T IoError → Type 0
 AddsNext left before Stood old new result = HoldsNext (AddsStep Stood old new result) left before
 
 abbrev pub MakesNext : {E : Type 0} → Option (List ℕ) → ℕ → (Stood Stands : Work E → List E → Type 0) → Result (Option Status) IoError → Type 0
 MakesNext left before Stood Stands result = HoldsNext (MakesStep Stood Stands result) left before
 
 -- a run whose text has ended too soon ends as a refused one
-pub ends_refused : {E : Type 0} (work : Work E) (xs : List E) (result : Result Status IoError) (last : List ℕ) → end_step work xs ≡ Last last InputRefused
+pub ends_refused : {E : Type 0} (work : Work E) (xs : List E) (result : Result Status IoError) (last : Pieces) → end_step work xs ≡ Last last InputRefused
     → IfOk result (λ status. status ≡ InputRefused)
-    → IfOk result (λ status. (bytes : List ℕ) × (end_step work xs ≡ Last bytes status))
+    → IfOk result (λ status. (pieces : Pieces) × (end_step work xs ≡ Last pieces status))
 ends_refused work xs (Ok status) last step refused = (last, rw refused step)
 ends_refused work xs (Err why) last step refused = tt
 
--- and one whose text has ended well with the last lines of the work
+-- and one whose text has ended well with the last pieces of the work
 pub ends_done : {E : Type 0} (Stood : Work E → List E → Type 0) (work : Work E) (xs : List E) (result : Result Status IoError) → Stood work xs
     → list_any work.ends xs ≡ true
     → IfOk result (λ status. (w : Work E) (ys : List E) → Stood w ys → status ≡ w.last_status ys)
-    → IfOk result (λ status. (bytes : List ℕ) × (end_step work xs ≡ Last bytes status))
-ends_done Stood work xs (Ok status) stood over is = let same : status ≡ work.last_status xs = is work xs stood in (work.last_lines xs, rw (over, same) refl)
+    → IfOk result (λ status. (pieces : Pieces) × (end_step work xs ≡ Last pieces status))
+ends_done Stood work xs (Ok status) stood over is = let same : status ≡ work.last_status xs = is work xs stood in (work.last_pieces xs, rw (over, same) refl)
 ends_done Stood work xs (Err why) stood over is = tt

@@ -8,7 +8,6 @@ use Rattle.sd_checker.specs.declared.Verdict.{Verdict}
 use Rattle.sd_checker.specs.declared.Verdict.TheVariants.{Accepted, Refused}
 use Rattle.sd_cmd_files.specs.Answering.{May, After}
 use Rattle.sd_cmd_files.specs.Inputs.{plan_in_file}
-use Rattle.sd_cmd_files.specs.declared.Status.{Status}
 use Rattle.sd_cmd_files.specs.declared.Status.TheVariants.{PlanRefused}
 use Rattle.sd_cmd_files.specs.declared.command_error.Refusal.{Refusal}
 

@@ -1,7 +1,8 @@
 -- Texts that are read line by line: what is read of one, up to the first line that is refused, what is written for it, and the status.
 use Rattle.std.specs.Prelude.{◌≡◌, ℕ, zero, suc, ◌+◌, ◌^◌, ◌&&◌, Bool, List, [], ◌∷◌, ◌++◌, length, nat_le, nat_lt, Option, None, Some, Result, Ok, Err, codes, decimal, IsTrue, if◌then◌else◌}
-use Rattle.std.specs.List.{list_any}
+use Rattle.std.specs.List.{concat, list_any}
 use Rattle.sd_num.specs.Texts.{text_of}
+use Rattle.sd_outside.specs.Pieces.{Pieces, piece_of}
 use Rattle.sd_stream.specs.Lines.{lines, after_line}
 use Rattle.sd_cmd_files.specs.Answering.{May}
 use Rattle.sd_cmd_files.specs.declared.Status.{Status}
@@ -16,10 +17,10 @@ pub record Work (E : Type 0) : Type 0 where
   pub says : List E → List ℕ → Result E (List ℕ)
   -- it ends the text
   pub ends : E → Bool
-  -- what is written for it after those before it
+  -- what is written for it after those before it, by one write
   pub bytes : List E → E → List ℕ
-  -- what is written at the end of the text, and the status
-  pub last_lines : List E → List ℕ
+  -- what is written at the end of the text, write by write, and the status
+  pub last_pieces : List E → Pieces
   pub last_status : List E → Status
 
 -- what is read of a text: what its lines gave up to the first that is refused, the newest first, and why that one is
@@ -72,7 +73,7 @@ module _ {E : Type 0} (work : Work E) where
 
   -- what is written at the end: in place of a line that is refused, its refusal
   abbrev pub last_bytes : List E → Option (List ℕ) → List ℕ
-  last_bytes taken None = work.last_lines taken
+  last_bytes taken None = concat (work.last_pieces taken)
   last_bytes taken (Some why) = refused_line (length taken + 1) why
 
   abbrev pub status_for : List E → Option (List ℕ) → Status
@@ -82,6 +83,21 @@ module _ {E : Type 0} (work : Work E) where
   -- all that is written for a reading
   abbrev pub written_for : Reading E → List ℕ
   written_for r = all_bytes r.taken ++ last_bytes r.taken r.refused
+
+  -- by which writes: each step by one, and a step without lines by none
+  unfoldable pub all_pieces : List E → Pieces
+  all_pieces [] = []
+  all_pieces (x ∷ earlier) = all_pieces earlier ++ piece_of (work.bytes earlier x)
+
+  abbrev pub last_pieces_for : List E → Option (List ℕ) → Pieces
+  last_pieces_for taken None = work.last_pieces taken
+  last_pieces_for taken (Some why) = piece_of (refused_line (length taken + 1) why)
+
+  abbrev pub pieces_for : Reading E → Pieces
+  pieces_for r = all_pieces r.taken ++ last_pieces_for r.taken r.refused
+
+  abbrev pub InSteps : List ℕ → Pieces → Type 0
+  InSteps text pieces = pieces ≡ pieces_for (reading text)
 
   -- what a run over a text writes and answers
   abbrev pub IsOutcome : List ℕ → May

@@ -1,6 +1,6 @@
 //! The files of the plans of a command, one after the other.
 ghost use Rattle.std.specs.Prelude.{◌≡◌, ◌≤◌, ◌<◌, ◌-◌, ◌^◌, All, Ok, Err, IsTrue, IfErr, IfOk, IfSome, length, map, string_bytes};
-ghost use Rattle.sd_outside.specs.Causes.{Rose};
+ghost use Rattle.sd_outside.specs.Shelves.{KeepsShelf};
 ghost use Rattle.sd_plan.specs.Plans.{Fits};
 ghost use Rattle.sd_topo.specs.Network.{Each};
 ghost use Rattle.sd_topo.specs.Topologies.{network};
@@ -39,11 +39,7 @@ pub fn load_plans<S: Shelf>(
     ensures makes { IfErr result (λ early. IfSome (S.held shelf.old) (λ held.
         Makes (AfterAllPlans (network topo.now) (map (λ name. texts_of held name) (map string_bytes names.now)) Nothing) (made_of early))) }
     ensures answered { IfErr result IsPlanRefused }
-    ensures shelf { result ≡ Err (SetupError.Stopped CommandError.Shelf)
-        → Rose (S.faults shelf.old) (S.faults shelf.new) }
-    ensures later { S.faults shelf.old ≤ S.faults shelf.new }
-    ensures same_held { S.held shelf.new ≡ S.held shelf.old }
-    ensures same_names { S.serves shelf.new ≡ S.serves shelf.old }
+    ensures shelf { KeepsShelf S.Shelf (result ≡ Err (SetupError.Stopped CommandError.Shelf)) shelf.old shelf.new }
 {
     let mut plans = Vec::new(alloc);
     let mut place = 0;
@@ -77,11 +73,7 @@ fn load_accepted<S: Shelf>(
         (λ held. Makes (AfterPlan (network topo.now) place (texts_of held name.now) Nothing)
         (made_of early))) }
     ensures answered { IfErr result IsPlanRefused }
-    ensures shelf { result ≡ Err (SetupError.Stopped CommandError.Shelf)
-        → Rose (S.faults shelf.old) (S.faults shelf.new) }
-    ensures later { S.faults shelf.old ≤ S.faults shelf.new }
-    ensures same_held { S.held shelf.new ≡ S.held shelf.old }
-    ensures same_names { S.serves shelf.new ≡ S.serves shelf.old }
+    ensures shelf { KeepsShelf S.Shelf (result ≡ Err (SetupError.Stopped CommandError.Shelf)) shelf.old shelf.new }
 {
     let plan = load_plan(alloc, shelf, name, topo, place)?;
     judge(alloc, topo, &plan, place)?;

@@ -1,13 +1,15 @@
 //! The way through a text: every line is taken, and what is due for it is written.
 ghost use Rattle.std.specs.Prelude.{◌≡◌, ◌≤◌, ◌+◌, ◌^◌, ◌∷◌, [], List, length, true, Ok, Err, Some, None, IsTrue, IfOk, IfSome};
-ghost use Rattle.sd_outside.specs.Causes.{Rose};
+ghost use Rattle.sd_outside.specs.Causes.{RisesFor};
+ghost use Rattle.sd_outside.specs.Shelves.{KeepsShelf};
 ghost use Rattle.sd_stream.specs.Lines.{lines};
 ghost use Rattle.sd_stream.specs.Reader.{text_left, bytes_before, IsNear};
+ghost use Rattle.sd_cmd_files.specs.Answering.{InWrites};
 ghost use Rattle.sd_cmd_files.specs.Statuses.{is_among};
 ghost use Rattle.sd_cmd_files.specs.Writes.{Adds};
 ghost use Rattle.sd_cmd_files.specs.work.Leaving.{LeavesAt};
-ghost use Rattle.sd_cmd_files.specs.work.Works.{Work, IsOutcome, WritesWhole, refused_part};
-ghost use Rattle.sd_cmd_files.specs.work.Steps.{step_bytes, step_of};
+ghost use Rattle.sd_cmd_files.specs.work.Works.{Work, InSteps, IsOutcome, WritesWhole, refused_part};
+ghost use Rattle.sd_cmd_files.specs.work.Steps.{step_of, step_pieces};
 ghost use Rattle.sd_cmd_files.specs.work.Comes.{HasTaken, Makes};
 ghost use Rattle.sd_cmd_files.specs.work.Progresses.{Holds};
 
@@ -29,16 +31,15 @@ pub fn work_through<S: Shelf, O: Sink, W: LineWork>(
     requires begun { IsTrue (S.begun shelf.old) }
     ensures outcome { (w : Work W.Item) → W.does work w [] → WritesWhole w
         → IfSome (S.rest shelf.old)
-        (λ text. LeavesAt true (IsOutcome w text) (O.written out.old) (O.written out.new) result) }
+        (λ text. LeavesAt true (InWrites (InSteps w text) (IsOutcome w text)) (O.written out.old)
+        (O.written out.new) result) }
     ensures gives { IfOk result (λ status. IsTrue (is_among (Status.InputRefused ∷ W.gives) status)) }
     ensures near { (w : Work W.Item) → W.does work w [] → result ≡ Ok Status.InputRefused
         → IfSome (S.rest shelf.old)
         (λ text. IsNear (Some (refused_part w text)) (S.rest shelf.new)) }
-    ensures shelf { result ≡ Err IoError.Shelf → Rose (S.faults shelf.old) (S.faults shelf.new) }
-    ensures sink { result ≡ Err IoError.Sink → Rose (O.faults out.old) (O.faults out.new) }
+    ensures shelf { KeepsShelf S.Shelf (result ≡ Err IoError.Shelf) shelf.old shelf.new }
+    ensures sink { RisesFor (result ≡ Err IoError.Sink) (O.faults out.old) (O.faults out.new) }
     ensures begun { IsTrue (S.begun shelf.new) }
-    ensures later { S.faults shelf.old ≤ S.faults shelf.new }
-    ensures same_held { S.held shelf.new ≡ S.held shelf.old }
 {
     let buffer = match Buffer::new(alloc) {
         Ok(buffer) => buffer,
@@ -75,15 +76,14 @@ fn take_line<S: Shelf, O: Sink, W: LineWork>(
         (lines text)) xs (Holds W.LineWork progress.new w) result) }
     ensures writes { IfSome (text_left S.Shelf reader.old) (λ text. (w : Work W.Item) (xs : List W.Item)
         → Holds W.LineWork progress.old w xs
-        → Adds (step_bytes w xs
+        → Adds (step_pieces w xs
         (step_of w (bytes_before reader.old + length text) (bytes_before reader.old) xs
         (lines text))) (O.written out.old) (O.written out.new) result) }
     ensures counts { result ≡ Ok None → progress.new.taken ≡ progress.old.taken + 1 }
     ensures gives { IfOk result
         (λ last. IfSome last (λ status. IsTrue (is_among (Status.InputRefused ∷ W.gives) status))) }
     ensures reader { HasTaken S.Shelf reader.old result reader.new }
-    ensures sink { result ≡ Err IoError.Sink → Rose (O.faults out.old) (O.faults out.new) }
-    ensures sink_later { O.faults out.old ≤ O.faults out.new }
+    ensures sink { RisesFor (result ≡ Err IoError.Sink) (O.faults out.old) (O.faults out.new) }
 {
     match reader.next_line() {
         Ok(Some(line)) => progress.take_line(alloc, line, out),

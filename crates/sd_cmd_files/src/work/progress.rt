@@ -1,11 +1,12 @@
 //! A work on its way, and what is written for it.
 ghost use Rattle.std.specs.Prelude.{◌≡◌, ◌≢◌, ◌≤◌, ◌<◌, ◌+◌, ◌∷◌, ◌^◌, [], ℕ, List, None, Ok, Err, IfOk, IfSome, codes, decimal, length, IsTrue};
 ghost use Rattle.sd_num.specs.Texts.{text_of};
-ghost use Rattle.sd_outside.specs.Causes.{Rose};
+ghost use Rattle.sd_outside.specs.Causes.{RisesFor};
+ghost use Rattle.sd_outside.specs.Pieces.{Pieces, piece_of};
 ghost use Rattle.sd_cmd_files.specs.Statuses.{is_among};
 ghost use Rattle.sd_cmd_files.specs.Writes.{Adds};
 ghost use Rattle.sd_cmd_files.specs.work.Works.{Work, refused_line};
-ghost use Rattle.sd_cmd_files.specs.work.Steps.{Last, end_step, step_bytes, step_for};
+ghost use Rattle.sd_cmd_files.specs.work.Steps.{Last, end_step, step_for, step_pieces};
 ghost use Rattle.sd_cmd_files.specs.work.Comes.{Makes};
 ghost use Rattle.sd_cmd_files.specs.work.Progresses.{Holds};
 
@@ -32,14 +33,13 @@ fn write_refusal<O: Sink>(
 ) -> Result<Status, IoError>
     requires name { length refusal.name.now ≤ 64 }
     requires why { length refusal.why.now ≤ 64 }
-    ensures writes { Adds (text_of
+    ensures writes { Adds (piece_of (text_of
         (codes "input" ∷ refusal.entry.name.now ∷ decimal
-        refusal.entry.number ∷ refusal.entry.why.now ∷ [])) (O.written out.old)
+        refusal.entry.number ∷ refusal.entry.why.now ∷ []))) (O.written out.old)
         (O.written out.new) result }
     ensures status { IfOk result (λ status. status ≡ Status.InputRefused) }
-    ensures sink { result ≡ Err IoError.Sink → Rose (O.faults out.old) (O.faults out.new) }
+    ensures sink { RisesFor (result ≡ Err IoError.Sink) (O.faults out.old) (O.faults out.new) }
     ensures never_shelf { result ≢ Err IoError.Shelf }
-    ensures later { O.faults out.old ≤ O.faults out.new }
 {
     line.clear();
     line.push(b"input ");
@@ -75,14 +75,13 @@ impl<W: LineWork> Progress<W> {
         ensures makes { (w : Work W.Item) (xs : List W.Item) → Holds W.LineWork self.old w xs
             → Makes (step_for w xs (w.says xs line.now)) xs (Holds W.LineWork self.new w) result }
         ensures writes { (w : Work W.Item) (xs : List W.Item) → Holds W.LineWork self.old w xs
-            → Adds (step_bytes w xs (step_for w xs (w.says xs line.now))) (O.written out.old)
+            → Adds (step_pieces w xs (step_for w xs (w.says xs line.now))) (O.written out.old)
             (O.written out.new) result }
         ensures counts { result ≡ Ok None → self.new.taken ≡ self.old.taken + 1 }
         ensures gives { IfOk result
             (λ last. IfSome last (λ status. status ≡ Status.InputRefused)) }
-        ensures sink { result ≡ Err IoError.Sink → Rose (O.faults out.old) (O.faults out.new) }
+        ensures sink { RisesFor (result ≡ Err IoError.Sink) (O.faults out.old) (O.faults out.new) }
         ensures never_shelf { result ≢ Err IoError.Shelf }
-        ensures later { O.faults out.old ≤ O.faults out.new }
     {
         match self.work.take(alloc, line) {
             Ok(Taken::Accepted) => {
@@ -97,12 +96,12 @@ impl<W: LineWork> Progress<W> {
     /// Writes what is due for a line that was accepted, by one write, if it is anything.
     fn write_accepted<O: Sink>(&mut self, out: &mut O) -> Result<(), IoError>
         requires more { self.old.taken < 2 ^ 63 }
-        ensures writes { Adds (W.printing self.old.work) (O.written out.old) (O.written out.new) result }
+        ensures writes { Adds (piece_of (W.printing self.old.work)) (O.written out.old) (O.written out.new)
+            result }
         ensures same { self.new.work ≡ self.old.work }
         ensures counts { self.new.taken ≡ self.old.taken + 1 }
-        ensures sink { result ≡ Err IoError.Sink → Rose (O.faults out.old) (O.faults out.new) }
+        ensures sink { RisesFor (result ≡ Err IoError.Sink) (O.faults out.old) (O.faults out.new) }
         ensures never_shelf { result ≢ Err IoError.Shelf }
-        ensures later { O.faults out.old ≤ O.faults out.new }
     {
         self.taken += 1;
         let printed = self.work.printed();
@@ -117,13 +116,12 @@ impl<W: LineWork> Progress<W> {
         requires more { self.old.taken < 2 ^ 63 }
         requires short { length (W.printing self.old.work) ≤ 64 }
         ensures writes { (w : Work W.Item) (xs : List W.Item) → Holds W.LineWork self.old w xs
-            → Adds (refused_line w (length xs + 1) (W.printing self.old.work))
+            → Adds (piece_of (refused_line w (length xs + 1) (W.printing self.old.work)))
             (O.written out.old) (O.written out.new) result }
         ensures status { IfOk result (λ status. status ≡ Status.InputRefused) }
         ensures same { self.new.work ≡ self.old.work }
-        ensures sink { result ≡ Err IoError.Sink → Rose (O.faults out.old) (O.faults out.new) }
+        ensures sink { RisesFor (result ≡ Err IoError.Sink) (O.faults out.old) (O.faults out.new) }
         ensures never_shelf { result ≢ Err IoError.Shelf }
-        ensures later { O.faults out.old ≤ O.faults out.new }
     {
         let refusal = Refusal {
             name: self.work.name(),
@@ -138,13 +136,12 @@ impl<W: LineWork> Progress<W> {
         requires more { self.old.taken < 2 ^ 63 }
         requires short { length why.now ≤ 64 }
         ensures writes { (w : Work W.Item) (xs : List W.Item) → Holds W.LineWork self.old w xs
-            → Adds (refused_line w (length xs + 1) why.now) (O.written out.old) (O.written out.new)
-            result }
+            → Adds (piece_of (refused_line w (length xs + 1) why.now)) (O.written out.old)
+            (O.written out.new) result }
         ensures status { IfOk result (λ status. status ≡ Status.InputRefused) }
         ensures same { self.new.work ≡ self.old.work }
-        ensures sink { result ≡ Err IoError.Sink → Rose (O.faults out.old) (O.faults out.new) }
+        ensures sink { RisesFor (result ≡ Err IoError.Sink) (O.faults out.old) (O.faults out.new) }
         ensures never_shelf { result ≢ Err IoError.Shelf }
-        ensures later { O.faults out.old ≤ O.faults out.new }
     {
         let refusal = Refusal {
             name: self.work.name(),
@@ -158,14 +155,13 @@ impl<W: LineWork> Progress<W> {
     pub fn finish<O: Sink>(&mut self, alloc: Global, out: &mut O) -> Result<Status, IoError>
         requires more { self.old.taken < 2 ^ 63 }
         ensures writes { (w : Work W.Item) (xs : List W.Item) → Holds W.LineWork self.old w xs
-            → Adds (step_bytes w xs (end_step w xs)) (O.written out.old)
+            → Adds (step_pieces w xs (end_step w xs)) (O.written out.old)
             (O.written out.new) result }
         ensures makes { (w : Work W.Item) (xs : List W.Item) → Holds W.LineWork self.old w xs
-            → IfOk result (λ status. (bytes : List ℕ) × (end_step w xs ≡ Last bytes status)) }
+            → IfOk result (λ status. (pieces : Pieces) × (end_step w xs ≡ Last pieces status)) }
         ensures gives { IfOk result (λ status. IsTrue (is_among (Status.InputRefused ∷ W.gives) status)) }
-        ensures sink { result ≡ Err IoError.Sink → Rose (O.faults out.old) (O.faults out.new) }
+        ensures sink { RisesFor (result ≡ Err IoError.Sink) (O.faults out.old) (O.faults out.new) }
         ensures never_shelf { result ≢ Err IoError.Shelf }
-        ensures later { O.faults out.old ≤ O.faults out.new }
     {
         if !self.work.ended() {
             return self.refuse_for(b"NoEnd", out);

@@ -22,7 +22,7 @@ returns-in-Ok-new-clause-started g c =
     let net = network c.in_ok-topo.topo in
     started_over c.args.files.topology.now (map string_bytes c.args.files.plans.now) network g.V.Observer (g.S.Shelf.held c.args.shelf.now)
     (g.S.Shelf.held c.load_topology.new.shelf) c.in_ok-topo.topo c.from_vec-plans.result c.in-Ok-new.replay
-    c.load_topology.ensures.same_held c.in_ok-topo.ensures.says
+    c.load_topology.ensures.shelf.same_held c.in_ok-topo.ensures.says
     (subst (λ (ps : List Plan). IfSome (g.S.Shelf.held c.load_topology.new.shelf)
     (λ held. AreRead net 1 (map (λ name. texts_of held name) (map string_bytes c.args.files.plans.now)) ps))
     (sym c.from_vec-plans.ensures) c.in-Ok.ensures.read)

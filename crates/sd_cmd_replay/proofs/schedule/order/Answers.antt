@@ -15,7 +15,7 @@ use Rattle.sd_cmd_replay.proofs.schedule.order.Goals as goal
 pub returns-in-Ok-clause-outcome : goal.returns-in-Ok-clause-outcome
 returns-in-Ok-clause-outcome g c =
     run_leaves c.args.files.topology.now (map string_bytes c.args.files.plans.now) c.args.files.schedule.now ghosts order_work c.in-Ok.replay
-    (g.S.Shelf.held c.args.shelf.now) (g.S.Shelf.held c.start.new.shelf) c.start.ensures.same_held
+    (g.S.Shelf.held c.args.shelf.now) (g.S.Shelf.held c.start.new.shelf) c.start.ensures.shelf.same_held
     (g.O.Sink.written c.args.out.now) (g.O.Sink.written c.go_through.new.out) c.go_through.result c.in-Ok.ensures.started (λ setting replayed.
     c.go_through.ensures.outcome (order_work setting)
     (record {
@@ -28,7 +28,7 @@ returns-in-Ok-clause-outcome g c =
 pub returns-in-Ok-clause-near : goal.returns-in-Ok-clause-near
 returns-in-Ok-clause-near g c = λ refused.
     run_near c.args.files.topology.now (map string_bytes c.args.files.plans.now) c.args.files.schedule.now ghosts order_work c.in-Ok.replay
-    (g.S.Shelf.held c.args.shelf.now) (g.S.Shelf.held c.start.new.shelf) c.start.ensures.same_held
+    (g.S.Shelf.held c.args.shelf.now) (g.S.Shelf.held c.start.new.shelf) c.start.ensures.shelf.same_held
     (g.O.Sink.written c.args.out.now) (g.O.Sink.written c.go_through.new.out) c.go_through.result
     (g.S.Shelf.rest c.go_through.new.shelf) refused_as_replay c.in-Ok.ensures.started (λ setting replayed.
     c.go_through.ensures.near (order_work setting)

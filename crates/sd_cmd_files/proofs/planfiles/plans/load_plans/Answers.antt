@@ -1,4 +1,4 @@
-use Rattle.std.proofs.Common.{rules, ◌<◌, ◌≡◌, ◌+◌, ◌++◌, ◌∷◌, [], List, ℕ, Bool, Ok, Option, Result, length, subst, sym}
+use Rattle.std.proofs.Common.{rules, ◌≡◌, ◌+◌, ◌++◌, ◌∷◌, [], List, ℕ, Bool, Ok, Option, subst, sym}
 use Rattle.std.specs.Prelude.{IfSome, IsTrue, map, string_bytes}
 use Rattle.sd_topo.specs.Topologies.{network}
 use Rattle.sd_plan.specs.Plans.{Fits}
@@ -63,7 +63,7 @@ plans-preserved g c =
           longer;
       placed = search rules;
       count = search rules;
-      later = search rules;
+      steady = search rules;
       same_held = search rules;
       same_names = search rules;
     }

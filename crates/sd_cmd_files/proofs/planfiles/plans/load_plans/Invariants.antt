@@ -20,7 +20,7 @@ invariant-plans g l =
       accepted : Each (IsAccepted net) l.plans.items;
       placed : l.place ≡ length l.plans.items;
       count : l.place ≤ length l.fn.names;
-      later : shelf.faults l.fn.shelf ≤ shelf.faults l.shelf;
+      steady : shelf.faults l.shelf ≡ shelf.faults l.fn.shelf;
       same_held : shelf.held l.shelf ≡ shelf.held l.fn.shelf;
       same_names : shelf.serves l.shelf ≡ shelf.serves l.fn.shelf;
     }

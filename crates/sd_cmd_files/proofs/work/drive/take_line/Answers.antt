@@ -1,6 +1,7 @@
 use Rattle.std.proofs.Common.{Ok, Some, refl, length, ◌+◌, codes}
 use Rattle.sd_cmd_files.specs.declared.Status.{Status}
 use Rattle.sd_cmd_files.specs.work.Progresses.{Holds}
+use Rattle.sd_outside.specs.Pieces.{piece_of}
 use Rattle.sd_cmd_files.specs.work.Works.{refused_line}
 use Rattle.sd_cmd_files.proofs.work.Stepping.{next_line, next_end, next_long, next_past}
 use Rattle.sd_cmd_files.proofs.work.Writing.{AddsStep, MakesStep, adds_handed_on}
@@ -42,7 +43,7 @@ pub returns-in_ok-refuse_for-in-Err-LongLine-clause-makes :
 returns-in_ok-refuse_for-in-Err-LongLine-clause-makes g c =
     next_long (MakesStep (Holds g.W.LineWork c.args.progress.now) (Holds g.W.LineWork c.refuse_for.new.self) (Ok (Some c.in_ok-refuse_for-in-Err-LongLine.field-0))) _ _ c.in-Err-LongLine.field-0
     c.in-Err-LongLine.field-0-is c.in-Err-LongLine.ensures.answer
-    (λ w xs h. (refused_line w (length xs + 1) (codes "LongLine"), rw c.in_ok-refuse_for-in-Err-LongLine.ensures.status refl))
+    (λ w xs h. (piece_of (refused_line w (length xs + 1) (codes "LongLine")), rw c.in_ok-refuse_for-in-Err-LongLine.ensures.status refl))
 
 pub returns-in_ok-refuse_for-in-Err-LongLine-clause-writes :
     goal.returns-in_ok-refuse_for-in-Err-LongLine-clause-writes
@@ -63,7 +64,7 @@ pub returns-in_ok-refuse_for-in-Err-Limit-clause-makes :
 returns-in_ok-refuse_for-in-Err-Limit-clause-makes g c =
     next_past (MakesStep (Holds g.W.LineWork c.args.progress.now) (Holds g.W.LineWork c.refuse_for-in-Err-Limit.new.self) (Ok (Some c.in_ok-refuse_for-in-Err-Limit.field-0))) _ _ c.in-Err-Limit.field-0
     c.args.reader.now.within c.in-Err-Limit.field-0-is c.in-Err-Limit.ensures.answer
-    (λ w xs h. (refused_line w (length xs + 1) (codes "Limit"), rw c.in_ok-refuse_for-in-Err-Limit.ensures.status refl))
+    (λ w xs h. (piece_of (refused_line w (length xs + 1) (codes "Limit")), rw c.in_ok-refuse_for-in-Err-Limit.ensures.status refl))
 
 pub returns-in_ok-refuse_for-in-Err-Limit-clause-writes :
     goal.returns-in_ok-refuse_for-in-Err-Limit-clause-writes

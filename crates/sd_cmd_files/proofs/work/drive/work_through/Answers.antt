@@ -5,7 +5,8 @@ use Rattle.sd_cmd_files.proofs.work.Adding.{handed_on}
 use Rattle.sd_cmd_files.proofs.work.Coming.{told_comes, told_comes_on, told_stops, told_ends, told_near}
 use Rattle.sd_cmd_files.specs.work.Progresses.{Holds}
 use Rattle.sd_cmd_files.specs.work.Leaving.{LeavesAt}
-use Rattle.sd_cmd_files.specs.work.Works.{IsOutcome}
+use Rattle.sd_cmd_files.specs.Answering.{InWrites}
+use Rattle.sd_cmd_files.specs.work.Works.{InSteps, IsOutcome}
 use Rattle.sd_cmd_files.proofs.work.drive.work_through.Goals as goal
 
 pub lines-init : goal.lines-init
@@ -14,9 +15,10 @@ lines-init g c =
       come = λ w fresh. told_comes _ w _ _ c.over-reader.result _ (fresh, refl) c.over-reader.ensures.left c.over-reader.ensures.before;
       within = search rules;
       counted = search rules;
-      later = search rules;
-      sink_later = search rules;
+      steady = search rules;
+      sink_steady = search rules;
       same_held = search rules;
+      same_names = search rules;
       same_shelf = search rules;
     }
 
@@ -24,7 +26,7 @@ pub returns-in_err-status-clause-outcome : goal.returns-in_err-status-clause-out
 returns-in_err-status-clause-outcome g c =
     λ w fresh whole.
     subst (λ (r : Result Status IoError). IfSome (g.S.Shelf.rest c.args.shelf.now)
-    (λ text. LeavesAt true (IsOutcome w text) (g.O.Sink.written c.args.out.now) (g.O.Sink.written c.take_line.new.out) r))
+    (λ text. LeavesAt true (InWrites (InSteps w text) (IsOutcome w text)) (g.O.Sink.written c.args.out.now) (g.O.Sink.written c.take_line.new.out) r))
     (handed_on c.from_residual.result _ c.from_residual.ensures.1)
     (told_stops _ w (Holds g.W.LineWork c.lines.progress) _ c.lines.reader _ _ _ _ whole (c.lines.invariant.come w fresh) c.in_err-status.ensures.writes)
 
@@ -54,8 +56,9 @@ lines-preserved g c =
           c.in_ok-status.ensures.writes (c.in_ok-status.ensures.reader.past (ap Ok c.in_default.is));
       within = search rules;
       counted = search rules;
-      later = search rules;
-      sink_later = search rules;
+      steady = search rules;
+      sink_steady = search rules;
       same_held = search rules;
+      same_names = search rules;
       same_shelf = search rules;
     }

@@ -17,9 +17,10 @@ invariant-lines g l =
           (λ text. HasCome shelf w (Holds g.W.LineWork l.progress w) text l.reader (sink.written l.fn.out) (sink.written l.out));
       within : bytes_before l.reader ≤ 2 ^ 32;
       counted : l.progress.taken ≤ bytes_before l.reader;
-      later : shelf.faults l.fn.shelf ≤ shelf.faults l.reader.shelf.now;
-      sink_later : sink.faults l.fn.out ≤ sink.faults l.out;
+      steady : shelf.faults l.reader.shelf.now ≡ shelf.faults l.fn.shelf;
+      sink_steady : sink.faults l.out ≡ sink.faults l.fn.out;
       same_held : shelf.held l.reader.shelf.now ≡ shelf.held l.fn.shelf;
+      same_names : shelf.serves l.reader.shelf.now ≡ shelf.serves l.fn.shelf;
       same_shelf : l.reader.shelf.ghost_name ≡ l.initial.reader.shelf.ghost_name;
     }
 

@@ -2,6 +2,7 @@ use Rattle.std.proofs.Common.{◌≡◌, ℕ, List, Err, Ok, refl, sym, ap, ◌�
 use Rattle.sd_msg.specs.Observed.{ReportAt}
 use Rattle.sd_wait.specs.Printed.{waits_line}
 use Rattle.sd_wait.specs.Standing.{StandsFor}
+use Rattle.sd_outside.specs.Pieces.{Pieces, piece_of}
 use Rattle.sd_cmd_files.specs.Writes.{Adds}
 use Rattle.sd_cmd_files.specs.declared.Status.{Status}
 use Rattle.sd_cmd_files.proofs.work.Writing.{adds_handed_on}
@@ -14,30 +15,30 @@ use Rattle.sd_cmd_replay.proofs.ordered.OrderedLineWork.finish.Goals as goal
 pub returns-in_err-send-clause-writes : goal.returns-in_err-send-clause-writes
 returns-in_err-send-clause-writes g c = λ work xs does.
     adds_handed_on (Unit {0}) c.from_residual.result _ _ _ _ c.from_residual.ensures.1
-    (subst (λ (bytes : List ℕ). Adds {T = Unit {0}} bytes (g.O.Sink.written c.args.out.now) (g.O.Sink.written c.send.new.out) (Err c.in_err-send.field-0.0))
+    (subst (λ (pieces : Pieces). Adds {T = Unit {0}} pieces (g.O.Sink.written c.args.out.now) (g.O.Sink.written c.send.new.out) (Err c.in_err-send.field-0.0))
     (order_last c.args.self.now c.printed.result.now (waits_line c.tally-tally.result) c.tally-tally.result refl
     (λ setting events replayed. c.printed.ensures ∙ c.print_done.ensures.done setting events replayed)
     (λ told stands. c.tally-tally.ensures told (subst (λ (w : ToldWaits). StandsFor w.waits told) (sym c.observer.ensures) stands)) work xs does)
-    (adds_front (Unit {0}) (Unit {0}) c.printed.result.now (waits_line c.tally-tally.result) _ _ c.in_err-send.field-0.0 c.in_err-send.ensures.only
+    (adds_front (Unit {0}) (Unit {0}) (piece_of c.printed.result.now) (piece_of (waits_line c.tally-tally.result)) _ _ c.in_err-send.field-0.0 c.in_err-send.ensures.only
     c.in_err-send.ensures.writes))
 
 pub returns-in_err-send-2-clause-writes : goal.returns-in_err-send-2-clause-writes
 returns-in_err-send-2-clause-writes g c = λ work xs does.
     adds_handed_on (Unit {0}) c.from_residual-in_err-send-2.result _ _ _ _ c.from_residual-in_err-send-2.ensures.1
-    (subst (λ (bytes : List ℕ). Adds {T = Unit {0}} bytes (g.O.Sink.written c.args.out.now) (g.O.Sink.written c.send-2.new.out) (Err c.in_err-send-2.field-0.0))
+    (subst (λ (pieces : Pieces). Adds {T = Unit {0}} pieces (g.O.Sink.written c.args.out.now) (g.O.Sink.written c.send-2.new.out) (Err c.in_err-send-2.field-0.0))
     (order_last c.args.self.now c.printed.result.now c.printed-2.result.now c.tally-tally.result (c.printed-2.ensures ∙ c.print_waits.ensures)
     (λ setting events replayed. c.printed.ensures ∙ c.print_done.ensures.done setting events replayed)
     (λ told stands. c.tally-tally.ensures told (subst (λ (w : ToldWaits). StandsFor w.waits told) (sym c.observer.ensures) stands)) work xs does)
-    (adds_behind {T = Unit {0}} c.printed.result.now c.printed-2.result.now _ _ _
+    (adds_behind {T = Unit {0}} (piece_of c.printed.result.now) (piece_of c.printed-2.result.now) _ _ _
     (Err c.in_err-send-2.field-0.0) c.in_ok-send.ensures.writes c.in_err-send-2.ensures.only c.in_err-send-2.ensures.writes))
 
 pub returns-clause-writes : goal.returns-clause-writes
 returns-clause-writes g c = λ work xs does.
-    subst (λ (bytes : List ℕ). Adds {T = Status} bytes (g.O.Sink.written c.args.out.now) (g.O.Sink.written c.send-2.new.out) (Ok c.status_if.result))
+    subst (λ (pieces : Pieces). Adds {T = Status} pieces (g.O.Sink.written c.args.out.now) (g.O.Sink.written c.send-2.new.out) (Ok c.status_if.result))
     (order_last c.args.self.now c.printed.result.now c.printed-2.result.now c.tally-tally.result (c.printed-2.ensures ∙ c.print_waits.ensures)
     (λ setting events replayed. c.printed.ensures ∙ c.print_done.ensures.done setting events replayed)
     (λ told stands. c.tally-tally.ensures told (subst (λ (w : ToldWaits). StandsFor w.waits told) (sym c.observer.ensures) stands)) work xs does)
-    (adds_behind {T = Status} c.printed.result.now c.printed-2.result.now _ _ _
+    (adds_behind {T = Status} (piece_of c.printed.result.now) (piece_of c.printed-2.result.now) _ _ _
     (Ok c.status_if.result) c.in_ok-send.ensures.writes tt c.in_ok-send-2.ensures.writes)
 
 pub returns-clause-status : goal.returns-clause-status

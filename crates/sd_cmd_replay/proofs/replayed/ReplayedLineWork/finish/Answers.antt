@@ -1,4 +1,5 @@
 use Rattle.std.proofs.Common.{ℕ, List, Err, Ok, ◌∙◌, subst}
+use Rattle.sd_outside.specs.Pieces.{Pieces}
 use Rattle.sd_cmd_files.specs.Writes.{Adds}
 use Rattle.sd_cmd_files.specs.declared.Status.{Status}
 use Rattle.sd_cmd_files.proofs.work.Writing.{adds_handed_on}
@@ -8,13 +9,13 @@ use Rattle.sd_cmd_replay.proofs.replayed.ReplayedLineWork.finish.Goals as goal
 pub returns-in_err-send-clause-writes : goal.returns-in_err-send-clause-writes
 returns-in_err-send-clause-writes g c = λ work xs does.
     adds_handed_on (Unit {0}) c.from_residual.result _ _ _ _ c.from_residual.ensures.1
-    (subst (λ (bytes : List ℕ). Adds {T = Unit {0}} bytes (g.O.Sink.written c.args.out.now) (g.O.Sink.written c.send.new.out) (Err c.in_err-send.field-0.0))
+    (subst (λ (pieces : Pieces). Adds {T = Unit {0}} pieces (g.O.Sink.written c.args.out.now) (g.O.Sink.written c.send.new.out) (Err c.in_err-send.field-0.0))
     (replay_last g.V.Observer c.args.self.now c.printed.result.now
     (λ setting events replayed. c.printed.ensures ∙ c.print_done.ensures.done setting events replayed) work xs does) c.in_err-send.ensures.writes)
 
 pub returns-clause-writes : goal.returns-clause-writes
 returns-clause-writes g c = λ work xs does.
-    subst (λ (bytes : List ℕ). Adds {T = Status} bytes (g.O.Sink.written c.args.out.now) (g.O.Sink.written c.send.new.out) (Ok c.status_if.result))
+    subst (λ (pieces : Pieces). Adds {T = Status} pieces (g.O.Sink.written c.args.out.now) (g.O.Sink.written c.send.new.out) (Ok c.status_if.result))
     (replay_last g.V.Observer c.args.self.now c.printed.result.now
     (λ setting events replayed. c.printed.ensures ∙ c.print_done.ensures.done setting events replayed) work xs does) c.in_ok-send.ensures.writes
 

@@ -21,9 +21,18 @@ returns-in-Refused-clause-answer g c =
     let is = rw (c.waiting.ensures, c.turns.invariant.before) at c.in-Refused.ensures in
     fault_answers _ _ c.turns.self.buffer.bytes.items _ (refused_left _ _ _ _ _ c.turns.invariant.left is)
 
-pub returns-in-Refused-clause-fault : goal.returns-in-Refused-clause-fault
-returns-in-Refused-clause-fault g c e =
-    absurd (never_read_fault c.turns.self.before c.waiting.result.now (c.in-Refused.ensures ∙ cc))
+pub returns-in-Refused-clause-shelf : goal.returns-in-Refused-clause-shelf
+returns-in-Refused-clause-shelf g c =
+    record {
+      same_held = search rules;
+      same_names = search rules;
+      count =
+          record {
+            later = search rules;
+            rose = λ e. absurd (never_read_fault c.turns.self.before c.waiting.result.now (c.in-Refused.ensures ∙ cc));
+            steady = λ e. search rules;
+          };
+    }
 
 pub returns-in-Ok-eq0-clause-answer : goal.returns-in-Ok-eq0-clause-answer
 returns-in-Ok-eq0-clause-answer g c =

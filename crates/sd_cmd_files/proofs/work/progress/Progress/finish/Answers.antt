@@ -1,5 +1,6 @@
 use Rattle.std.proofs.Common.{sym, ◌∙◌, ◌≡◌, false, true, refl, length, ◌+◌, codes}
 use Rattle.std.specs.List.{list_any}
+use Rattle.sd_outside.specs.Pieces.{piece_of}
 use Rattle.sd_cmd_files.specs.work.Works.{refused_line}
 use Rattle.sd_cmd_files.proofs.work.Writing.{ends_done, ends_refused}
 use Rattle.sd_cmd_files.proofs.work.progress.Progress.finish.Goals as goal
@@ -8,7 +9,7 @@ pub returns-then-not-ended-clause-makes : goal.returns-then-not-ended-clause-mak
 returns-then-not-ended-clause-makes g c =
     λ w xs h.
     let open_yet : list_any w.ends xs ≡ false = sym (c.ended.ensures w xs h.0) ∙ c.if-not-ended.true in
-    ends_refused w xs c.refuse_for.result (refused_line w (length xs + 1) (codes "NoEnd")) (rw open_yet refl) c.refuse_for.ensures.status
+    ends_refused w xs c.refuse_for.result (piece_of (refused_line w (length xs + 1) (codes "NoEnd"))) (rw open_yet refl) c.refuse_for.ensures.status
 
 pub returns-clause-makes : goal.returns-clause-makes
 returns-clause-makes g c =
