@@ -19,6 +19,7 @@ use Rattle.sd_drill.proofs.Made.{has_bounds}
 use Rattle.sd_cmd_drill.specs.Kinds.{count_of, domain_at, first_of, all_of}
 use Rattle.sd_cmd_drill.specs.declared.kinds.Kind.{Kind}
 use Rattle.sd_cmd_drill.specs.declared.kinds.Kind.TheVariants as kind
+use Rattle.sd_outside.specs.Pieces.{Pieces, piece_of}
 use Rattle.sd_cmd_files.specs.declared.command_error.IoError.{IoError}
 use Rattle.sd_plan.proofs.Numbered.{length-below}
 use Rattle.sd_cmd_drill.specs.Adding.{Added, AddsLines}
@@ -70,7 +71,7 @@ module _ (net : Network) (plan : Plan) (budget : Budget) (law : IsNetwork net) (
   has_one f is =
       let found = has_bounds net plan budget f law fits accepted.structure (no_circle net plan f accepted is) in
       let lines = domain_lines net plan f found.0 in
-      (lines, (lines, [], (found.0, found.1, refl), refl, sym (append-nil lines)))
+      (piece_of lines, (lines, [], (found.0, found.1, refl), refl, sym (append-nil (piece_of lines))))
 
   pub has_more : (kind : Kind) (numbers : List ℕ) → AllBelow (count_of net kind) numbers → HasLines net plan budget (map (domain_at kind) numbers)
   has_more kind [] all = ([], refl)
@@ -79,7 +80,7 @@ module _ (net : Network) (plan : Plan) (budget : Budget) (law : IsNetwork net) (
       let found = has_bounds net plan budget f law fits accepted.structure (no_circle net plan f accepted (in_range net kind n less)) in
       let lines = domain_lines net plan f found.0 in
       let others = has_more kind ns rest in
-      (lines ++ others.0, (lines, others.0, (found.0, found.1, refl), others.1, refl))
+      (piece_of lines ++ others.0, (lines, others.0, (found.0, found.1, refl), others.1, refl))
 
   pub has_kind : (kind : Kind) → HasLines net plan budget (all_of net kind)
   has_kind kind = has_more kind (below (count_of net kind)) (within (count_of net kind))
@@ -89,7 +90,7 @@ module _ (net : Network) (plan : Plan) (budget : Budget) (law : IsNetwork net) (
       within (suc n) = below_more n (below n) (within n)
 
   -- the lines of one domain more
-  pub kind_more : (k : Kind) (n : ℕ) (f : DomainId) (first before after : Option (List ℕ)) → f ≡ domain_at k n
+  pub kind_more : (k : Kind) (n : ℕ) (f : DomainId) (first before after : Option Pieces) → f ≡ domain_at k n
       → Added net plan budget (first_of k n) first before → Added net plan budget (f ∷ []) before after
       → Added net plan budget (first_of k (n + 1)) first after
   kind_more k n f first before after is added next =
@@ -97,7 +98,7 @@ module _ (net : Network) (plan : Plan) (budget : Budget) (law : IsNetwork net) (
       (adds_on net plan budget (Unit {0}) (first_of k n) (f ∷ []) first before after (Ok tt) added next)
 
   -- a run that was stopped at a domain
-  pub kind_stopped : (T U : Type 0) (k : Kind) (n : ℕ) (f : DomainId) (first before after : Option (List ℕ)) (why : IoError) → n < count_of net k
+  pub kind_stopped : (T U : Type 0) (k : Kind) (n : ℕ) (f : DomainId) (first before after : Option Pieces) (why : IoError) → n < count_of net k
       → f ≡ domain_at k n → Added net plan budget (first_of k n) first before
       → AddsLines {T = T} net plan budget (f ∷ []) before after (Err why) → AddsLines {T = U} net plan budget (all_of net k) first after (Err why)
   kind_stopped T U k n f first before after why less is added next =
@@ -119,19 +120,19 @@ module _ (net : Network) (plan : Plan) (budget : Budget) (law : IsNetwork net) (
   abbrev K : List DomainId
   K = all_of net kind.Link
 
-  pub stopped_first : (T U : Type 0) (first after : Option (List ℕ)) (why : IoError) → AddsLines {T = T} net plan budget L first after (Err why)
+  pub stopped_first : (T U : Type 0) (first after : Option Pieces) (why : IoError) → AddsLines {T = T} net plan budget L first after (Err why)
       → AddsLines {T = U} net plan budget (domains net) first after (Err why)
   stopped_first T U first after why adds =
       adds_stopped net plan budget T U (L ++ D) K first after why (has_kind kind.Link)
       (adds_stopped net plan budget T T L D first after why (has_kind kind.Device) adds)
 
-  pub stopped_second : (T U : Type 0) (first before after : Option (List ℕ)) (why : IoError) → Added net plan budget L first before
+  pub stopped_second : (T U : Type 0) (first before after : Option Pieces) (why : IoError) → Added net plan budget L first before
       → AddsLines {T = T} net plan budget D before after (Err why)
       → AddsLines {T = U} net plan budget (domains net) first after (Err why)
   stopped_second T U first before after why added adds =
       adds_stopped net plan budget T U (L ++ D) K first after why (has_kind kind.Link) (adds_on net plan budget T L D first before after (Err why) added adds)
 
-  pub come_third : {T : Type 0} (first before between after : Option (List ℕ)) (result : Result T IoError) → Added net plan budget L first before
+  pub come_third : {T : Type 0} (first before between after : Option Pieces) (result : Result T IoError) → Added net plan budget L first before
       → Added net plan budget D before between → AddsLines net plan budget K between after result
       → AddsLines net plan budget (domains net) first after result
   come_third {T} first before between after result added added' adds =

@@ -1,11 +1,11 @@
 -- What a drill leaves at its sink, where it ends and where it is stopped.
-use Rattle.std.specs.Prelude.{◌≡◌, ℕ, List, ◌++◌, Option, IsTrue, Result, Ok, Err}
-use Rattle.std.specs.Io.KnownBytes.{Appends}
-use Rattle.sd_outside.specs.Prefixes.{WritesPrefix}
+use Rattle.std.specs.Prelude.{◌≡◌, ℕ, All, List, [], ◌∷◌, ◌++◌, Option, IsTrue, Result, Ok, Err}
+use Rattle.sd_outside.specs.Pieces.{AddsFront, AddsPieces, Pieces, piece_of}
 use Rattle.sd_topo.specs.Network.{Network}
+use Rattle.sd_domain.specs.Domains.{domains}
 use Rattle.sd_domain.specs.declared.DomainId.{DomainId}
 use Rattle.sd_plan.specs.declared.Plan.{Plan}
-use Rattle.sd_drill.specs.Printed.{AreLines, IsDrill}
+use Rattle.sd_drill.specs.Printed.{IsLinesOf, done_line}
 use Rattle.sd_drill.specs.declared.Budget.{Budget}
 use Rattle.sd_cmd_files.specs.declared.Status.{Status}
 use Rattle.sd_cmd_files.specs.declared.Status.TheVariants.{Done}
@@ -13,26 +13,36 @@ use Rattle.sd_cmd_files.specs.work.Leaving.{are_lines}
 use Rattle.sd_cmd_files.specs.declared.command_error.IoError.{IoError}
 use Rattle.sd_cmd_files.specs.declared.command_error.IoError.TheVariants as stop
 
--- whole lines
-abbrev pub EndsLine : List ℕ → Type 0
-EndsLine bytes = IsTrue (are_lines bytes)
+-- each piece is whole lines
+abbrev pub EndLines : Pieces → Type 0
+EndLines pieces = All (λ piece. IsTrue (are_lines piece)) pieces
+
+-- the lines of these domains, in order, each domain by one write
+abbrev pub AreWrites : Network → Plan → Budget → List DomainId → Pieces → Type 0
+AreWrites net plan budget [] pieces = pieces ≡ []
+AreWrites net plan budget (f ∷ others) pieces = (lines : List ℕ) × (rest : Pieces) × IsLinesOf net plan budget f lines × AreWrites net plan budget others rest
+    × (pieces ≡ piece_of lines ++ rest)
+
+-- all that is written for an accepted plan: the last line is a write of its own
+abbrev pub IsDrillIn : Network → Plan → Budget → Pieces → Type 0
+IsDrillIn net plan budget pieces = (lines : Pieces) × AreWrites net plan budget (domains net) lines × (pieces ≡ lines ++ piece_of (done_line net plan))
 
 -- the lines of these domains were added
-abbrev pub Added : Network → Plan → Budget → List DomainId → Option (List ℕ) → Option (List ℕ) → Type 0
-Added net plan budget fs old new = (bytes : List ℕ) × AreLines net plan budget fs bytes × EndsLine bytes × Appends old new bytes
+abbrev pub Added : Network → Plan → Budget → List DomainId → Option Pieces → Option Pieces → Type 0
+Added net plan budget fs old new = (pieces : Pieces) × AreWrites net plan budget fs pieces × EndLines pieces × AddsPieces old new pieces
 
--- they were; or the sink failed, and some front of them was; or memory was wanting, and such a front ends a line
-abbrev pub AddsLines : {T : Type 0} → Network → Plan → Budget → List DomainId → Option (List ℕ) → Option (List ℕ) → Result T IoError → Type 0
+-- they were; or the sink failed, and some front of them was; or memory was wanting, and those of the first domains were
+abbrev pub AddsLines : {T : Type 0} → Network → Plan → Budget → List DomainId → Option Pieces → Option Pieces → Result T IoError → Type 0
 AddsLines net plan budget fs old new (Ok done) = Added net plan budget fs old new
 AddsLines net plan budget fs old new (Err stop.Shelf) = ⊥
-AddsLines net plan budget fs old new (Err stop.Sink) = (bytes : List ℕ) × AreLines net plan budget fs bytes × WritesPrefix old new bytes
+AddsLines net plan budget fs old new (Err stop.Sink) = (pieces : Pieces) × AreWrites net plan budget fs pieces × AddsFront old new pieces
 AddsLines net plan budget fs old new (Err stop.Memory) =
-    (front : List ℕ) × (rest : List ℕ) × AreLines net plan budget fs (front ++ rest) × EndsLine front × Appends old new front
+    (front : Pieces) × (rest : Pieces) × AreWrites net plan budget fs (front ++ rest) × EndLines front × AddsPieces old new front
 
 -- the same of the whole drill, which ends well
-abbrev pub Drills : Network → Plan → Budget → Option (List ℕ) → Option (List ℕ) → Result Status IoError → Type 0
-Drills net plan budget old new (Ok status) = (status ≡ Done) × ((bytes : List ℕ) × IsDrill net plan budget bytes × Appends old new bytes)
+abbrev pub Drills : Network → Plan → Budget → Option Pieces → Option Pieces → Result Status IoError → Type 0
+Drills net plan budget old new (Ok status) = (status ≡ Done) × ((pieces : Pieces) × IsDrillIn net plan budget pieces × AddsPieces old new pieces)
 Drills net plan budget old new (Err stop.Shelf) = ⊥
-Drills net plan budget old new (Err stop.Sink) = (bytes : List ℕ) × IsDrill net plan budget bytes × WritesPrefix old new bytes
-Drills net plan budget old new (Err stop.Memory) = (front : List ℕ) × (rest : List ℕ) × IsDrill net plan budget (front ++ rest) × EndsLine front
-    × Appends old new front
+Drills net plan budget old new (Err stop.Sink) = (pieces : Pieces) × IsDrillIn net plan budget pieces × AddsFront old new pieces
+Drills net plan budget old new (Err stop.Memory) = (front : Pieces) × (rest : Pieces) × IsDrillIn net plan budget (front ++ rest) × EndLines front
+    × AddsPieces old new front

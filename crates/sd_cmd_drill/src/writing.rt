@@ -8,7 +8,8 @@ ghost use Rattle.sd_drill.specs.Printed.{IsLinesOf, bound_line, done_line};
 ghost use Rattle.sd_cmd_drill.specs.Adding.{AddsLines, Drills};
 ghost use Rattle.sd_cmd_drill.specs.Kinds.{all_of};
 ghost use Rattle.sd_cmd_drill.specs.Rooms.{IsRoomFor, budget_of};
-ghost use Rattle.sd_outside.specs.Causes.{Rose};
+ghost use Rattle.sd_outside.specs.Causes.{RisesFor};
+ghost use Rattle.sd_outside.specs.Pieces.{piece_of};
 ghost use Rattle.sd_cmd_files.specs.Writes.{Adds};
 ghost use Rattle.sd_plan.specs.Plans.{Fits};
 ghost use Rattle.sd_topo.specs.Topologies.{network};
@@ -122,8 +123,7 @@ fn write_domain<O: Sink>(
         (domain ∷ []) (O.written out.old) (O.written out.new) result }
     ensures room { IsRoomFor (network planned.entry.topo.now) planned.entry.plan.now room.new }
     ensures budget { budget_of room.new ≡ budget_of room.old }
-    ensures sink { result ≡ Err IoError.Sink → Rose (O.faults out.old) (O.faults out.new) }
-    ensures later { O.faults out.old ≤ O.faults out.new }
+    ensures sink { RisesFor (result ≡ Err IoError.Sink) (O.faults out.old) (O.faults out.new) }
 {
     match prepare(alloc, planned, room, domain) {
         Ok(()) => send(out, room.page.text.as_slice()),
@@ -146,8 +146,7 @@ fn write_kind<O: Sink>(
         (O.written out.new) result }
     ensures room { IsRoomFor (network planned.entry.topo.now) planned.entry.plan.now room.new }
     ensures budget { budget_of room.new ≡ budget_of room.old }
-    ensures sink { result ≡ Err IoError.Sink → Rose (O.faults out.old) (O.faults out.new) }
-    ensures later { O.faults out.old ≤ O.faults out.new }
+    ensures sink { RisesFor (result ≡ Err IoError.Sink) (O.faults out.old) (O.faults out.new) }
 {
     for number in 0..kind.count(planned.topo) {
         write_domain(alloc, planned, room, kind.domain(number), out)?;
@@ -168,8 +167,7 @@ fn write_domains<O: Sink>(
         (domains (network planned.entry.topo.now)) (O.written out.old) (O.written out.new) result }
     ensures room { IsRoomFor (network planned.entry.topo.now) planned.entry.plan.now room.new }
     ensures budget { budget_of room.new ≡ budget_of room.old }
-    ensures sink { result ≡ Err IoError.Sink → Rose (O.faults out.old) (O.faults out.new) }
-    ensures later { O.faults out.old ≤ O.faults out.new }
+    ensures sink { RisesFor (result ≡ Err IoError.Sink) (O.faults out.old) (O.faults out.new) }
 {
     write_kind(alloc, planned, room, Kind::Listed, out)?;
     write_kind(alloc, planned, room, Kind::Device, out)?;
@@ -183,11 +181,11 @@ fn write_done<O: Sink>(
     out: &mut O,
 ) -> Result<Status, IoError>
     requires { IsRoomFor (network planned.topo.now) planned.plan.now room.old }
-    ensures writes { Adds (done_line (network planned.entry.topo.now) planned.entry.plan.now)
+    ensures writes { Adds (piece_of (done_line (network planned.entry.topo.now) planned.entry.plan.now))
         (O.written out.old) (O.written out.new) result }
     ensures status { IfOk result (λ status. status ≡ Status.Done) }
     ensures only { IfErr result (λ why. why ≡ IoError.Sink) }
-    ensures sink { result ≡ Err IoError.Sink → Rose (O.faults out.old) (O.faults out.new) }
+    ensures sink { RisesFor (result ≡ Err IoError.Sink) (O.faults out.old) (O.faults out.new) }
 {
     let topo = planned.topo;
     let domains = topo.domains() + topo.devices() + topo.links();
@@ -210,7 +208,7 @@ fn write_whole<O: Sink>(
     requires room { IsRoomFor (network planned.topo.now) planned.plan.now room.old }
     ensures drills { Drills (network planned.entry.topo.now) planned.entry.plan.now (budget_of room.old)
         (O.written out.old) (O.written out.new) result }
-    ensures sink { result ≡ Err IoError.Sink → Rose (O.faults out.old) (O.faults out.new) }
+    ensures sink { RisesFor (result ≡ Err IoError.Sink) (O.faults out.old) (O.faults out.new) }
 {
     write_domains(alloc, planned, room, out)?;
     write_done(room, planned, out)
@@ -227,7 +225,7 @@ fn drill_indexed<O: Sink>(
     requires budget { IsBudget budget }
     ensures drills { Drills (network planned.entry.topo.now) planned.entry.plan.now budget (O.written out.old)
         (O.written out.new) result }
-    ensures sink { result ≡ Err IoError.Sink → Rose (O.faults out.old) (O.faults out.new) }
+    ensures sink { RisesFor (result ≡ Err IoError.Sink) (O.faults out.old) (O.faults out.new) }
 {
     match Room::new(alloc, planned, budget) {
         Ok(mut room) => write_whole(alloc, planned, &mut room, out),
@@ -250,7 +248,7 @@ pub fn write_drill<O: Sink>(
     requires accepted { IsAccepted (network topo.now) plan.now }
     requires budget { IsBudget budget }
     ensures drills { Drills (network topo.now) plan.now budget (O.written out.old) (O.written out.new) result }
-    ensures sink { result ≡ Err IoError.Sink → Rose (O.faults out.old) (O.faults out.new) }
+    ensures sink { RisesFor (result ≡ Err IoError.Sink) (O.faults out.old) (O.faults out.new) }
 {
     match WalkIndex::new(alloc, topo, plan) {
         Ok(index) => {

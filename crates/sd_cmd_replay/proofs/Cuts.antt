@@ -1,5 +1,5 @@
 -- By which writes a run writes: by one before its schedule, and by one for each of its steps.
-use Rattle.std.proofs.Common.{◌≡◌, ℕ, ◌+◌, List, [], ◌∷◌, Result, Ok, Err, refl, sym, ap, ◌∙◌, subst}
+use Rattle.std.proofs.Common.{◌≡◌, ℕ, ◌+◌, List, [], ◌∷◌, Result, Ok, refl, ap, ◌∙◌, subst}
 use Rattle.sd_msg.specs.Topo.Network.{Network}
 use Rattle.sd_core.specs.Plan.declared.Plan.{Plan}
 use Rattle.sd_sched.specs.declared.Event.{Event}

@@ -1,5 +1,5 @@
 -- The laws of what `replay` and `order` write: one answer, the status of right files, and reports that tell truly.
-use Rattle.std.proofs.Common.{◌≡◌, ℕ, zero, suc, ◌+◌, Bool, true, false, List, [], ◌∷◌, ◌++◌, Option, Some, None, Result, Ok, Err, refl, inl, inr, sym, ap, ◌∙◌, subst, append_assoc, append-nil}
+use Rattle.std.proofs.Common.{◌≡◌, ℕ, suc, ◌+◌, Bool, true, false, List, [], ◌∷◌, ◌++◌, None, Result, Ok, Err, refl, inl, inr, sym, ap, ◌∙◌, subst, append_assoc, append-nil}
 use Rattle.std.specs.Prelude.{◌⊎◌}
 use Rattle.sd_msg.specs.Topo.Network.{Network, Each}
 use Rattle.sd_core.specs.Plan.declared.Plan.{Plan}
@@ -19,7 +19,7 @@ use Rattle.sd_cmd_files.specs.declared.Status.TheVariants.{Done, Broken}
 use Rattle.sd_cmd_files.specs.declared.command_error.Refusal.{Refusal}
 use Rattle.sd_cmd_files.specs.planfiles.PlanFiles.{AfterAllPlans, AfterJudged, AfterPlans, AfterVerdict, AreRead}
 use Rattle.sd_cmd_files.specs.work.Works.{Reading, Work, IsOutcome, reading, status_for}
-use Rattle.sd_cmd_replay.specs.Promises.{AreRightFiles, Completes, IsOne, ReportsTruly}
+use Rattle.sd_cmd_replay.specs.Promises.{Completes, IsOne, ReportsTruly}
 use Rattle.sd_cmd_replay.specs.Replays.{IsOrder, IsReplay, IsRun, order_work, over, replay_work, shows_disorder, status_if}
 use Rattle.sd_cmd_replay.specs.Loaded.{AreLoaded}
 use Rattle.sd_cmd_replay.proofs.Reading.{history_tells, read_as_replay, reading_is_history}

@@ -1,12 +1,12 @@
 -- What is written before a schedule is begun, and that files which were read and accepted lead to the schedule.
-use Rattle.std.proofs.Common.{◌≡◌, ℕ, ◌+◌, true, List, [], ◌∷◌, ◌++◌, Option, Some, None, Result, Ok, Err, refl, inl, inr, sym, ap, ◌∙◌, subst, length, map, append-nil}
-use Rattle.std.specs.Prelude.{IfOk, IfSome, IsErrAnd, IfErr, IsTrue, option_map}
+use Rattle.std.proofs.Common.{◌≡◌, ℕ, ◌+◌, true, List, [], ◌∷◌, ◌++◌, Option, Some, None, Result, Ok, Err, refl, sym, ap, ◌∙◌, subst, map, append-nil}
+use Rattle.std.specs.Prelude.{IfOk, IfSome, IsTrue, option_map}
 use Rattle.std.specs.List.{concat}
 use Rattle.sd_outside.specs.Pieces.{Pieces}
 use Rattle.sd_cmd_files.specs.Stream.Reader.{IsNear}
 use Rattle.sd_msg.specs.Topo.Network.{Network, Each}
 use Rattle.sd_core.specs.Plan.declared.Plan.{Plan}
-use Rattle.sd_cmd_files.specs.Checker.Verdicts.{IsAccepted, IsVerdict}
+use Rattle.sd_cmd_files.specs.Checker.Verdicts.{IsAccepted}
 use Rattle.sd_cmd_files.specs.Checker.declared.Verdict.{Verdict}
 use Rattle.sd_cmd_files.specs.Checker.declared.Verdict.TheVariants.{Accepted, Refused}
 use Rattle.sd_core.specs.declared.registers.Registers.{Registers}
@@ -28,7 +28,6 @@ use Rattle.sd_cmd_files.specs.declared.command_error.CommandError.{CommandError}
 use Rattle.sd_cmd_files.specs.declared.command_error.CommandError.TheVariants as ended
 use Rattle.sd_cmd_files.specs.declared.command_error.Refusal.{Refusal}
 use Rattle.sd_cmd_files.specs.declared.command_error.IoError.{IoError}
-use Rattle.sd_cmd_files.specs.declared.command_error.IoError.TheVariants as stop
 use Rattle.sd_cmd_files.specs.planfiles.SetupError.{IsPlanRefused, made_of}
 use Rattle.sd_cmd_files.specs.declared.planfiles.setup_error.SetupError.{SetupError}
 use Rattle.sd_cmd_files.specs.declared.planfiles.setup_error.SetupError.TheVariants.{Answered, Stopped}

@@ -20,24 +20,22 @@ use Rattle.sd_sched.specs.Lines.{event_of_line}
 use Rattle.sd_replay.specs.History.declared.ApplyFault.{ApplyFault}
 use Rattle.sd_replay.specs.History.World.{Setting}
 use Rattle.sd_replay.specs.History.Steps.{Step}
-use Rattle.sd_replay.specs.History.Chronicle.{chronicle, next_step}
+use Rattle.sd_replay.specs.History.Chronicle.{chronicle}
 use Rattle.sd_replay.specs.History.Refusals.{refusal}
 use Rattle.sd_replay.specs.History.Lines.{Line, lines_of, reports}
 use Rattle.sd_replay.specs.History.Text.{bytes_of, done_bytes}
 use Rattle.sd_replay.specs.Tallies.{is_alarm, is_broken, lines_that, shows_trouble, tally_of}
-use Rattle.sd_replay.specs.declared.Tally.{Tally}
 use Rattle.sd_wait.specs.Printed.{waits_line}
 use Rattle.sd_wait.specs.Waits.{tally_of as waits_of}
 use Rattle.sd_cmd_files.specs.Answering.{May, After}
 use Rattle.sd_cmd_files.specs.Inputs.{in_file, plan_in_file, topology_of}
 use Rattle.sd_cmd_files.specs.declared.Status.{Status}
-use Rattle.sd_cmd_files.specs.declared.Status.TheVariants.{InputRefused}
 use Rattle.sd_cmd_files.specs.declared.command_error.FileFault.TheVariants as fault
 use Rattle.sd_cmd_files.specs.declared.command_error.Input.TheVariants as input
 use Rattle.sd_cmd_files.specs.declared.command_error.Refusal.{Refusal}
 use Rattle.sd_cmd_files.specs.planfiles.PlanFiles.{AfterAllPlans, AfterJudged, AfterPlans, AfterVerdict}
-use Rattle.sd_cmd_files.specs.work.Works.{Reading, Work, IsOutcome, all_bytes, judged, last_bytes, length_fault, read_on, reading, reading_from, refused_line, status_for, unless_too_long, written_for}
-use Rattle.sd_cmd_replay.specs.Replays.{IsOrder, IsReplay, IsRun, accepted, event_said, order_work, over, replay_work, shows_disorder, status_if, unless_refused, waits_after, with_waits}
+use Rattle.sd_cmd_files.specs.work.Works.{Reading, Work, IsOutcome, all_bytes, judged, last_bytes, length_fault, read_on, reading, reading_from, status_for, unless_too_long, written_for}
+use Rattle.sd_cmd_replay.specs.Replays.{IsOrder, IsReplay, IsRun, accepted, order_work, over, replay_work, shows_disorder, status_if, unless_refused, waits_after, with_waits}
 use Rattle.std.specs.List.{concat}
 use Rattle.sd_outside.specs.Pieces.{piece_of}
 use Rattle.sd_cmd_replay.proofs.Versions.{bytes_alike, chronicle_alike, lines_alike, refusal_alike}

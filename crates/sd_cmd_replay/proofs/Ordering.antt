@@ -1,5 +1,5 @@
 -- The device of the latest report, and the lines of commit wait that bear its name.
-use Rattle.std.proofs.Common.{◌≡◌, ℕ, ◌-◌, ◌<◌, List, [], Option, Some, None, Result, Ok, Err, sym, ap, ◌∙◌, subst, length}
+use Rattle.std.proofs.Common.{◌≡◌, ℕ, ◌-◌, ◌<◌, List, [], Option, Some, None, Result, sym, ap, ◌∙◌, subst, length}
 use Rattle.std.specs.Prelude.{IfOk}
 use Rattle.std.proofs.Props.{props}
 use Rattle.std.proofs.Math.Logic.{∥∥₁_elim}
@@ -23,7 +23,7 @@ use Rattle.sd_replay.specs.Replaying.{StandsFor as StandsForRun}
 use Rattle.sd_replay.specs.Standing.{HasRun}
 use Rattle.sd_wait.specs.Printed.{bytes_at}
 use Rattle.sd_wait.specs.Standing.{StandsFor}
-use Rattle.sd_cmd_replay.specs.Telling.{IsTold, latest_device, latest_name, latest_waits}
+use Rattle.sd_cmd_replay.specs.Telling.{latest_device, latest_name, latest_waits}
 use Rattle.sd_cmd_replay.specs.contracts.told.ToldWaitsObserver.TheImpl.{ghosts}
 use Rattle.sd_cmd_replay.specs.declared.told.ToldWaits.{ToldWaits}
 use Rattle.sd_cmd_replay.proofs.Reporting.{latest_known}

@@ -27,7 +27,7 @@ use Rattle.sd_replay.proofs.Kept.{devices_keep_chronicle, replayed_next}
 use Rattle.sd_cmd_files.specs.work.Taking.{Takes}
 use Rattle.sd_cmd_files.specs.declared.work.Taken.TheVariants as taken
 use Rattle.sd_cmd_replay.specs.Reasons.{line_reason, apply_name}
-use Rattle.sd_cmd_replay.specs.Replays.{accepted, event_said, replay_work, unless_refused}
+use Rattle.sd_cmd_replay.specs.Replays.{accepted, replay_work, unless_refused}
 
 -- what went on was not refused
 went_on : (result : Result (Unit {0}) ReplayFault) (u : Unit {0}) (why : ReplayFault) → result ≡ Ok u → result ≡ Err why → ⊥

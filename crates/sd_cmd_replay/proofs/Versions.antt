@@ -22,7 +22,6 @@ use Rattle.sd_core.specs.declared.Effect.TheVariants.{Quiet, Send}
 use Rattle.sd_sched.specs.declared.Event.{Event}
 use Rattle.sd_sched.specs.declared.Event.TheVariants as event
 use Rattle.sd_sched.specs.Events.{is_commit}
-use Rattle.sd_replay.specs.History.declared.ApplyFault.{ApplyFault}
 use Rattle.sd_replay.specs.History.declared.BrokenSet.{BrokenSet}
 use Rattle.sd_replay.specs.History.World.{Setting, Seen, is_up, link_has_failed, staged}
 use Rattle.sd_replay.specs.History.Steps.{Act, Answers, Told, Step, act_by, acted_by, changed, complete, first_step, flight_to, flights_by, flights_of, flights_to, seen_of, step_of, taken_by}

@@ -1,8 +1,7 @@
 -- That what goes through a schedule does the work of `replay`, and of `order`.
-use Rattle.std.proofs.Common.{◌≡◌, ℕ, ◌<◌, Bool, List, [], ◌∷◌, ◌++◌, Option, Some, None, Result, Ok, Err, refl, sym, ap, ◌∙◌, subst, length}
-use Rattle.std.specs.Prelude.{IfOk, IfSome, IsErrAnd, IfErr, IsTrue, nat_lt, ◌||◌}
+use Rattle.std.proofs.Common.{◌≡◌, ℕ, ◌<◌, Bool, List, ◌∷◌, ◌++◌, Result, Ok, Err, refl, sym, ap, ◌∙◌, subst, length}
+use Rattle.std.specs.Prelude.{IfOk, nat_lt, ◌||◌}
 use Rattle.std.specs.List.{list_any}
-use Rattle.std.specs.Io.KnownBytes.{Appends}
 use Rattle.sd_num.specs.declared.NoMemory.{NoMemory}
 use Rattle.sd_core.specs.declared.registers.Registers.{Registers}
 use Rattle.sd_core.specs.contracts.device.DeviceNode.TheImpl.{ghosts as device}
@@ -25,14 +24,13 @@ use Rattle.sd_wait.specs.Waits.{tally_of as waits_of}
 use Rattle.sd_wait.specs.declared.WaitTally.{WaitTally}
 use Rattle.sd_outside.specs.Pieces.{piece_of}
 use Rattle.sd_cmd_files.specs.declared.Status.{Status}
-use Rattle.sd_cmd_files.specs.declared.command_error.IoError.{IoError}
 use Rattle.sd_cmd_files.specs.work.Taking.{Takes}
 use Rattle.sd_cmd_files.specs.work.Works.{Work}
 use Rattle.sd_cmd_files.specs.declared.work.Taken.{Taken}
 use Rattle.sd_cmd_files.specs.declared.work.Taken.TheVariants as taken
 use Rattle.sd_cmd_replay.specs.Doing.{DoesOrder, DoesReplay}
-use Rattle.sd_cmd_replay.specs.Replays.{order_work, replay_work, shows_disorder, status_if, with_waits}
-use Rattle.sd_cmd_replay.specs.Telling.{IsTold, latest_waits}
+use Rattle.sd_cmd_replay.specs.Replays.{order_work, replay_work, status_if}
+use Rattle.sd_cmd_replay.specs.Telling.{latest_waits}
 use Rattle.sd_cmd_replay.specs.contracts.told.ToldWaitsObserver.TheImpl.{ghosts}
 use Rattle.sd_cmd_replay.specs.declared.ordered.Ordered.{Ordered}
 use Rattle.sd_cmd_replay.specs.declared.replayed.Replayed.{Replayed}

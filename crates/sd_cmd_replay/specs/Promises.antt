@@ -1,7 +1,6 @@
 -- What holds of what `replay` and `order` write, whatever a run does.
-use Rattle.std.specs.Prelude.{◌≡◌, ◌⊎◌, List, [], ◌∷◌, ℕ, None, IsTrue, Ok}
+use Rattle.std.specs.Prelude.{◌≡◌, ◌⊎◌, List, [], ◌∷◌, ℕ, None, IsTrue}
 use Rattle.std.specs.List.{list_all}
-use Rattle.sd_msg.specs.Topo.Network.{Each}
 use Rattle.sd_clock.specs.Estimates.{contains}
 use Rattle.sd_sched.specs.declared.Event.{Event}
 use Rattle.sd_replay.specs.History.World.{Setting}
@@ -12,8 +11,8 @@ use Rattle.sd_replay.specs.History.Lines.{reports}
 use Rattle.sd_cmd_files.specs.Answering.{May}
 use Rattle.sd_cmd_files.specs.declared.Status.{Status}
 use Rattle.sd_cmd_files.specs.declared.Status.TheVariants.{Done, Broken}
-use Rattle.sd_cmd_files.specs.work.Works.{Work, reading}
-use Rattle.sd_cmd_replay.specs.Replays.{replay_work, IsReplay, IsOrder}
+use Rattle.sd_cmd_files.specs.work.Works.{reading}
+use Rattle.sd_cmd_replay.specs.Replays.{replay_work}
 use Rattle.sd_cmd_replay.specs.Loaded.{AreLoaded}
 
 -- there is at most one such answer

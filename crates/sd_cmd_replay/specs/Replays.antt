@@ -1,5 +1,5 @@
 -- What `replay` and `order` write and answer for the texts of a topology, of plans and of a schedule.
-use Rattle.std.specs.Prelude.{◌≡◌, ℕ, Bool, ◌||◌, List, [], ◌∷◌, ◌++◌, length, nat_lt, Option, None, Some, Result, Ok, Err, codes, option_map, if◌then◌else◌}
+use Rattle.std.specs.Prelude.{ℕ, Bool, ◌||◌, List, [], ◌∷◌, ◌++◌, length, nat_lt, Option, None, Some, Result, Ok, Err, codes, option_map, if◌then◌else◌}
 use Rattle.sd_num.specs.Lists.{of_some}
 use Rattle.sd_msg.specs.Topo.Network.{Network}
 use Rattle.sd_core.specs.Plan.declared.Plan.{Plan}

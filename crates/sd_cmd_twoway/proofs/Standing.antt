@@ -5,10 +5,11 @@ use Rattle.std.specs.List.{cons_option}
 use Rattle.std.proofs.lemmas.List.{flat_map_more}
 use Rattle.std.proofs.lemmas.List.Elements.{filter-append}
 use Rattle.sd_num.specs.Lists.{below, of_some}
+use Rattle.sd_outside.specs.Pieces.{Pieces, piece_of}
 use Rattle.sd_topo.specs.Network.{Network}
 use Rattle.sd_twoway.specs.Joints.{Joints, joint_at, if_on, spans_on, StandsFor as SpansStand}
 use Rattle.sd_twoway.specs.Lines.{span_after, span_if, span_on, span_over}
-use Rattle.sd_twoway.specs.Printed.{done_line, link_line, link_lines, links_with}
+use Rattle.sd_twoway.specs.Printed.{done_line, link_line, links_with}
 use Rattle.sd_twoway.specs.Spans.{joint_span}
 use Rattle.sd_twoway.specs.declared.Exchange.{Exchange}
 use Rattle.sd_twoway.specs.declared.Span.{Span}
@@ -18,7 +19,7 @@ use Rattle.sd_twoway.specs.declared.ExchangeLine.TheVariants.{Exchange as Exchan
 use Rattle.sd_cmd_files.specs.Writes.{Adds}
 use Rattle.sd_cmd_files.specs.declared.command_error.IoError.{IoError}
 use Rattle.sd_cmd_files.specs.work.Works.{Work}
-use Rattle.sd_cmd_twoway.specs.Twoways.{twoway_work}
+use Rattle.sd_cmd_twoway.specs.Twoways.{link_pieces, twoway_work}
 use Rattle.sd_cmd_twoway.specs.Tallies.{Fits, StandsFor, added, bounds_of, count_of, lines_of, with_link}
 use Rattle.sd_cmd_twoway.specs.declared.tally.Tally.{Tally}
 
@@ -41,14 +42,14 @@ module _ (net : Network) (joints : Joints) (taken : List ExchangeLine) (stands :
   joint_is l inside = stands l inside ∙ ap joint_span (same_spans net l taken)
 
   -- the lines of the links below a number, and how many these are
-  lines_are : (n : ℕ) → n ≤ length joints → lines_of net joints n ≡ flat_map (λ l. of_some (span_after net taken l) [] (link_line net l)) (below n)
+  lines_are : (n : ℕ) → n ≤ length joints → lines_of net joints n ≡ flat_map (λ l. piece_of (of_some (span_after net taken l) [] (link_line net l))) (below n)
   lines_are zero few = refl
   lines_are (suc n) few =
-      sym (flat_map_more (λ l. of_some (joint_at joints l) [] (link_line net l)) [] (below n) n)
-      ∙ ap (λ (text : List ℕ). text ++ of_some (joint_at joints n) [] (link_line net n)) (lines_are n (omega (arith, few)))
-      ∙ ap (λ (joint : Option (Span × ℕ)). flat_map (λ l. of_some (span_after net taken l) [] (link_line net l)) (below n)
-      ++ of_some joint [] (link_line net n)) (joint_is n (omega (arith, few)))
-      ∙ flat_map_more (λ l. of_some (span_after net taken l) [] (link_line net l)) [] (below n) n
+      sym (flat_map_more (λ l. piece_of (of_some (joint_at joints l) [] (link_line net l))) [] (below n) n)
+      ∙ ap (λ (pieces : Pieces). pieces ++ piece_of (of_some (joint_at joints n) [] (link_line net n))) (lines_are n (omega (arith, few)))
+      ∙ ap (λ (joint : Option (Span × ℕ)). flat_map (λ l. piece_of (of_some (span_after net taken l) [] (link_line net l))) (below n)
+      ++ piece_of (of_some joint [] (link_line net n))) (joint_is n (omega (arith, few)))
+      ∙ flat_map_more (λ l. piece_of (of_some (span_after net taken l) [] (link_line net l))) [] (below n) n
 
   linked_are : (n : ℕ) → n ≤ length joints → filter (λ l. is_some (joint_at joints l)) (below n) ≡ filter (λ l. is_some (span_after net taken l)) (below n)
   linked_are zero few = refl
@@ -61,10 +62,10 @@ module _ (net : Network) (joints : Joints) (taken : List ExchangeLine) (stands :
 
 -- what is written of it
 pub bounds_are : (net : Network) (tally : Tally) (taken : List ExchangeLine) → Fits net tally → StandsFor net tally taken
-    → bounds_of net tally ≡ link_lines net taken ++ done_line net taken
+    → bounds_of net tally ≡ link_pieces net taken ++ piece_of (done_line net taken)
 bounds_are net tally taken fits stands =
     let all : length net.links ≤ length tally.spans = omega (arith, fits.links) in
-    let lines : lines_of net tally.spans (length net.links) ≡ link_lines net taken = lines_are net tally.spans taken stands.spans (length net.links) all in
+    let lines : lines_of net tally.spans (length net.links) ≡ link_pieces net taken = lines_are net tally.spans taken stands.spans (length net.links) all in
     let count : count_of tally.spans (length net.links) ≡ length (links_with net taken) =
     ap length (linked_are net tally.spans taken stands.spans (length net.links) all) in
     rw (lines, stands.lines, count) refl
@@ -97,9 +98,9 @@ stands_longer net old new taken link side x span has spans lines ended stands =
     more same = omega (arith, same)
 
 -- and so what its work writes at the end
-pub adds_work : (T : Type 0) (net : Network) (tally : Tally) (work : Work ExchangeLine) (taken : List ExchangeLine) (old new : Option (List ℕ))
+pub adds_work : (T : Type 0) (net : Network) (tally : Tally) (work : Work ExchangeLine) (taken : List ExchangeLine) (old new : Option Pieces)
     (result : Result T IoError) → Fits net tally → (work ≡ twoway_work net) × StandsFor net tally taken
-    → Adds (bounds_of net tally) old new result → Adds (work.last_lines taken) old new result
+    → Adds (bounds_of net tally) old new result → Adds (work.last_pieces taken) old new result
 adds_work T net tally work taken old new result fits does adds =
-    subst (λ (w : Work ExchangeLine). Adds (w.last_lines taken) old new result) (sym does.0)
-    (subst (λ (bytes : List ℕ). Adds bytes old new result) (bounds_are net tally taken fits does.1) adds)
+    subst (λ (w : Work ExchangeLine). Adds (w.last_pieces taken) old new result) (sym does.0)
+    (subst (λ (pieces : Pieces). Adds pieces old new result) (bounds_are net tally taken fits does.1) adds)

@@ -3,6 +3,7 @@ use Rattle.std.specs.Prelude.{◌≡◌, ℕ, List, [], ◌∷◌, ◌++◌, len
 use Rattle.std.specs.List.{list_any}
 use Rattle.sd_num.specs.Lists.{below, of_some}
 use Rattle.sd_num.specs.Texts.{text_of}
+use Rattle.sd_outside.specs.Pieces.{Pieces, piece_of}
 use Rattle.sd_topo.specs.Network.{Network}
 use Rattle.sd_twoway.specs.Joints.{AreFew, Joints, joint_at, StandsFor as SpansStand}
 use Rattle.sd_twoway.specs.Lines.{is_end_line, span_over}
@@ -42,15 +43,15 @@ abbrev pub Takes : Result ExchangeLine TwowayFault → Network → List Exchange
 Takes said net taken tally (Ok done) = (e : ExchangeLine) × (said ≡ Ok e) × StandsFor net tally (e ∷ taken)
 Takes said net taken tally (Err why) = (said ≡ Err why) × StandsFor net tally taken
 
--- the lines of the first n links, by what is kept of them, and how many these are
-abbrev pub lines_of : Network → Joints → ℕ → List ℕ
-lines_of net joints n = flat_map (λ l. of_some (joint_at joints l) [] (link_line net l)) (below n)
+-- the lines of the first n links, by what is kept of them, each by one write, and how many these are
+abbrev pub lines_of : Network → Joints → ℕ → Pieces
+lines_of net joints n = flat_map (λ l. piece_of (of_some (joint_at joints l) [] (link_line net l))) (below n)
 
 abbrev pub count_of : Joints → ℕ → ℕ
 count_of joints n = length (filter (λ l. is_some (joint_at joints l)) (below n))
 
 -- all that is written for what is kept: the lines of the links, and the last line
-abbrev pub bounds_of : Network → Tally → List ℕ
+abbrev pub bounds_of : Network → Tally → Pieces
 bounds_of net tally =
     lines_of net tally.spans (length net.links)
-    ++ text_of (codes "done" ∷ decimal tally.lines ∷ decimal (count_of tally.spans (length net.links)) ∷ [])
+    ++ piece_of (text_of (codes "done" ∷ decimal tally.lines ∷ decimal (count_of tally.spans (length net.links)) ∷ []))

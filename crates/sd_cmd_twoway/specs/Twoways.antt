@@ -1,12 +1,18 @@
 -- How a text of exchanges is read over a network, and what is written for it.
-use Rattle.std.specs.Prelude.{[], ◌++◌, codes}
-use Rattle.sd_topo.specs.Network.{Network}
-use Rattle.sd_twoway.specs.Lines.{is_end_line}
-use Rattle.sd_twoway.specs.Printed.{done_line, link_lines}
+use Rattle.std.specs.Prelude.{List, [], ◌++◌, flat_map, codes}
+use Rattle.sd_num.specs.Lists.{of_some}
+use Rattle.sd_outside.specs.Pieces.{Pieces, piece_of}
+use Rattle.sd_topo.specs.Network.{Network, link_numbers}
+use Rattle.sd_twoway.specs.Lines.{is_end, span_after}
+use Rattle.sd_twoway.specs.Printed.{done_line, link_line}
 use Rattle.sd_twoway.specs.declared.ExchangeLine.{ExchangeLine}
 use Rattle.sd_cmd_files.specs.declared.Status.TheVariants.{Done}
 use Rattle.sd_cmd_files.specs.work.Works.{Work}
 use Rattle.sd_cmd_twoway.specs.Judged.{exchange_said, told_reason}
+
+-- the lines of the links that have an exchange, by ascending number, each by one write
+abbrev pub link_pieces : Network → List ExchangeLine → Pieces
+link_pieces net taken = flat_map (λ l. piece_of (of_some (span_after net taken l) [] (link_line net l))) (link_numbers net)
 
 -- nothing is written before the end of the text
 abbrev pub twoway_work : Network → Work ExchangeLine
@@ -16,6 +22,6 @@ twoway_work net =
       says = λ taken line. told_reason (exchange_said net taken line);
       ends = is_end_line;
       bytes = λ earlier x. [];
-      last_lines = λ taken. link_lines net taken ++ done_line net taken;
+      last_pieces = λ taken. link_pieces net taken ++ piece_of (done_line net taken);
       last_status = λ taken. Done;
     }

@@ -1,6 +1,6 @@
 //! What is written for a text of exchanges that has ended well.
 ghost use Rattle.std.specs.Prelude.{◌≡◌, ◌≤◌, length, Err, IfErr, IfOk};
-ghost use Rattle.sd_outside.specs.Causes.{Rose};
+ghost use Rattle.sd_outside.specs.Causes.{RisesFor};
 ghost use Rattle.sd_topo.specs.Topologies.{network};
 ghost use Rattle.sd_cmd_files.specs.Writes.{Adds};
 ghost use Rattle.sd_cmd_twoway.specs.Tallies.{Fits, bounds_of, count_of, lines_of};
@@ -22,9 +22,8 @@ pub fn write_bounds<O: Sink>(
     requires { Fits (network topo.now) tally.now }
     ensures writes { Adds (bounds_of (network topo.now) tally.now) (O.written out.old)
         (O.written out.new) result }
-    ensures sink { result ≡ Err IoError.Sink → Rose (O.faults out.old) (O.faults out.new) }
+    ensures sink { RisesFor (result ≡ Err IoError.Sink) (O.faults out.old) (O.faults out.new) }
     ensures only { IfErr result (λ why. why ≡ IoError.Sink) }
-    ensures later { O.faults out.old ≤ O.faults out.new }
 {
     let links = write_links(line, topo, tally, out)?;
     print_done(line, tally.lines, links);
@@ -43,9 +42,8 @@ fn write_links<O: Sink>(
         (O.written out.old) (O.written out.new) result }
     ensures count { IfOk result
         (λ links. links ≡ count_of tally.now.spans (length (network topo.now).links)) }
-    ensures sink { result ≡ Err IoError.Sink → Rose (O.faults out.old) (O.faults out.new) }
+    ensures sink { RisesFor (result ≡ Err IoError.Sink) (O.faults out.old) (O.faults out.new) }
     ensures only { IfErr result (λ why. why ≡ IoError.Sink) }
-    ensures later { O.faults out.old ≤ O.faults out.new }
 {
     let mut links = 0;
     for link in 0..topo.links() {

@@ -1,4 +1,5 @@
 -- What is promised of the lines of each event is promised of the bytes of a history, and of a reading of one.
+use Rattle.std.specs.List.{concat}
 use Rattle.std.specs.Prelude.{◌≡◌, ℕ, ◌+◌, Bool, true, List, [], ◌∷◌, ◌++◌, length, count_by, Option, None, Some, codes, decimal, refl}
 use Rattle.std.proofs.Common.{ap, ◌∙◌}
 use Rattle.sd_replay.specs.Sched.declared.Event.{Event}
@@ -40,7 +41,7 @@ refusal_quiet : (setting : Setting) (work : Work Event) → ReadsEvents setting 
 refusal_quiet setting work reads n why one =
     quiet_text (codes "input") work.name (decimal n ∷ why ∷ []) refl refl refl (rw (reads.name, plain_is_one_line (decimal n) (decimal_plain n), one) refl)
 
-last_quiet : (setting : Setting) (work : Work Event) → ReadsEvents setting work → ((events : List Event) → IsQuiet (work.last_lines events))
+last_quiet : (setting : Setting) (work : Work Event) → ReadsEvents setting work → ((events : List Event) → IsQuiet (concat (work.last_pieces events)))
     → (taken : List Event) (refused : Option (List ℕ)) → ((why : List ℕ) → refused ≡ Some why → is_one_line why ≡ true)
     → IsQuiet (last_bytes work taken refused)
 last_quiet setting work reads last taken None one = last taken
@@ -55,7 +56,7 @@ module _ (bad first : List ℕ → Bool) (setting : Setting) (work : Work Event)
       text_on bad first (all_bytes work earlier) (work.bytes earlier e) (each.ls earlier e) (all_go earlier is.0) (each.are earlier e) (each.goes earlier e is)
 
   -- none of the one kind stands before the first of the other in all that is written for the reading of a schedule
-  pub reading_passes : ReadsEvents setting work → ((events : List Event) → IsQuiet (work.last_lines events))
+  pub reading_passes : ReadsEvents setting work → ((events : List Event) → IsQuiet (concat (work.last_pieces events)))
       → ((text : List ℕ) (quiet : IsQuiet text) → count_by bad quiet.ls ≡ 0) → (schedule : List ℕ)
       → none_before bad first (whole_lines (written_for work (reading work schedule))) ≡ true
   reading_passes reads last none schedule =

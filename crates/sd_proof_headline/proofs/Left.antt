@@ -1,9 +1,12 @@
 -- What is promised of all that a run may write is promised of what it leaves, also where it was stopped.
 use Rattle.std.specs.Prelude.{◌≡◌, ℕ, Bool, true, false, ◌&&◌, List, [], ◌++◌, take, drop, Option, None, Some, refl}
-use Rattle.std.specs.Io.KnownBytes.{Appends, Keeps}
-use Rattle.std.proofs.Common.{sym, ap, ◌∙◌, inl, inr, append-nil, take-append-drop}
+use Rattle.std.specs.List.{concat}
+use Rattle.sd_cmd_files.specs.Outside.Pieces.{AddsPieces, IsBegun, Pieces}
+use Rattle.sd_cmd_files.proofs.Outside.Adding.{adds_none, concat_front}
+use Rattle.std.proofs.lemmas.List.Folds.{concat-append}
+use Rattle.std.proofs.Common.{sym, ap, ◌∙◌, inl, inr, take-append-drop}
 use Rattle.std.proofs.lemmas.Bool.{and_parts, and_from}
-use Rattle.sd_cmd_files.specs.Answering.{May}
+use Rattle.sd_cmd_files.specs.Answering.{MayWrite}
 use Rattle.sd_cmd_files.specs.declared.Status.{Status}
 use Rattle.sd_cmd_files.specs.declared.command_error.IoError.{IoError}
 use Rattle.sd_cmd_files.specs.declared.command_error.IoError.TheVariants as stop
@@ -37,30 +40,37 @@ both_of_fronts one two first second =
           and_from (one text) (two text) (first.front text more parts.0) (second.front text more parts.1);
     }
 
-module _ (test : List ℕ → Bool) (fronts : HoldsOfPrefixes test) (old new : Option (List ℕ)) where
+module _ (test : List ℕ → Bool) (fronts : HoldsOfPrefixes test) (old new : Option Pieces) where
   first_bytes : (n : ℕ) (bytes : List ℕ) → test bytes ≡ true → test (take n bytes) ≡ true
   first_bytes n bytes passes = fronts.front (take n bytes) (drop n bytes) (ap test (take-append-drop n bytes) ∙ passes)
 
-  kept : Keeps old new → Adds old new test
-  kept keeps = ([], by old new keeps, fronts.nothing)
-    where
-      by : (before now : Option (List ℕ)) → Keeps before now → Appends before now []
-      by None now keeps = tt
-      by (Some xs) None keeps = absurd keeps
-      by (Some xs) (Some ys) keeps = keeps ∙ sym (append-nil xs)
+  kept : new ≡ old → Adds old new test
+  kept same = ([], same ∙ adds_none old, fronts.nothing)
 
-  part : (steps : Bool) (Writes : May) → ((bytes : List ℕ) (status : Status) → Writes bytes status → test bytes ≡ true) → WritesPart steps Writes old new
-      → Adds old new test
+  -- whole pieces, and some front of the one behind them
+  cut : (pieces whole others begun : Pieces) → test (concat pieces) ≡ true → pieces ≡ whole ++ others → IsBegun others begun
+      → AddsPieces old new (whole ++ begun) → Adds old new test
+  cut pieces whole others begun passes are front added =
+      let some = concat_front pieces whole others begun are front in
+      (whole ++ begun, added, ap test some.1 ∙ first_bytes some.0 (concat pieces) passes)
+
+  whole_pieces : (pieces whole others : Pieces) → test (concat pieces) ≡ true → pieces ≡ whole ++ others → AddsPieces old new whole → Adds old new test
+  whole_pieces pieces whole others passes are added =
+      (whole, added, fronts.front (concat whole) (concat others) (ap test (sym (ap concat are ∙ concat-append whole others)) ∙ passes))
+
+  part : (steps : Bool) (Writes : MayWrite) → ((pieces : Pieces) (status : Status) → Writes pieces status → test (concat pieces) ≡ true)
+      → WritesPart steps Writes old new → Adds old new test
   part false Writes passes left = kept left
   part true Writes passes left = elim left [
     | inl keeps ↦ kept keeps
-    | inr some ↦ (take some.3.0 some.0, some.3.2, first_bytes some.3.0 some.0 (passes some.0 some.1 some.2))
+    | inr some ↦ whole_pieces some.0 some.3.whole some.3.others (passes some.0 some.1 some.2) some.3.are some.3.added
   ]
 
   -- what all that may be written passes, what a run leaves passes
-  pub leaves_adds : (why : Option IoError) (steps : Bool) (Writes : May) (status : Status)
-      → ((bytes : List ℕ) (answer : Status) → Writes bytes answer → test bytes ≡ true) → Leaves why steps Writes old new status → Adds old new test
+  pub leaves_adds : (why : Option IoError) (steps : Bool) (Writes : MayWrite) (status : Status)
+      → ((pieces : Pieces) (answer : Status) → Writes pieces answer → test (concat pieces) ≡ true) → Leaves why steps Writes old new status → Adds old new test
   leaves_adds None steps Writes status passes left = (left.0, left.2, passes left.0 status left.1)
-  leaves_adds (Some stop.Sink) steps Writes status passes left = (take left.3.0 left.0, left.3.1, first_bytes left.3.0 left.0 (passes left.0 left.1 left.2))
+  leaves_adds (Some stop.Sink) steps Writes status passes left =
+      cut left.0 left.3.whole left.3.others left.3.begun (passes left.0 left.1 left.2) left.3.are left.3.front left.3.added
   leaves_adds (Some stop.Shelf) steps Writes status passes left = part steps Writes passes left
   leaves_adds (Some stop.Memory) steps Writes status passes left = part steps Writes passes left

@@ -1,4 +1,5 @@
 -- The sentences of the headline hold of what is written for the reading of a schedule.
+use Rattle.std.specs.List.{concat}
 use Rattle.std.specs.Prelude.{◌≡◌, ℕ, ◌+◌, ◌<◌, Bool, true, false, List, [], ◌∷◌, ◌++◌, length, map, count_by, Option, Some, None, option_map, option_to_list, codes, decimal, refl}
 use Rattle.std.proofs.Common.{arith, sym, ◌∙◌, subst}
 use Rattle.std.proofs.lemmas.List.{length_push}
@@ -192,7 +193,7 @@ module _ (setting : Setting) (net : IsNetwork setting.net) (work : Work Event) w
         subst (λ (bytes : List ℕ). AreLines bytes (event_lines setting (chronicle setting (e ∷ earlier)))) (sym (prints.bytes earlier e))
         (bytes_are_lines setting (chronicle setting (e ∷ earlier)) net)
 
-    last_printed : (events : List Event) → IsQuiet (work.last_lines events)
+    last_printed : (events : List Event) → IsQuiet (concat (work.last_pieces events))
     last_printed events = subst IsQuiet (sym (prints.last events)) (done_quiet (chronicle setting events))
 
     pub events_keep_interval : (schedule : List ℕ) → no_early_interval (written_for work (reading work schedule)) ≡ true
@@ -227,7 +228,7 @@ module _ (setting : Setting) (net : IsNetwork setting.net) (work : Work Event) w
         (lines_behind (bytes_are_lines setting (chronicle setting (e ∷ earlier)) net)
         (waits_are setting net (chronicle setting earlier) (next_step setting (chronicle setting earlier) e)))
 
-    both_last : (events : List Event) → IsQuiet (work.last_lines events)
+    both_last : (events : List Event) → IsQuiet (concat (work.last_pieces events))
     both_last events =
         subst IsQuiet (sym (prints.last events))
         (quiet_behind (done_quiet (chronicle setting events)) (waits_quiet (tally_of (reports (chronicle setting events)))))

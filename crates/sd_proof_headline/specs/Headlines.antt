@@ -1,8 +1,8 @@
 -- The sentences of the headline on bytes: what is promised of the lines that a run has written.
 use Rattle.std.specs.Prelude.{ℕ, Bool, true, false, ◌&&◌, ◌||◌, not, List, [], ◌∷◌, nat_eq, Option, codes, IsTrue, if◌then◌else◌}
-use Rattle.std.specs.List.{list_all}
+use Rattle.std.specs.List.{concat, list_all}
 use Rattle.std.specs.Str.{bytes_eq}
-use Rattle.std.specs.Io.KnownBytes.{Appends}
+use Rattle.sd_cmd_files.specs.Outside.Pieces.{AddsPieces, Pieces}
 use Rattle.sd_wait.specs.Num.Lists.{at_place}
 use Rattle.sd_replay.specs.Sched.Lines.{fields}
 
@@ -67,6 +67,6 @@ no_case_alarm text = list_all is_calm_case (whole_lines text)
 
 -- Of a run
 
--- what was added to the known bytes passes the test
-abbrev pub Adds : Option (List ℕ) → Option (List ℕ) → (List ℕ → Bool) → Type 0
-Adds old new test = (added : List ℕ) × Appends old new added × IsTrue (test added)
+-- the bytes that were added, by all writes together, pass the test
+abbrev pub Adds : Option Pieces → Option Pieces → (List ℕ → Bool) → Type 0
+Adds old new test = (added : Pieces) × AddsPieces old new added × IsTrue (test (concat added))

@@ -5,7 +5,8 @@ use Rattle.sd_cmd_files.specs.Stream.Reader.{IsNear}
 use Rattle.sd_topo.specs.Network.{Network}
 use Rattle.sd_topo.specs.Topologies.{network}
 use Rattle.sd_topo.specs.declared.topology.Topology.{Topology}
-use Rattle.sd_cmd_files.specs.Answering.{After}
+use Rattle.sd_outside.specs.Pieces.{Pieces}
+use Rattle.sd_cmd_files.specs.Answering.{After, InWrites, WritesAfter}
 use Rattle.sd_cmd_files.specs.Inputs.{topology_of}
 use Rattle.sd_cmd_files.specs.Loads.{Loads}
 use Rattle.sd_cmd_files.specs.Texts.{texts_of}
@@ -17,9 +18,10 @@ use Rattle.sd_cmd_files.specs.declared.command_error.Refusal.{Refusal}
 use Rattle.sd_cmd_files.specs.declared.command_error.IoError.{IoError}
 use Rattle.sd_cmd_files.specs.declared.command_error.IoError.TheVariants as stop
 use Rattle.sd_cmd_files.specs.work.Leaving.{LeavesAt}
-use Rattle.sd_cmd_files.specs.work.Works.{IsOutcome, refused_part}
+use Rattle.sd_cmd_files.specs.work.Works.{InSteps, IsOutcome, refused_part}
 use Rattle.sd_cmd_twoway.specs.Twoways.{twoway_work}
-use Rattle.sd_top.specs.Twoways.{IsTwoway, refused_over}
+use Rattle.sd_top.specs.Twoways.{TwowayIn, refused_over}
+use Rattle.sd_top.proofs.Drilling.{unloaded_leaves}
 
 -- the texts of a shelf, where they are told
 abbrev Held : Type 0
@@ -27,13 +29,15 @@ Held = Option (List ℕ → Option (List ℕ))
 
 module _ (topology exchanges : List ℕ) where
   -- a topology that was read
-  pub told_over : (held : Held) (topo : Topology) (old new : Option (List ℕ)) (result : Result Status IoError)
+  pub told_over : (held : Held) (topo : Topology) (old new : Option Pieces) (result : Result Status IoError)
       → IfSome held (λ h. Loads network (topology_of (texts_of h topology)) (Ok topo))
-      → IfSome held (λ h. LeavesAt true (IsOutcome (twoway_work (network topo)) (texts_of h exchanges)) old new result)
-      → IfSome held (λ h. LeavesAt true (IsTwoway (texts_of h topology) (texts_of h exchanges)) old new result)
+      → IfSome held (λ h. LeavesAt true (InWrites (InSteps (twoway_work (network topo)) (texts_of h exchanges))
+      (IsOutcome (twoway_work (network topo)) (texts_of h exchanges))) old new result)
+      → IfSome held (λ h. LeavesAt true (TwowayIn (texts_of h topology) (texts_of h exchanges)) old new result)
   told_over None topo old new result says leaves = tt
   told_over (Some h) topo old new result says leaves =
-      subst (λ (s : Result Network Refusal). LeavesAt true (After s (λ net. IsOutcome (twoway_work net) (texts_of h exchanges))) old new result)
+      subst (λ (s : Result Network Refusal). LeavesAt true (InWrites (WritesAfter s (λ net. InSteps (twoway_work net) (texts_of h exchanges)))
+      (After s (λ net. IsOutcome (twoway_work net) (texts_of h exchanges)))) old new result)
       (sym says) leaves
 
   pub near_over : (held : Held) (topo : Topology) (rest : Option (List ℕ)) → IfSome held (λ h. Loads network (topology_of (texts_of h topology)) (Ok topo))
@@ -44,26 +48,10 @@ module _ (topology exchanges : List ℕ) where
       subst (λ (s : Result Network Refusal). IfSome (refused_over s (texts_of h exchanges)) (λ part. IsNear (Some part) rest)) (sym says) near
 
   -- one that was not: the line of its refusal, or nothing
-  ends_before : (says : Result Network Refusal) (text : List ℕ) (why : CommandError) (old new : Option (List ℕ)) (result : Result Status IoError)
-      → Loads network says (Err why) → WritesOnce (Tells (Err why)) old new result
-      → LeavesAt true (After says (λ net. IsOutcome (twoway_work net) text)) old new result
-  ends_before says text (ended.Refused why) old new (Ok status) is (bytes, tells, added) =
-      (bytes, subst (λ (s : Result Network Refusal). After s (λ net. IsOutcome (twoway_work net) text) bytes status) (sym is) tells, added)
-  ends_before says text (ended.Refused why) old new (Err stop.Sink) is (bytes, status, tells, front) =
-      (bytes, status, subst (λ (s : Result Network Refusal). After s (λ net. IsOutcome (twoway_work net) text) bytes status) (sym is) tells, front)
-  ends_before says text (ended.Refused why) old new (Err stop.Shelf) is kept = inl kept
-  ends_before says text (ended.Refused why) old new (Err stop.Memory) is kept = inl kept
-  ends_before says text ended.Shelf old new (Ok status) is (bytes, tells, added) = absurd tells
-  ends_before says text ended.Shelf old new (Err stop.Sink) is (bytes, status, tells, front) = absurd tells
-  ends_before says text ended.Shelf old new (Err stop.Shelf) is kept = inl kept
-  ends_before says text ended.Shelf old new (Err stop.Memory) is kept = inl kept
-  ends_before says text ended.Memory old new (Ok status) is (bytes, tells, added) = absurd tells
-  ends_before says text ended.Memory old new (Err stop.Sink) is (bytes, status, tells, front) = absurd tells
-  ends_before says text ended.Memory old new (Err stop.Shelf) is kept = inl kept
-  ends_before says text ended.Memory old new (Err stop.Memory) is kept = inl kept
-
-  pub told_before : (held : Held) (why : CommandError) (old new : Option (List ℕ)) (result : Result Status IoError)
+  pub told_before : (held : Held) (why : CommandError) (old new : Option Pieces) (result : Result Status IoError)
       → IfSome held (λ h. Loads network (topology_of (texts_of h topology)) (Err why)) → WritesOnce (Tells (Err why)) old new result
-      → IfSome held (λ h. LeavesAt true (IsTwoway (texts_of h topology) (texts_of h exchanges)) old new result)
+      → IfSome held (λ h. LeavesAt true (TwowayIn (texts_of h topology) (texts_of h exchanges)) old new result)
   told_before None why old new result says writes = tt
-  told_before (Some h) why old new result says writes = ends_before (topology_of (texts_of h topology)) (texts_of h exchanges) why old new result says writes
+  told_before (Some h) why old new result says writes =
+      unloaded_leaves network (topology_of (texts_of h topology)) (λ net. IsOutcome (twoway_work net) (texts_of h exchanges))
+      (λ net. InSteps (twoway_work net) (texts_of h exchanges)) old new result why says writes

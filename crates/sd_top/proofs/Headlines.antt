@@ -11,7 +11,9 @@ use Rattle.sd_proof_headline.proofs.Left.{HoldsOfPrefixes, alarm_of_fronts, both
 use Rattle.sd_top.proofs.Cases.{case_keeps_alarms}
 use Rattle.sd_top.proofs.Kept.{order_keeps, order_keeps_alarms, replay_keeps_alarms, replay_keeps_intervals}
 use Rattle.sd_top.specs.Headlines.{MeetsHeadline, keeps_headline}
-use Rattle.sd_top.specs.Promise.{Answers, MeetsOutcome, task_of}
+use Rattle.sd_top.specs.Promise.{Answers, MeetsOutcome, WritesOf, task_of}
+use Rattle.std.specs.List.{concat}
+use Rattle.sd_outside.specs.Pieces.{Pieces}
 use Rattle.sd_top.specs.Words.{Command, command_of}
 use Rattle.sd_top.specs.Words.Command.{Replay, Case, Order}
 use Rattle.sd_top.proofs.Within.{IsWithin, words_are_within}
@@ -43,11 +45,12 @@ all_keep (Some (Order topology plans schedule)) texts some bytes status written 
 all_keep (Some (Case number fabric)) texts within bytes status written = case_keeps_alarms number fabric within bytes status written
 all_keep _ texts some bytes status written = refl
 
-pub meets_headline : (held : Option (List ℕ → Option (List ℕ))) (words : List (List ℕ)) (old new : Option (List ℕ)) (status : Status)
+pub meets_headline : (held : Option (List ℕ → Option (List ℕ))) (words : List (List ℕ)) (old new : Option Pieces) (status : Status)
     → MeetsOutcome held words old new status → MeetsHeadline held words old new
 unfolding MeetsOutcome MeetsHeadline
 meets_headline None words old new status left = tt
 meets_headline (Some h) words old new status left =
     let command : Option Command = command_of words in
     leaves_adds (keeps_headline command) (fronts_keep command) old new (stop_of status) (task_of command).in_steps
-    ((task_of command).Answers (texts_of h)) status (all_keep command (texts_of h) (words_are_within words)) left
+    (WritesOf (task_of command) (texts_of h)) status
+    (λ pieces answer written. all_keep command (texts_of h) (words_are_within words) (concat pieces) answer written.0) left

@@ -1,8 +1,14 @@
 -- What a command leaves at the sink is what its task says, and then what the run answers.
-use Rattle.std.proofs.Common.{◌≡◌, ℕ, Bool, false, List, Option, Some, None, Result, Ok, Err, refl, sym, subst}
-use Rattle.std.specs.Prelude.{IfSome, IsTrue}
+use Rattle.std.proofs.Common.{◌≡◌, ℕ, ◌∙◌, Bool, false, List, Option, Some, None, Result, Ok, Err, ap, arith, refl, sym, subst}
+use Rattle.std.specs.Prelude.{◌↔◌, IfSome, IsTrue}
 use Rattle.sd_cmd_files.specs.Stream.Reader.{IsNear}
-use Rattle.sd_cmd_files.specs.Answering.{May}
+use Rattle.sd_outside.specs.Causes.{RisesFor}
+use Rattle.sd_outside.specs.Pieces.{Pieces, piece_of}
+use Rattle.sd_outside.specs.Shelves.{KeepsShelf}
+use Rattle.sd_outside.specs.declared.shelf.Shelf.{Ghosts}
+use Rattle.sd_cmd_files.proofs.Keeping.{keeps_for}
+use Rattle.sd_cmd_files.proofs.work.Leaving.{at_once, leaves_once}
+use Rattle.sd_cmd_files.specs.Answering.{AtOnce, InWrites, May}
 use Rattle.sd_cmd_files.specs.Statuses.{is_among, stop_of, status_of}
 use Rattle.sd_cmd_files.specs.Texts.{Texts, texts_of}
 use Rattle.sd_cmd_files.specs.Writes.{Makes, Tells, WritesOnce}
@@ -15,44 +21,39 @@ use Rattle.sd_cmd_files.specs.declared.command_error.IoError.{IoError}
 use Rattle.sd_cmd_files.specs.declared.command_error.IoError.TheVariants as stop
 use Rattle.sd_cmd_files.specs.work.Leaving.{Leaves, LeavesAt}
 use Rattle.sd_top.specs.Ends.{MeetsResult}
-use Rattle.sd_top.specs.Promise.{LeavesAfter, IsNearRefusal, MeetsOutcome, task_of}
+use Rattle.sd_top.specs.Promise.{LeavesAfter, IsNearRefusal, MeetsOutcome, WritesOf, task_of}
 use Rattle.sd_top.specs.Words.{Command, command_of}
 use Rattle.sd_top.specs.Words.Command.{Solo, Replay, Order, Twoway, Drill}
 
--- what was made and told may be written
-told : (Writes : May) (made : Result Answer CommandError) (bytes : List ℕ) (status : Status) → Makes Writes made → Tells made bytes status → Writes bytes status
-told Writes (Ok answer) bytes status makes (text, answered) =
-    subst (λ (b : List ℕ). Writes b status) (sym text) (subst (Writes answer.text.items) (sym answered) makes)
-told Writes (Err (ended.Refused why)) bytes status makes (text, answered) = rw (text, answered) makes
-told Writes (Err ended.Shelf) bytes status makes tells = absurd tells
-told Writes (Err ended.Memory) bytes status makes tells = absurd tells
-
-written_once : (Writes : May) (made : Result Answer CommandError) (old new : Option (List ℕ)) (result : Result Status IoError) → Makes Writes made
-    → WritesOnce (Tells made) old new result → LeavesAt false Writes old new result
-written_once Writes made old new (Ok status) makes (bytes, tells, added) = (bytes, told Writes made bytes status makes tells, added)
-written_once Writes made old new (Err stop.Shelf) makes kept = kept
-written_once Writes made old new (Err stop.Sink) makes (bytes, status, tells, front) = (bytes, status, told Writes made bytes status makes tells, front)
-written_once Writes made old new (Err stop.Memory) makes kept = kept
+-- what is written once is written by one write
+pub leaves_written : (Writes : May) (old new : Option Pieces) (result : Result Status IoError) → WritesOnce Writes old new result
+    → LeavesAt false (InWrites AtOnce Writes) old new result
+leaves_written Writes old new (Ok status) (bytes, written, added) = (piece_of bytes, at_once Writes bytes status written, added)
+leaves_written Writes old new (Err stop.Shelf) kept = kept
+leaves_written Writes old new (Err stop.Sink) (bytes, status, written, front) = (piece_of bytes, status, at_once Writes bytes status written, front)
+leaves_written Writes old new (Err stop.Memory) kept = kept
 
 -- the command of the words meets its task
-pub meets_told : (held : Option (List ℕ → Option (List ℕ))) (words : List (List ℕ)) (command : Option Command) (old new : Option (List ℕ))
+pub meets_told : (held : Option (List ℕ → Option (List ℕ))) (words : List (List ℕ)) (command : Option Command) (old new : Option Pieces)
     (result : Result Status IoError) → command ≡ command_of words
-    → IfSome held (λ h. LeavesAt (task_of command).in_steps ((task_of command).Answers (texts_of h)) old new result) → MeetsResult held words old new result
+    → IfSome held (λ h. LeavesAt (task_of command).in_steps (WritesOf (task_of command) (texts_of h)) old new result) → MeetsResult held words old new result
 unfolding MeetsResult
 meets_told None words command old new result is leaves = tt
 meets_told (Some h) words command old new result is leaves =
-    subst (λ (c : Option Command). LeavesAt (task_of c).in_steps ((task_of c).Answers (texts_of h)) old new result) is leaves
+    subst (λ (c : Option Command). LeavesAt (task_of c).in_steps (WritesOf (task_of c) (texts_of h)) old new result) is leaves
 
 -- and so does one that writes once what it has made
 pub meets_once : (held : Option (List ℕ → Option (List ℕ))) (words : List (List ℕ)) (command : Option Command) (made : Result Answer CommandError)
-    (old new : Option (List ℕ)) (result : Result Status IoError) → command ≡ command_of words
-    → (task_of command).in_steps ≡ false → IfSome held (λ h. Makes ((task_of command).Answers (texts_of h)) made) → WritesOnce (Tells made) old new result
+    (old new : Option Pieces) (result : Result Status IoError) → command ≡ command_of words
+    → (task_of command).in_steps ≡ false → ((texts : Texts) → (task_of command).cuts texts ≡ AtOnce)
+    → IfSome held (λ h. Makes ((task_of command).Answers (texts_of h)) made) → WritesOnce (Tells made) old new result
     → MeetsResult held words old new result
-meets_once None words command made old new result is at_once makes writes = meets_told None words command old new result is tt
-meets_once (Some h) words command made old new result is at_once makes writes =
+meets_once None words command made old new result is whole once makes writes = meets_told None words command old new result is tt
+meets_once (Some h) words command made old new result is whole once makes writes =
     meets_told (Some h) words command old new result is
-    (subst (λ (steps : Bool). LeavesAt steps ((task_of command).Answers (texts_of h)) old new result) (sym at_once)
-    (written_once ((task_of command).Answers (texts_of h)) made old new result makes writes))
+    (subst (λ (steps : Bool). LeavesAt steps (WritesOf (task_of command) (texts_of h)) old new result) (sym whole)
+    (subst (λ (Cuts : Pieces → Type 0). LeavesAt false (InWrites Cuts ((task_of command).Answers (texts_of h))) old new result) (sym (once (texts_of h)))
+    (leaves_once ((task_of command).Answers (texts_of h)) made old new result makes writes)))
 
 -- how far a command reads that reads line by line
 near_part : (part : Option (List ℕ)) (rest : Option (List ℕ)) → IfSome part (λ p. IsNear (Some p) rest) → IfSome part (λ p. LeavesAfter p rest)
@@ -111,20 +112,60 @@ not_stopped command Memory among = absurd (no_memory command among)
 not_stopped command _ among = refl
 
 -- a run that ended
-pub ended_meets : (held : Option (List ℕ → Option (List ℕ))) (words : List (List ℕ)) (old new : Option (List ℕ)) (status : Status)
+pub ended_meets : (held : Option (List ℕ → Option (List ℕ))) (words : List (List ℕ)) (old new : Option Pieces) (status : Status)
     → IsTrue (is_among (task_of (command_of words)).gives status)
     → MeetsResult held words old new (Ok status) → MeetsOutcome held words old new status
 unfolding MeetsResult MeetsOutcome
 ended_meets None words old new status among meets = tt
 ended_meets (Some h) words old new status among meets =
-    subst (λ (why : Option IoError). Leaves why (task_of (command_of words)).in_steps ((task_of (command_of words)).Answers (texts_of h)) old new status)
+    subst (λ (why : Option IoError). Leaves why (task_of (command_of words)).in_steps (WritesOf (task_of (command_of words)) (texts_of h)) old new status)
     (sym (not_stopped (command_of words) status among)) meets
 
 -- a run that was stopped
-pub stopped_meets : (held : Option (List ℕ → Option (List ℕ))) (words : List (List ℕ)) (old new : Option (List ℕ)) (why : IoError) (status : Status)
+pub stopped_meets : (held : Option (List ℕ → Option (List ℕ))) (words : List (List ℕ)) (old new : Option Pieces) (why : IoError) (status : Status)
     → status ≡ status_of why → MeetsResult held words old new (Err why) → MeetsOutcome held words old new status
 unfolding MeetsResult MeetsOutcome
 stopped_meets None words old new why status is meets = tt
 stopped_meets (Some h) words old new stop.Shelf status is meets = rw is meets
 stopped_meets (Some h) words old new stop.Sink status is meets = rw is meets
 stopped_meets (Some h) words old new stop.Memory status is meets = rw is meets
+
+-- a file that could not be loaded stops the run where it stops the command
+abbrev Stops : (T : Type 0) → CommandError → Type 0
+Stops T why = (λ (r : Result T CommandError). r ≡ Err ended.Shelf) (Err why)
+
+stops_as : (T U : Type 0) (why : CommandError) → Stops T why → Stops U why
+stops_as T U (ended.Refused refusal) same = cc
+stops_as T U ended.Shelf same = refl
+stops_as T U ended.Memory same = cc
+
+pub ended_keeps : {S T : Type 0} (g : Ghosts S) (why : CommandError) (result : Result Status IoError) (old new : S)
+    → (result ≡ Err stop.Shelf) ↔ Stops Answer why → KeepsShelf g (Stops T why) old new → KeepsShelf g (result ≡ Err stop.Shelf) old new
+ended_keeps {T = T} g why result old new stops keeps =
+    keeps_for g (Stops T why) (result ≡ Err stop.Shelf) old new (λ a. stops.1 (stops_as T Answer why a)) (λ b. stops_as Answer T why (stops.0 b)) keeps
+
+-- the count of a run that ended stays
+pub ok_rises : (words : List (List ℕ)) (status blamed : Status) (why : IoError) (before now : ℕ)
+    → IsTrue (is_among (task_of (command_of words)).gives status) → stop_of blamed ≡ Some why → now ≡ before → RisesFor (status ≡ blamed) before now
+ok_rises words status blamed why before now among stops same =
+    record {
+      later = omega (arith, same);
+      rose = λ is. let none : stop_of status ≡ None = not_stopped (command_of words) status among in let some : stop_of status ≡ Some why = ap stop_of is ∙ stops in cc;
+      steady = λ none. same;
+    }
+
+-- and that of one which was stopped rose where it is blamed
+abbrev Blames : IoError → IoError → Type 0
+Blames why blamed = (λ (r : Result Status IoError). r ≡ Err blamed) (Err why)
+
+pub err_shelf : (why : IoError) (status : Status) (before now : ℕ) → status ≡ status_of why → RisesFor (Blames why stop.Shelf) before now
+    → RisesFor (status ≡ ShelfFault) before now
+err_shelf stop.Shelf status before now is r = record { later = r.later; rose = λ e. r.rose refl; steady = λ none. absurd (none is) }
+err_shelf stop.Sink status before now is r = record { later = r.later; rose = λ e. cc; steady = λ none. r.steady (λ e. cc) }
+err_shelf stop.Memory status before now is r = record { later = r.later; rose = λ e. cc; steady = λ none. r.steady (λ e. cc) }
+
+pub err_sink : (why : IoError) (status : Status) (before now : ℕ) → status ≡ status_of why → RisesFor (Blames why stop.Sink) before now
+    → RisesFor (status ≡ SinkFault) before now
+err_sink stop.Shelf status before now is r = record { later = r.later; rose = λ e. cc; steady = λ none. r.steady (λ e. cc) }
+err_sink stop.Sink status before now is r = record { later = r.later; rose = λ e. r.rose refl; steady = λ none. absurd (none is) }
+err_sink stop.Memory status before now is r = record { later = r.later; rose = λ e. cc; steady = λ none. r.steady (λ e. cc) }

@@ -4,8 +4,11 @@ use Rattle.sd_topo.specs.Network.{Network}
 use Rattle.sd_plan.specs.declared.Plan.{Plan}
 use Rattle.sd_drill.specs.Printed.{IsDrill as IsDrillOf}
 use Rattle.sd_drill.specs.declared.Budget.{Budget}
-use Rattle.sd_cmd_files.specs.Answering.{May, After}
-use Rattle.sd_cmd_files.specs.Inputs.{topology_of}
+use Rattle.sd_outside.specs.Pieces.{Pieces}
+use Rattle.sd_checker.specs.Verdicts.{IsAccepted}
+use Rattle.sd_cmd_drill.specs.Adding.{IsDrillIn}
+use Rattle.sd_cmd_files.specs.Answering.{After, AtOnce, InWrites, May, MayWrite, WritesAfter}
+use Rattle.sd_cmd_files.specs.Inputs.{plan_in_file, topology_of}
 use Rattle.sd_cmd_files.specs.declared.Status.{Status}
 use Rattle.sd_cmd_files.specs.declared.Status.TheVariants.{Done}
 use Rattle.sd_cmd_files.specs.planfiles.PlanFiles.{AfterPlan}
@@ -17,6 +20,20 @@ IsDrilled net budget plan bytes status = IsDrillOf net plan budget bytes × (sta
 
 abbrev pub IsDrill : List ℕ → List ℕ → Budget → May
 IsDrill topology plan budget bytes status = After (topology_of topology) (λ net. AfterPlan net 1 plan (IsDrilled net budget)) bytes status
+
+-- of a plan that is accepted each domain by one write, and the last line by one; of another all by one
+pub record DrilledInSteps (net : Network) (budget : Budget) (plan : Plan) (pieces : Pieces) : Type 0 where
+  pub accepted : IsAccepted net plan → IsDrillIn net plan budget pieces
+  pub refused : (IsAccepted net plan → ⊥) → AtOnce pieces
+
+abbrev pub PlanDrilledInSteps : Network → Budget → List ℕ → Pieces → Type 0
+PlanDrilledInSteps net budget plan pieces = WritesAfter (plan_in_file net 1 plan) (DrilledInSteps net budget) pieces
+
+abbrev pub DrillInSteps : List ℕ → List ℕ → Budget → Pieces → Type 0
+DrillInSteps topology plan budget pieces = WritesAfter (topology_of topology) (λ net. PlanDrilledInSteps net budget plan) pieces
+
+abbrev pub DrillIn : List ℕ → List ℕ → Budget → MayWrite
+DrillIn topology plan budget = InWrites (DrillInSteps topology plan budget) (IsDrill topology plan budget)
 
 -- an accepted plan is drilled to the end
 abbrev pub DrillCompletes : Type 0

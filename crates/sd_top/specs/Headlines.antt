@@ -1,5 +1,6 @@
 -- The headline on bytes: what holds of whatever a run has added to its sink, whether it ended or was stopped.
 use Rattle.std.specs.Prelude.{ℕ, Bool, true, ◌&&◌, List, Option, Some, IfSome}
+use Rattle.sd_outside.specs.Pieces.{Pieces}
 use Rattle.sd_proof_headline.specs.Headlines.{Adds, no_case_alarm, no_early_alarm, no_early_disorder, no_early_interval}
 use Rattle.sd_top.specs.Words.{Command, command_of}
 use Rattle.sd_top.specs.Words.Command.{Replay, Case, Order}
@@ -12,5 +13,5 @@ keeps_headline (Some (Case number fabric)) bytes = no_case_alarm bytes
 keeps_headline _ bytes = true
 
 -- what was added keeps the headline of the command, where the texts are told
-unfoldable pub MeetsHeadline : Option (List ℕ → Option (List ℕ)) → List (List ℕ) → Option (List ℕ) → Option (List ℕ) → Type 0
+unfoldable pub MeetsHeadline : Option (List ℕ → Option (List ℕ)) → List (List ℕ) → Option Pieces → Option Pieces → Type 0
 MeetsHeadline held words old new = IfSome held (λ h. Adds old new (keeps_headline (command_of words)))

@@ -8,10 +8,11 @@ use Rattle.sd_solo.specs.Faults.{fault_name}
 use Rattle.sd_solo.specs.Histories.{refusal, bytes_of, done_text}
 use Rattle.sd_solo.specs.Lines.{solo_event}
 use Rattle.sd_solo.specs.Promises.{start_holds, drift_holds, reports_truly}
-use Rattle.sd_cmd_files.specs.Answering.{May}
+use Rattle.sd_outside.specs.Pieces.{piece_of}
+use Rattle.sd_cmd_files.specs.Answering.{InWrites, May, MayWrite}
 use Rattle.sd_cmd_files.specs.declared.Status.{Status}
 use Rattle.sd_cmd_files.specs.declared.Status.TheVariants.{Done}
-use Rattle.sd_cmd_files.specs.work.Works.{Work, IsOutcome, reading}
+use Rattle.sd_cmd_files.specs.work.Works.{InSteps, IsOutcome, Work, reading}
 use Rattle.sd_cmd_replay.specs.Reasons.{line_reason}
 
 abbrev pub unless_refused : Option SoloFault → Event → Result Event (List ℕ)
@@ -31,13 +32,17 @@ solo_work =
       says = λ events line. accepted events (solo_event line);
       ends = is_end_event;
       bytes = bytes_of;
-      last_lines = done_text;
+      last_pieces = λ events. piece_of (done_text events);
       last_status = λ events. Done;
     }
 
 -- what `solo` writes and answers for the text of a schedule
 abbrev pub IsSolo : List ℕ → May
 IsSolo = IsOutcome solo_work
+
+-- each step by one write
+abbrev pub SoloIn : List ℕ → MayWrite
+SoloIn schedule = InWrites (InSteps solo_work schedule) (IsSolo schedule)
 
 -- of each of these events, the newest first: where the clock that each start and fix set was right, and the oscillator kept its rates, up to that event, the
 -- report that it prints has its reference time inside

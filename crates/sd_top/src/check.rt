@@ -1,6 +1,6 @@
 //! `check`: the verdict of the checker on a plan.
 ghost use Rattle.std.specs.Prelude.{◌≡◌, ◌≤◌, [], ◌∷◌, Err, IsTrue, IfErr, IfOk, IfSome};
-ghost use Rattle.sd_outside.specs.Causes.{Rose};
+ghost use Rattle.sd_outside.specs.Shelves.{KeepsShelf};
 ghost use Rattle.sd_plan.specs.Plans.{Fits};
 ghost use Rattle.sd_topo.specs.Topologies.{network};
 ghost use Rattle.sd_cmd_files.specs.Answering.{After};
@@ -29,8 +29,7 @@ pub fn check<S: Shelf>(
     ensures makes { IfSome (S.held shelf.old)
         (λ held. Makes (IsCheck (texts_of held topology.now) (texts_of held plan.now)) result) }
     ensures gives { GivesAmong (Status.Done ∷ Status.PlanRefused ∷ Status.InputRefused ∷ []) result }
-    ensures shelf { result ≡ Err CommandError.Shelf
-        → Rose (S.faults shelf.old) (S.faults shelf.new) }
+    ensures shelf { KeepsShelf S.Shelf (result ≡ Err CommandError.Shelf) shelf.old shelf.new }
 {
     let topo = load_topology(alloc, shelf, topology)?;
     check_over(alloc, shelf, &topo, plan)
@@ -51,9 +50,7 @@ fn check_over<S: Shelf>(
         (After (plan_in_file (network topo.now) 1 (texts_of held plan.now))
         (IsJudged (network topo.now))) result) }
     ensures gives { GivesAmong (Status.Done ∷ Status.PlanRefused ∷ Status.InputRefused ∷ []) result }
-    ensures shelf { result ≡ Err CommandError.Shelf
-        → Rose (S.faults shelf.old) (S.faults shelf.new) }
-    ensures later { S.faults shelf.old ≤ S.faults shelf.new }
+    ensures shelf { KeepsShelf S.Shelf (result ≡ Err CommandError.Shelf) shelf.old shelf.new }
 {
     let plan = load_plan(alloc, shelf, plan, topo, 1)?;
     judge(alloc, topo, &plan)

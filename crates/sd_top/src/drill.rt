@@ -2,15 +2,18 @@
 ghost use Rattle.std.specs.Prelude.{◌≡◌, ◌≢◌, ◌≤◌, [], ◌∷◌, true, Err, IsTrue, IfOk, IfSome};
 ghost use Rattle.sd_checker.specs.Text as text;
 ghost use Rattle.sd_checker.specs.Verdicts.{IsVerdict};
-ghost use Rattle.sd_drill.specs.Budgets.{IsBudget};
-ghost use Rattle.sd_outside.specs.Causes.{Rose};
+ghost use Rattle.sd_drill.specs.Bounds.{IsBudget};
+ghost use Rattle.sd_outside.specs.Causes.{RisesFor};
+ghost use Rattle.sd_outside.specs.Shelves.{KeepsShelf};
+ghost use Rattle.sd_outside.specs.Pieces.{piece_of};
 ghost use Rattle.sd_plan.specs.Plans.{Fits};
+ghost use Rattle.sd_cmd_files.specs.Answering.{InWrites};
 ghost use Rattle.sd_topo.specs.Topologies.{network};
 ghost use Rattle.sd_cmd_files.specs.planfiles.PlanFiles.{AfterJudged, AfterPlan};
 ghost use Rattle.sd_cmd_files.specs.Statuses.{is_among};
 ghost use Rattle.sd_cmd_files.specs.Texts.{texts_of};
 ghost use Rattle.sd_cmd_files.specs.Writes.{Adds};
-ghost use Rattle.sd_top.specs.Drills.{IsDrill, IsDrilled};
+ghost use Rattle.sd_top.specs.Drills.{DrillIn, DrilledInSteps, IsDrilled, PlanDrilledInSteps};
 ghost use Rattle.sd_cmd_files.specs.work.Leaving.{LeavesAt};
 
 use sd_checker::{Breach, Verdict, check};
@@ -38,13 +41,13 @@ pub fn drill<S: Shelf, O: Sink>(
     requires budget { IsBudget budget }
     ensures outcome { IfSome (S.held shelf.old)
         (λ held. LeavesAt true
-        (IsDrill (texts_of held topology.now) (texts_of held plan.now) budget) (O.written out.old)
+        (DrillIn (texts_of held topology.now) (texts_of held plan.now) budget) (O.written out.old)
         (O.written out.new) result) }
     ensures gives { IfOk result
         (λ status. IsTrue
         (is_among (Status.Done ∷ Status.PlanRefused ∷ Status.InputRefused ∷ []) status)) }
-    ensures shelf { result ≡ Err IoError.Shelf → Rose (S.faults shelf.old) (S.faults shelf.new) }
-    ensures sink { result ≡ Err IoError.Sink → Rose (O.faults out.old) (O.faults out.new) }
+    ensures shelf { KeepsShelf S.Shelf (result ≡ Err IoError.Shelf) shelf.old shelf.new }
+    ensures sink { RisesFor (result ≡ Err IoError.Sink) (O.faults out.old) (O.faults out.new) }
 {
     match load_topology(alloc, shelf, topology) {
         Ok(topo) => drill_over(alloc, shelf, &topo, plan, budget, out),
@@ -65,14 +68,14 @@ fn drill_over<S: Shelf, O: Sink>(
     requires budget { IsBudget budget }
     ensures outcome { IfSome (S.held shelf.old)
         (λ held. LeavesAt true
+        (InWrites (PlanDrilledInSteps (network topo.now) budget (texts_of held plan.now))
         (AfterPlan (network topo.now) 1 (texts_of held plan.now)
-        (IsDrilled (network topo.now) budget)) (O.written out.old) (O.written out.new) result) }
+        (IsDrilled (network topo.now) budget))) (O.written out.old) (O.written out.new) result) }
     ensures gives { IfOk result
         (λ status. IsTrue
         (is_among (Status.Done ∷ Status.PlanRefused ∷ Status.InputRefused ∷ []) status)) }
-    ensures shelf { result ≡ Err IoError.Shelf → Rose (S.faults shelf.old) (S.faults shelf.new) }
-    ensures sink { result ≡ Err IoError.Sink → Rose (O.faults out.old) (O.faults out.new) }
-    ensures later { S.faults shelf.old ≤ S.faults shelf.new }
+    ensures shelf { KeepsShelf S.Shelf (result ≡ Err IoError.Shelf) shelf.old shelf.new }
+    ensures sink { RisesFor (result ≡ Err IoError.Sink) (O.faults out.old) (O.faults out.new) }
 {
     match load_plan(alloc, shelf, plan, topo, 1) {
         Ok(plan) => drill_plan(alloc, topo, &plan, budget, out),
@@ -91,13 +94,14 @@ fn drill_plan<O: Sink>(
     requires fits { Fits (network topo.now) plan.now }
     requires budget { IsBudget budget }
     ensures outcome { LeavesAt true
-        (AfterJudged (network topo.now) 1 plan.now (IsDrilled (network topo.now) budget plan.now))
+        (InWrites (DrilledInSteps (network topo.now) budget plan.now)
+        (AfterJudged (network topo.now) 1 plan.now (IsDrilled (network topo.now) budget plan.now)))
         (O.written out.old) (O.written out.new) result }
     ensures gives { IfOk result
         (λ status. IsTrue
         (is_among (Status.Done ∷ Status.PlanRefused ∷ Status.InputRefused ∷ []) status)) }
     ensures never_shelf { result ≢ Err IoError.Shelf }
-    ensures sink { result ≡ Err IoError.Sink → Rose (O.faults out.old) (O.faults out.new) }
+    ensures sink { RisesFor (result ≡ Err IoError.Sink) (O.faults out.old) (O.faults out.new) }
 {
     match check(alloc, topo, plan) {
         Ok(Verdict::Accepted) => write_drill(alloc, topo, plan, budget, out),
@@ -113,11 +117,11 @@ fn refuse<O: Sink>(
     breach: &Breach,
     out: &mut O,
 ) -> Result<Status, IoError>
-    ensures writes { Adds (text.refused_line (network topo.now) 1 breach.now) (O.written out.old)
-        (O.written out.new) result }
+    ensures writes { Adds (piece_of (text.refused_line (network topo.now) 1 breach.now))
+        (O.written out.old) (O.written out.new) result }
     ensures status { IfOk result (λ status. status ≡ Status.PlanRefused) }
     ensures never_shelf { result ≢ Err IoError.Shelf }
-    ensures sink { result ≡ Err IoError.Sink → Rose (O.faults out.old) (O.faults out.new) }
+    ensures sink { RisesFor (result ≡ Err IoError.Sink) (O.faults out.old) (O.faults out.new) }
 {
     let answer = refused_plan(alloc, topo, 1, breach)?;
     send(out, answer.text.as_slice())?;

@@ -1,6 +1,6 @@
 //! `migrate`: the same topology with version 2.
 ghost use Rattle.std.specs.Prelude.{◌≡◌, [], ◌∷◌, Err, IsTrue, IfErr, IfSome};
-ghost use Rattle.sd_outside.specs.Causes.{Rose};
+ghost use Rattle.sd_outside.specs.Shelves.{KeepsShelf};
 ghost use Rattle.sd_topo.specs.Topologies.{network};
 ghost use Rattle.sd_cmd_files.specs.Texts.{texts_of};
 ghost use Rattle.sd_cmd_files.specs.Writes.{Makes};
@@ -23,8 +23,7 @@ pub fn migrate<S: Shelf>(
     ensures makes { IfSome (S.held shelf.old)
         (λ held. Makes (IsMigration (texts_of held topology.now)) result) }
     ensures gives { GivesAmong (Status.Done ∷ Status.InputRefused ∷ []) result }
-    ensures shelf { result ≡ Err CommandError.Shelf
-        → Rose (S.faults shelf.old) (S.faults shelf.new) }
+    ensures shelf { KeepsShelf S.Shelf (result ≡ Err CommandError.Shelf) shelf.old shelf.new }
 {
     let topo = load_topology(alloc, shelf, topology)?;
     migrated(alloc, &topo)

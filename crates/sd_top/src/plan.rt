@@ -1,6 +1,6 @@
 //! `plan`: the greedy plan of a topology.
 ghost use Rattle.std.specs.Prelude.{◌≡◌, [], ◌∷◌, Err, IsTrue, IfErr, IfSome};
-ghost use Rattle.sd_outside.specs.Causes.{Rose};
+ghost use Rattle.sd_outside.specs.Shelves.{KeepsShelf};
 ghost use Rattle.sd_topo.specs.Topologies.{network};
 ghost use Rattle.sd_cmd_files.specs.Texts.{texts_of};
 ghost use Rattle.sd_cmd_files.specs.Writes.{Makes};
@@ -19,8 +19,7 @@ pub fn plan<S: Shelf>(alloc: Global, shelf: &mut S, topology: &str) -> Result<An
     requires { IsTrue (S.serves shelf.old topology.now) }
     ensures makes { IfSome (S.held shelf.old) (λ held. Makes (IsPlanOf (texts_of held topology.now)) result) }
     ensures gives { GivesAmong (Status.Done ∷ Status.PlanRefused ∷ Status.InputRefused ∷ []) result }
-    ensures shelf { result ≡ Err CommandError.Shelf
-        → Rose (S.faults shelf.old) (S.faults shelf.new) }
+    ensures shelf { KeepsShelf S.Shelf (result ≡ Err CommandError.Shelf) shelf.old shelf.new }
 {
     let topo = load_topology(alloc, shelf, topology)?;
     plan_whole(alloc, &topo)

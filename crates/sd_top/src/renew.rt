@@ -1,7 +1,7 @@
 //! `renew`: the greedy plan without what is absent.
 ghost use Rattle.std.specs.Prelude.{◌≡◌, ◌≤◌, [], ◌∷◌, Err, IsTrue, IfSome};
 ghost use Rattle.sd_num.specs.Lists.{ascends};
-ghost use Rattle.sd_outside.specs.Causes.{Rose};
+ghost use Rattle.sd_outside.specs.Shelves.{KeepsShelf};
 ghost use Rattle.sd_topo.specs.Topologies.{network};
 ghost use Rattle.sd_cmd_files.specs.Answering.{After};
 ghost use Rattle.sd_cmd_files.specs.Inputs.{absent_in_file, plan_in_file};
@@ -35,8 +35,7 @@ pub fn renew<S: Shelf>(
         (IsRenewal (texts_of held topology.now) (texts_of held plan.now) (texts_of held absent.now))
         result) }
     ensures gives { GivesAmong (Status.Done ∷ Status.PlanRefused ∷ Status.InputRefused ∷ []) result }
-    ensures shelf { result ≡ Err CommandError.Shelf
-        → Rose (S.faults shelf.old) (S.faults shelf.new) }
+    ensures shelf { KeepsShelf S.Shelf (result ≡ Err CommandError.Shelf) shelf.old shelf.new }
 {
     let topo = load_topology(alloc, shelf, topology)?;
     renew_over(alloc, shelf, &topo, plan, absent)
@@ -59,9 +58,7 @@ fn renew_over<S: Shelf>(
         (λ old. After (absent_in_file (network topo.now) (texts_of held absent.now))
         (λ left. IsPlanning (network topo.now) (plannings.renewed_root old left) left))) result) }
     ensures gives { GivesAmong (Status.Done ∷ Status.PlanRefused ∷ Status.InputRefused ∷ []) result }
-    ensures shelf { result ≡ Err CommandError.Shelf
-        → Rose (S.faults shelf.old) (S.faults shelf.new) }
-    ensures later { S.faults shelf.old ≤ S.faults shelf.new }
+    ensures shelf { KeepsShelf S.Shelf (result ≡ Err CommandError.Shelf) shelf.old shelf.new }
 {
     let old = load_plan(alloc, shelf, plan, topo, 1)?;
     let absent = load_absent(alloc, shelf, absent, topo)?;

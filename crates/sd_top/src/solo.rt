@@ -1,11 +1,12 @@
 //! `solo`: the schedule of one device, line by line, and what is written for it.
 ghost use Rattle.std.specs.Prelude.{◌≡◌, ◌≤◌, [], ◌∷◌, true, Ok, Err, Some, IsTrue, IfOk, IfSome};
-ghost use Rattle.sd_outside.specs.Causes.{Rose};
+ghost use Rattle.sd_outside.specs.Causes.{RisesFor};
+ghost use Rattle.sd_outside.specs.Shelves.{KeepsShelf};
 ghost use Rattle.sd_cmd_files.specs.Stream.Reader.{IsNear};
 ghost use Rattle.sd_cmd_files.specs.Statuses.{is_among};
 ghost use Rattle.sd_cmd_files.specs.work.Leaving.{LeavesAt};
 ghost use Rattle.sd_cmd_files.specs.work.Works.{refused_part};
-ghost use Rattle.sd_top.specs.Schedules.{IsSolo, solo_work};
+ghost use Rattle.sd_top.specs.Schedules.{SoloIn, solo_work};
 
 use crate::lines::{print_done, print_report};
 use crate::reasons::print_solo_fault;
@@ -86,17 +87,15 @@ pub fn replay_solo<S: Shelf, O: Sink>(
 ) -> Result<Status, IoError>
     requires { IsTrue (S.begun shelf.old) }
     ensures outcome { IfSome (S.rest shelf.old)
-        (λ text. LeavesAt true (IsSolo text) (O.written out.old) (O.written out.new) result) }
+        (λ text. LeavesAt true (SoloIn text) (O.written out.old) (O.written out.new) result) }
     ensures gives { IfOk result
         (λ status. IsTrue (is_among (Status.Done ∷ Status.InputRefused ∷ []) status)) }
     ensures near { result ≡ Ok Status.InputRefused
         → IfSome (S.rest shelf.old)
         (λ text. IsNear (Some (refused_part solo_work text)) (S.rest shelf.new)) }
-    ensures shelf { result ≡ Err IoError.Shelf → Rose (S.faults shelf.old) (S.faults shelf.new) }
-    ensures sink { result ≡ Err IoError.Sink → Rose (O.faults out.old) (O.faults out.new) }
+    ensures shelf { KeepsShelf S.Shelf (result ≡ Err IoError.Shelf) shelf.old shelf.new }
+    ensures sink { RisesFor (result ≡ Err IoError.Sink) (O.faults out.old) (O.faults out.new) }
     ensures begun { IsTrue (S.begun shelf.new) }
-    ensures later { S.faults shelf.old ≤ S.faults shelf.new }
-    ensures same_held { S.held shelf.new ≡ S.held shelf.old }
 {
     let line = match LineBuffer::new(alloc) {
         Ok(line) => line,

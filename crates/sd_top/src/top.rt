@@ -1,9 +1,11 @@
 //! `run`: the command of the words.
 ghost use Rattle.std.specs.Prelude.{◌≡◌, ◌⊎◌, [], ◌∷◌, false, true, All, Err, IfOk, IfSome, IsTrue, None, Ok, Some, map, string_bytes};
-ghost use Rattle.sd_outside.specs.Causes.{Rose};
+ghost use Rattle.sd_outside.specs.Causes.{RisesFor, Rose};
+ghost use Rattle.sd_outside.specs.Shelves.{KeepsShelf};
 ghost use Rattle.sd_cmd_files.specs.Stream.Reader.{IsNear};
 ghost use Rattle.sd_cmd_files.specs.Statuses.{is_among, stop_of};
 ghost use Rattle.sd_cmd_files.specs.Texts.{texts_of};
+ghost use Rattle.sd_cmd_files.specs.Writes.{WritesOnce};
 ghost use Rattle.sd_cmd_files.specs.work.Leaving.{LeavesAt};
 ghost use Rattle.sd_cmd_files.specs.work.Works.{refused_part};
 ghost use Rattle.sd_top.specs.Bounds.{MeetsBounds};
@@ -11,7 +13,7 @@ ghost use Rattle.sd_top.specs.Ends.{MeetsResult};
 ghost use Rattle.sd_top.specs.Headlines.{MeetsHeadline};
 ghost use Rattle.sd_top.specs.Laws.{Laws};
 ghost use Rattle.sd_top.specs.Promise.{IsNearRefusal, IsUsage, KeepsPromise, MeetsOutcome, task_of};
-ghost use Rattle.sd_top.specs.Schedules.{IsSolo, solo_work};
+ghost use Rattle.sd_top.specs.Schedules.{SoloIn, solo_work};
 ghost use Rattle.sd_top.specs.Words as meaning;
 ghost use Rattle.sd_top.specs.Words.{files_of, name_of};
 
@@ -31,8 +33,8 @@ use std::alloc::Global;
 
 /// Does the work of the words that follow the program's name, and answers how it ended.
 ///
-/// The files that the words name are begun on the shelf, each once and in the order of the words,
-/// and what is printed goes to the sink.
+/// The files that the words name are begun on the shelf, and what is printed goes to the sink: each
+/// step by one write.
 ///
 /// ```text
 /// // words: "check", "topology", "plan"
@@ -58,15 +60,16 @@ pub fn run<S: Shelf, O: Sink>(alloc: Global, words: &[String], shelf: &mut S, ou
     // no report above the number that a drill prints for its device, in any history that meets the premises of the drill
     ensures bounds { MeetsBounds (S.held shelf.old) (map string_bytes words.now) }
 
-    // Over every shelf and sink: a run that is not stopped gives one of the command's statuses, and
-    // the outside is blamed only where it failed in this call.
+    // Over every shelf and sink: a run that is not stopped gives one of the command's statuses. The
+    // outside is blamed only where it failed in this call, and another answer, out of memory too, is
+    // given only where it did not fail.
     ensures gives { stop_of result ≡ None
         → IsTrue (is_among (task_of (meaning.command_of (map string_bytes words.now))).gives
         result) }
     ensures usage { meaning.command_of (map string_bytes words.now) ≡ None
         → (result ≡ Status.Usage) ⊎ (result ≡ Status.SinkFault) }
-    ensures shelf { result ≡ Status.ShelfFault → Rose (S.faults shelf.old) (S.faults shelf.new) }
-    ensures sink { result ≡ Status.SinkFault → Rose (O.faults out.old) (O.faults out.new) }
+    ensures shelf { RisesFor (result ≡ Status.ShelfFault) (S.faults shelf.old) (S.faults shelf.new) }
+    ensures sink { RisesFor (result ≡ Status.SinkFault) (O.faults out.old) (O.faults out.new) }
     ensures complete { (Rose (S.faults shelf.old) (S.faults shelf.new) → ⊥)
         → (Rose (O.faults out.old) (O.faults out.new) → ⊥)
         → (stop_of result ≡ None) ⊎ (result ≡ Status.Memory) }
@@ -98,8 +101,8 @@ fn perform<S: Shelf, O: Sink>(
         (is_among (task_of (meaning.command_of (map string_bytes words.now))).gives status)) }
     ensures usage { meaning.command_of (map string_bytes words.now) ≡ None
         → (result ≡ Ok Status.Usage) ⊎ (result ≡ Err IoError.Sink) }
-    ensures shelf { result ≡ Err IoError.Shelf → Rose (S.faults shelf.old) (S.faults shelf.new) }
-    ensures sink { result ≡ Err IoError.Sink → Rose (O.faults out.old) (O.faults out.new) }
+    ensures shelf { KeepsShelf S.Shelf (result ≡ Err IoError.Shelf) shelf.old shelf.new }
+    ensures sink { RisesFor (result ≡ Err IoError.Sink) (O.faults out.old) (O.faults out.new) }
 {
     match command_of(words) {
         Some(Command::Solo { schedule }) => solo(alloc, shelf, schedule, out),
@@ -157,7 +160,7 @@ fn solo<S: Shelf, O: Sink>(
 ) -> Result<Status, IoError>
     requires { IsTrue (S.serves shelf.old schedule.now) }
     ensures outcome { IfSome (S.held shelf.old)
-        (λ held. LeavesAt true (IsSolo (texts_of held schedule.now)) (O.written out.old)
+        (λ held. LeavesAt true (SoloIn (texts_of held schedule.now)) (O.written out.old)
         (O.written out.new) result) }
     ensures gives { IfOk result
         (λ status. IsTrue (is_among (Status.Done ∷ Status.InputRefused ∷ []) status)) }
@@ -165,8 +168,8 @@ fn solo<S: Shelf, O: Sink>(
         → IfSome (S.held shelf.old)
         (λ held. IsNear (Some (refused_part solo_work (texts_of held schedule.now)))
         (S.rest shelf.new)) }
-    ensures shelf { result ≡ Err IoError.Shelf → Rose (S.faults shelf.old) (S.faults shelf.new) }
-    ensures sink { result ≡ Err IoError.Sink → Rose (O.faults out.old) (O.faults out.new) }
+    ensures shelf { KeepsShelf S.Shelf (result ≡ Err IoError.Shelf) shelf.old shelf.new }
+    ensures sink { RisesFor (result ≡ Err IoError.Sink) (O.faults out.old) (O.faults out.new) }
 {
     match shelf.begin(schedule) {
         Ok(()) => replay_solo(alloc, shelf, out),
@@ -176,9 +179,9 @@ fn solo<S: Shelf, O: Sink>(
 
 /// Writes the usage line.
 fn usage<O: Sink>(out: &mut O) -> Result<Status, IoError>
-    ensures outcome { LeavesAt false IsUsage (O.written out.old) (O.written out.new) result }
+    ensures outcome { WritesOnce IsUsage (O.written out.old) (O.written out.new) result }
     ensures usage { (result ≡ Ok Status.Usage) ⊎ (result ≡ Err IoError.Sink) }
-    ensures sink { result ≡ Err IoError.Sink → Rose (O.faults out.old) (O.faults out.new) }
+    ensures sink { RisesFor (result ≡ Err IoError.Sink) (O.faults out.old) (O.faults out.new) }
 {
     match out.write(
         b"usage: sundial solo SCHEDULE | plan TOPOLOGY | check TOPOLOGY PLAN | renew TOPOLOGY PLAN ABSENT | replay TOPOLOGY PLAN.. SCHEDULE | case NUMBER LEAVES SPINES | migrate TOPOLOGY | order TOPOLOGY PLAN.. SCHEDULE | twoway TOPOLOGY EXCHANGES | drill TOPOLOGY PLAN BASE HOLD\n",

@@ -1,15 +1,17 @@
 //! `twoway`: bounds on the delays of links, from recorded exchanges.
 ghost use Rattle.std.specs.Prelude.{◌≡◌, ◌≤◌, [], ◌∷◌, true, Err, Ok, IsTrue, IfOk, IfSome, Some};
-ghost use Rattle.sd_outside.specs.Causes.{Rose};
+ghost use Rattle.sd_outside.specs.Causes.{RisesFor};
+ghost use Rattle.sd_outside.specs.Shelves.{KeepsShelf};
 ghost use Rattle.sd_cmd_files.specs.Stream.Reader.{IsNear};
 ghost use Rattle.sd_topo.specs.Topologies.{network};
+ghost use Rattle.sd_cmd_files.specs.Answering.{InWrites};
 ghost use Rattle.sd_cmd_files.specs.Inputs.{topology_of};
 ghost use Rattle.sd_cmd_files.specs.Statuses.{is_among};
 ghost use Rattle.sd_cmd_files.specs.Texts.{texts_of};
 ghost use Rattle.sd_cmd_files.specs.work.Leaving.{LeavesAt};
-ghost use Rattle.sd_cmd_files.specs.work.Works.{IsOutcome, refused_part};
+ghost use Rattle.sd_cmd_files.specs.work.Works.{InSteps, IsOutcome, refused_part};
 ghost use Rattle.sd_cmd_twoway.specs.Twoways.{twoway_work};
-ghost use Rattle.sd_top.specs.Twoways.{IsTwoway, refused_over};
+ghost use Rattle.sd_top.specs.Twoways.{TwowayIn, refused_over};
 
 use sd_cmd_files::work::work_through;
 use sd_cmd_files::{IoError, Status, load_topology, write_answer};
@@ -29,14 +31,14 @@ pub fn twoway<S: Shelf, O: Sink>(
     requires topology { IsTrue (S.serves shelf.old topology.now) }
     requires exchanges { IsTrue (S.serves shelf.old exchanges.now) }
     ensures outcome { IfSome (S.held shelf.old)
-        (λ held. LeavesAt true (IsTwoway (texts_of held topology.now) (texts_of held exchanges.now))
+        (λ held. LeavesAt true (TwowayIn (texts_of held topology.now) (texts_of held exchanges.now))
         (O.written out.old) (O.written out.new) result) }
     ensures gives { IfOk result
         (λ status. IsTrue (is_among (Status.Done ∷ Status.InputRefused ∷ []) status)) }
     ensures near { result ≡ Ok Status.InputRefused → IfSome (S.held shelf.old) (λ held.
         IfSome (refused_over (topology_of (texts_of held topology.now)) (texts_of held exchanges.now)) (λ part. IsNear (Some part) (S.rest shelf.new))) }
-    ensures shelf { result ≡ Err IoError.Shelf → Rose (S.faults shelf.old) (S.faults shelf.new) }
-    ensures sink { result ≡ Err IoError.Sink → Rose (O.faults out.old) (O.faults out.new) }
+    ensures shelf { KeepsShelf S.Shelf (result ≡ Err IoError.Shelf) shelf.old shelf.new }
+    ensures sink { RisesFor (result ≡ Err IoError.Sink) (O.faults out.old) (O.faults out.new) }
 {
     match load_topology(alloc, shelf, topology) {
         Ok(topo) => twoway_over(alloc, shelf, &topo, exchanges, out),
@@ -55,7 +57,8 @@ fn twoway_over<S: Shelf, O: Sink>(
     requires { IsTrue (S.serves shelf.old exchanges.now) }
     ensures outcome { IfSome (S.held shelf.old)
         (λ held. LeavesAt true
-        (IsOutcome (twoway_work (network topo.now)) (texts_of held exchanges.now))
+        (InWrites (InSteps (twoway_work (network topo.now)) (texts_of held exchanges.now))
+        (IsOutcome (twoway_work (network topo.now)) (texts_of held exchanges.now)))
         (O.written out.old) (O.written out.new) result) }
     ensures gives { IfOk result
         (λ status. IsTrue (is_among (Status.Done ∷ Status.InputRefused ∷ []) status)) }
@@ -64,9 +67,8 @@ fn twoway_over<S: Shelf, O: Sink>(
         (λ held. IsNear
         (Some (refused_part (twoway_work (network topo.now)) (texts_of held exchanges.now)))
         (S.rest shelf.new)) }
-    ensures shelf { result ≡ Err IoError.Shelf → Rose (S.faults shelf.old) (S.faults shelf.new) }
-    ensures sink { result ≡ Err IoError.Sink → Rose (O.faults out.old) (O.faults out.new) }
-    ensures later { S.faults shelf.old ≤ S.faults shelf.new }
+    ensures shelf { KeepsShelf S.Shelf (result ≡ Err IoError.Shelf) shelf.old shelf.new }
+    ensures sink { RisesFor (result ≡ Err IoError.Sink) (O.faults out.old) (O.faults out.new) }
 {
     match shelf.begin(exchanges) {
         Ok(()) => bound_links(alloc, shelf, topo, out),
@@ -84,7 +86,8 @@ fn bound_links<S: Shelf, O: Sink>(
 ) -> Result<Status, IoError>
     requires { IsTrue (S.begun shelf.old) }
     ensures outcome { IfSome (S.rest shelf.old)
-        (λ text. LeavesAt true (IsOutcome (twoway_work (network topo.now)) text) (O.written out.old)
+        (λ text. LeavesAt true (InWrites (InSteps (twoway_work (network topo.now)) text)
+        (IsOutcome (twoway_work (network topo.now)) text)) (O.written out.old)
         (O.written out.new) result) }
     ensures gives { IfOk result
         (λ status. IsTrue (is_among (Status.Done ∷ Status.InputRefused ∷ []) status)) }
@@ -92,9 +95,8 @@ fn bound_links<S: Shelf, O: Sink>(
         → IfSome (S.rest shelf.old)
         (λ text. IsNear (Some (refused_part (twoway_work (network topo.now)) text))
         (S.rest shelf.new)) }
-    ensures shelf { result ≡ Err IoError.Shelf → Rose (S.faults shelf.old) (S.faults shelf.new) }
-    ensures sink { result ≡ Err IoError.Sink → Rose (O.faults out.old) (O.faults out.new) }
-    ensures later { S.faults shelf.old ≤ S.faults shelf.new }
+    ensures shelf { KeepsShelf S.Shelf (result ≡ Err IoError.Shelf) shelf.old shelf.new }
+    ensures sink { RisesFor (result ≡ Err IoError.Sink) (O.faults out.old) (O.faults out.new) }
 {
     let work = match Exchanges::new(alloc, topo) {
         Ok(work) => work,

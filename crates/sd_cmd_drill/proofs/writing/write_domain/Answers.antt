@@ -1,5 +1,4 @@
-use Rattle.std.proofs.Common.{List, ℕ, [], ◌∷◌, sym, subst}
-use Rattle.std.proofs.KnownBytes.{Keeps-refl}
+use Rattle.std.proofs.Common.{List, ℕ, [], ◌∷◌, refl, sym, subst}
 use Rattle.sd_topo.specs.Topologies.{network}
 use Rattle.sd_drill.specs.Printed.{IsLinesOf}
 use Rattle.sd_cmd_drill.specs.Rooms.{budget_of}
@@ -24,4 +23,4 @@ returns-in-Err-clause-adds g c =
     let out = g.O.Sink.written c.args.out.now in
     adds_nothing net plan budget (Unit {0}) (c.args.domain ∷ []) out out
     (has_one net plan budget c.args.planned.topo.now.is_network c.args.planned.is_index.fits c.requires.accepted c.args.domain c.requires.domain)
-    (Keeps-refl out)
+    refl

@@ -7,7 +7,7 @@ use Rattle.sd_cmd_drill.specs.Adding.{Added, AddsLines}
 use Rattle.sd_cmd_drill.specs.Kinds.{all_of}
 use Rattle.sd_cmd_drill.specs.Rooms.{budget_of}
 use Rattle.sd_cmd_drill.specs.declared.kinds.Kind.TheVariants as kind
-use Rattle.sd_cmd_drill.proofs.Prefixes.{handed_on}
+use Rattle.sd_cmd_files.proofs.work.Adding.{handed_on}
 use Rattle.sd_cmd_drill.proofs.Ranges.{come_third, stopped_first, stopped_second}
 use Rattle.sd_cmd_drill.proofs.writing.write_domains.Goals as goal
 

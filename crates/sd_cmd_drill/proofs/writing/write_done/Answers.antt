@@ -1,6 +1,6 @@
 use Rattle.std.proofs.Common.{◌≡◌, ◌∙◌, ◌+◌, List, ℕ, [], ◌∷◌, length, ap, ap₂, subst, arith, Err}
 use Rattle.std.specs.Prelude.{codes, decimal}
-use Rattle.std.specs.Io.KnownBytes.{Appends}
+use Rattle.sd_outside.specs.Pieces.{AddsPieces, piece_of}
 use Rattle.sd_num.specs.Texts.{text_of}
 use Rattle.sd_topo.specs.Topologies.{network}
 use Rattle.sd_domain.specs.Domains.{domains}
@@ -19,7 +19,7 @@ returns-in-Ok-clause-writes g c =
     omega (arith, c.domains.ensures, c.devices.ensures, c.links.ensures, domains_length net) in
     let size : length c.as_slice-members.result.now ≡ length (members net c.args.planned.plan.now) =
     ap (λ (xs : List ℕ). length xs) (c.as_slice-members.ensures ∙ c.requires.members) in
-    subst (λ (bytes : List ℕ). Appends (g.O.Sink.written c.args.out.now) (g.O.Sink.written c.send.new.out) bytes)
+    subst (λ (bytes : List ℕ). AddsPieces (g.O.Sink.written c.args.out.now) (g.O.Sink.written c.send.new.out) (piece_of bytes))
     (c.printed.ensures ∙ c.print_done.ensures ∙ ap₂ (λ (a b : ℕ). text_of (codes "done" ∷ decimal a ∷ decimal b ∷ [])) count size)
     c.in-Ok.ensures.writes
 
@@ -30,7 +30,7 @@ returns-in-Err-clause-writes g c =
     omega (arith, c.domains.ensures, c.devices.ensures, c.links.ensures, domains_length net) in
     let size : length c.as_slice-members.result.now ≡ length (members net c.args.planned.plan.now) =
     ap (λ (xs : List ℕ). length xs) (c.as_slice-members.ensures ∙ c.requires.members) in
-    adds_stop (Unit {0}) Status (done_line net c.args.planned.plan.now) _ _ c.in-Err.stop
-    (subst (λ (bytes : List ℕ). Adds {T = Unit {0}} bytes (g.O.Sink.written c.args.out.now) (g.O.Sink.written c.send.new.out) (Err c.in-Err.stop))
+    adds_stop (Unit {0}) Status (piece_of (done_line net c.args.planned.plan.now)) _ _ c.in-Err.stop
+    (subst (λ (bytes : List ℕ). Adds {T = Unit {0}} (piece_of bytes) (g.O.Sink.written c.args.out.now) (g.O.Sink.written c.send.new.out) (Err c.in-Err.stop))
     (c.printed.ensures ∙ c.print_done.ensures ∙ ap₂ (λ (a b : ℕ). text_of (codes "done" ∷ decimal a ∷ decimal b ∷ [])) count size)
     c.in-Err.ensures.writes)

@@ -1,4 +1,4 @@
-use Rattle.std.proofs.KnownBytes.{Keeps-refl}
+use Rattle.std.proofs.Common.{refl}
 use Rattle.sd_topo.specs.Topologies.{network}
 use Rattle.sd_domain.specs.Domains.{domains}
 use Rattle.sd_cmd_files.specs.declared.command_error.IoError.TheVariants as stop
@@ -13,4 +13,4 @@ returns-in-Err-clause-drills g c =
     let out = g.O.Sink.written c.args.out.now in
     drill_stopped net plan c.args.budget (Unit {0}) out out stop.Memory
     (adds_nothing net plan c.args.budget (Unit {0}) (domains net) out out
-    (has_all net plan c.args.budget c.args.topo.now.is_network c.requires.fits c.requires.accepted) (Keeps-refl out))
+    (has_all net plan c.args.budget c.args.topo.now.is_network c.requires.fits c.requires.accepted) refl)

@@ -1,11 +1,11 @@
-use Rattle.std.proofs.Common.{◌∙◌, ◌<◌, [], ◌∷◌, Result, Err, subst, arith}
+use Rattle.std.proofs.Common.{rules, ◌∙◌, ◌<◌, [], ◌∷◌, Result, Err, subst, arith}
 use Rattle.sd_topo.specs.Topologies.{network}
 use Rattle.sd_drill.specs.declared.Budget.{Budget}
 use Rattle.sd_cmd_files.specs.declared.command_error.IoError.{IoError}
 use Rattle.sd_cmd_drill.specs.Adding.{Added, AddsLines}
 use Rattle.sd_cmd_drill.specs.Kinds.{all_of, count_of}
 use Rattle.sd_cmd_drill.specs.Rooms.{budget_of}
-use Rattle.sd_cmd_drill.proofs.Prefixes.{handed_on}
+use Rattle.sd_cmd_files.proofs.work.Adding.{handed_on}
 use Rattle.sd_cmd_drill.proofs.Ranges.{kind_more, kind_stopped}
 use Rattle.sd_cmd_drill.proofs.writing.write_kind.Goals as goal
 
@@ -42,5 +42,5 @@ loop-number-preserved g c =
           (subst (λ (b : Budget). Added net plan b (c.domain.result ∷ []) before after) come.granted c.in_ok-write_domain.ensures.adds);
       room = c.write_domain.ensures.room;
       granted = c.write_domain.ensures.budget ∙ come.granted;
-      later = omega (arith, come.later, c.write_domain.ensures.later);
+      steady = search (rules, come.steady);
     }

@@ -14,5 +14,5 @@ invariant-loop-number g l =
       added : Added net l.planned.plan.now (budget_of l.fn.room) (first_of l.kind l.number) (sink.written l.fn.out) (sink.written l.out);
       room : IsRoomFor net l.planned.plan.now l.room;
       granted : budget_of l.room ≡ budget_of l.fn.room;
-      later : sink.faults l.fn.out ≤ sink.faults l.out;
+      steady : sink.faults l.out ≡ sink.faults l.fn.out;
     }

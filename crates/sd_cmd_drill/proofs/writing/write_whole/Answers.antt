@@ -4,7 +4,8 @@ use Rattle.sd_cmd_files.specs.declared.Status.{Status}
 use Rattle.sd_cmd_files.specs.declared.command_error.IoError.{IoError}
 use Rattle.sd_cmd_drill.specs.Adding.{Drills}
 use Rattle.sd_cmd_drill.specs.Rooms.{budget_of}
-use Rattle.sd_cmd_drill.proofs.Prefixes.{drill_stopped, drills, handed_on}
+use Rattle.sd_cmd_drill.proofs.Prefixes.{drill_stopped, drills}
+use Rattle.sd_cmd_files.proofs.work.Adding.{handed_on}
 use Rattle.sd_cmd_drill.proofs.writing.write_whole.Goals as goal
 
 pub returns-in_err-write_domains-clause-drills : goal.returns-in_err-write_domains-clause-drills

@@ -1,4 +1,4 @@
-use Rattle.std.proofs.Common.{◌≡◌, ℕ, List, sym, subst, map, string_bytes}
+use Rattle.std.proofs.Common.{List, sym, subst, map, string_bytes}
 use Rattle.std.specs.Prelude.{IfSome}
 use Rattle.sd_msg.specs.Topo.Network.{Each}
 use Rattle.sd_msg.specs.Topo.Topologies.{network}
@@ -8,6 +8,7 @@ use Rattle.sd_cmd_files.specs.Checker.Verdicts.{IsAccepted}
 use Rattle.sd_cmd_files.specs.Texts.{texts_of}
 use Rattle.sd_cmd_files.specs.planfiles.PlanFiles.{AreRead}
 use Rattle.sd_cmd_replay.proofs.Loading.{started_over}
+use Rattle.sd_cmd_files.proofs.Keeping.{keeps_both, keeps_for}
 use Rattle.sd_cmd_replay.proofs.files.start.Goals as goal
 
 pub new-requires-clause-fit : goal.new-requires-clause-fit
@@ -27,3 +28,7 @@ returns-in-Ok-new-clause-started g c =
     (λ held. AreRead net 1 (map (λ name. texts_of held name) (map string_bytes c.args.files.plans.now)) ps))
     (sym c.from_vec-plans.ensures) c.in-Ok.ensures.read)
     (subst (λ (ps : List Plan). Each (IsAccepted net) ps) (sym c.from_vec-plans.ensures) c.in-Ok.ensures.accepted) c.in-Ok-new.ensures.stands
+
+pub returns-in-Ok-new-clause-shelf : goal.returns-in-Ok-new-clause-shelf
+returns-in-Ok-new-clause-shelf g c =
+    keeps_for g.S.Shelf _ _ _ _ (λ e. cc) (λ e. cc) (keeps_both g.S.Shelf _ _ _ _ _ (λ e. cc) c.in_ok-topo.ensures.shelf c.in-Ok.ensures.shelf)

@@ -1,4 +1,4 @@
-use Rattle.std.proofs.Common.{refl, sym, ◌∙◌}
+use Rattle.std.proofs.Common.{refl}
 use Rattle.sd_msg.specs.Topo.Topologies.{network}
 use Rattle.sd_cmd_replay.proofs.Ordering.{name_known, named, unnamed}
 use Rattle.sd_cmd_replay.proofs.ordered.name_of.Goals as goal

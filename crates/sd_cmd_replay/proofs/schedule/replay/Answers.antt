@@ -1,4 +1,4 @@
-use Rattle.std.proofs.Common.{ℕ, List, [], refl, sym, subst, map}
+use Rattle.std.proofs.Common.{[], refl, sym, subst, map}
 use Rattle.std.specs.Prelude.{string_bytes}
 use Rattle.sd_core.specs.declared.registers.Registers.{Registers}
 use Rattle.sd_core.specs.contracts.device.DeviceNode.TheImpl.{ghosts as device}

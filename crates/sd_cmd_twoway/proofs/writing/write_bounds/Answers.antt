@@ -2,6 +2,7 @@ use Rattle.std.proofs.Common.{◌∙◌, ℕ, List, [], ◌∷◌, ◌++◌, Res
 use Rattle.std.specs.Prelude.{codes, decimal}
 use Rattle.sd_num.specs.Texts.{text_of}
 use Rattle.sd_topo.specs.Topologies.{network}
+use Rattle.sd_outside.specs.Pieces.{piece_of}
 use Rattle.sd_cmd_files.specs.Writes.{Adds}
 use Rattle.sd_cmd_files.specs.declared.command_error.IoError.{IoError}
 use Rattle.sd_cmd_twoway.specs.Tallies.{bounds_of, lines_of}
@@ -19,7 +20,7 @@ pub returns-clause-writes : goal.returns-clause-writes
 returns-clause-writes g c =
     let net = network c.args.topo.now in
     let front = lines_of net c.args.tally.now.spans (length net.links) in
-    subst (λ (last : List ℕ). Adds (front ++ last) (g.O.Sink.written c.args.out.now) (g.O.Sink.written c.send.new.out) c.send.result)
+    subst (λ (last : List ℕ). Adds (front ++ piece_of last) (g.O.Sink.written c.args.out.now) (g.O.Sink.written c.send.new.out) c.send.result)
     (c.printed.ensures ∙ c.print_done.ensures
     ∙ ap (λ (n : ℕ). text_of (codes "done" ∷ decimal c.args.tally.now.lines ∷ decimal n ∷ [])) c.in_ok-links.ensures.count)
-    (adds_behind front c.printed.result.now _ _ _ c.send.result c.in_ok-links.ensures.writes c.send.ensures.only c.send.ensures.writes)
+    (adds_behind front (piece_of c.printed.result.now) _ _ _ c.send.result c.in_ok-links.ensures.writes c.send.ensures.only c.send.ensures.writes)

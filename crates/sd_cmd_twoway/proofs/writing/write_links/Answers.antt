@@ -34,7 +34,7 @@ loop-link-preserved g c =
                 (sym (w.printed.ensures ∙ w.print_link.ensures)) come.added w.in_ok-send.ensures.writes;
             count = counted_more net c.args.tally.now.spans c.loop-link.link _ _ (sym w.in-Some.ensures.kept) come.count;
             few = search (rules, come.few);
-            later = search (rules, come.later);
+            steady = search (rules, come.steady);
           }
       | in_default w ↦
           rw (w.out-is, w.links-is)
@@ -42,6 +42,6 @@ loop-link-preserved g c =
             added = added_none net c.args.tally.now.spans c.loop-link.link _ _ (sym w.in_default.ensures.kept) come.added;
             count = counted_none net c.args.tally.now.spans c.loop-link.link _ (sym w.in_default.ensures.kept) come.count;
             few = search (rules, come.few);
-            later = search (rules, come.later);
+            steady = search (rules, come.steady);
           }
     ]

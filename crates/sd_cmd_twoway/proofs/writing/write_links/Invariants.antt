@@ -1,5 +1,5 @@
 use Rattle.std.proofs.Common.{◌≡◌, ◌≤◌}
-use Rattle.std.specs.Io.KnownBytes.{Appends}
+use Rattle.sd_outside.specs.Pieces.{AddsPieces}
 use Rattle.sd_topo.specs.Topologies.{network}
 use Rattle.sd_cmd_twoway.specs.Tallies.{count_of, lines_of}
 use Rattle.sd_cmd_twoway.proofs.writing.write_links.Given as goal
@@ -9,8 +9,8 @@ abbrev pub invariant-loop-link : goal.invariant-loop-link
 invariant-loop-link g l =
     let sink = g.O.Sink in
     record {
-      added : Appends (sink.written l.fn.out) (sink.written l.out) (lines_of (network l.topo) l.tally.spans l.link);
+      added : AddsPieces (sink.written l.fn.out) (sink.written l.out) (lines_of (network l.topo) l.tally.spans l.link);
       count : l.links ≡ count_of l.tally.spans l.link;
       few : l.links ≤ l.link;
-      later : sink.faults l.fn.out ≤ sink.faults l.out;
+      steady : sink.faults l.out ≡ sink.faults l.fn.out;
     }

@@ -1,8 +1,9 @@
 use Rattle.sd_topo.specs.Topologies.{network}
 use Rattle.sd_cmd_files.specs.Inputs.{plan_in_file}
 use Rattle.sd_cmd_files.specs.planfiles.PlanFiles.{AfterJudged}
-use Rattle.sd_top.specs.Drills.{IsDrilled}
+use Rattle.sd_top.specs.Drills.{DrilledInSteps, IsDrilled}
 use Rattle.sd_top.proofs.Drilling.{told_leaves_on, told_unloaded}
+use Rattle.sd_top.proofs.Performing.{ended_keeps}
 use Rattle.sd_plan.specs.declared.Plan.{Plan}
 use Rattle.sd_cmd_files.proofs.Loading.{told_always}
 use Rattle.sd_top.proofs.drill.drill_over.Goals as goal
@@ -10,12 +11,17 @@ use Rattle.sd_top.proofs.drill.drill_over.Goals as goal
 pub returns-in-Ok-clause-outcome : goal.returns-in-Ok-clause-outcome
 returns-in-Ok-clause-outcome g c =
     told_leaves_on (λ (plan : Plan). plan) (λ texts. plan_in_file (network c.args.topo.now) 1 (texts c.args.plan.now))
-    (λ texts plan. AfterJudged (network c.args.topo.now) 1 plan (IsDrilled (network c.args.topo.now) c.args.budget plan)) _ _ _ c.drill_plan.result
+    (λ texts plan. AfterJudged (network c.args.topo.now) 1 plan (IsDrilled (network c.args.topo.now) c.args.budget plan))
+    (λ texts. DrilledInSteps (network c.args.topo.now) c.args.budget) _ _ _ c.drill_plan.result
     c.in-Ok.plan c.in-Ok.ensures.says
     (told_always _ c.drill_plan.ensures.outcome)
 
 pub returns-in-Err-clause-outcome : goal.returns-in-Err-clause-outcome
 returns-in-Err-clause-outcome g c =
     told_unloaded (λ (plan : Plan). plan) (λ texts. plan_in_file (network c.args.topo.now) 1 (texts c.args.plan.now))
-    (λ texts plan. AfterJudged (network c.args.topo.now) 1 plan (IsDrilled (network c.args.topo.now) c.args.budget plan)) _ _ _ c.write_answer.result
+    (λ texts plan. AfterJudged (network c.args.topo.now) 1 plan (IsDrilled (network c.args.topo.now) c.args.budget plan))
+    (λ texts. DrilledInSteps (network c.args.topo.now) c.args.budget) _ _ _ c.write_answer.result
     c.in-Err.ended c.in-Err.ensures.says c.write_answer.ensures.writes
+
+pub returns-in-Err-clause-shelf : goal.returns-in-Err-clause-shelf
+returns-in-Err-clause-shelf g c = ended_keeps g.S.Shelf c.in-Err.ended c.write_answer.result _ _ c.write_answer.ensures.shelf c.in-Err.ensures.shelf

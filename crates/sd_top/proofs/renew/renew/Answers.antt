@@ -11,4 +11,4 @@ returns-clause-makes g c =
     (λ texts net. After (plan_in_file net 1 (texts c.args.plan.now))
     (λ old. After (absent_in_file net (texts c.args.absent.now)) (λ left. IsPlanning net (renewed_root old left) left))) _ c.in_ok-topo.topo
     c.renew_over.result c.in_ok-topo.ensures.says
-    (rw c.in_ok-topo.ensures.same_held at c.renew_over.ensures.makes)
+    (rw c.in_ok-topo.ensures.shelf.same_held at c.renew_over.ensures.makes)

@@ -5,7 +5,9 @@ use Rattle.sd_top.specs.Parsed.{named}
 use Rattle.sd_top.specs.Words.{OfTopology, OfPlan, OfAbsent, command_of, files_of}
 use Rattle.sd_top.specs.Words.Command.{Solo, Plan, Check, Renew, Replay, Case, Migrate, Order, Twoway, Drill}
 use Rattle.sd_top.specs.declared.words.Command.{Command as Parsed}
-use Rattle.sd_top.proofs.Performing.{meets_told, meets_once, near_told, near_nothing}
+use Rattle.sd_top.proofs.Performing.{leaves_written, meets_told, meets_once, near_told, near_nothing}
+use Rattle.sd_cmd_files.proofs.Keeping.{keeps_for}
+use Rattle.sd_top.specs.Promise.{IsUsage}
 use Rattle.sd_top.proofs.Serving.{serves_first, serves_second, serves_third, serves_topology, serves_plans, serves_schedule}
 use Rattle.sd_top.proofs.top.perform.Goals as goal
 
@@ -23,7 +25,7 @@ pub returns-in-Some-Plan-clause-outcome : goal.returns-in-Some-Plan-clause-outco
 returns-in-Some-Plan-clause-outcome g c =
     meets_once _ _ (Some (Plan c.in-Some-Plan.topology.now)) c.plan-made.result _ _ _
     (ap (λ (x : Parsed). Some (named x)) (sym c.in-Some-Plan.field-0-is)
-    ∙ c.in-Some-Plan.ensures.is) refl c.plan-made.ensures.makes c.write_answer.ensures.writes
+    ∙ c.in-Some-Plan.ensures.is) refl (λ texts. refl) c.plan-made.ensures.makes c.write_answer.ensures.writes
 
 pub returns-in-Some-Plan-clause-near : goal.returns-in-Some-Plan-clause-near
 returns-in-Some-Plan-clause-near g c =
@@ -34,7 +36,7 @@ pub returns-in-Some-Check-clause-outcome : goal.returns-in-Some-Check-clause-out
 returns-in-Some-Check-clause-outcome g c =
     meets_once _ _ (Some (Check c.in-Some-Check.topology.now c.in-Some-Check.plan.now)) c.check-made.result _ _ _
     (ap (λ (x : Parsed). Some (named x)) (sym c.in-Some-Check.field-0-is)
-    ∙ c.in-Some-Check.ensures.is) refl c.check-made.ensures.makes c.write_answer-in-Some-Check.ensures.writes
+    ∙ c.in-Some-Check.ensures.is) refl (λ texts. refl) c.check-made.ensures.makes c.write_answer-in-Some-Check.ensures.writes
 
 pub returns-in-Some-Check-clause-near : goal.returns-in-Some-Check-clause-near
 returns-in-Some-Check-clause-near g c =
@@ -63,7 +65,7 @@ pub returns-in-Some-Renew-clause-outcome : goal.returns-in-Some-Renew-clause-out
 returns-in-Some-Renew-clause-outcome g c =
     meets_once _ _ (Some (Renew c.in-Some-Renew.topology.now c.in-Some-Renew.plan.now c.in-Some-Renew.absent.now)) c.renew-made.result _ _ _
     (ap (λ (x : Parsed). Some (named x)) (sym c.in-Some-Renew.field-0-is)
-    ∙ c.in-Some-Renew.ensures.is) refl c.renew-made.ensures.makes c.write_answer-in-Some-Renew.ensures.writes
+    ∙ c.in-Some-Renew.ensures.is) refl (λ texts. refl) c.renew-made.ensures.makes c.write_answer-in-Some-Renew.ensures.writes
 
 pub returns-in-Some-Renew-clause-near : goal.returns-in-Some-Renew-clause-near
 returns-in-Some-Renew-clause-near g c =
@@ -102,7 +104,7 @@ returns-in-Some-Replay-clause-near g c =
 pub returns-in-Some-Case-clause-outcome : goal.returns-in-Some-Case-clause-outcome
 returns-in-Some-Case-clause-outcome g c =
     meets_once _ _ (Some (Case c.in-Some-Case.number c.in-Some-Case.fabric)) c.case-made.result _ _ _
-    (ap (λ (x : Parsed). Some (named x)) (sym c.in-Some-Case.field-0-is) ∙ c.in-Some-Case.ensures.is) refl
+    (ap (λ (x : Parsed). Some (named x)) (sym c.in-Some-Case.field-0-is) ∙ c.in-Some-Case.ensures.is) refl (λ texts. refl)
     (told_always _ c.case-made.ensures.makes) c.write_answer-in-Some-Case.ensures.writes
 
 pub returns-in-Some-Case-clause-near : goal.returns-in-Some-Case-clause-near
@@ -114,7 +116,7 @@ pub returns-in-Some-Migrate-clause-outcome : goal.returns-in-Some-Migrate-clause
 returns-in-Some-Migrate-clause-outcome g c =
     meets_once _ _ (Some (Migrate c.in-Some-Migrate.topology.now)) c.migrate-made.result _ _ _
     (ap (λ (x : Parsed). Some (named x)) (sym c.in-Some-Migrate.field-0-is)
-    ∙ c.in-Some-Migrate.ensures.is) refl c.migrate-made.ensures.makes c.write_answer-in-Some-Migrate.ensures.writes
+    ∙ c.in-Some-Migrate.ensures.is) refl (λ texts. refl) c.migrate-made.ensures.makes c.write_answer-in-Some-Migrate.ensures.writes
 
 pub returns-in-Some-Migrate-clause-near : goal.returns-in-Some-Migrate-clause-near
 returns-in-Some-Migrate-clause-near g c =
@@ -183,4 +185,20 @@ returns-in-Some-Drill-clause-near g c =
     (ap (λ (x : Parsed). Some (named x)) (sym c.in-Some-Drill.field-0-is) ∙ c.in-Some-Drill.ensures.is) (λ texts. refl)
 
 pub returns-in-None-clause-outcome : goal.returns-in-None-clause-outcome
-returns-in-None-clause-outcome g c = meets_told _ _ None _ _ _ c.in-None.ensures.is (told_always _ c.usage.ensures.outcome)
+returns-in-None-clause-outcome g c = meets_told _ _ None _ _ _ c.in-None.ensures.is (told_always _ (leaves_written IsUsage _ _ _ c.usage.ensures.outcome))
+
+pub returns-in-Some-Plan-clause-shelf : goal.returns-in-Some-Plan-clause-shelf
+returns-in-Some-Plan-clause-shelf g c =
+    keeps_for g.S.Shelf _ _ _ _ c.write_answer.ensures.shelf.1 c.write_answer.ensures.shelf.0 c.plan-made.ensures.shelf
+
+pub returns-in-Some-Check-clause-shelf : goal.returns-in-Some-Check-clause-shelf
+returns-in-Some-Check-clause-shelf g c =
+    keeps_for g.S.Shelf _ _ _ _ c.write_answer-in-Some-Check.ensures.shelf.1 c.write_answer-in-Some-Check.ensures.shelf.0 c.check-made.ensures.shelf
+
+pub returns-in-Some-Renew-clause-shelf : goal.returns-in-Some-Renew-clause-shelf
+returns-in-Some-Renew-clause-shelf g c =
+    keeps_for g.S.Shelf _ _ _ _ c.write_answer-in-Some-Renew.ensures.shelf.1 c.write_answer-in-Some-Renew.ensures.shelf.0 c.renew-made.ensures.shelf
+
+pub returns-in-Some-Migrate-clause-shelf : goal.returns-in-Some-Migrate-clause-shelf
+returns-in-Some-Migrate-clause-shelf g c =
+    keeps_for g.S.Shelf _ _ _ _ c.write_answer-in-Some-Migrate.ensures.shelf.1 c.write_answer-in-Some-Migrate.ensures.shelf.0 c.migrate-made.ensures.shelf

@@ -1,5 +1,4 @@
-use Rattle.std.proofs.Common.{◌≡◌, ℕ, List, Err, Ok, refl, sym, ap, ◌∙◌, subst}
-use Rattle.sd_msg.specs.Observed.{ReportAt}
+use Rattle.std.proofs.Common.{Err, Ok, refl, sym, ap, ◌∙◌, subst}
 use Rattle.sd_wait.specs.Printed.{waits_line}
 use Rattle.sd_wait.specs.Standing.{StandsFor}
 use Rattle.sd_outside.specs.Pieces.{Pieces, piece_of}

@@ -1,4 +1,4 @@
-use Rattle.std.proofs.Common.{◌<◌, subst, arith}
+use Rattle.std.proofs.Common.{subst, arith}
 use Rattle.sd_cmd_files.specs.work.Taking.{Takes}
 use Rattle.sd_cmd_files.specs.declared.work.Taken.{Taken}
 use Rattle.sd_cmd_files.specs.declared.work.Taken.TheVariants as taken

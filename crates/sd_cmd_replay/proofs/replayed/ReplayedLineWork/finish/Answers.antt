@@ -1,4 +1,4 @@
-use Rattle.std.proofs.Common.{ℕ, List, Err, Ok, ◌∙◌, subst}
+use Rattle.std.proofs.Common.{Err, Ok, ◌∙◌, subst}
 use Rattle.sd_outside.specs.Pieces.{Pieces}
 use Rattle.sd_cmd_files.specs.Writes.{Adds}
 use Rattle.sd_cmd_files.specs.declared.Status.{Status}
