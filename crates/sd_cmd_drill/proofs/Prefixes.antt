@@ -92,9 +92,12 @@ module _ (net : Network) (plan : Plan) (budget : Budget) where
   pub adds_one : {T : Type 0} (f : DomainId) (lines : List ℕ) (first after : Option Pieces) (result : Result T IoError) → IsLinesOf net plan budget f lines
       → IfErr result (λ why. why ≡ stop.Sink) → Adds (piece_of lines) first after result
       → AddsLines net plan budget (f ∷ []) first after result
-  adds_one f lines first after (Ok done) is only added =
-      (piece_of lines, (lines, [], is, refl, sym (append-nil (piece_of lines))),
-      one_ends lines (subst (λ (l : List ℕ). are_lines l ≡ true) (sym is.2) (printed_ends net f is.0 (members net plan))), added)
+  adds_one f lines first after (Ok done) is only added = (
+    piece_of lines,
+    (lines, [], is, refl, sym (append-nil (piece_of lines))),
+    one_ends lines (subst (λ (l : List ℕ). are_lines l ≡ true) (sym is.2) (printed_ends net f is.0 (members net plan))),
+    added,
+  )
   adds_one f lines first after (Err stop.Shelf) is only kept = cc
   adds_one f lines first after (Err stop.Sink) is only written = (piece_of lines, (lines, [], is, refl, sym (append-nil (piece_of lines))), written)
   adds_one f lines first after (Err stop.Memory) is only kept = cc
@@ -126,12 +129,18 @@ module _ (net : Network) (plan : Plan) (budget : Budget) where
   -- the bytes of these writes are the lines
   writes_lines : (fs : List DomainId) (pieces : Pieces) → AreWrites net plan budget fs pieces → AreLines net plan budget fs (concat pieces)
   writes_lines [] pieces is = ap concat is
-  writes_lines (f ∷ fs) pieces (lines, rest, first, others, whole) =
-      (lines, concat rest, first, writes_lines fs rest others,
-      ap concat whole ∙ concat-append (piece_of lines) rest ∙ ap (λ (l : List ℕ). l ++ concat rest) (concat_piece lines))
+  writes_lines (f ∷ fs) pieces (lines, rest, first, others, whole) = (
+    lines,
+    concat rest,
+    first,
+    writes_lines fs rest others,
+    ap concat whole ∙ concat-append (piece_of lines) rest ∙ ap (λ (l : List ℕ). l ++ concat rest) (concat_piece lines),
+  )
 
   -- and those of a drill are a drill
   pub drill_bytes : (pieces : Pieces) → IsDrillIn net plan budget pieces → IsDrill net plan budget (concat pieces)
-  drill_bytes pieces (lines, are, whole) =
-      (concat lines, writes_lines (domains net) lines are,
-      ap concat whole ∙ concat-append lines (piece_of (done_line net plan)) ∙ ap (λ (l : List ℕ). concat lines ++ l) (concat_piece (done_line net plan)))
+  drill_bytes pieces (lines, are, whole) = (
+    concat lines,
+    writes_lines (domains net) lines are,
+    ap concat whole ∙ concat-append lines (piece_of (done_line net plan)) ∙ ap (λ (l : List ℕ). concat lines ++ l) (concat_piece (done_line net plan)),
+  )

@@ -7,7 +7,7 @@ use Rattle.sd_clock.specs.declared.Report.{Report}
 use Rattle.sd_replay.specs.History.World.{Setting}
 use Rattle.sd_replay.specs.History.Steps.{Step}
 use Rattle.sd_replay.specs.History.Chronicle.{chronicle}
-use Rattle.sd_replay.specs.History.Lines.{lines_of, report_of, reports}
+use Rattle.sd_replay.specs.History.Lines.{lines_of, asked_report, reports}
 use Rattle.sd_replay.specs.History.Text.{bytes_of, device_name, line_words}
 use Rattle.sd_wait.specs.Waits.{lines_at}
 use Rattle.sd_wait.specs.Printed.{bytes_at, words_of}

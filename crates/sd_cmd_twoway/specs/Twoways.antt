@@ -3,7 +3,7 @@ use Rattle.std.specs.Prelude.{List, [], ◌++◌, flat_map, codes}
 use Rattle.sd_num.specs.Lists.{of_some}
 use Rattle.sd_outside.specs.Pieces.{Pieces, piece_of}
 use Rattle.sd_topo.specs.Network.{Network, link_numbers}
-use Rattle.sd_twoway.specs.Lines.{is_end, span_after}
+use Rattle.sd_twoway.specs.Lines.{is_end_line, span_after}
 use Rattle.sd_twoway.specs.Printed.{done_line, link_line}
 use Rattle.sd_twoway.specs.declared.ExchangeLine.{ExchangeLine}
 use Rattle.sd_cmd_files.specs.declared.Status.TheVariants.{Done}

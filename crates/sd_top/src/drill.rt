@@ -2,7 +2,7 @@
 ghost use Rattle.std.specs.Prelude.{◌≡◌, ◌≢◌, ◌≤◌, [], ◌∷◌, true, Err, IsTrue, IfOk, IfSome};
 ghost use Rattle.sd_checker.specs.Text as text;
 ghost use Rattle.sd_checker.specs.Verdicts.{IsVerdict};
-ghost use Rattle.sd_drill.specs.Bounds.{IsBudget};
+ghost use Rattle.sd_drill.specs.Budgets.{IsBudget};
 ghost use Rattle.sd_outside.specs.Causes.{RisesFor};
 ghost use Rattle.sd_outside.specs.Shelves.{KeepsShelf};
 ghost use Rattle.sd_outside.specs.Pieces.{piece_of};

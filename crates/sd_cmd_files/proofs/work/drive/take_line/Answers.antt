@@ -20,7 +20,8 @@ returns-in-Ok-Some-clause-writes g c =
 pub returns-in_ok-finish-in-Ok-None-clause-makes :
     goal.returns-in_ok-finish-in-Ok-None-clause-makes
 returns-in_ok-finish-in-Ok-None-clause-makes g c =
-    next_end (MakesStep (Holds g.W.LineWork c.args.progress.now) (Holds g.W.LineWork c.finish.new.self) (Ok (Some c.in_ok-finish-in-Ok-None.field-0))) _ _ c.in-Ok-None.field-0
+    next_end (MakesStep (Holds g.W.LineWork c.args.progress.now)
+    (Holds g.W.LineWork c.finish.new.self) (Ok (Some c.in_ok-finish-in-Ok-None.field-0))) _ _ c.in-Ok-None.field-0
     c.in-Ok-None.field-0-is c.in-Ok-None.ensures.answer
     c.in_ok-finish-in-Ok-None.ensures.makes
 
@@ -41,7 +42,8 @@ returns-in_err-finish-in-Ok-None-clause-writes g c =
 pub returns-in_ok-refuse_for-in-Err-LongLine-clause-makes :
     goal.returns-in_ok-refuse_for-in-Err-LongLine-clause-makes
 returns-in_ok-refuse_for-in-Err-LongLine-clause-makes g c =
-    next_long (MakesStep (Holds g.W.LineWork c.args.progress.now) (Holds g.W.LineWork c.refuse_for.new.self) (Ok (Some c.in_ok-refuse_for-in-Err-LongLine.field-0))) _ _ c.in-Err-LongLine.field-0
+    next_long (MakesStep (Holds g.W.LineWork c.args.progress.now)
+    (Holds g.W.LineWork c.refuse_for.new.self) (Ok (Some c.in_ok-refuse_for-in-Err-LongLine.field-0))) _ _ c.in-Err-LongLine.field-0
     c.in-Err-LongLine.field-0-is c.in-Err-LongLine.ensures.answer
     (λ w xs h. (piece_of (refused_line w (length xs + 1) (codes "LongLine")), rw c.in_ok-refuse_for-in-Err-LongLine.ensures.status refl))
 
@@ -62,7 +64,8 @@ returns-in_err-refuse_for-in-Err-LongLine-clause-writes g c =
 pub returns-in_ok-refuse_for-in-Err-Limit-clause-makes :
     goal.returns-in_ok-refuse_for-in-Err-Limit-clause-makes
 returns-in_ok-refuse_for-in-Err-Limit-clause-makes g c =
-    next_past (MakesStep (Holds g.W.LineWork c.args.progress.now) (Holds g.W.LineWork c.refuse_for-in-Err-Limit.new.self) (Ok (Some c.in_ok-refuse_for-in-Err-Limit.field-0))) _ _ c.in-Err-Limit.field-0
+    next_past (MakesStep (Holds g.W.LineWork c.args.progress.now)
+    (Holds g.W.LineWork c.refuse_for-in-Err-Limit.new.self) (Ok (Some c.in_ok-refuse_for-in-Err-Limit.field-0))) _ _ c.in-Err-Limit.field-0
     c.args.reader.now.within c.in-Err-Limit.field-0-is c.in-Err-Limit.ensures.answer
     (λ w xs h. (piece_of (refused_line w (length xs + 1) (codes "Limit")), rw c.in_ok-refuse_for-in-Err-Limit.ensures.status refl))
 
