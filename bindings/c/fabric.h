@@ -4,7 +4,7 @@
 #ifndef FABRIC_H
 #define FABRIC_H
 
-#include "../../include/sundial_device.h"
+#include "sundial_device.h"
 
 enum { DEVICES = 5, LINKS = 6, PLANS = 3 };
 

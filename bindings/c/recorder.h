@@ -1,6 +1,7 @@
 /* Writes what happens to the devices of a fabric, for `sundial replay` to judge.
  *
- * Compile recorder.c into your program. It needs no library and allocates nothing.
+ * Compile recorder.c into your program, with the folder of sundial_device.h among those of headers.
+ * It needs no library and allocates nothing.
  *
  *     struct sundial_recorder recorder = {.write = write_file, .to = file};
  *     ...
@@ -41,7 +42,7 @@
 #include <stddef.h>
 #include <stdint.h>
 
-#include "../../include/sundial_device.h"
+#include "sundial_device.h"
 
 #ifdef __cplusplus
 extern "C" {

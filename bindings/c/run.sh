@@ -16,8 +16,8 @@ cd "$(dirname "$0")" || exit 2
 work=$(mktemp -d) || exit 2
 trap 'rm -rf "$work"' EXIT
 
-"${CC:-cc}" -std=c11 -O2 -Wall -Wextra -Werror -o "$work/embed" embed.c recorder.c "$library" \
-    || exit 1
+"${CC:-cc}" -std=c11 -O2 -Wall -Wextra -Werror -I ../../include -o "$work/embed" \
+    embed.c recorder.c "$library" || exit 1
 
 replay() {
     "$sundial" replay topology.toml plan-1.json plan-2.json plan-3.json "$work/schedule" \

@@ -1,6 +1,6 @@
 #!/usr/bin/env bash
-# Tests the bindings for Rust over the library, and beside the example in C: the same schedule has to
-# give the same reports.
+# Tests the bindings for Rust over the library, and beside the example in C: the same schedule has
+# to give the same reports.
 #
 #     bindings/rust/run.sh LIBRARY [SEED]
 #
@@ -13,7 +13,8 @@ work=$(mktemp -d) || exit 2
 trap 'rm -rf "$work"' EXIT
 
 cp -r Cargo.toml build.rs src tests "$work" || exit 1
-"${CC:-cc}" -std=c11 -O2 -o "$work/embed" ../c/embed.c ../c/recorder.c "$library" || exit 1
+"${CC:-cc}" -std=c11 -O2 -I ../../include -o "$work/embed" ../c/embed.c ../c/recorder.c "$library" \
+    || exit 1
 "$work/embed" "$seed" "$work/schedule" > "$work/told" || exit 1
 export SUNDIAL_DEVICE_LIB=${library%/*} SUNDIAL_EXAMPLE=$work
 if cargo test --offline --manifest-path "$work/Cargo.toml" --target-dir "$work/target" \
