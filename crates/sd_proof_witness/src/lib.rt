@@ -4,21 +4,20 @@
 //!
 //! # The texts
 //!
-//! `Texts` has the topology, the two plans and the schedule of examples/triangle, line by line, and
-//! what `sundial replay` prints of them. `.ci/witness` sees that they are the files. `Read` shows
-//! what they mean, by the definitions that the program is proved against: so the program reads and
-//! replays what the theorems speak of.
+//! `Texts` has the topology, the two plans and the schedule of examples/triangle, line by line.
+//! `.ci/witness` sees that they are the files. `Read` shows what they mean, by the definitions that
+//! the program is proved against: so the program reads and replays what the theorems speak of.
 //!
 //! # The theorems
 //!
 //! - `renewal` (proofs/Renewed): the plans are accepted, the schedule is a history, and each of the
-//!   seven premises holds to its end. The root fails at line 20, the backup root acts from line 85
-//!   on, a plan is staged, given, committed and sealed from line 90 on, the window closes at line
-//!   101, and the two devices of the new plan report at lines 108 and 109 (`IsRenewal`). What is
-//!   printed of it is the output of the example. `stays_safe` speaks of this history.
-//! - `recovery` (proofs/Recovered): the first 89 lines are a history to which the bound of the drill
-//!   applies. The root fails and the backup root takes over. Each of the two reports that follow
-//!   stands beside its bound (`IsRecovery`), and is below it by `bound_holds`.
+//!   seven premises holds to its end. The root fails at line 20, and the backup root acts after
+//!   line 85. A plan is staged, given, committed and sealed from line 90 on. The window closes at
+//!   line 101, and the two devices of the new plan report at lines 108 and 109 (`IsRenewal`). There
+//!   is no loop and one root at most, by `stays_safe`.
+//! - `recovery` (proofs/Recovered): the first 88 and the first 89 lines are histories to which the
+//!   bound of the drill applies. The root fails and the backup root takes over. Each ends in a
+//!   report, which stands beside its bound (`IsRecovery`) and is below it by `bound_holds`.
 //!
 //! # How
 //!
