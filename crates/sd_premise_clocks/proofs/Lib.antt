@@ -1,5 +1,5 @@
 pub mod Drifting
-pub mod Reaching
+pub mod Queueing
 pub mod Seeing
 pub mod Lives
 pub mod Holding

@@ -10,5 +10,5 @@ pub mod Owing
 pub mod TicksView
 pub mod Tickings
 pub mod TickView
-pub mod Tournaments
-pub mod TournamentView
+pub mod Queues
+pub mod QueueView

@@ -2,21 +2,21 @@
 //! far, that links keep their delays, and that devices tick often enough. Each stands for the list
 //! of what was seen so far, and answers with each event whether its premise holds still.
 //!
-//! No monitor takes memory once it is made, and none looks at more than a logarithmic number of
-//! devices at an event, but for the tick monitor: at the first event, a stage and a closing it looks
-//! at each device, and at another event perhaps at many of which earlier events told it, so that
-//! only the average over all events is logarithmic.
+//! No monitor takes memory once it is made. An event costs constant time but for the tick monitor:
+//! at the first event, a stage and a closing it looks at each device, and so it does where ticks
+//! that it has not in order may be too old. Another event lets go of ticks of earlier events, each
+//! tick once, so that the average over all events is constant.
 #![tactic(auto)]
 
 mod delay;
 mod drift;
 mod offsets;
 mod present_rows;
+mod queue;
 mod seen;
 mod start;
 mod tick;
 mod ticks;
-mod tournament;
 
 pub use delay::DelayMonitor;
 pub use drift::DriftMonitor;

@@ -15,8 +15,8 @@ ghost use Rattle.sd_premise_clocks.specs.Memberships.{AreMembers};
 ghost use Rattle.sd_premise_clocks.specs.Owing.{owed_at};
 ghost use Rattle.sd_premise_clocks.specs.Tickings.{AreOwed, TickStands, TellOf};
 
+use crate::queue::Queue;
 use crate::ticks::{NEVER, Ticks};
-use crate::tournament::Tournament;
 use crate::{PresentRows, Seen};
 use sd_fleet_state::world::World;
 use sd_num::NoMemory;
@@ -31,7 +31,7 @@ pub struct TickMonitor {
     ticks: Ticks,
     /// By device, the reference since which it owes a tick, and the greatest number where it owes
     /// none. That none is late is so seen, at most events, by one look.
-    owed: Tournament,
+    owed: Queue,
     /// How much reference time may pass from one tick to the next, in ps.
     limit: u64,
     holds: bool,
@@ -57,7 +57,7 @@ fn stages(event: &Event) -> bool
 }
 
 /// Notes since when a device owes a tick.
-fn note(owed: &mut Tournament, ticks: &Ticks, members: &PresentRows, world: &World, d: u32)
+fn note(owed: &mut Queue, ticks: &Ticks, members: &PresentRows, world: &World, d: u32)
     requires known { d < length owed.old }
     requires ticks { d < length ticks.now.states }
     requires world { d < length world.now.devices }
@@ -71,7 +71,7 @@ fn note(owed: &mut Tournament, ticks: &Ticks, members: &PresentRows, world: &Wor
 }
 
 /// Notes it of each device.
-fn note_all(owed: &mut Tournament, ticks: &Ticks, members: &PresentRows, world: &World)
+fn note_all(owed: &mut Queue, ticks: &Ticks, members: &PresentRows, world: &World)
     requires ticks { length ticks.now.states ≡ length owed.old }
     requires world { length world.now.devices ≡ length owed.old }
     ensures places { length owed.new ≡ length owed.old }
@@ -86,7 +86,7 @@ fn note_all(owed: &mut Tournament, ticks: &Ticks, members: &PresentRows, world: 
 
 /// Whether the premise held so far, and no device owes a tick for longer than the limit at the
 /// reference. Once it is broken no device is looked at: it stays so.
-fn holds_still(held: bool, owed: &mut Tournament, limit: u64, reference: u64) -> bool
+fn holds_still(held: bool, owed: &mut Queue, limit: u64, reference: u64) -> bool
     ensures answer { result ≡ (held && list_all (nat_le (reference - limit)) owed.old) }
     ensures same { owed.new ≡ owed.old }
 {
@@ -94,7 +94,7 @@ fn holds_still(held: bool, owed: &mut Tournament, limit: u64, reference: u64) ->
 }
 
 /// Notes a tick of a device, which changes since when it owes one, if it owes one.
-fn renew(owed: &mut Tournament, d: u32, reference: u64)
+fn renew(owed: &mut Queue, d: u32, reference: u64)
     requires { d < length owed.old }
     ensures places { length owed.new ≡ length owed.old }
     ensures others { (k : ℕ) → k ≢ d → slice_index owed.new k ≡ slice_index owed.old k }
@@ -120,7 +120,7 @@ impl TickMonitor {
     {
         let devices = topo.devices();
         let ticks = Ticks::new(alloc, members, devices)?;
-        let owed = Tournament::new(alloc, devices, u64::MAX)?;
+        let owed = Queue::new(alloc, devices, u64::MAX)?;
         Ok(TickMonitor {
             ticks,
             owed,
