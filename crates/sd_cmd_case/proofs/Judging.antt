@@ -21,9 +21,11 @@ use Rattle.sd_cmd_files.specs.declared.command_error.Answer.{Answer}
 use Rattle.sd_cmd_files.specs.declared.command_error.CommandError.{CommandError}
 use Rattle.sd_cmd_files.specs.declared.command_error.CommandError.TheVariants as ended
 use Rattle.sd_cmd_files.specs.planfiles.SetupError.{made_of}
-use Rattle.sd_cmd_files.specs.planfiles.PlanFiles.{AfterVerdict, Nothing}
+use Rattle.sd_cmd_files.specs.planfiles.PlanFiles.{AfterVerdict}
+use Rattle.sd_cmd_files.specs.planfiles.Refusing.{Nothing}
 use Rattle.sd_cmd_files.specs.declared.planfiles.setup_error.SetupError.{SetupError}
-use Rattle.sd_cmd_case.specs.Cases.{AfterBoth, AfterGreedy, IsCaseOver, IsTallied, case_tally, over}
+use Rattle.sd_cmd_case.specs.Cases.{AfterBoth, AfterGreedy, IsCaseOver, IsTallied, case_tally}
+use Rattle.sd_replay.specs.Settings.{setting_over}
 use Rattle.sd_cmd_case.specs.Planned.{AreMade, IsMade}
 
 -- what was made may be written also where more may be
@@ -79,18 +81,18 @@ module _ (net : Network) where
   case_early number early =
       makes_more (AfterBoth net Nothing) (IsCaseOver net number) (made_of early) (λ bytes status.
       greedy_more 1 0 first_absent (λ first. AfterGreedy net 2 1 second_absent (λ second. Nothing (first ∷ second ∷ [])))
-      (λ first. AfterGreedy net 2 1 second_absent (λ second. IsTallied (case_tally (over net (first ∷ second ∷ [])) number))) bytes status (λ first.
+      (λ first. AfterGreedy net 2 1 second_absent (λ second. IsTallied (case_tally (setting_over net (first ∷ second ∷ [])) number))) bytes status (λ first.
       greedy_more 2 1 second_absent (λ second. Nothing (first ∷ second ∷ []))
-      (λ second. IsTallied (case_tally (over net (first ∷ second ∷ [])) number)) bytes status (λ second none. absurd none)))
+      (λ second. IsTallied (case_tally (setting_over net (first ∷ second ∷ [])) number)) bytes status (λ second none. absurd none)))
 
   -- the tally of its schedule over both plans
   pub case_told : (number : ℕ) (plans : List Plan) (made : Result Answer CommandError) → AreMade net plans
-      → Makes (IsTallied (case_tally (over net plans) number)) made → Makes (IsCaseOver net number) made
+      → Makes (IsTallied (case_tally (setting_over net plans) number)) made → Makes (IsCaseOver net number) made
   case_told number plans made both =
-      makes_more (IsTallied (case_tally (over net plans) number)) (IsCaseOver net number) made (λ bytes status written.
-      let of_both : IsTallied (case_tally (over net (both.first ∷ both.second ∷ [])) number) bytes status =
-      subst (λ (ps : List Plan). IsTallied (case_tally (over net ps) number) bytes status) both.are written in
-      goes_on 1 0 first_absent (λ first. AfterGreedy net 2 1 second_absent (λ second. IsTallied (case_tally (over net (first ∷ second ∷ [])) number)))
+      makes_more (IsTallied (case_tally (setting_over net plans) number)) (IsCaseOver net number) made (λ bytes status written.
+      let of_both : IsTallied (case_tally (setting_over net (both.first ∷ both.second ∷ [])) number) bytes status =
+      subst (λ (ps : List Plan). IsTallied (case_tally (setting_over net ps) number) bytes status) both.are written in
+      goes_on 1 0 first_absent (λ first. AfterGreedy net 2 1 second_absent (λ second. IsTallied (case_tally (setting_over net (first ∷ second ∷ [])) number)))
       both.first bytes status both.first_made
-      (goes_on 2 1 second_absent (λ second. IsTallied (case_tally (over net (both.first ∷ second ∷ [])) number)) both.second bytes status both.second_made
+      (goes_on 2 1 second_absent (λ second. IsTallied (case_tally (setting_over net (both.first ∷ second ∷ [])) number)) both.second bytes status both.second_made
       of_both))

@@ -17,8 +17,10 @@ use Rattle.sd_cmd_files.specs.Answering.{May}
 use Rattle.sd_cmd_files.specs.declared.Status.{Status}
 use Rattle.sd_cmd_files.specs.declared.Status.TheVariants.{Broken, Done}
 use Rattle.sd_cmd_files.specs.planfiles.PlanFiles.{AfterJudged, AfterVerdict}
-use Rattle.sd_cmd_case.specs.Cases.{AfterGreedy, IsTallied, case_tally, over}
-use Rattle.sd_cmd_case.specs.Laws.{CaseCompletes, HasOneCase}
+use Rattle.sd_cmd_case.specs.Cases.{AfterGreedy, IsTallied, case_tally}
+use Rattle.sd_replay.specs.Settings.{setting_over}
+use Rattle.sd_cmd_case.specs.Laws.{CaseCompletes}
+use Rattle.sd_cmd_case.specs.OneCase.{HasOneCase}
 
 -- One answer
 
@@ -44,9 +46,9 @@ greedy_one net place root absent Then one bytes other status also (plan, greedy,
 pub one_case : HasOneCase
 one_case number leaves spines =
     let net = fabric leaves spines in
-    greedy_one net 1 0 first_absent (λ first. AfterGreedy net 2 1 second_absent (λ second. IsTallied (case_tally (over net (first ∷ second ∷ [])) number)))
+    greedy_one net 1 0 first_absent (λ first. AfterGreedy net 2 1 second_absent (λ second. IsTallied (case_tally (setting_over net (first ∷ second ∷ [])) number)))
     (λ first.
-    greedy_one net 2 1 second_absent (λ second. IsTallied (case_tally (over net (first ∷ second ∷ [])) number))
+    greedy_one net 2 1 second_absent (λ second. IsTallied (case_tally (setting_over net (first ∷ second ∷ [])) number))
     (λ second b o s a (printed, answered) (printed', answered'). (answered ∙ sym answered', printed ∙ sym printed')))
 
 -- Plans that are accepted
@@ -73,10 +75,10 @@ pub case_completes : CaseCompletes
 case_completes number leaves spines right bytes status written =
     let net = fabric leaves spines in
     let behind =
-    greedy_passed net 1 0 first_absent (λ first. AfterGreedy net 2 1 second_absent (λ second. IsTallied (case_tally (over net (first ∷ second ∷ [])) number)))
+    greedy_passed net 1 0 first_absent (λ first. AfterGreedy net 2 1 second_absent (λ second. IsTallied (case_tally (setting_over net (first ∷ second ∷ [])) number)))
     right.first bytes status right.first_greedy right.first_accepted written in
-    let tally = case_tally (over net (right.first ∷ right.second ∷ [])) number in
+    let tally = case_tally (setting_over net (right.first ∷ right.second ∷ [])) number in
     let told =
-    greedy_passed net 2 1 second_absent (λ second. IsTallied (case_tally (over net (right.first ∷ second ∷ [])) number)) right.second bytes status
+    greedy_passed net 2 1 second_absent (λ second. IsTallied (case_tally (setting_over net (right.first ∷ second ∷ [])) number)) right.second bytes status
     right.second_greedy right.second_accepted behind in
     either (shows_trouble tally) status told.1

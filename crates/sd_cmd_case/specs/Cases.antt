@@ -7,6 +7,7 @@ use Rattle.sd_plan.specs.declared.Absent.{Absent}
 use Rattle.sd_plan.specs.declared.Plan.{Plan}
 use Rattle.sd_planner.specs.Greedy.{IsGreedy}
 use Rattle.sd_replay.specs.History.World.{Setting}
+use Rattle.sd_replay.specs.Settings.{setting_over}
 use Rattle.sd_replay.specs.History.Chronicle.{chronicle}
 use Rattle.sd_gen.specs.fabric.Fabrics.{fabric, first_absent, second_absent}
 use Rattle.sd_gen.specs.Drafts.{history_of}
@@ -30,9 +31,6 @@ IsTallied t bytes status = (bytes ≡ tally_line t) × (status ≡ tally_status 
 
 -- The case of a number
 
-abbrev pub over : Network → List Plan → Setting
-over net plans = record { net = net; plans = plans }
-
 -- the tally of the replayed schedule that a number makes over the plans
 abbrev pub case_tally : Setting → (number : ℕ) → Tally
 case_tally setting number = tally_of setting (chronicle setting (history_of setting number))
@@ -49,7 +47,7 @@ AfterBoth net Then bytes status =
 
 -- what is written over a network: the line of the first plan that is refused, or that of the tally
 abbrev pub IsCaseOver : Network → (number : ℕ) → May
-IsCaseOver net number bytes status = AfterBoth net (λ plans. IsTallied (case_tally (over net plans) number)) bytes status
+IsCaseOver net number bytes status = AfterBoth net (λ plans. IsTallied (case_tally (setting_over net plans) number)) bytes status
 
 abbrev pub IsCase : (number leaves spines : ℕ) → May
 IsCase number leaves spines bytes status = IsCaseOver (fabric leaves spines) number bytes status

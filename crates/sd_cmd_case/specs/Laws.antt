@@ -8,12 +8,6 @@ use Rattle.sd_cmd_files.specs.declared.Status.{Status}
 use Rattle.sd_cmd_files.specs.declared.Status.TheVariants.{Broken, Done}
 use Rattle.sd_cmd_case.specs.Cases.{IsCase}
 
--- a number and sizes have one answer
-abbrev pub HasOneCase : Type 0
-HasOneCase =
-    (number leaves spines : ℕ) (bytes other : List ℕ) (status also : Status) → IsCase number leaves spines bytes status → IsCase number leaves spines other also
-    → (status ≡ also) × (bytes ≡ other)
-
 -- the checker accepts both greedy plans
 pub record IsRightCase (leaves spines : ℕ) : Type 0 where
   pub first : Plan

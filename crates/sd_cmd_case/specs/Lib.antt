@@ -1,6 +1,7 @@
 pub mod Sizes
 pub mod Cases
 pub mod Laws
+pub mod OneCase
 pub mod Planned
 pub mod Replayed
 -- Handed on: what crates above name of those below.

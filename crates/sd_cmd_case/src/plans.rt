@@ -5,7 +5,7 @@ ghost use Rattle.sd_planner.specs.PlannerPlace.Absences.{IsAbsentOf};
 ghost use Rattle.sd_gen.specs.fabric.Fabrics.{first_absent, second_absent};
 ghost use Rattle.sd_cmd_files.specs.Writes.{Makes};
 ghost use Rattle.sd_cmd_files.specs.planfiles.SetupError.{made_of};
-ghost use Rattle.sd_cmd_files.specs.planfiles.PlanFiles.{Nothing};
+ghost use Rattle.sd_cmd_files.specs.planfiles.Refusing.{Nothing};
 ghost use Rattle.sd_cmd_case.specs.Cases.{AfterBoth, AfterGreedy};
 ghost use Rattle.sd_cmd_case.specs.Planned.{AreMade, IsSetupError, IsMade};
 

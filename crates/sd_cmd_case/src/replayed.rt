@@ -3,7 +3,8 @@ ghost use Rattle.std.specs.Prelude.{◌≡◌, ◌∷◌, [], IsTrue, IfErr, IfO
 ghost use Rattle.sd_topo.specs.Topologies.{network};
 ghost use Rattle.sd_cmd_files.specs.Statuses.{is_among};
 ghost use Rattle.sd_cmd_files.specs.Writes.{Makes};
-ghost use Rattle.sd_cmd_case.specs.Cases.{IsTallied, case_tally, over};
+ghost use Rattle.sd_cmd_case.specs.Cases.{IsTallied, case_tally};
+ghost use Rattle.sd_replay.specs.Settings.{setting_over};
 ghost use Rattle.sd_cmd_case.specs.Planned.{AreMade};
 ghost use Rattle.sd_cmd_case.specs.Replayed.{StandsFor};
 
@@ -55,7 +56,7 @@ fn tally_schedule(
     number: u64,
 ) -> Result<Tally, NoMemory>
     requires { AreMade (network topo) plans }
-    ensures { IfOk result (λ tally. tally ≡ case_tally (over (network topo) plans) number) }
+    ensures { IfOk result (λ tally. tally ≡ case_tally (setting_over (network topo) plans) number) }
 {
     let replay = Replay::new(alloc, topo, plans, NoObserver)?;
     let replayed = drive_schedule(alloc, Replayed { replay }, number)?;
@@ -70,7 +71,7 @@ pub(crate) fn replay_case(
     number: u64,
 ) -> Result<Answer, CommandError>
     requires { AreMade (network topo) plans }
-    ensures makes { Makes (IsTallied (case_tally (over (network topo) plans) number)) result }
+    ensures makes { Makes (IsTallied (case_tally (setting_over (network topo) plans) number)) result }
     ensures only { IfErr result (λ why. why ≡ CommandError.Memory) }
     ensures gives { IfOk result
         (λ answer. IsTrue (is_among (Status.Done ∷ Status.Broken ∷ []) answer.status)) }

@@ -7,4 +7,5 @@ mod members;
 mod page;
 mod writing;
 
+pub use sd_drill as drill;
 pub use writing::write_drill;

@@ -2,6 +2,7 @@ pub mod Texts
 pub mod Inputs
 pub mod Reasons
 pub mod Statuses
+pub mod Stops
 pub mod Answering
 pub mod Loads
 pub mod Writes

@@ -1,5 +1,5 @@
 -- The statuses of a run: their codes, and which of them say that it was stopped.
-use Rattle.std.specs.Prelude.{ℕ, Bool, nat_eq, List, Option, None, Some, Result, Ok, Err}
+use Rattle.std.specs.Prelude.{ℕ, Bool, nat_eq, List, Option, None, Some}
 use Rattle.std.specs.List.{list_any}
 use Rattle.sd_cmd_files.specs.declared.Status.{Status}
 use Rattle.sd_cmd_files.specs.declared.Status.TheVariants.{Done, PlanRefused, Usage, InputRefused, ShelfFault, SinkFault, Memory, Broken}
@@ -23,17 +23,6 @@ stop_of ShelfFault = Some stop.Shelf
 stop_of SinkFault = Some stop.Sink
 stop_of Memory = Some stop.Memory
 stop_of _ = None
-
--- the status of a run that was stopped
-abbrev pub status_of : IoError → Status
-status_of stop.Shelf = ShelfFault
-status_of stop.Sink = SinkFault
-status_of stop.Memory = Memory
-
--- the status of a run that ended or was stopped
-abbrev pub status_in : Result Status IoError → Status
-status_in (Ok status) = status
-status_in (Err why) = status_of why
 
 -- the status is among these
 abbrev pub is_among : List Status → Status → Bool

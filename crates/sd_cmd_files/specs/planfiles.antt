@@ -1,2 +1,3 @@
 pub mod PlanFiles
+pub mod Refusing
 pub mod SetupError

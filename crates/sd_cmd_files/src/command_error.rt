@@ -129,7 +129,7 @@ pub enum IoError {
 }
 
 impl IoError {
-    ghost use Rattle.sd_cmd_files.specs.Statuses.{status_of};
+    ghost use Rattle.sd_cmd_files.specs.Stops.{status_of};
 
     /// The status of a run that was stopped.
     pub fn status(self) -> Status

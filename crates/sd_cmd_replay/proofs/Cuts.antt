@@ -10,10 +10,12 @@ use Rattle.sd_cmd_files.specs.Answering.{AtOnce, InWrites, After}
 use Rattle.sd_cmd_files.specs.Inputs.{topology_of, plan_in_file}
 use Rattle.sd_cmd_files.specs.declared.Status.{Status}
 use Rattle.sd_cmd_files.specs.declared.command_error.Refusal.{Refusal}
-use Rattle.sd_cmd_files.specs.planfiles.PlanFiles.{AfterAllPlans, AreRead, Nothing}
+use Rattle.sd_cmd_files.specs.planfiles.PlanFiles.{AfterAllPlans, AreRead}
+use Rattle.sd_cmd_files.specs.planfiles.Refusing.{Nothing}
 use Rattle.sd_cmd_files.specs.work.Works.{Work, InSteps}
-use Rattle.sd_cmd_replay.specs.Replays.{over}
-use Rattle.sd_cmd_replay.specs.Loaded.{AreLoaded, EndsBefore, RunsInSteps}
+use Rattle.sd_replay.specs.Settings.{setting_over}
+use Rattle.sd_cmd_replay.specs.Loaded.{AreLoaded, RunsInSteps}
+use Rattle.sd_cmd_replay.specs.Early.{EndsBefore}
 use Rattle.sd_cmd_replay.proofs.Lawful.{behind_plans}
 
 same_said : {X : Type 0} (a b : X) (says : Result X Refusal) → says ≡ Ok a → says ≡ Ok b → a ≡ b
@@ -35,7 +37,7 @@ one_setting : (topology : List ℕ) (plans : List (List ℕ)) (one other : Setti
 one_setting topology plans one other loaded too =
     let same : one.net ≡ other.net = same_said one.net other.net (topology_of topology) loaded.topology_is too.topology_is in
     let read : AreRead other.net 1 plans one.plans = subst (λ (n : Network). AreRead n 1 plans one.plans) same loaded.plans_are in
-    ap (λ (n : Network). over n one.plans) same ∙ ap (over other.net) (same_plans other.net 1 plans one.plans other.plans read too.plans_are)
+    ap (λ (n : Network). setting_over n one.plans) same ∙ ap (setting_over other.net) (same_plans other.net 1 plans one.plans other.plans read too.plans_are)
 
 -- a command does not end before its schedule whose files were read and accepted
 not_loaded : (topology : List ℕ) (plans : List (List ℕ)) (bytes : List ℕ) (status : Status) → EndsBefore topology plans bytes status → (setting : Setting)

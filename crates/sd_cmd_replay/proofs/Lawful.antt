@@ -19,8 +19,10 @@ use Rattle.sd_cmd_files.specs.declared.Status.TheVariants.{Done, Broken}
 use Rattle.sd_cmd_files.specs.declared.command_error.Refusal.{Refusal}
 use Rattle.sd_cmd_files.specs.planfiles.PlanFiles.{AfterAllPlans, AfterJudged, AfterPlans, AfterVerdict, AreRead}
 use Rattle.sd_cmd_files.specs.work.Works.{Reading, Work, IsOutcome, reading, status_for}
-use Rattle.sd_cmd_replay.specs.Promises.{Completes, IsOne, ReportsTruly}
-use Rattle.sd_cmd_replay.specs.Replays.{IsOrder, IsReplay, IsRun, order_work, over, replay_work, shows_disorder, status_if}
+use Rattle.sd_cmd_replay.specs.Promises.{Completes, ReportsTruly}
+use Rattle.sd_cmd_replay.specs.Single.{IsOne}
+use Rattle.sd_cmd_replay.specs.Replays.{IsOrder, IsReplay, IsRun, order_work, replay_work, shows_disorder, status_if}
+use Rattle.sd_replay.specs.Settings.{setting_over}
 use Rattle.sd_cmd_replay.specs.Loaded.{AreLoaded}
 use Rattle.sd_cmd_replay.proofs.Reading.{history_tells, read_as_replay, reading_is_history}
 
@@ -50,8 +52,8 @@ plans_one net place front (text ∷ texts) Then one bytes other status also is t
 
 one_run : (work : Setting → Work Event) (topology : List ℕ) (plans : List (List ℕ)) (schedule : List ℕ) → IsOne (IsRun work topology plans schedule)
 one_run work topology plans schedule bytes other status also is too =
-    after_one (topology_of topology) (λ net. AfterAllPlans net plans (λ accepted. IsOutcome (work (over net accepted)) schedule))
-    (λ net. plans_one net 1 [] plans (λ accepted. IsOutcome (work (over net accepted)) schedule)
+    after_one (topology_of topology) (λ net. AfterAllPlans net plans (λ accepted. IsOutcome (work (setting_over net accepted)) schedule))
+    (λ net. plans_one net 1 [] plans (λ accepted. IsOutcome (work (setting_over net accepted)) schedule)
     (λ accepted b o s a (printed, answered) (printed', answered'). (answered ∙ sym answered', printed ∙ sym printed'))) bytes other status also is too
 
 pub one_replay : (topology : List ℕ) (plans : List (List ℕ)) (schedule : List ℕ) → IsOne (IsReplay topology plans schedule)
@@ -87,7 +89,7 @@ pub run_over : (work : Setting → Work Event) (topology : List ℕ) (plans : Li
     (status : Status) → AreLoaded topology plans setting → IsRun work topology plans schedule bytes status
     → IsOutcome (work setting) schedule bytes status
 run_over work topology plans schedule setting bytes status loaded written =
-    let Then : Network → List Plan → May = λ net accepted. IsOutcome (work (over net accepted)) schedule in
+    let Then : Network → List Plan → May = λ net accepted. IsOutcome (work (setting_over net accepted)) schedule in
     behind_plans setting.net 1 [] setting.plans plans (Then setting.net) bytes status loaded.plans_are loaded.accepted
     (subst (λ (s : Result Network Refusal). After s (λ net. AfterAllPlans net plans (Then net)) bytes status) loaded.topology_is written)
 

@@ -31,16 +31,19 @@ use Rattle.sd_cmd_files.specs.declared.command_error.IoError.{IoError}
 use Rattle.sd_cmd_files.specs.planfiles.SetupError.{IsPlanRefused, made_of}
 use Rattle.sd_cmd_files.specs.declared.planfiles.setup_error.SetupError.{SetupError}
 use Rattle.sd_cmd_files.specs.declared.planfiles.setup_error.SetupError.TheVariants.{Answered, Stopped}
-use Rattle.sd_cmd_files.specs.planfiles.PlanFiles.{AfterAllPlans, AfterJudged, AfterPlans, AfterVerdict, AreRead, Nothing, in_front, plans_of, with_plan}
+use Rattle.sd_cmd_files.specs.planfiles.PlanFiles.{AfterAllPlans, AfterJudged, AfterPlans, AfterVerdict, AreRead, in_front, plans_of, with_plan}
+use Rattle.sd_cmd_files.specs.planfiles.Refusing.{Nothing}
 use Rattle.sd_cmd_files.proofs.planfiles.Reading.{through}
 use Rattle.sd_replay.specs.declared.replay.Replay.{Replay}
 use Rattle.sd_replay.specs.Devices.{HasReplayed}
 use Rattle.sd_replay.specs.Replaying.{StandsFor}
-use Rattle.sd_cmd_files.specs.work.Leaving.{LeavesAt}
+use Rattle.sd_cmd_files.specs.work.Ending.{LeavesAt}
 use Rattle.sd_cmd_files.proofs.work.Leaving.{leaves_more, leaves_once, once_in_steps, told}
 use Rattle.sd_cmd_files.specs.work.Works.{Work, InSteps, IsOutcome, refused_part}
-use Rattle.sd_cmd_replay.specs.Replays.{IsRun, over, refused_over, replay_work}
-use Rattle.sd_cmd_replay.specs.Loaded.{AreLoaded, EndsBefore, RunsIn}
+use Rattle.sd_cmd_replay.specs.Replays.{IsRun, refused_over, replay_work}
+use Rattle.sd_replay.specs.Settings.{setting_over}
+use Rattle.sd_cmd_replay.specs.Loaded.{AreLoaded, RunsIn}
+use Rattle.sd_cmd_replay.specs.Early.{EndsBefore}
 use Rattle.sd_cmd_replay.proofs.Cuts.{cut_before, cut_loaded}
 use Rattle.sd_cmd_replay.specs.Starting.{HasStarted}
 
@@ -93,15 +96,15 @@ before_run : (work : Setting → Work Event) (topology : List ℕ) (plans : List
     → EndsBefore topology plans bytes status → IsRun work topology plans schedule bytes status
 before_run work topology plans schedule bytes status written =
     after_more (topology_of topology) (λ net. AfterAllPlans net plans Nothing)
-    (λ net. AfterAllPlans net plans (λ accepted. IsOutcome (work (over net accepted)) schedule)) bytes status
-    (λ net. plans_more net 1 [] plans Nothing (λ accepted. IsOutcome (work (over net accepted)) schedule) bytes status (λ read never. absurd never)) written
+    (λ net. AfterAllPlans net plans (λ accepted. IsOutcome (work (setting_over net accepted)) schedule)) bytes status
+    (λ net. plans_more net 1 [] plans Nothing (λ accepted. IsOutcome (work (setting_over net accepted)) schedule) bytes status (λ read never. absurd never)) written
 
 -- files that were read and accepted lead to the schedule
 loaded_run : (work : Setting → Work Event) (topology : List ℕ) (plans : List (List ℕ)) (schedule : List ℕ) (setting : Setting) (bytes : List ℕ)
     (status : Status) → AreLoaded topology plans setting
     → IsOutcome (work setting) schedule bytes status → IsRun work topology plans schedule bytes status
 loaded_run work topology plans schedule setting bytes status loaded written =
-    let Then : Network → List Plan → May = λ net accepted. IsOutcome (work (over net accepted)) schedule in
+    let Then : Network → List Plan → May = λ net accepted. IsOutcome (work (setting_over net accepted)) schedule in
     subst (λ (s : Result Network Refusal). After s (λ net. AfterAllPlans net plans (Then net)) bytes status) (sym loaded.topology_is)
     (subst (λ (texts : List (List ℕ)). AfterPlans setting.net 1 [] texts (Then setting.net) bytes status) (append-nil plans)
     (through setting.net 1 [] setting.plans plans [] (Then setting.net) bytes status loaded.plans_are loaded.accepted written))
@@ -142,7 +145,7 @@ unsaid topology plans schedule bytes written = by (topology_of topology) written
   where
     by : (says : Result Network Refusal) → After says (λ net. AfterAllPlans net plans Nothing) bytes InputRefused → refused_over says plans schedule ≡ None
     by (Err why) told = refl
-    by (Ok net) told = ap (option_map (λ read. refused_part (replay_work (over net read)) schedule)) (plans_unsaid net 1 [] plans bytes told)
+    by (Ok net) told = ap (option_map (λ read. refused_part (replay_work (setting_over net read)) schedule)) (plans_unsaid net 1 [] plans bytes told)
 
 -- What a run leaves
 
@@ -223,7 +226,7 @@ module _ (topology : List ℕ) (names : List (List ℕ)) (schedule : List ℕ) w
             let said : refused_over (topology_of (texts_of g topology)) (plans_at names g) (texts_of g schedule)
             ≡ Some (refused_part (replay_work setting) (texts_of g schedule)) =
             ap (λ (s : Result Network Refusal). refused_over s (plans_at names g) (texts_of g schedule)) begun.loaded.topology_is
-            ∙ ap (option_map (λ read. refused_part (replay_work (over setting.net read)) (texts_of g schedule)))
+            ∙ ap (option_map (λ read. refused_part (replay_work (setting_over setting.net read)) (texts_of g schedule)))
             (plans_said setting.net 1 (plans_at names g) setting.plans begun.loaded.plans_are) in
             subst (λ (part : Option (List ℕ)). IfSome part (λ p. IsNear (Some p) rest)) (sym said)
             (subst (λ (part : List ℕ). IsNear (Some part) rest) (alike setting (texts_of g schedule)) (close setting begun.replayed))
@@ -285,7 +288,7 @@ module _ (topology : List ℕ) (names : List (List ℕ)) where
           → IfSome h (λ g. AreRead (view topo) 1 (plans_at names g) plans) → IfSome h (λ g. HasStarted o (texts_of g topology) (plans_at names g) replay)
       by None is are = tt
       by (Some g) is are =
-          let setting : Setting = over (view topo) plans in
+          let setting : Setting = setting_over (view topo) plans in
           record {
             setting = setting;
             loaded = record { topology_is = is; plans_are = are; accepted = accepted };

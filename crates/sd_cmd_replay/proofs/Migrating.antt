@@ -35,7 +35,8 @@ use Rattle.sd_cmd_files.specs.declared.command_error.Input.TheVariants as input
 use Rattle.sd_cmd_files.specs.declared.command_error.Refusal.{Refusal}
 use Rattle.sd_cmd_files.specs.planfiles.PlanFiles.{AfterAllPlans, AfterJudged, AfterPlans, AfterVerdict}
 use Rattle.sd_cmd_files.specs.work.Works.{Reading, Work, IsOutcome, all_bytes, judged, last_bytes, length_fault, read_on, reading, reading_from, status_for, unless_too_long, written_for}
-use Rattle.sd_cmd_replay.specs.Replays.{IsOrder, IsReplay, IsRun, accepted, order_work, over, replay_work, shows_disorder, status_if, unless_refused, waits_after, with_waits}
+use Rattle.sd_cmd_replay.specs.Replays.{IsOrder, IsReplay, IsRun, accepted, order_work, replay_work, shows_disorder, status_if, unless_refused, waits_after, with_waits}
+use Rattle.sd_replay.specs.Settings.{setting_over}
 use Rattle.std.specs.List.{concat}
 use Rattle.sd_outside.specs.Pieces.{piece_of}
 use Rattle.sd_cmd_replay.proofs.Versions.{bytes_alike, chronicle_alike, lines_alike, refusal_alike}
@@ -108,10 +109,10 @@ module _ (v w : ℕ) (net : Network) where
 
   module _ (plans : List Plan) where
     abbrev old : Setting
-    old = over old_net plans
+    old = setting_over old_net plans
 
     abbrev new : Setting
-    new = over new_net plans
+    new = setting_over new_net plans
 
     accepted_alike : (events : List Event) (said : Result Event LineFault) → accepted old events said ≡ accepted new events said
     accepted_alike events (Err why) = refl
@@ -192,13 +193,13 @@ module _ (v w : ℕ) (net : Network) where
 
   module _ (text other : List ℕ) (reads : topology_of text ≡ Ok old_net) (rereads : topology_of other ≡ Ok new_net) (plans : List (List ℕ))
       (schedule bytes : List ℕ) (status : Status) where
-    run_carried : (work : Setting → Work Event) → ((read : List Plan) → AreAlike (work (over old_net read)) (work (over new_net read)))
+    run_carried : (work : Setting → Work Event) → ((read : List Plan) → AreAlike (work (setting_over old_net read)) (work (setting_over new_net read)))
         → IsRun work text plans schedule bytes status → IsRun work other plans schedule bytes status
     run_carried work same written =
-        let Then : Network → List Plan → May = λ n accepted. IsOutcome (work (over n accepted)) schedule in
+        let Then : Network → List Plan → May = λ n accepted. IsOutcome (work (setting_over n accepted)) schedule in
         subst (λ (s : Result Network Refusal). After s (λ n. AfterAllPlans n plans (Then n)) bytes status) (sym rereads)
         (plans_carried 1 [] plans (Then old_net) (Then new_net) bytes status
-        (λ read. outcome_alike (work (over old_net read)) (work (over new_net read)) (same read) schedule bytes status)
+        (λ read. outcome_alike (work (setting_over old_net read)) (work (setting_over new_net read)) (same read) schedule bytes status)
         (subst (λ (s : Result Network Refusal). After s (λ n. AfterAllPlans n plans (Then n)) bytes status) reads written))
 
 pub replay_with_version : (v w : ℕ) (net : Network) (text other : List ℕ) → topology_of text ≡ Ok (with_version v net)

@@ -18,7 +18,7 @@ use Rattle.sd_replay.specs.Replaying.{StandsFor, IsLineFault, IsStepped, lines_i
 use Rattle.sd_cmd_files.specs.work.Taking.{Takes}
 use Rattle.sd_cmd_files.specs.declared.work.Taken.{Taken}
 use Rattle.sd_cmd_files.specs.declared.work.Taken.TheVariants as taken
-use Rattle.sd_cmd_replay.specs.Reasons.{HasReason}
+use Rattle.sd_cmd_replay.specs.Reasoned.{HasReason}
 use Rattle.sd_cmd_replay.specs.Replays.{replay_work}
 use Rattle.sd_cmd_replay.proofs.Stepping.{accepts, refuses_event, refuses_line}
 

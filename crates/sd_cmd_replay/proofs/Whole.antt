@@ -12,7 +12,7 @@ use Rattle.sd_replay.specs.History.Text.{bytes_of, device_name, line_words}
 use Rattle.sd_wait.specs.Waits.{lines_at}
 use Rattle.sd_wait.specs.Printed.{bytes_at, words_of}
 use Rattle.sd_cmd_files.specs.work.Leaving.{are_lines}
-use Rattle.sd_cmd_files.specs.work.Works.{WritesWhole}
+use Rattle.sd_cmd_files.specs.work.WholeLines.{WritesWhole}
 use Rattle.sd_cmd_files.proofs.work.Whole.{append_whole, text_whole}
 use Rattle.sd_cmd_replay.specs.Replays.{replay_work, order_work, with_waits, waits_after}
 

@@ -1,9 +1,12 @@
 pub mod Reasons
+pub mod Reasoned
 pub mod Replays
 pub mod Loaded
+pub mod Early
 pub mod Starting
 pub mod Doing
 pub mod Telling
 pub mod Promises
+pub mod Single
 -- Handed on: what crates above name of those below.
 pub use Rattle.sd_replay.specs as Replay

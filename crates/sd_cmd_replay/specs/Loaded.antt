@@ -5,9 +5,9 @@ use Rattle.sd_cmd_files.specs.Checker.Verdicts.{IsAccepted}
 use Rattle.sd_outside.specs.Pieces.{Pieces}
 use Rattle.sd_sched.specs.declared.Event.{Event}
 use Rattle.sd_replay.specs.History.World.{Setting}
-use Rattle.sd_cmd_files.specs.Answering.{AtOnce, InWrites, May, MayWrite, After}
+use Rattle.sd_cmd_files.specs.Answering.{AtOnce, InWrites, MayWrite}
 use Rattle.sd_cmd_files.specs.Inputs.{topology_of}
-use Rattle.sd_cmd_files.specs.planfiles.PlanFiles.{AfterAllPlans, AreRead, Nothing}
+use Rattle.sd_cmd_files.specs.planfiles.PlanFiles.{AreRead}
 use Rattle.sd_cmd_files.specs.work.Works.{Work, InSteps}
 use Rattle.sd_cmd_replay.specs.Replays.{IsRun}
 
@@ -16,10 +16,6 @@ pub record AreLoaded (topology : List ℕ) (plans : List (List ℕ)) (setting : 
   pub topology_is : topology_of topology ≡ Ok setting.net
   pub plans_are : AreRead setting.net 1 plans setting.plans
   pub accepted : Each (IsAccepted setting.net) setting.plans
-
--- what ends a command before its schedule
-abbrev pub EndsBefore : (topology : List ℕ) (plans : List (List ℕ)) → May
-EndsBefore topology plans bytes status = After (topology_of topology) (λ net. AfterAllPlans net plans Nothing) bytes status
 
 -- by which writes: each step of the schedule by one, where the topology and the plans are read and accepted, and else all by one
 pub record RunsInSteps (work : Setting → Work Event) (topology : List ℕ) (plans : List (List ℕ)) (schedule : List ℕ) (pieces : Pieces) : Type 0 where

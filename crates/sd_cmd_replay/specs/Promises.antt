@@ -15,10 +15,6 @@ use Rattle.sd_cmd_files.specs.work.Works.{reading}
 use Rattle.sd_cmd_replay.specs.Replays.{replay_work}
 use Rattle.sd_cmd_replay.specs.Loaded.{AreLoaded}
 
--- there is at most one such answer
-abbrev pub IsOne : May → Type 0
-IsOne Writes = (bytes other : List ℕ) (status also : Status) → Writes bytes status → Writes other also → (status ≡ also) × (bytes ≡ other)
-
 -- files of which none is refused: the topology and the plans are read, each plan is accepted, and so is each line of the schedule
 pub record AreRightFiles (topology : List ℕ) (plans : List (List ℕ)) (schedule : List ℕ) : Type 0 where
   pub setting : Setting

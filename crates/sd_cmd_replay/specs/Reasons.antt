@@ -1,11 +1,9 @@
 -- Why a line of a schedule is refused, as it is printed.
-use Rattle.std.specs.Prelude.{◌≡◌, ℕ, List, ◌++◌, codes, decimal}
+use Rattle.std.specs.Prelude.{ℕ, List, ◌++◌, codes, decimal}
 use Rattle.sd_sched.specs.declared.LineFault.{LineFault}
 use Rattle.sd_sched.specs.declared.LineFault.TheVariants.{UnknownWord, FieldCount, Number}
 use Rattle.sd_replay.specs.History.declared.ApplyFault.{ApplyFault}
 use Rattle.sd_replay.specs.History.declared.ApplyFault.TheVariants as apply
-use Rattle.sd_replay.specs.declared.faults.ReplayFault.{ReplayFault}
-use Rattle.sd_replay.specs.declared.faults.ReplayFault.TheVariants as fault
 
 -- the line is none of a schedule
 abbrev pub line_reason : LineFault → List ℕ
@@ -33,9 +31,3 @@ apply_name apply.NotFailed = codes "NotFailed"
 apply_name apply.NotMember = codes "NotMember"
 apply_name apply.TooManyEvents = codes "TooManyEvents"
 apply_name apply.Memory = codes "Memory"
-
--- the text is the reason of a fault; out of memory has none
-abbrev pub HasReason : ReplayFault → (text : List ℕ) → Type 0
-HasReason (fault.Line why) text = text ≡ line_reason why
-HasReason (fault.Apply why) text = text ≡ apply_name why
-HasReason fault.Memory text = ⊥

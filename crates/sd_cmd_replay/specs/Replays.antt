@@ -8,6 +8,7 @@ use Rattle.sd_sched.specs.declared.LineFault.{LineFault}
 use Rattle.sd_sched.specs.Lines.{event_of_line}
 use Rattle.sd_sched.specs.Events.{is_end_event}
 use Rattle.sd_replay.specs.History.World.{Setting}
+use Rattle.sd_replay.specs.Settings.{setting_over}
 use Rattle.sd_replay.specs.History.Steps.{Step}
 use Rattle.sd_replay.specs.History.Chronicle.{chronicle}
 use Rattle.sd_replay.specs.History.Refusals.{refusal}
@@ -85,15 +86,12 @@ module _ (setting : Setting) where
         last_status = λ events. status_if (shows_disorder setting (chronicle setting events));
       }
 
-abbrev pub over : Network → List Plan → Setting
-over net plans = record { net = net; plans = plans }
-
 -- The commands
 
 -- what may be written over a topology and plans by a work over them
 abbrev pub IsRun : (Setting → Work Event) → (topology : List ℕ) (plans : List (List ℕ)) (schedule : List ℕ) → May
 IsRun work topology plans schedule bytes status =
-    After (topology_of topology) (λ net. AfterAllPlans net plans (λ accepted. IsOutcome (work (over net accepted)) schedule)) bytes status
+    After (topology_of topology) (λ net. AfterAllPlans net plans (λ accepted. IsOutcome (work (setting_over net accepted)) schedule)) bytes status
 
 abbrev pub IsReplay : (topology : List ℕ) (plans : List (List ℕ)) (schedule : List ℕ) → May
 IsReplay topology plans schedule bytes status = IsRun replay_work topology plans schedule bytes status
@@ -101,7 +99,8 @@ IsReplay topology plans schedule bytes status = IsRun replay_work topology plans
 abbrev pub IsOrder : (topology : List ℕ) (plans : List (List ℕ)) (schedule : List ℕ) → May
 IsOrder topology plans schedule bytes status = IsRun order_work topology plans schedule bytes status
 
--- what stands in the schedule from the line on at which it is refused, where the topology and the plans are read
+-- What stands in the schedule from the line on at which it is refused, where the topology and the plans are read. `order` refuses the same lines as
+-- `replay`, since both works say the same of a line.
 abbrev pub refused_over : Result Network Refusal → (plans : List (List ℕ)) (schedule : List ℕ) → Option (List ℕ)
-refused_over (Ok net) plans schedule = option_map (λ read. refused_part (replay_work (over net read)) schedule) (plans_of net 1 plans)
+refused_over (Ok net) plans schedule = option_map (λ read. refused_part (replay_work (setting_over net read)) schedule) (plans_of net 1 plans)
 refused_over (Err why) plans schedule = None

@@ -6,7 +6,7 @@ ghost use Rattle.sd_outside.specs.Shelves.{KeepsShelf};
 ghost use Rattle.sd_cmd_files.specs.Texts.{texts_of};
 ghost use Rattle.sd_cmd_files.specs.Writes.{Makes, Tells, WritesOnce};
 ghost use Rattle.sd_cmd_files.specs.planfiles.SetupError.{IsPlanRefused, made_of};
-ghost use Rattle.sd_cmd_replay.specs.Loaded.{EndsBefore};
+ghost use Rattle.sd_cmd_replay.specs.Early.{EndsBefore};
 ghost use Rattle.sd_cmd_replay.specs.Starting.{HasStarted};
 
 use sd_cmd_files::planfiles::{SetupError, load_plans};

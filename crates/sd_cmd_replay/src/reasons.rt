@@ -1,7 +1,8 @@
 //! Why a line of a schedule is refused, as it is printed.
 ghost use Rattle.std.specs.Prelude.{◌≡◌, ◌≤◌, OnOk, length};
 ghost use Rattle.sd_outside.specs.Printed.{printed};
-ghost use Rattle.sd_cmd_replay.specs.Reasons.{HasReason, apply_name, line_reason};
+ghost use Rattle.sd_cmd_replay.specs.Reasons.{apply_name, line_reason};
+ghost use Rattle.sd_cmd_replay.specs.Reasoned.{HasReason};
 
 use sd_num::NoMemory;
 use sd_outside::LineBuffer;

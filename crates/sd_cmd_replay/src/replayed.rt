@@ -13,7 +13,7 @@ ghost use Rattle.sd_replay.specs.Devices.{HasReplayed};
 ghost use Rattle.sd_replay.specs.Tallies.{tally_of, shows_trouble};
 ghost use Rattle.sd_cmd_files.specs.work.Taking.{Takes};
 ghost use Rattle.sd_replay.specs.Replaying.{lines_in};
-ghost use Rattle.sd_cmd_replay.specs.Reasons.{HasReason};
+ghost use Rattle.sd_cmd_replay.specs.Reasoned.{HasReason};
 ghost use Rattle.sd_cmd_replay.specs.Replays as words;
 
 use crate::reasons::print_reason;

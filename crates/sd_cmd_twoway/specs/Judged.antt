@@ -13,10 +13,10 @@ use Rattle.sd_twoway.specs.declared.ExchangeLineFault.TheVariants.{UnknownWord, 
 use Rattle.sd_cmd_twoway.specs.declared.TwowayFault.{TwowayFault}
 use Rattle.sd_cmd_twoway.specs.declared.TwowayFault.TheVariants.{Line, AfterEnd, UnknownLink, Spanless}
 
-abbrev pub line_reason : ExchangeLineFault → List ℕ
-line_reason UnknownWord = codes "UnknownWord"
-line_reason FieldCount = codes "FieldCount"
-line_reason (Number field) = codes "Number " ++ decimal field
+abbrev pub exchange_line_reason : ExchangeLineFault → List ℕ
+exchange_line_reason UnknownWord = codes "UnknownWord"
+exchange_line_reason FieldCount = codes "FieldCount"
+exchange_line_reason (Number field) = codes "Number " ++ decimal field
 
 abbrev pub span_reason : ExchangeFault → List ℕ
 span_reason Backwards = codes "Backwards"
@@ -24,7 +24,7 @@ span_reason Impossible = codes "Impossible"
 span_reason TooLarge = codes "TooLarge"
 
 abbrev pub reason : TwowayFault → List ℕ
-reason (Line fault) = line_reason fault
+reason (Line fault) = exchange_line_reason fault
 reason AfterEnd = codes "AfterEnd"
 reason UnknownLink = codes "UnknownLink"
 reason (Spanless fault) = span_reason fault

@@ -1,7 +1,7 @@
 //! Why a line of exchanges is refused, as it is printed.
 ghost use Rattle.std.specs.Prelude.{◌≡◌, ◌≤◌, length};
 ghost use Rattle.sd_outside.specs.Printed.{printed};
-ghost use Rattle.sd_cmd_twoway.specs.Judged.{line_reason, reason, span_reason};
+ghost use Rattle.sd_cmd_twoway.specs.Judged.{exchange_line_reason, reason, span_reason};
 
 use crate::TwowayFault;
 use sd_outside::LineBuffer;
@@ -22,7 +22,7 @@ pub fn print_reason(out: &mut LineBuffer, fault: TwowayFault)
 
 /// Prints why bytes are no line.
 fn print_line_reason(out: &mut LineBuffer, fault: ExchangeLineFault)
-    ensures text { printed out.new ≡ line_reason fault }
+    ensures text { printed out.new ≡ exchange_line_reason fault }
     ensures short { length (printed out.new) ≤ 64 }
 {
     match fault {

@@ -1,5 +1,5 @@
 -- How a count of faults shows that the outside failed.
-use Rattle.std.specs.Prelude.{◌≡◌, ℕ, ◌+◌, ◌-◌, ◌^◌, ◌≤◌, min, Result, Ok, Err, OnOk, OnErr}
+use Rattle.std.specs.Prelude.{◌≡◌, ℕ, ◌+◌, ◌-◌, ◌^◌, ◌≤◌, min, Result, OnOk, OnErr}
 
 -- a count that is kept as a u64, after one more: it stands still at its last value
 abbrev pub raised : ℕ → ℕ
@@ -20,8 +20,3 @@ pub record RisesFor (blamed : Type 0) (before now : ℕ) : Type 0 where
   pub later : before ≤ now
   pub rose : blamed → Rose before now
   pub steady : (blamed → ⊥) → now ≡ before
-
--- the count of faults after a call: one more where the call failed, and else as before
-abbrev pub faults_after : {T E : Type 0} → ℕ → Result T E → ℕ
-faults_after before (Ok _) = before
-faults_after before (Err _) = raised before

@@ -1,9 +1,11 @@
 pub mod Causes
+pub mod Counts
 pub mod LastFaults
 pub mod Prefixes
 pub mod Pieces
 pub mod Shelves
 pub mod Texts
+pub mod Rests
 pub mod TextsView
 pub mod MemShelf
 pub mod MemShelfView

@@ -1,6 +1,6 @@
 -- Named texts, and what is left of the one that was begun.
 use Rattle.std.specs.Str.{bytes_eq}
-use Rattle.std.specs.Prelude.{◌≡◌, ℕ, List, [], ◌∷◌, Option, None, Some, if◌then◌else◌, map, string_bytes, slice_get, unwrap_or, ⊤, String, Vec}
+use Rattle.std.specs.Prelude.{ℕ, List, [], ◌∷◌, Option, None, Some, if◌then◌else◌, map, string_bytes, slice_get, unwrap_or, String, Vec}
 use Rattle.std.specs.Option.{option_map}
 use Rattle.std.specs.declared.alloc.Global.{Global}
 
@@ -12,12 +12,6 @@ Files = List (List ℕ × List ℕ)
 abbrev pub text_in : Files → List ℕ → Option (List ℕ)
 text_in [] name = None
 text_in (f ∷ fs) name = if bytes_eq f.0 name then Some f.1 else text_in fs name
-
--- what is told of the text of a name: a name that is not held has the empty text
-abbrev pub RestIs : Option (List ℕ → Option (List ℕ)) → List ℕ → Option (List ℕ) → Type 0
-RestIs None name rest = ⊤
-RestIs (Some held) name None = ⊥
-RestIs (Some held) name (Some bytes) = bytes ≡ unwrap_or (held name) []
 
 -- a file as a pair of its name's bytes and its own
 abbrev pub file_seen : String Global × Vec ℕ Global → List ℕ × List ℕ

@@ -2,9 +2,10 @@
 ghost use Rattle.std.specs.Prelude.{◌≡◌, ◌≤◌, None, Some, true, false, IsTrue, OnOk, OnErr};
 ghost use Rattle.std.specs.Io.{ReadsAtMost};
 ghost use Rattle.std.specs.Io.KnownBytes.{ReadConsumes, IsAtEnd};
-ghost use Rattle.sd_outside.specs.Causes.{HasCause, faults_after, raised};
+ghost use Rattle.sd_outside.specs.Causes.{HasCause, raised};
+ghost use Rattle.sd_outside.specs.Counts.{faults_after};
 ghost use Rattle.sd_outside.specs.LastFaults.{KeepsFault};
-ghost use Rattle.sd_outside.specs.Texts.{RestIs};
+ghost use Rattle.sd_outside.specs.Rests.{RestIs};
 
 use crate::again::{open_file, read_once};
 use crate::shelf::{Failed, Shelf};

@@ -2,8 +2,10 @@
 ghost use Rattle.std.specs.Prelude.{◌≡◌, ◌≤◌, ◌||◌, [], min, Some, true, false, length, IsTrue, IfOk, OnOk, OnErr, is_err, is_none};
 ghost use Rattle.std.specs.Io.{ReadsAtMost};
 ghost use Rattle.std.specs.Io.KnownBytes.{ReadConsumes, IsAtEnd};
-ghost use Rattle.sd_outside.specs.Causes.{HasCause, faults_after, raised};
-ghost use Rattle.sd_outside.specs.Texts.{RestIs, files_seen, text_in};
+ghost use Rattle.sd_outside.specs.Causes.{HasCause, raised};
+ghost use Rattle.sd_outside.specs.Counts.{faults_after};
+ghost use Rattle.sd_outside.specs.Texts.{files_seen, text_in};
+ghost use Rattle.sd_outside.specs.Rests.{RestIs};
 ghost use Rattle.sd_outside.specs.MemShelf.{is_listed};
 
 use crate::shelf::{Failed, Shelf};

@@ -1,6 +1,7 @@
 //! Bytes in memory as a sink, which fails where it is told to.
 ghost use Rattle.std.specs.Prelude.{◌≡◌, ◌+◌, ◌≤◌, ◌++◌, ◌||◌, [], Some, length, take, vec_len, IfOk, OnOk, OnErr, is_some, is_err, nat_lt};
-ghost use Rattle.sd_outside.specs.Causes.{HasCause, faults_after, raised};
+ghost use Rattle.sd_outside.specs.Causes.{HasCause, raised};
+ghost use Rattle.sd_outside.specs.Counts.{faults_after};
 ghost use Rattle.std.specs.List.{concat};
 ghost use Rattle.sd_outside.specs.Pieces.{AddsFront, AddsPieces, piece_of};
 ghost use Rattle.sd_outside.specs.MemSink.{added_count, kept_in, listed_count, room_left};

@@ -4,7 +4,8 @@ ghost use Rattle.std.specs.Io.{ReadsAtMost};
 ghost use Rattle.std.specs.Io.KnownBytes.{ReadConsumes, IsAtEnd};
 ghost use Rattle.sd_outside.specs.Causes.{HasCause};
 ghost use Rattle.sd_outside.specs.Pieces.{AddsFront, AddsPieces, piece_of};
-ghost use Rattle.sd_outside.specs.Texts.{RestIs, files_seen, text_in};
+ghost use Rattle.sd_outside.specs.Texts.{files_seen, text_in};
+ghost use Rattle.sd_outside.specs.Rests.{RestIs};
 
 use crate::shelf::{Failed, Shelf};
 use crate::sink::Sink;

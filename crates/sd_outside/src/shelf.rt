@@ -3,7 +3,7 @@ ghost use Rattle.std.specs.Prelude.{◌≡◌, ℕ, List, Option, Bool, false, I
 ghost use Rattle.std.specs.Io.{ReadsAtMost};
 ghost use Rattle.std.specs.Io.KnownBytes.{ReadConsumes, IsAtEnd};
 ghost use Rattle.sd_outside.specs.Causes.{HasCause};
-ghost use Rattle.sd_outside.specs.Texts.{RestIs};
+ghost use Rattle.sd_outside.specs.Rests.{RestIs};
 
 /// The outside has failed. It says no more, since nothing depends on why.
 #[derive(Clone, Copy, Debug, PartialEq, Eq)]

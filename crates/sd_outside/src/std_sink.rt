@@ -1,7 +1,8 @@
 //! A writer of the system as a sink.
 ghost use Rattle.std.specs.Prelude.{◌≡◌, None, OnOk, OnErr};
 ghost use Rattle.std.specs.Io.KnownBytes.{Appends};
-ghost use Rattle.sd_outside.specs.Causes.{HasCause, faults_after};
+ghost use Rattle.sd_outside.specs.Causes.{HasCause};
+ghost use Rattle.sd_outside.specs.Counts.{faults_after};
 ghost use Rattle.sd_outside.specs.LastFaults.{KeepsReason};
 ghost use Rattle.sd_outside.specs.Pieces.{AddsFront, AddsPieces, piece_of};
 ghost use Rattle.sd_outside.specs.Prefixes.{WritesPrefix};

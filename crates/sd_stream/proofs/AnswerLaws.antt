@@ -4,7 +4,8 @@ use Rattle.std.proofs.lemmas.Bool.{le-leb, lt-leb, lt-ltb, le-ltb, leb-true, leb
 use Rattle.std.proofs.lemmas.List.{length-append}
 use Rattle.sd_stream.specs.declared.faults.StreamFault.{StreamFault}
 use Rattle.sd_stream.specs.declared.faults.StreamFault.TheVariants.{ReadFault, LongLine, Limit}
-use Rattle.sd_stream.specs.Lines.{line_len, next_of}
+use Rattle.sd_stream.specs.Lines.{line_len}
+use Rattle.sd_stream.specs.Next.{next_of}
 use Rattle.sd_stream.specs.Limits.{is_long, is_past, answer_of}
 use Rattle.sd_stream.proofs.LineLaws.{line_len-le-length}
 use Rattle.sd_stream.proofs.Found.{line_len-le-append}

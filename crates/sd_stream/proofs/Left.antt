@@ -4,7 +4,8 @@ use Rattle.std.proofs.lemmas.List.{take-append-drop, length-append, take-append-
 use Rattle.std.specs.Io.KnownBytes.{prepend_known, Consumes, Keeps, IsAtEnd}
 use Rattle.sd_stream.specs.declared.faults.StreamFault.{StreamFault}
 use Rattle.sd_stream.specs.declared.faults.StreamFault.TheVariants.{ReadFault, LongLine, Limit}
-use Rattle.sd_stream.specs.Lines.{line_len, next_of, after_line}
+use Rattle.sd_stream.specs.Lines.{line_len, after_line}
+use Rattle.sd_stream.specs.Next.{next_of}
 use Rattle.sd_stream.specs.Limits.{answer_of}
 use Rattle.sd_stream.specs.Findings.{IsLine, IsOpen}
 use Rattle.sd_stream.specs.Reader.{GoesPast, AnswersAt}

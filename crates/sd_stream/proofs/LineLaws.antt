@@ -1,7 +1,8 @@
 -- Laws on the length of the first line.
 use Rattle.std.proofs.Common.{◌≡◌, ℕ, ◌+◌, ◌-◌, ◌<◌, ◌≤◌, ◌==◌, Bool, true, false, cond, suc, List, [], ◌∷◌, None, Some, refl, sym, ap, ◌∙◌, length, take, drop, arith, add-one}
 use Rattle.std.proofs.lemmas.List.{length-take-le, length-drop}
-use Rattle.sd_stream.specs.Lines.{line_len, next_of, after_line, with_front, lines}
+use Rattle.sd_stream.specs.Lines.{line_len, after_line, with_front, lines}
+use Rattle.sd_stream.specs.Next.{next_of}
 
 -- the end of the first line, seen from one byte before
 within_step : (t : Bool) (m n : ℕ) → m ≤ n → cond t 0 (m + 1) ≤ suc n

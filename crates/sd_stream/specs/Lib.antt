@@ -1,4 +1,5 @@
 pub mod Lines
+pub mod Next
 pub mod Limits
 pub mod Findings
 pub mod Buffered

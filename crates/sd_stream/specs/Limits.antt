@@ -4,7 +4,8 @@ use Rattle.std.specs.Borrow.{Bor}
 use Rattle.std.specs.Option.{option_copied}
 use Rattle.sd_stream.specs.declared.faults.StreamFault.{StreamFault}
 use Rattle.sd_stream.specs.declared.faults.StreamFault.TheVariants.{ReadFault, LongLine, Limit}
-use Rattle.sd_stream.specs.Lines.{line_len, next_of}
+use Rattle.sd_stream.specs.Lines.{line_len}
+use Rattle.sd_stream.specs.Next.{next_of}
 
 -- the next 4097 bytes stand within the first 2 ^ 32 of the text, of which `before` bytes stand before them, and hold no newline
 abbrev pub is_long : ℕ → List ℕ → Bool

@@ -1,15 +1,10 @@
 -- The lines of a text.
-use Rattle.std.specs.Prelude.{ℕ, ◌+◌, ◌==◌, nat_eq, List, [], ◌∷◌, Option, None, Some, take, drop, if◌then◌else◌}
+use Rattle.std.specs.Prelude.{ℕ, ◌+◌, ◌==◌, nat_eq, List, [], ◌∷◌, drop, if◌then◌else◌}
 
 -- how many bytes stand before the first newline, or all of them
 abbrev pub line_len : List ℕ → ℕ
 line_len [] = 0
 line_len (byte ∷ bytes) = if byte == 10 then 0 else line_len bytes + 1
-
--- the next line of a text, without its newline
-abbrev pub next_of : List ℕ → Option (List ℕ)
-next_of [] = None
-next_of (byte ∷ bytes) = Some (take (line_len (byte ∷ bytes)) (byte ∷ bytes))
 
 -- the text after its next line
 abbrev pub after_line : List ℕ → List ℕ

@@ -11,7 +11,8 @@ use Rattle.sd_solo.specs.declared.SoloFault.{SoloFault}
 use Rattle.sd_solo.proofs.Standing.{latest_accepted}
 use Rattle.std.specs.Prelude.{IsTrue, codes, decimal}
 use Rattle.sd_cmd_files.specs.work.Leaving.{are_lines}
-use Rattle.sd_cmd_files.specs.work.Works.{Work, WritesWhole}
+use Rattle.sd_cmd_files.specs.work.Works.{Work}
+use Rattle.sd_cmd_files.specs.work.WholeLines.{WritesWhole}
 use Rattle.sd_cmd_files.proofs.work.Whole.{text_whole}
 use Rattle.sd_top.specs.Schedules.{accepted, solo_work, unless_refused}
 

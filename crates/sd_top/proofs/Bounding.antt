@@ -17,7 +17,7 @@ use Rattle.sd_cmd_files.specs.declared.command_error.CommandError.TheVariants as
 use Rattle.sd_cmd_files.specs.declared.command_error.Refusal.{Refusal}
 use Rattle.sd_cmd_files.specs.declared.command_error.IoError.{IoError}
 use Rattle.sd_cmd_files.specs.declared.command_error.IoError.TheVariants as stop
-use Rattle.sd_cmd_files.specs.work.Leaving.{LeavesAt}
+use Rattle.sd_cmd_files.specs.work.Ending.{LeavesAt}
 use Rattle.sd_cmd_files.specs.work.Works.{InSteps, IsOutcome, refused_part}
 use Rattle.sd_cmd_twoway.specs.Twoways.{twoway_work}
 use Rattle.sd_top.specs.Twoways.{TwowayIn, refused_over}

@@ -16,7 +16,8 @@ use Rattle.sd_cmd_replay.specs.Replay.Promises.{IsSound}
 use Rattle.sd_cmd_files.specs.Answering.{May}
 use Rattle.sd_cmd_files.specs.declared.Status.{Status}
 use Rattle.sd_cmd_files.specs.planfiles.PlanFiles.{AfterVerdict}
-use Rattle.sd_cmd_case.specs.Cases.{AfterGreedy, IsTallied, case_tally, over}
+use Rattle.sd_cmd_case.specs.Cases.{AfterGreedy, IsTallied, case_tally}
+use Rattle.sd_cmd_replay.specs.Replay.Settings.{setting_over}
 use Rattle.sd_cmd_case.specs.declared.Fabric.{Fabric}
 use Rattle.sd_cmd_case.proofs.Histories.{case_is_history}
 use Rattle.sd_cmd_case.proofs.Sized.{fabric_is_network}
@@ -44,9 +45,9 @@ module _ (net : Network) (is : IsNetwork net) (bytes : List ℕ) (status : Statu
       after_verdict place plan verdict (Then plan) says (behind plan fits) written
 
   tallied : (number : ℕ) (first second : Plan) → Fits net first → IsAccepted net first → Fits net second → IsAccepted net second
-      → IsTallied (case_tally (over net (first ∷ second ∷ [])) number) bytes status → no_case_alarm bytes ≡ true
+      → IsTallied (case_tally (setting_over net (first ∷ second ∷ [])) number) bytes status → no_case_alarm bytes ≡ true
   tallied number first second fits accepted fits' accepted' told =
-      let setting : Setting = over net (first ∷ second ∷ []) in
+      let setting : Setting = setting_over net (first ∷ second ∷ []) in
       let sound : IsSound setting =
       record {
         network = is;
@@ -61,6 +62,6 @@ case_keeps_alarms number sizes within bytes status written =
     let net = fabric sizes.leaves sizes.spines in
     let is : IsNetwork net = fabric_is_network sizes within in
     after_greedy net is bytes status 1 0 first_absent
-    (λ first. AfterGreedy net 2 1 second_absent (λ second. IsTallied (case_tally (over net (first ∷ second ∷ [])) number))) (λ first fits accepted.
-    after_greedy net is bytes status 2 1 second_absent (λ second. IsTallied (case_tally (over net (first ∷ second ∷ [])) number))
+    (λ first. AfterGreedy net 2 1 second_absent (λ second. IsTallied (case_tally (setting_over net (first ∷ second ∷ [])) number))) (λ first fits accepted.
+    after_greedy net is bytes status 2 1 second_absent (λ second. IsTallied (case_tally (setting_over net (first ∷ second ∷ [])) number))
     (λ second fits' accepted'. tallied net is bytes status number first second fits accepted fits' accepted')) written

@@ -25,7 +25,7 @@ use Rattle.sd_cmd_files.specs.declared.command_error.Refusal.{Refusal}
 use Rattle.sd_cmd_files.specs.declared.command_error.IoError.{IoError}
 use Rattle.sd_cmd_files.specs.declared.command_error.IoError.TheVariants as stop
 use Rattle.sd_cmd_files.specs.planfiles.PlanFiles.{AfterJudged}
-use Rattle.sd_cmd_files.specs.work.Leaving.{LeavesAt}
+use Rattle.sd_cmd_files.specs.work.Ending.{LeavesAt}
 use Rattle.sd_cmd_files.proofs.work.Leaving.{at_once, leaves_more, once_in_steps}
 use Rattle.sd_top.specs.Drills.{DrilledInSteps, IsDrilled}
 use Rattle.sd_top.proofs.Performing.{leaves_written}

@@ -9,7 +9,8 @@ use Rattle.sd_outside.specs.declared.shelf.Shelf.{Ghosts}
 use Rattle.sd_cmd_files.proofs.Keeping.{keeps_for}
 use Rattle.sd_cmd_files.proofs.work.Leaving.{at_once, leaves_once}
 use Rattle.sd_cmd_files.specs.Answering.{AtOnce, InWrites, May}
-use Rattle.sd_cmd_files.specs.Statuses.{is_among, stop_of, status_of}
+use Rattle.sd_cmd_files.specs.Statuses.{is_among, stop_of}
+use Rattle.sd_cmd_files.specs.Stops.{status_of}
 use Rattle.sd_cmd_files.specs.Texts.{Texts, texts_of}
 use Rattle.sd_cmd_files.specs.Writes.{Makes, Tells, WritesOnce}
 use Rattle.sd_cmd_files.specs.declared.Status.{Status}
@@ -19,7 +20,8 @@ use Rattle.sd_cmd_files.specs.declared.command_error.CommandError.{CommandError}
 use Rattle.sd_cmd_files.specs.declared.command_error.CommandError.TheVariants as ended
 use Rattle.sd_cmd_files.specs.declared.command_error.IoError.{IoError}
 use Rattle.sd_cmd_files.specs.declared.command_error.IoError.TheVariants as stop
-use Rattle.sd_cmd_files.specs.work.Leaving.{Leaves, LeavesAt}
+use Rattle.sd_cmd_files.specs.work.Leaving.{Leaves}
+use Rattle.sd_cmd_files.specs.work.Ending.{LeavesAt}
 use Rattle.sd_top.specs.Ends.{MeetsResult}
 use Rattle.sd_top.specs.Promise.{LeavesAfter, IsNearRefusal, MeetsOutcome, WritesOf, task_of}
 use Rattle.sd_top.specs.Words.{Command, command_of}

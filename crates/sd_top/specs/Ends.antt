@@ -4,7 +4,7 @@ use Rattle.sd_outside.specs.Pieces.{Pieces}
 use Rattle.sd_cmd_files.specs.Texts.{texts_of}
 use Rattle.sd_cmd_files.specs.declared.Status.{Status}
 use Rattle.sd_cmd_files.specs.declared.command_error.IoError.{IoError}
-use Rattle.sd_cmd_files.specs.work.Leaving.{LeavesAt}
+use Rattle.sd_cmd_files.specs.work.Ending.{LeavesAt}
 use Rattle.sd_top.specs.Promise.{WritesOf, task_of}
 use Rattle.sd_top.specs.Words.{command_of}
 

@@ -14,7 +14,7 @@ ghost use Rattle.sd_cmd_files.specs.Statuses.{is_among};
 ghost use Rattle.sd_cmd_files.specs.Texts.{texts_of};
 ghost use Rattle.sd_cmd_files.specs.Writes.{Adds};
 ghost use Rattle.sd_top.specs.Drills.{DrillIn, DrilledInSteps, IsDrilled, PlanDrilledInSteps};
-ghost use Rattle.sd_cmd_files.specs.work.Leaving.{LeavesAt};
+ghost use Rattle.sd_cmd_files.specs.work.Ending.{LeavesAt};
 
 use sd_checker::{Breach, Verdict, check};
 use sd_cmd_drill::write_drill;

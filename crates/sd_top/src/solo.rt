@@ -4,7 +4,7 @@ ghost use Rattle.sd_outside.specs.Causes.{RisesFor};
 ghost use Rattle.sd_outside.specs.Shelves.{KeepsShelf};
 ghost use Rattle.sd_cmd_files.specs.Stream.Reader.{IsNear};
 ghost use Rattle.sd_cmd_files.specs.Statuses.{is_among};
-ghost use Rattle.sd_cmd_files.specs.work.Leaving.{LeavesAt};
+ghost use Rattle.sd_cmd_files.specs.work.Ending.{LeavesAt};
 ghost use Rattle.sd_cmd_files.specs.work.Works.{refused_part};
 ghost use Rattle.sd_top.specs.Schedules.{SoloIn, solo_work};
 

@@ -6,7 +6,7 @@ ghost use Rattle.sd_cmd_files.specs.Stream.Reader.{IsNear};
 ghost use Rattle.sd_cmd_files.specs.Statuses.{is_among, stop_of};
 ghost use Rattle.sd_cmd_files.specs.Texts.{texts_of};
 ghost use Rattle.sd_cmd_files.specs.Writes.{WritesOnce};
-ghost use Rattle.sd_cmd_files.specs.work.Leaving.{LeavesAt};
+ghost use Rattle.sd_cmd_files.specs.work.Ending.{LeavesAt};
 ghost use Rattle.sd_cmd_files.specs.work.Works.{refused_part};
 ghost use Rattle.sd_top.specs.Bounds.{MeetsBounds};
 ghost use Rattle.sd_top.specs.Ends.{MeetsResult};

@@ -8,7 +8,7 @@ ghost use Rattle.sd_cmd_files.specs.Answering.{InWrites};
 ghost use Rattle.sd_cmd_files.specs.Inputs.{topology_of};
 ghost use Rattle.sd_cmd_files.specs.Statuses.{is_among};
 ghost use Rattle.sd_cmd_files.specs.Texts.{texts_of};
-ghost use Rattle.sd_cmd_files.specs.work.Leaving.{LeavesAt};
+ghost use Rattle.sd_cmd_files.specs.work.Ending.{LeavesAt};
 ghost use Rattle.sd_cmd_files.specs.work.Works.{InSteps, IsOutcome, refused_part};
 ghost use Rattle.sd_cmd_twoway.specs.Twoways.{twoway_work};
 ghost use Rattle.sd_top.specs.Twoways.{TwowayIn, refused_over};

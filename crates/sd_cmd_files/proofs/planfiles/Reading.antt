@@ -22,7 +22,8 @@ use Rattle.sd_cmd_files.specs.declared.command_error.CommandError.{CommandError}
 use Rattle.sd_cmd_files.specs.declared.command_error.CommandError.TheVariants as ended
 use Rattle.sd_cmd_files.specs.declared.command_error.Refusal.{Refusal}
 use Rattle.sd_cmd_files.specs.declared.planfiles.setup_error.SetupError.{SetupError}
-use Rattle.sd_cmd_files.specs.planfiles.PlanFiles.{AfterAllPlans, AfterJudged, AfterPlan, AfterPlans, AfterVerdict, AreRead, Nothing}
+use Rattle.sd_cmd_files.specs.planfiles.PlanFiles.{AfterAllPlans, AfterJudged, AfterPlan, AfterPlans, AfterVerdict, AreRead}
+use Rattle.sd_cmd_files.specs.planfiles.Refusing.{Nothing}
 
 -- what is written early, before anything comes after a plan, is written early whatever comes after
 early_verdict : (net : Network) (place : ℕ) (verdict : Verdict) (Never Then : May) (bytes : List ℕ) (status : Status)

@@ -16,8 +16,10 @@ use Rattle.sd_cmd_files.specs.Writes.{Adds}
 use Rattle.sd_cmd_files.specs.declared.Status.{Status}
 use Rattle.sd_cmd_files.specs.declared.command_error.IoError.{IoError}
 use Rattle.sd_cmd_files.specs.declared.command_error.IoError.TheVariants as stop
-use Rattle.sd_cmd_files.specs.work.Works.{Work, Reading, InSteps, IsOutcome, WritesWhole, reading, reading_from, all_bytes, all_pieces, last_bytes, last_pieces_for, pieces_for, refused_line, written_for, status_for, refused_part, text_behind}
-use Rattle.sd_cmd_files.specs.work.Leaving.{WritesLines, LeavesAt, are_lines}
+use Rattle.sd_cmd_files.specs.work.Works.{Work, Reading, InSteps, IsOutcome, reading, reading_from, all_bytes, all_pieces, last_bytes, last_pieces_for, pieces_for, refused_line, written_for, status_for, refused_part, text_behind}
+use Rattle.sd_cmd_files.specs.work.WholeLines.{WritesWhole}
+use Rattle.sd_cmd_files.specs.work.Leaving.{WritesLines, are_lines}
+use Rattle.sd_cmd_files.specs.work.Ending.{LeavesAt}
 use Rattle.sd_cmd_files.specs.work.Steps.{Step, step_of, step_pieces}
 use Rattle.sd_cmd_files.specs.work.Comes.{HasCome}
 use Rattle.sd_cmd_files.proofs.work.Reading.{reads_on, reads_end, EndsWith, begins_with_step}

@@ -11,7 +11,8 @@ use Rattle.sd_cmd_files.specs.declared.command_error.CommandError.{CommandError}
 use Rattle.sd_cmd_files.specs.declared.command_error.CommandError.TheVariants as ended
 use Rattle.sd_cmd_files.specs.declared.command_error.IoError.{IoError}
 use Rattle.sd_cmd_files.specs.declared.command_error.IoError.TheVariants as stop
-use Rattle.sd_cmd_files.specs.work.Leaving.{LeavesAt, WritesPart}
+use Rattle.sd_cmd_files.specs.work.Leaving.{WritesPart}
+use Rattle.sd_cmd_files.specs.work.Ending.{LeavesAt}
 
 -- what may be written is written by one write
 pub at_once : (Writes : May) (bytes : List ℕ) (status : Status) → Writes bytes status → InWrites AtOnce Writes (piece_of bytes) status

@@ -4,7 +4,8 @@ use Rattle.std.specs.Prelude.{nat_le, nat_lt, IfSome, codes}
 use Rattle.std.specs.Option.{option_copied}
 use Rattle.std.specs.Borrow.{Bor}
 use Rattle.std.proofs.lemmas.Bool.{and_parts, ltb-true}
-use Rattle.sd_stream.specs.Lines.{lines, line_len, next_of}
+use Rattle.sd_stream.specs.Lines.{lines, line_len}
+use Rattle.sd_stream.specs.Next.{next_of}
 use Rattle.sd_stream.specs.Limits.{Answers, answer_of, is_long, is_past}
 use Rattle.sd_stream.specs.declared.faults.StreamFault.{StreamFault}
 use Rattle.sd_stream.specs.declared.faults.StreamFault.TheVariants as stream

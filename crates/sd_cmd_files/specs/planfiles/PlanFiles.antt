@@ -34,10 +34,6 @@ AfterPlans net place plans (text ∷ texts) Then bytes status =
 abbrev pub AfterAllPlans : Network → List (List ℕ) → (List Plan → May) → May
 AfterAllPlans net texts Then bytes status = AfterPlans net 1 [] texts Then bytes status
 
--- what may be written where nothing comes after the plans: what ends a command before
-abbrev pub Nothing : {X : Type 0} → X → May
-Nothing x bytes status = ⊥
-
 -- the texts say these plans, from this place on
 abbrev pub AreRead : Network → (place : ℕ) → List (List ℕ) → List Plan → Type 0
 AreRead net place [] [] = Unit {0}

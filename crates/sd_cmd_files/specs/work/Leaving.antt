@@ -1,8 +1,7 @@
 -- What a command leaves at the sink, whether it ended or was stopped.
-use Rattle.std.specs.Prelude.{◌≡◌, ◌⊎◌, ℕ, Bool, true, false, All, List, [], ◌∷◌, ◌++◌, nat_eq, Option, None, Some, IsTrue, Result, Ok, Err}
+use Rattle.std.specs.Prelude.{◌≡◌, ◌⊎◌, ℕ, Bool, true, false, All, List, [], ◌∷◌, ◌++◌, nat_eq, Option, None, Some, IsTrue}
 use Rattle.sd_outside.specs.Pieces.{AddsFront, AddsPieces, Pieces}
 use Rattle.sd_cmd_files.specs.Answering.{MayWrite}
-use Rattle.sd_cmd_files.specs.Statuses.{status_of}
 use Rattle.sd_cmd_files.specs.declared.Status.{Status}
 use Rattle.sd_cmd_files.specs.declared.command_error.IoError.{IoError}
 use Rattle.sd_cmd_files.specs.declared.command_error.IoError.TheVariants as stop
@@ -32,8 +31,3 @@ Leaves None steps Writes old new status = (pieces : Pieces) × Writes pieces sta
 Leaves (Some stop.Sink) steps Writes old new status = (pieces : Pieces) × (answer : Status) × Writes pieces answer × AddsFront old new pieces
 Leaves (Some stop.Shelf) steps Writes old new status = WritesPart steps Writes old new
 Leaves (Some stop.Memory) steps Writes old new status = WritesPart steps Writes old new
-
--- a command that ended, or was stopped
-abbrev pub LeavesAt : Bool → MayWrite → Option Pieces → Option Pieces → Result Status IoError → Type 0
-LeavesAt steps Writes old new (Ok status) = Leaves None steps Writes old new status
-LeavesAt steps Writes old new (Err why) = Leaves (Some why) steps Writes old new (status_of why)

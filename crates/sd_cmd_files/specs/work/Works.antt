@@ -1,5 +1,5 @@
 -- Texts that are read line by line: what is read of one, up to the first line that is refused, what is written for it, and the status.
-use Rattle.std.specs.Prelude.{◌≡◌, ℕ, zero, suc, ◌+◌, ◌^◌, ◌&&◌, Bool, List, [], ◌∷◌, ◌++◌, length, nat_le, nat_lt, Option, None, Some, Result, Ok, Err, codes, decimal, IsTrue, if◌then◌else◌}
+use Rattle.std.specs.Prelude.{◌≡◌, ℕ, zero, suc, ◌+◌, ◌^◌, ◌&&◌, Bool, List, [], ◌∷◌, ◌++◌, length, nat_le, nat_lt, Option, None, Some, Result, Ok, Err, codes, decimal, if◌then◌else◌}
 use Rattle.std.specs.List.{concat, list_any}
 use Rattle.sd_num.specs.Texts.{text_of}
 use Rattle.sd_outside.specs.Pieces.{Pieces, piece_of}
@@ -7,7 +7,6 @@ use Rattle.sd_stream.specs.Lines.{lines, after_line}
 use Rattle.sd_cmd_files.specs.Answering.{May}
 use Rattle.sd_cmd_files.specs.declared.Status.{Status}
 use Rattle.sd_cmd_files.specs.declared.Status.TheVariants.{InputRefused}
-use Rattle.sd_cmd_files.specs.work.Leaving.{are_lines}
 
 -- how the lines of a text are read, and what is written for them; E is what an accepted line gives
 pub record Work (E : Type 0) : Type 0 where
@@ -106,7 +105,3 @@ module _ {E : Type 0} (work : Work E) where
   -- what stands in the text from the line on at which it is refused
   abbrev pub refused_part : List ℕ → List ℕ
   refused_part text = text_behind (length (reading text).taken) text
-
-  -- what is written for a line is whole lines
-  abbrev pub WritesWhole : Type 0
-  WritesWhole = (taken : List E) (x : E) → IsTrue (are_lines (work.bytes taken x))

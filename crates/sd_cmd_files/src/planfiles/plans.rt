@@ -9,7 +9,8 @@ ghost use Rattle.sd_cmd_files.specs.Inputs.{plan_in_file};
 ghost use Rattle.sd_cmd_files.specs.Texts.{texts_of};
 ghost use Rattle.sd_cmd_files.specs.Writes.{Makes};
 ghost use Rattle.sd_cmd_files.specs.planfiles.SetupError.{IsPlanRefused, made_of};
-ghost use Rattle.sd_cmd_files.specs.planfiles.PlanFiles.{AfterAllPlans, AfterJudged, AfterPlan, AreRead, Nothing};
+ghost use Rattle.sd_cmd_files.specs.planfiles.PlanFiles.{AfterAllPlans, AfterJudged, AfterPlan, AreRead};
+ghost use Rattle.sd_cmd_files.specs.planfiles.Refusing.{Nothing};
 
 use crate::planfiles::SetupError;
 use crate::{CommandError, load_plan, refused_plan};

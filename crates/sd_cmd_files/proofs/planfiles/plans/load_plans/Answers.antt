@@ -7,7 +7,8 @@ use Rattle.sd_cmd_files.specs.Inputs.{plan_in_file}
 use Rattle.sd_cmd_files.specs.Texts.{texts_of}
 use Rattle.sd_cmd_files.specs.Writes.{Makes}
 use Rattle.sd_cmd_files.specs.planfiles.SetupError.{made_of}
-use Rattle.sd_cmd_files.specs.planfiles.PlanFiles.{AfterAllPlans, AfterPlan, Nothing}
+use Rattle.sd_cmd_files.specs.planfiles.PlanFiles.{AfterAllPlans, AfterPlan}
+use Rattle.sd_cmd_files.specs.planfiles.Refusing.{Nothing}
 use Rattle.sd_cmd_files.specs.declared.planfiles.setup_error.SetupError.{SetupError}
 use Rattle.sd_cmd_files.proofs.planfiles.Reading.{each_more, handed_on, served, told_early, told_more}
 use Rattle.sd_cmd_files.proofs.planfiles.plans.load_plans.Goals as goal

@@ -4,7 +4,7 @@ use Rattle.sd_cmd_files.specs.declared.command_error.IoError.{IoError}
 use Rattle.sd_cmd_files.proofs.work.Adding.{handed_on}
 use Rattle.sd_cmd_files.proofs.work.Coming.{told_comes, told_comes_on, told_stops, told_ends, told_near}
 use Rattle.sd_cmd_files.specs.work.Progresses.{Holds}
-use Rattle.sd_cmd_files.specs.work.Leaving.{LeavesAt}
+use Rattle.sd_cmd_files.specs.work.Ending.{LeavesAt}
 use Rattle.sd_cmd_files.specs.Answering.{InWrites}
 use Rattle.sd_cmd_files.specs.work.Works.{InSteps, IsOutcome}
 use Rattle.sd_cmd_files.proofs.work.drive.work_through.Goals as goal

@@ -1,5 +1,5 @@
 use Rattle.std.proofs.Common.{sym, ◌∙◌, subst}
-use Rattle.sd_cmd_replay.specs.Reasons.{HasReason}
+use Rattle.sd_cmd_replay.specs.Reasoned.{HasReason}
 use Rattle.sd_cmd_replay.proofs.replayed.Replayed.refuse.Goals as goal
 
 pub returns-clause-text : goal.returns-clause-text
