@@ -3,8 +3,10 @@
 #![tactic(auto)]
 
 mod complaint;
+mod edge;
 
 use complaint::{Complaint, complaint_of};
+use edge::{behind_first, exit_of};
 use sd_num::NoMemory;
 use sd_outside::{FileShelf, StdSink};
 use sd_top::{Status, run};
@@ -21,12 +23,12 @@ fn words_of(rt: &HostRuntime) -> Result<Vec<String>, NoMemory> {
         Err(error) if error.kind() == ErrorKind::OutOfMemory => return Err(NoMemory),
         Err(_) => return Ok(words),
     };
-    for word in all.skip(1) {
+    for word in all {
         if words.push(word).is_err() {
             return Err(NoMemory);
         }
     }
-    Ok(words)
+    Ok(behind_first(words))
 }
 
 /// Writes a line to standard error. The run has its status already, so a line that cannot be
@@ -55,5 +57,5 @@ fn main(rt: HostRuntime) -> ExitCode {
             Status::Memory
         }
     };
-    ExitCode::from(status.code())
+    exit_of(status)
 }
