@@ -1,0 +1,1 @@
+"""A plain replay, by the definitions and without a check of the plans."""
