@@ -1,0 +1,5 @@
+mod Paths
+pub mod Consequences
+-- Handed on: what crates above name of those below.
+pub use Rattle.sd_checker.proofs as Checker
+pub use Rattle.sd_history.proofs as History

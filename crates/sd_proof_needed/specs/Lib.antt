@@ -1,0 +1,4 @@
+pub mod Consequences
+-- Handed on: what crates above name of those below.
+pub use Rattle.sd_checker.specs as Checker
+pub use Rattle.sd_history.specs as History
