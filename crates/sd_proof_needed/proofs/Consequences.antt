@@ -28,6 +28,7 @@ use Rattle.sd_checker.specs.Conditions.{RootHolds}
 use Rattle.sd_proof_needed.specs.Consequences.{AncestorFollows, DomainFollows}
 use Rattle.sd_history.proofs.Among.{Among, first, later, on_right}
 use Rattle.sd_history.proofs.Given.{some_is}
+use Rattle.sd_proof_needed.proofs.Elements.{each_among, mapped, below_among}
 use Rattle.sd_proof_needed.proofs.Paths.{not_root, short_walk_is, short_walk_none, path_step}
 
 -- Domain from reach
@@ -83,35 +84,11 @@ none_mapped : {X Y : Type 0} (f : X → Y) (o : Option X) → option_map f o ≡
 none_mapped f None none = refl
 none_mapped f (Some x) none = cc
 
--- an element of a list has a place
-each_among : {A : Type 0} (P : A → Type 0) (xs : List A) (x : A) → Each P xs → Among x xs → P x
-each_among P [] x each a = elim a [ ]
-each_among P (y ∷ ys) x each first = each zero x refl
-each_among P (y ∷ ys) x each (later a) = each_among P ys x (λ i z at. each (suc i) z at) a
-
-mapped : {A B : Type 0} (f : A → B) (xs : List A) (x : A) → Among x xs → Among (f x) (map f xs)
-mapped f [] x a = elim a [ ]
-mapped f (y ∷ ys) x first = first
-mapped f (y ∷ ys) x (later a) = later (mapped f ys x a)
-
-on_left : {A : Type 0} (xs ys : List A) (x : A) → Among x xs → Among x (xs ++ ys)
-on_left [] ys x a = elim a [ ]
-on_left (z ∷ xs) ys x first = first
-on_left (z ∷ xs) ys x (later a) = later (on_left xs ys x a)
-
-among_below : (n k : ℕ) → k < n → Among k (below n)
-among_below zero k within = absurd (omega arith)
-among_below (suc n) k within =
-    elim (cases_eq k n) [
-      | inl same ↦ on_right (below n) (subst (λ (m : ℕ). Among k (m ∷ [])) same first)
-      | inr other ↦ on_left (below n) (n ∷ []) k (among_below n k (omega (arith, other)))
-    ]
-
 -- each link alone is a domain
 link_is_domain : (net : Network) (l : ℕ) → l < length net.links → Among (domain.Link l) (domains net)
 link_is_domain net l within =
     on_right (map domain.Listed (below (length net.domains)) ++ map domain.Device (device_numbers net))
-    (mapped domain.Link (link_numbers net) l (among_below (length net.links) l within))
+    (mapped domain.Link (link_numbers net) l (below_among (length net.links) l within))
 
 itself : (hop : Hop) → same_hop hop hop ≡ true
 itself hop = rw (eq-eqb hop.parent hop.parent refl, eq-eqb hop.link hop.link refl) refl

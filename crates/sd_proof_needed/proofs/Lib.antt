@@ -1,5 +1,11 @@
+mod Elements
 mod Paths
 pub mod Consequences
+mod Worlds
+mod Allowed
+mod Air
+mod Going
+mod Beginning
 -- Handed on: what crates above name of those below.
 pub use Rattle.sd_checker.proofs as Checker
 pub use Rattle.sd_history.proofs as History

@@ -1,4 +1,5 @@
 pub mod Consequences
+pub mod Alone
 -- Handed on: what crates above name of those below.
 pub use Rattle.sd_checker.specs as Checker
 pub use Rattle.sd_history.specs as History

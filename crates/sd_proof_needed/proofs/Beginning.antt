@@ -1,0 +1,328 @@
+-- How such a history begins: at reference 0 some things of one domain fail, and then all other members start with true clocks.
+use Rattle.std.specs.Prelude.{◌≡◌, ℕ, zero, suc, ◌+◌, ◌-◌, ◌^◌, ◌<◌, ◌≤◌, Bool, true, false, ◌&&◌, ◌||◌, not, List, [], ◌∷◌, ◌++◌, length, count_by, find, nat_eq, nat_le, nat_lt, Option, Some, None, is_some, option_to_list, refl, if◌then◌else◌}
+use Rattle.std.specs.List.{list_any, list_all}
+use Rattle.std.proofs.Common.{sym, ap, ◌∙◌, subst, arith, inl, inr}
+use Rattle.std.proofs.lemmas.Bool.{and_parts, and_from, and_left, and_right, or_left, or_right, le-leb, lt-leb, le-ltb, lt-ltb, ltb-true, eq-eqb, ne_eqb, eqb-true, cases_eq, cases_lt, cases_Bool, not-true}
+use Rattle.std.proofs.lemmas.List.{length-map}
+use Rattle.sd_checker.specs.Num.Lists.{of_some, same_number}
+use Rattle.sd_checker.specs.Topo.Network.{Network, device_numbers}
+use Rattle.sd_checker.specs.Topo.declared.Thing.{Thing}
+use Rattle.sd_checker.specs.Topo.declared.Thing.TheVariants as thing
+use Rattle.sd_checker.specs.Domain.Domains.{holds, domains, within_one}
+use Rattle.sd_checker.specs.Domain.Failures.{same_thing}
+use Rattle.sd_checker.specs.Domain.declared.DomainId.{DomainId}
+use Rattle.sd_checker.specs.Plan.declared.Plan.{Plan}
+use Rattle.sd_checker.specs.Plan.Plans.{is_member, members}
+use Rattle.sd_history.specs.Msg.declared.Flight.{Flight}
+use Rattle.sd_history.specs.Sched.declared.Event.{Event}
+use Rattle.sd_history.specs.Sched.declared.Event.TheVariants as event
+use Rattle.sd_history.specs.Sched.Events.{reference_of, is_end, is_stage}
+use Rattle.sd_history.specs.Things.{failure_of}
+use Rattle.sd_history.specs.World.{Setting, Seen, is_up, was_made, has_failed, has_ever_failed, is_untouched, latest_reference, latest_reading, has_commit, window, plan_numbered, in_force, epoch_in_force}
+use Rattle.sd_history.specs.Steps.{Step, seen_of, flights}
+use Rattle.sd_history.specs.Chronicle.{next_step, chronicle, IsHistory}
+use Rattle.sd_history.specs.Refusals.{causes, refusal, unknown_device, unknown_link, dead_device, dead_link, started_twice, not_member, after_end, too_many}
+use Rattle.sd_history.specs.Premises.{readings, start_holds, drift_holds, delay_holds, tick_holds, domain_holds, renew_holds, ticks_in_time, latest_tick, is_current_member, first_reference, failures_since_closing, fails_within_one, reads_honestly, has_mend}
+use Rattle.sd_history.proofs.Among.{Among, first, later, all_pass}
+use Rattle.sd_proof_needed.specs.Alone.{alone}
+use Rattle.sd_proof_needed.proofs.Elements.{found_some}
+use Rattle.sd_proof_needed.proofs.Worlds.{is_live, World, window_on, closings_on}
+use Rattle.sd_proof_needed.proofs.Allowed.{Live, live_parts, NoneHold, none_hold}
+use Rattle.sd_proof_needed.proofs.Air.{Air}
+use Rattle.sd_proof_needed.proofs.Going.{Good, length-chronicle}
+
+-- the devices below a and the links below b that are to fail have failed, and the live devices below c were started
+pub record Begun (net : Network) (plan : Plan) (dom : DomainId) (down : Thing → Bool) (a b c : ℕ) (history : List Event) (seen : List Seen) : Type 0 where
+  pub is : IsHistory (alone net plan) history
+  pub up : (d : ℕ) → is_up seen d ≡ (nat_lt d c && is_live net plan down d)
+  pub made : (d : ℕ) → was_made seen d ≡ (nat_lt d c && is_live net plan down d)
+  pub device : (d : ℕ) → has_failed seen (thing.Device d) ≡ (nat_lt d a && down (thing.Device d))
+  pub ever : (d : ℕ) → has_ever_failed seen d ≡ (nat_lt d a && down (thing.Device d))
+  pub link : (l : ℕ) → has_failed seen (thing.Link l) ≡ (nat_lt l b && down (thing.Link l))
+  pub window : window seen ≡ None
+  pub closings : count_by (λ s. s.closed) seen ≡ 0
+  pub goes_on : list_any (λ s. is_end s.event) seen ≡ false
+  pub stages : list_any (λ s. is_stage s.event) seen ≡ false
+  pub latest : latest_reference seen ≡ 0
+  pub read : (d : ℕ) → latest_reading seen d ≡ 0
+  pub honest : (d : ℕ) (x : ℕ × ℕ) → Among x (readings seen d) → x.1 ≡ x.0
+  pub within : list_all (holds net dom) (failures_since_closing seen) ≡ true
+  pub start_held : start_holds seen ≡ true
+  pub drift_held : drift_holds (alone net plan) seen ≡ true
+  pub delay_held : delay_holds (alone net plan) seen ≡ true
+  pub tick_held : tick_holds (alone net plan) seen ≡ true
+  pub domain_held : domain_holds (alone net plan) seen ≡ true
+  pub renew_held : renew_holds (alone net plan) seen ≡ true
+  pub sent : flights (chronicle (alone net plan) history) ≡ []
+  pub length_ : length history ≤ a + b + c
+
+-- Numbers below a bound
+
+below_suc : (a d : ℕ) → nat_lt d (suc a) ≡ (nat_eq a d || nat_lt d a)
+below_suc a d =
+    elim (cases_eq a d) [
+      | inl same ↦ (lt-ltb d (suc a) (omega (arith, same)) ∙ sym (or_left (nat_eq a d) (nat_lt d a) (eq-eqb a d same)))
+      | inr other ↦ elim (cases_lt d a) [
+        | inl less ↦ (lt-ltb d (suc a) (omega (arith, less)) ∙ sym (or_right (nat_eq a d) (nat_lt d a) (lt-ltb d a less)))
+        | inr more ↦ (le-ltb d (suc a) (omega (arith, other, more)) ∙ sym (rw (ne_eqb a d other, le-ltb d a more) refl))
+      ]
+    ]
+
+-- one more number of which the test is true
+one_more : (p : ℕ → Bool) (a d : ℕ) → p a ≡ true → (nat_lt d (suc a) && p d) ≡ (nat_eq a d || (nat_lt d a && p d))
+one_more p a d is = ap (λ b. b && p d) (below_suc a d) ∙ by (nat_eq a d) refl
+  where
+    by : (b : Bool) → nat_eq a d ≡ b → ((b || nat_lt d a) && p d) ≡ (b || (nat_lt d a && p d))
+    by true same = ap p (sym (eqb-true a d same)) ∙ is
+    by false other = refl
+
+-- one more of which it is false
+one_less : (p : ℕ → Bool) (a d : ℕ) → p a ≡ false → (nat_lt d (suc a) && p d) ≡ (nat_lt d a && p d)
+one_less p a d is = ap (λ b. b && p d) (below_suc a d) ∙ by (nat_eq a d) refl
+  where
+    by : (b : Bool) → nat_eq a d ≡ b → ((b || nat_lt d a) && p d) ≡ (nat_lt d a && p d)
+    by true same =
+        let none : p d ≡ false = ap p (sym (eqb-true a d same)) ∙ is in
+        rw (none, and_right (nat_lt d a) false refl) refl
+    by false other = refl
+
+none_below : (p : ℕ → Bool) (d : ℕ) → false ≡ (nat_lt d 0 && p d)
+none_below p d = sym (and_left (nat_lt d 0) (p d) (le-ltb d 0 (omega arith)))
+
+-- what a latest answer is, where the event tells one in case of a test
+told_true : (b old : Bool) → of_some (if b then Some true else None) old (λ told. told) ≡ (b || old)
+told_true true old = refl
+told_true false old = refl
+
+told_started : (b old : Bool) → of_some (if b || false then Some true else None) old (λ told. told) ≡ (b || old)
+told_started true old = refl
+told_started false old = refl
+
+or_none : (b : Bool) → (b || false) ≡ b
+or_none true = refl
+or_none false = refl
+
+told_false : (b : Bool) → of_some (if b then Some false else None) false (λ told. told) ≡ false
+told_false true = refl
+told_false false = refl
+
+-- a reading at reference and counter 0
+read_zero : (b : Bool) (old : ℕ) → old ≡ 0 → of_some (if b then Some 0 else None) old (λ told. told) ≡ 0
+read_zero true old is = refl
+read_zero false old is = is
+
+-- what is read at a start
+read_first : (b m : Bool) (old : List (ℕ × ℕ)) (x : ℕ × ℕ) → ((y : ℕ × ℕ) → Among y old → y.1 ≡ y.0)
+    → Among x (if b then (if m then (0, 0) ∷ [] else (0, 0) ∷ old) else old) → x.1 ≡ x.0
+read_first true true old x each first = refl
+read_first true true old x each (later a) = elim a [ ]
+read_first true false old x each first = refl
+read_first true false old x each (later a) = each x a
+read_first false m old x each a = each x a
+
+-- an event that reads nothing
+read_none : (b : Bool) (old : List (ℕ × ℕ)) (x : ℕ × ℕ) → ((y : ℕ × ℕ) → Among y old → y.1 ≡ y.0) → Among x (if b then old else old) → x.1 ≡ x.0
+read_none true old x each a = each x a
+read_none false old x each a = each x a
+
+unread : (b : Bool) (old : ℕ) → old ≡ 0 → of_some (if b then None else None) old (λ told. told) ≡ 0
+unread true old is = is
+unread false old is = is
+
+eq_swap : (x y : ℕ) → nat_eq x y ≡ nat_eq y x
+eq_swap x y =
+    elim (cases_eq x y) [
+      | inl same ↦ eq-eqb x y same ∙ sym (eq-eqb y x (sym same))
+      | inr other ↦ ne_eqb x y other ∙ sym (ne_eqb y x (λ same. other (sym same)))
+    ]
+
+-- the same with the test of equality the other way round
+one_more_back : (p : ℕ → Bool) (a d : ℕ) → p a ≡ true → (nat_eq d a || (nat_lt d a && p d)) ≡ (nat_lt d (suc a) && p d)
+one_more_back p a d is = ap (λ b. b || (nat_lt d a && p d)) (eq_swap d a) ∙ sym (one_more p a d is)
+
+module _ (net : Network) (plan : Plan) (dom : DomainId) (down : Thing → Bool) (among : Among dom (domains net)) where
+  abbrev setting : Setting
+  setting = alone net plan
+
+  abbrev steps : List Event → List Step
+  steps history = chronicle setting history
+
+  nothing_yet : Begun net plan dom down 0 0 0 [] []
+  nothing_yet =
+      record {
+        is = tt;
+        up = none_below (is_live net plan down);
+        made = none_below (is_live net plan down);
+        device = none_below (λ d. down (thing.Device d));
+        ever = none_below (λ d. down (thing.Device d));
+        link = none_below (λ l. down (thing.Link l));
+        window = refl;
+        closings = refl;
+        goes_on = refl;
+        stages = refl;
+        latest = refl;
+        read = λ d. refl;
+        honest = λ d x a. elim a [ ];
+        within = refl;
+        start_held = refl;
+        drift_held = refl;
+        delay_held = refl;
+        tick_held = refl;
+        domain_held = refl;
+        renew_held = refl;
+        sent = refl;
+        length_ = omega arith;
+      }
+
+  -- at reference 0 all is in time
+  in_time : (s : Seen) (seen : List Seen) → reference_of s.event ≡ 0 → ticks_in_time setting s seen ≡ true
+  in_time s seen is =
+      and_from
+      (list_all (λ d. not (is_up seen d && is_current_member setting seen d) || nat_le (reference_of s.event) (latest_tick seen d + net.params.tick))
+      (device_numbers net))
+      (list_all (λ d. not (is_untouched seen d) || nat_le (reference_of s.event) (first_reference seen s + net.params.tick))
+      (members net (plan_numbered setting 1)))
+      (all_pass (λ d. not (is_up seen d && is_current_member setting seen d) || nat_le (reference_of s.event) (latest_tick seen d + net.params.tick))
+      (device_numbers net)
+      (λ d a. or_right (not (is_up seen d && is_current_member setting seen d)) (nat_le (reference_of s.event) (latest_tick seen d + net.params.tick))
+      (le-leb (reference_of s.event) (latest_tick seen d + net.params.tick) (omega (arith, is)))))
+      (all_pass (λ d. not (is_untouched seen d) || nat_le (reference_of s.event) (first_reference seen s + net.params.tick))
+      (members net (plan_numbered setting 1))
+      (λ d a. or_right (not (is_untouched seen d)) (nat_le (reference_of s.event) (first_reference seen s + net.params.tick))
+      (le-leb (reference_of s.event) (first_reference seen s + net.params.tick) (omega (arith, is)))))
+
+  few : (history : List Event) → length history < 2 ^ 26 → too_many (seen_of (steps history)) ≡ false
+  few history room =
+      let same = length-chronicle setting history in
+      let long = length-map (steps history) (λ s. s.seen) in
+      lt-leb (2 ^ 26) (length (seen_of (steps history))) (omega (arith, room, same, long))
+
+  -- one more thing of the domain
+  within_more : (x : Thing) (seen : List Seen) → holds net dom x ≡ true → list_all (holds net dom) (failures_since_closing seen) ≡ true
+      → is_some (within_one net (x ∷ failures_since_closing seen)) ≡ true
+  within_more x seen held before =
+      found_some (λ g. list_all (holds net g) (x ∷ failures_since_closing seen)) (domains net) dom
+      (and_from (holds net dom x) (list_all (holds net dom) (failures_since_closing seen)) held before) among
+
+  fail_device : (a : ℕ) (history : List Event) → a < length net.devices → down (thing.Device a) ≡ true → holds net dom (thing.Device a) ≡ true
+      → length history < 2 ^ 26
+      → Begun net plan dom down a 0 0 history (seen_of (steps history))
+      → Begun net plan dom down (suc a) 0 0 (event.FailDevice 0 a ∷ history) (seen_of (steps (event.FailDevice 0 a ∷ history)))
+  fail_device a history within failing held room b =
+      let e : Event = event.FailDevice 0 a in
+      let seen : List Seen = seen_of (steps history) in
+      let s : Seen = (next_step setting (steps history) e).seen in
+      let open_ : s.closed ≡ false = rw b.window refl in
+      let known : unknown_device setting e ≡ false = lt-leb (length net.devices) a within in
+      let sound : dead_device seen e ≡ false = b.device a ∙ and_left (nat_lt a a) (down (thing.Device a)) (le-ltb a a (omega arith)) in
+      let goes_on : after_end seen ≡ false = b.goes_on in
+      record {
+        is = (b.is, none_hold (causes setting (steps history) e)
+            (known, (refl, (sound, (refl, (refl, (refl, (refl, (rw b.latest refl, (refl, (refl, (refl, (refl, (refl, (goes_on, (refl, (refl, (few history room, tt))))))))))))))))));
+        up = λ d. ap (λ old. of_some (if nat_eq d a then Some false else None) old (λ told. told)) (b.up d ∙ sym (none_below (is_live net plan down) d))
+            ∙ told_false (nat_eq d a) ∙ none_below (is_live net plan down) d;
+        made = b.made;
+        device = λ d. told_true (nat_eq d a) (has_failed seen (thing.Device d)) ∙ ap (λ old. nat_eq d a || old) (b.device d)
+            ∙ one_more_back (λ x. down (thing.Device x)) a d failing;
+        ever = λ d. ap (λ old. nat_eq d a || old) (b.ever d) ∙ one_more_back (λ x. down (thing.Device x)) a d failing;
+        link = b.link;
+        window = window_on s seen open_ refl b.window;
+        closings = closings_on s seen open_ b.closings;
+        goes_on = b.goes_on;
+        stages = b.stages;
+        latest = refl;
+        read = λ d. unread (nat_eq a d) (latest_reading seen d) (b.read d);
+        honest = λ d x r. read_none (nat_eq a d) (readings seen d) x (b.honest d) r;
+        within = rw open_ (and_from (holds net dom (thing.Device a)) (list_all (holds net dom) (failures_since_closing seen)) held b.within);
+        start_held = b.start_held;
+        drift_held = and_from (drift_holds setting seen) true b.drift_held refl;
+        delay_held = b.delay_held;
+        tick_held = and_from (tick_holds setting seen) (ticks_in_time setting s seen) b.tick_held (in_time s seen refl);
+        domain_held = and_from (domain_holds setting seen) (fails_within_one setting s seen) b.domain_held (within_more (thing.Device a) seen held b.within);
+        renew_held = and_from (renew_holds setting seen) (not (has_mend seen || has_commit seen) && true) b.renew_held (rw b.window refl);
+        sent = b.sent;
+        length_ = (let before = b.length_ in omega (arith, before));
+      }
+
+  fail_link : (a l : ℕ) (history : List Event) → l < length net.links → down (thing.Link l) ≡ true → holds net dom (thing.Link l) ≡ true
+      → length history < 2 ^ 26
+      → Begun net plan dom down a l 0 history (seen_of (steps history))
+      → Begun net plan dom down a (suc l) 0 (event.FailLink 0 l ∷ history) (seen_of (steps (event.FailLink 0 l ∷ history)))
+  fail_link a l history within failing held room b =
+      let e : Event = event.FailLink 0 l in
+      let seen : List Seen = seen_of (steps history) in
+      let s : Seen = (next_step setting (steps history) e).seen in
+      let open_ : s.closed ≡ false = rw b.window refl in
+      let known : unknown_link setting e ≡ false = lt-leb (length net.links) l within in
+      let sound : dead_link seen e ≡ false = b.link l ∙ and_left (nat_lt l l) (down (thing.Link l)) (le-ltb l l (omega arith)) in
+      let goes_on : after_end seen ≡ false = b.goes_on in
+      record {
+        is = (b.is, none_hold (causes setting (steps history) e)
+            (refl, (known, (refl, (sound, (refl, (refl, (refl, (rw b.latest refl, (refl, (refl, (refl, (refl, (refl, (goes_on, (refl, (refl, (few history room, tt))))))))))))))))));
+        up = b.up;
+        made = b.made;
+        device = b.device;
+        ever = b.ever;
+        link = λ x. told_true (nat_eq x l) (has_failed seen (thing.Link x)) ∙ ap (λ old. nat_eq x l || old) (b.link x)
+            ∙ one_more_back (λ y. down (thing.Link y)) l x failing;
+        window = window_on s seen open_ refl b.window;
+        closings = closings_on s seen open_ b.closings;
+        goes_on = b.goes_on;
+        stages = b.stages;
+        latest = refl;
+        read = b.read;
+        honest = b.honest;
+        within = rw open_ (and_from (holds net dom (thing.Link l)) (list_all (holds net dom) (failures_since_closing seen)) held b.within);
+        start_held = b.start_held;
+        drift_held = and_from (drift_holds setting seen) true b.drift_held refl;
+        delay_held = b.delay_held;
+        tick_held = and_from (tick_holds setting seen) (ticks_in_time setting s seen) b.tick_held (in_time s seen refl);
+        domain_held = and_from (domain_holds setting seen) (fails_within_one setting s seen) b.domain_held (within_more (thing.Link l) seen held b.within);
+        renew_held = and_from (renew_holds setting seen) (not (has_mend seen || has_commit seen) && true) b.renew_held (rw b.window refl);
+        sent = b.sent;
+        length_ = (let before = b.length_ in omega (arith, before));
+      }
+
+
+  start : (a l c : ℕ) (history : List Event) → is_live net plan down c ≡ true → length history < 2 ^ 26
+      → Begun net plan dom down a l c history (seen_of (steps history))
+      → Begun net plan dom down a l (suc c) (event.Start 0 c 0 0 0 ∷ history) (seen_of (steps (event.Start 0 c 0 0 0 ∷ history)))
+  start a l c history live room b =
+      let e : Event = event.Start 0 c 0 0 0 in
+      let seen : List Seen = seen_of (steps history) in
+      let s : Seen = (next_step setting (steps history) e).seen in
+      let open_ : s.closed ≡ false = rw b.window refl in
+      let parts : Live net plan down c = live_parts net plan down c live in
+      let known : unknown_device setting e ≡ false = lt-leb (length net.devices) c parts.within in
+      let sound : dead_device seen e ≡ false = b.device c ∙ and_right (nat_lt c a) (down (thing.Device c)) parts.spared in
+      let once : started_twice setting seen e ≡ false =
+      ap (λ x. x || false) (b.made c ∙ and_left (nat_lt c c) (is_live net plan down c) (le-ltb c c (omega arith))) in
+      let member : not_member setting seen e ≡ false = rw (b.closings, parts.member) refl in
+      let goes_on : after_end seen ≡ false = b.goes_on in
+      record {
+        is = (b.is, none_hold (causes setting (steps history) e)
+            (known, (refl, (sound, (refl, (refl, (refl, (refl, (rw b.latest refl, (refl, (refl, (once, (refl, (refl, (goes_on, (refl, (member, (few history room, tt))))))))))))))))));
+        up = λ d. told_started (nat_eq c d) (is_up seen d) ∙ ap (λ old. nat_eq c d || old) (b.up d) ∙ sym (one_more (is_live net plan down) c d live);
+        made = λ d. ap (λ x. x || was_made seen d) (or_none (nat_eq c d)) ∙ ap (λ old. nat_eq c d || old) (b.made d)
+            ∙ sym (one_more (is_live net plan down) c d live);
+        device = b.device;
+        ever = b.ever;
+        link = b.link;
+        window = window_on s seen open_ refl b.window;
+        closings = closings_on s seen open_ b.closings;
+        goes_on = b.goes_on;
+        stages = b.stages;
+        latest = refl;
+        read = λ d. read_zero (nat_eq c d) (latest_reading seen d) (b.read d);
+        honest = λ d x r. read_first (nat_eq c d) (nat_eq c d || false) (readings seen d) x (b.honest d) r;
+        within = rw open_ b.within;
+        start_held = b.start_held;
+        drift_held = and_from (drift_holds setting seen) (reads_honestly setting s seen) b.drift_held (rw (eq-eqb c c refl) refl);
+        delay_held = b.delay_held;
+        tick_held = and_from (tick_holds setting seen) (ticks_in_time setting s seen) b.tick_held (in_time s seen refl);
+        domain_held = and_from (domain_holds setting seen) (fails_within_one setting s seen) b.domain_held (found_some (λ g. list_all (holds net g) (failures_since_closing seen)) (domains net) dom b.within among);
+        renew_held = and_from (renew_holds setting seen) (not (list_any (λ x. is_stage x.event) seen) && true) b.renew_held (rw b.stages refl);
+        sent = b.sent;
+        length_ = (let before = b.length_ in omega (arith, before));
+      }
+
