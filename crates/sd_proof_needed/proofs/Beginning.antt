@@ -1,8 +1,8 @@
 -- How such a history begins: at reference 0 some things of one domain fail, and then all other members start with true clocks.
-use Rattle.std.specs.Prelude.{◌≡◌, ℕ, zero, suc, ◌+◌, ◌-◌, ◌^◌, ◌<◌, ◌≤◌, Bool, true, false, ◌&&◌, ◌||◌, not, List, [], ◌∷◌, ◌++◌, length, count_by, find, nat_eq, nat_le, nat_lt, Option, Some, None, is_some, option_to_list, refl, if◌then◌else◌}
+use Rattle.std.specs.Prelude.{◌≡◌, ℕ, zero, suc, ◌+◌, ◌-◌, ◌*◌, ◌^◌, ◌<◌, ◌≤◌, Bool, true, false, ◌&&◌, ◌||◌, not, List, [], ◌∷◌, ◌++◌, length, count_by, find, nat_eq, nat_le, nat_lt, Option, Some, None, is_some, option_to_list, refl, if◌then◌else◌}
 use Rattle.std.specs.List.{list_any, list_all}
 use Rattle.std.proofs.Common.{sym, ap, ◌∙◌, subst, arith, inl, inr}
-use Rattle.std.proofs.lemmas.Bool.{and_parts, and_from, and_left, and_right, or_left, or_right, le-leb, lt-leb, le-ltb, lt-ltb, ltb-true, eq-eqb, ne_eqb, eqb-true, cases_eq, cases_lt, cases_Bool, not-true}
+use Rattle.std.proofs.lemmas.Bool.{and_parts, and_from, and_left, and_right, or_left, or_right, or_from, both_ways, le-leb, lt-leb, le-ltb, lt-ltb, ltb-true, eq-eqb, ne_eqb, eqb-true, cases_eq, cases_lt, cases_Bool, not-true}
 use Rattle.std.proofs.lemmas.List.{length-map}
 use Rattle.sd_checker.specs.Num.Lists.{of_some, same_number}
 use Rattle.sd_checker.specs.Topo.Network.{Network, device_numbers}
@@ -20,16 +20,24 @@ use Rattle.sd_history.specs.Sched.Events.{reference_of, is_end, is_stage}
 use Rattle.sd_history.specs.Things.{failure_of}
 use Rattle.sd_history.specs.World.{Setting, Seen, is_up, was_made, has_failed, has_ever_failed, is_untouched, latest_reference, latest_reading, has_commit, window, plan_numbered, in_force, epoch_in_force}
 use Rattle.sd_history.specs.Steps.{Step, seen_of, flights}
-use Rattle.sd_history.specs.Chronicle.{next_step, chronicle, IsHistory}
-use Rattle.sd_history.specs.Refusals.{causes, refusal, unknown_device, unknown_link, dead_device, dead_link, started_twice, not_member, after_end, too_many}
+use Rattle.sd_history.specs.Chronicle.{next_step, chronicle, past_in, new_past, IsHistory}
+use Rattle.sd_history.specs.Refusals.{causes, refusal, was_used, unknown_device, unknown_link, dead_device, dead_link, started_twice, not_member, after_end, too_many}
 use Rattle.sd_history.specs.Premises.{readings, start_holds, drift_holds, delay_holds, tick_holds, domain_holds, renew_holds, ticks_in_time, latest_tick, is_current_member, first_reference, failures_since_closing, fails_within_one, reads_honestly, has_mend}
+use Rattle.sd_history.specs.Premises as premise
+use Rattle.sd_history.specs.Premises.{is_overdue}
+use Rattle.sd_checker.specs.Plan.Duties.{duty_of}
+use Rattle.sd_history.specs.Core.Calls.{Past, Started}
 use Rattle.sd_history.proofs.Among.{Among, first, later, all_pass}
-use Rattle.sd_proof_needed.specs.Alone.{alone}
+use Rattle.sd_proof_needed.specs.Alone.{alone, fails_only}
 use Rattle.sd_proof_needed.proofs.Elements.{found_some}
 use Rattle.sd_proof_needed.proofs.Worlds.{is_live, World, window_on, closings_on}
 use Rattle.sd_proof_needed.proofs.Allowed.{Live, live_parts, NoneHold, none_hold}
 use Rattle.sd_proof_needed.proofs.Air.{Air}
 use Rattle.sd_proof_needed.proofs.Going.{Good, length-chronicle}
+
+-- the past of a device that has just started with a true clock
+abbrev pub fresh : Network → Plan → ℕ → Past
+fresh net plan d = new_past (Started (duty_of net plan 1 d) 0 0 0)
 
 -- the devices below a and the links below b that are to fail have failed, and the live devices below c were started
 pub record Begun (net : Network) (plan : Plan) (dom : DomainId) (down : Thing → Bool) (a b c : ℕ) (history : List Event) (seen : List Seen) : Type 0 where
@@ -54,6 +62,11 @@ pub record Begun (net : Network) (plan : Plan) (dom : DomainId) (down : Thing �
   pub domain_held : domain_holds (alone net plan) seen ≡ true
   pub renew_held : renew_holds (alone net plan) seen ≡ true
   pub sent : flights (chronicle (alone net plan) history) ≡ []
+  pub seen_sent : premise.flights seen ≡ []
+  pub unused : (n : ℕ) → was_used (chronicle (alone net plan) history) n ≡ false
+  pub early : (f : Flight) → is_overdue seen f ≡ false
+  pub past : (d : ℕ) → nat_lt d c ≡ true → is_live net plan down d ≡ true → past_in (chronicle (alone net plan) history) d ≡ Some (fresh net plan d)
+  pub failures : fails_only down history ≡ true
   pub length_ : length history ≤ a + b + c
 
 -- Numbers below a bound
@@ -171,6 +184,11 @@ module _ (net : Network) (plan : Plan) (dom : DomainId) (down : Thing → Bool) 
         domain_held = refl;
         renew_held = refl;
         sent = refl;
+        seen_sent = refl;
+        unused = λ n. refl;
+        early = λ f. refl;
+        past = λ d below_ live. absurd (both_ways (nat_lt d 0) (le-ltb d 0 (omega arith)) below_);
+        failures = refl;
         length_ = omega arith;
       }
 
@@ -203,6 +221,17 @@ module _ (net : Network) (plan : Plan) (dom : DomainId) (down : Thing → Bool) 
   within_more x seen held before =
       found_some (λ g. list_all (holds net g) (x ∷ failures_since_closing seen)) (domains net) dom
       (and_from (holds net dom x) (list_all (holds net dom) (failures_since_closing seen)) held before) among
+
+  -- a device that starts in the first plan has its duty there
+  past_started : (k : ℕ) → k ≡ 0 → (c d : ℕ) (old : Option Past) → (nat_eq c d ≡ false → old ≡ Some (fresh net plan d))
+      → (if nat_eq c d then Some (new_past (Started (duty_of net (plan_numbered setting (k + 1)) (k + 1) c) 0 0 0)) else old) ≡ Some (fresh net plan d)
+  past_started k none c d old rest =
+      ap (λ (j : ℕ). if nat_eq c d then Some (new_past (Started (duty_of net (plan_numbered setting (j + 1)) (j + 1) c) 0 0 0)) else old) none
+      ∙ by (nat_eq c d) refl
+    where
+      by : (b : Bool) → nat_eq c d ≡ b → (if b then Some (fresh net plan c) else old) ≡ Some (fresh net plan d)
+      by true same = ap (λ (x : ℕ). Some (fresh net plan x)) (eqb-true c d same)
+      by false other = rest other
 
   fail_device : (a : ℕ) (history : List Event) → a < length net.devices → down (thing.Device a) ≡ true → holds net dom (thing.Device a) ≡ true
       → length history < 2 ^ 26
@@ -241,6 +270,11 @@ module _ (net : Network) (plan : Plan) (dom : DomainId) (down : Thing → Bool) 
         domain_held = and_from (domain_holds setting seen) (fails_within_one setting s seen) b.domain_held (within_more (thing.Device a) seen held b.within);
         renew_held = and_from (renew_holds setting seen) (not (has_mend seen || has_commit seen) && true) b.renew_held (rw b.window refl);
         sent = b.sent;
+        seen_sent = b.seen_sent;
+        unused = b.unused;
+        early = λ f. or_from (nat_lt f.due 0) (is_overdue seen f) (le-ltb f.due 0 (omega arith)) (b.early f);
+        past = b.past;
+        failures = and_from (down (thing.Device a)) (fails_only down history) failing b.failures;
         length_ = (let before = b.length_ in omega (arith, before));
       }
 
@@ -280,6 +314,11 @@ module _ (net : Network) (plan : Plan) (dom : DomainId) (down : Thing → Bool) 
         domain_held = and_from (domain_holds setting seen) (fails_within_one setting s seen) b.domain_held (within_more (thing.Link l) seen held b.within);
         renew_held = and_from (renew_holds setting seen) (not (has_mend seen || has_commit seen) && true) b.renew_held (rw b.window refl);
         sent = b.sent;
+        seen_sent = b.seen_sent;
+        unused = b.unused;
+        early = λ f. or_from (nat_lt f.due 0) (is_overdue seen f) (le-ltb f.due 0 (omega arith)) (b.early f);
+        past = b.past;
+        failures = and_from (down (thing.Link l)) (fails_only down history) failing b.failures;
         length_ = (let before = b.length_ in omega (arith, before));
       }
 
@@ -323,6 +362,205 @@ module _ (net : Network) (plan : Plan) (dom : DomainId) (down : Thing → Bool) 
         domain_held = and_from (domain_holds setting seen) (fails_within_one setting s seen) b.domain_held (found_some (λ g. list_all (holds net g) (failures_since_closing seen)) (domains net) dom b.within among);
         renew_held = and_from (renew_holds setting seen) (not (list_any (λ x. is_stage x.event) seen) && true) b.renew_held (rw b.stages refl);
         sent = b.sent;
+        seen_sent = b.seen_sent;
+        unused = b.unused;
+        early = λ f. or_from (nat_lt f.due 0) (is_overdue seen f) (le-ltb f.due 0 (omega arith)) (b.early f);
+        past = λ d below_ alive. past_started (count_by (λ x. x.closed) seen) b.closings c d (past_in (steps history) d)
+            (λ other. b.past d (sym (ap (λ x. x || nat_lt d c) other) ∙ sym (below_suc c d) ∙ below_) alive);
+        failures = b.failures;
         length_ = (let before = b.length_ in omega (arith, before));
       }
 
+
+  -- such a beginning, as far as it has come
+  record Start (a l c : ℕ) : Type 0 where
+    pub history : List Event
+    pub begun : Begun net plan dom down a l c history (seen_of (steps history))
+
+  -- the same history, where the counts say the same of it
+  same_history : (a l c a' l' c' : ℕ) (history : List Event) → a + l + c ≤ a' + l' + c'
+      → ((d : ℕ) → (nat_lt d a && down (thing.Device d)) ≡ (nat_lt d a' && down (thing.Device d)))
+      → ((x : ℕ) → (nat_lt x l && down (thing.Link x)) ≡ (nat_lt x l' && down (thing.Link x)))
+      → ((d : ℕ) → (nat_lt d c && is_live net plan down d) ≡ (nat_lt d c' && is_live net plan down d))
+      → Begun net plan dom down a l c history (seen_of (steps history)) → Begun net plan dom down a' l' c' history (seen_of (steps history))
+  same_history a l c a' l' c' history more devices links starts b =
+      record {
+        up = λ d. b.up d ∙ starts d;
+        made = λ d. b.made d ∙ starts d;
+        device = λ d. b.device d ∙ devices d;
+        ever = λ d. b.ever d ∙ devices d;
+        link = λ x. b.link x ∙ links x;
+        past = λ d below_ live. b.past d
+            (and_parts (nat_lt d c) (is_live net plan down d)
+            (starts d ∙ and_from (nat_lt d c') (is_live net plan down d) below_ live)).0 live;
+        length_ = (let before = b.length_ in omega (arith, before, more));
+        is = b.is;
+        window = b.window;
+        closings = b.closings;
+        goes_on = b.goes_on;
+        stages = b.stages;
+        latest = b.latest;
+        read = b.read;
+        honest = b.honest;
+        within = b.within;
+        start_held = b.start_held;
+        drift_held = b.drift_held;
+        delay_held = b.delay_held;
+        tick_held = b.tick_held;
+        domain_held = b.domain_held;
+        renew_held = b.renew_held;
+        sent = b.sent;
+        seen_sent = b.seen_sent;
+        unused = b.unused;
+        early = b.early;
+        failures = b.failures;
+      }
+
+  module _ (known_device : (d : ℕ) → down (thing.Device d) ≡ true → d < length net.devices)
+      (known_link : (l : ℕ) → down (thing.Link l) ≡ true → l < length net.links)
+      (held : (x : Thing) → down x ≡ true → holds net dom x ≡ true) where
+    -- all devices below a that are to fail
+    devices_fail : (a : ℕ) → a < 2 ^ 26 → Start a 0 0
+    devices_fail zero room = record { history = []; begun = nothing_yet }
+    devices_fail (suc a) room = by (devices_fail a (omega (arith, room))) (down (thing.Device a)) refl
+      where
+        by : Start a 0 0 → (b : Bool) → down (thing.Device a) ≡ b → Start (suc a) 0 0
+        by before true is =
+            record {
+              history = event.FailDevice 0 a ∷ before.history;
+              begun = (let long = before.begun.length_ in
+                  fail_device a before.history (known_device a is) is (held (thing.Device a) is) (omega (arith, long, room)) before.begun);
+            }
+        by before false is =
+            record {
+              history = before.history;
+              begun = same_history a 0 0 (suc a) 0 0 before.history (omega arith)
+                  (λ d. sym (one_less (λ x. down (thing.Device x)) a d is)) (λ x. refl) (λ d. refl) before.begun;
+            }
+
+    -- and then all links below l that are
+    links_fail : (a l : ℕ) → a + l < 2 ^ 26 → Start a l 0
+    links_fail a zero room = devices_fail a (omega (arith, room))
+    links_fail a (suc l) room = by (links_fail a l (omega (arith, room))) (down (thing.Link l)) refl
+      where
+        by : Start a l 0 → (b : Bool) → down (thing.Link l) ≡ b → Start a (suc l) 0
+        by before true is =
+            record {
+              history = event.FailLink 0 l ∷ before.history;
+              begun = (let long = before.begun.length_ in
+                  fail_link a l before.history (known_link l is) is (held (thing.Link l) is) (omega (arith, long, room)) before.begun);
+            }
+        by before false is =
+            record {
+              history = before.history;
+              begun = same_history a l 0 a (suc l) 0 before.history (omega arith)
+                  (λ d. refl) (λ x. sym (one_less (λ y. down (thing.Link y)) l x is)) (λ d. refl) before.begun;
+            }
+
+    -- and then all live devices below c start
+    devices_start : (a l c : ℕ) → a + l + c < 2 ^ 26 → Start a l c
+    devices_start a l zero room = links_fail a l (omega (arith, room))
+    devices_start a l (suc c) room = by (devices_start a l c (omega (arith, room))) (is_live net plan down c) refl
+      where
+        by : Start a l c → (b : Bool) → is_live net plan down c ≡ b → Start a l (suc c)
+        by before true is =
+            record {
+              history = event.Start 0 c 0 0 0 ∷ before.history;
+              begun = (let long = before.begun.length_ in start a l c before.history is (omega (arith, long, room)) before.begun);
+            }
+        by before false is =
+            record {
+              history = before.history;
+              begun = same_history a l c a l (suc c) before.history (omega arith)
+                  (λ d. refl) (λ x. refl) (λ d. sym (one_less (is_live net plan down) c d is)) before.begun;
+            }
+
+    none_sent : (history : List Event) (f : Flight) → flights (steps history) ≡ [] → Among f (flights (steps history)) → ⊥
+    none_sent history f none a = gone (subst (λ (fs : List Flight). Among f fs) none a)
+      where
+        gone : Among f [] → ⊥
+        gone b = elim b [ ]
+
+    none_seen : (seen : List Seen) (f : Flight) → premise.flights seen ≡ [] → Among f (premise.flights seen) → ⊥
+    none_seen seen f none a = gone (subst (λ (fs : List Flight). Among f fs) none a)
+      where
+        gone : Among f [] → ⊥
+        gone b = elim b [ ]
+
+    -- what has begun so is good
+    good_of : (history : List Event) → Begun net plan dom down (length net.devices) (length net.links) (length net.devices) history (seen_of (steps history))
+        → Good net plan dom down history 0
+    good_of history b =
+        let n : ℕ = length net.devices in
+        let seen : List Seen = seen_of (steps history) in
+        record {
+          is = b.is;
+          world =
+              record {
+                up = λ d. b.up d ∙ live_below d;
+                sound = λ d live. b.device d ∙ and_right (nat_lt d n) (down (thing.Device d)) (live_parts net plan down d live).spared;
+                failed = λ l is. b.link l ∙ and_from (nat_lt l (length net.links)) (down (thing.Link l)) (lt-ltb l (length net.links) (known_link l is)) is;
+                window = b.window;
+                closings = b.closings;
+                goes_on = b.goes_on;
+                latest = b.latest;
+                read = λ d. (let is = b.read d in omega (arith, is));
+                touched = λ d within member. touched d within member (down (thing.Device d)) refl;
+                honest = b.honest;
+                within = b.within;
+                start_held = b.start_held;
+                drift_held = b.drift_held;
+                delay_held = b.delay_held;
+                tick_held = b.tick_held;
+                domain_held = b.domain_held;
+                renew_held = b.renew_held;
+              };
+          air =
+              record {
+                law = λ f a. absurd (none_sent history f b.sent a);
+                seen = λ f a. absurd (none_seen seen f b.seen_sent a);
+                unspoiled = λ f a. absurd (none_seen seen f b.seen_sent a);
+                overdue = λ f late. absurd (both_ways (is_overdue seen f) (b.early f) late);
+                used = λ n' is. absurd (both_ways (was_used (steps history) n') (b.unused n') is);
+              };
+          failures = b.failures;
+        }
+      where
+        live_below : (d : ℕ) → (nat_lt d (length net.devices) && is_live net plan down d) ≡ is_live net plan down d
+        live_below d = by (nat_lt d (length net.devices))
+          where
+            by : (c : Bool) → (c && (c && is_member plan d && not (down (thing.Device d)))) ≡ (c && is_member plan d && not (down (thing.Device d)))
+            by true = refl
+            by false = refl
+
+        touched : (d : ℕ) → d < length net.devices → is_member plan d ≡ true → (c : Bool) → down (thing.Device d) ≡ c
+            → is_untouched (seen_of (steps history)) d ≡ false
+        touched d within member true is =
+            and_right (not (was_made (seen_of (steps history)) d)) (not (has_ever_failed (seen_of (steps history)) d))
+            (ap not (b.ever d ∙ and_from (nat_lt d (length net.devices)) (down (thing.Device d)) (lt-ltb d (length net.devices) within) is))
+        touched d within member false is =
+            let live : is_live net plan down d ≡ true = rw (lt-ltb d (length net.devices) within, member, is) refl in
+            and_left (not (was_made (seen_of (steps history)) d)) (not (has_ever_failed (seen_of (steps history)) d))
+            (ap not (b.made d ∙ live_below d ∙ live))
+
+    -- a good history in which all that is to fail has failed and all else has started
+    pub record Opened : Type 0 where
+      pub history : List Event
+      pub good : Good net plan dom down history 0
+      pub pasts : (d : ℕ) → is_live net plan down d ≡ true → past_in (steps history) d ≡ Some (fresh net plan d)
+      pub sent : flights (steps history) ≡ []
+      pub length_ : length history ≤ 2 * length net.devices + length net.links
+
+    pub opened : 2 * length net.devices + length net.links < 2 ^ 26 → Opened
+    opened room =
+        let n : ℕ = length net.devices in
+        let l : ℕ = length net.links in
+        let it : Start n l n = devices_start n l n (omega (arith, room)) in
+        let b = it.begun in
+        record {
+          history = it.history;
+          good = good_of it.history b;
+          pasts = λ d live. b.past d (lt-ltb d n (live_parts net plan down d live).within) live;
+          sent = b.sent;
+          length_ = (let long = b.length_ in omega (arith, long));
+        }

@@ -24,7 +24,7 @@ use Rattle.sd_history.proofs.Accepting.{history_is_accepted}
 use Rattle.sd_history.proofs.Parts.{AllHold, premises_hold}
 use Rattle.sd_history.proofs.flights.Numbers.{numbers_within, numbered_itself}
 use Rattle.sd_history.proofs.flights.Places.{IsOfNetwork, flights_of_network}
-use Rattle.sd_proof_needed.specs.Alone.{alone}
+use Rattle.sd_proof_needed.specs.Alone.{alone, fails_only}
 use Rattle.sd_proof_needed.proofs.Worlds.{IsCalm, ticks, receives, is_live, World, OnTime, world_goes_on}
 use Rattle.sd_proof_needed.proofs.Allowed.{allowed}
 use Rattle.sd_proof_needed.proofs.Air.{FlightLaw, Air, NoneDue, Receives, nothing, one, loss_held, air_goes_on}
@@ -34,6 +34,7 @@ pub record Good (net : Network) (plan : Plan) (dom : DomainId) (down : Thing →
   pub is : IsHistory (alone net plan) history
   pub world : World net plan dom down (seen_of (chronicle (alone net plan) history)) t
   pub air : Air net plan down (chronicle (alone net plan) history) t
+  pub failures : fails_only down history ≡ true
 
 -- no premise is broken in it
 pub premises_held : (net : Network) (plan : Plan) (dom : DomainId) (down : Thing → Bool) (history : List Event) (t : ℕ) → Good net plan dom down history t
@@ -77,6 +78,10 @@ module _ (net : Network) (plan : Plan) (dom : DomainId) (down : Thing → Bool) 
   few : length steps < 2 ^ 26
   few = let same = length-chronicle setting history in omega (arith, room, same)
 
+  none_fails : (e : Event) (r d : ℕ) → IsCalm e r d → fails_only down (e ∷ history) ≡ true
+  none_fails e r d ticks = good.failures
+  none_fails e r d (receives n) = good.failures
+
   goes : (e : Event) (r d : ℕ) → IsCalm e r d → Receives steps e → t ≤ r → OnTime net plan down (seen_of steps) r → NoneDue steps r
       → arrives_in_time setting (next_step setting steps e).seen ≡ true
       → refusal setting steps e ≡ None → Good net plan dom down (e ∷ history) r
@@ -86,6 +91,7 @@ module _ (net : Network) (plan : Plan) (dom : DomainId) (down : Thing → Bool) 
         is = is;
         world = world_goes_on net plan dom down steps t good.world e r d calm among later_ on_time arrives;
         air = air_goes_on net plan dom down steps t good.world e r d calm receives_ (history_is_accepted setting (e ∷ history) is) later_ none good.air;
+        failures = none_fails e r d calm;
       }
 
   -- a tick
