@@ -7,6 +7,7 @@ mod Air
 mod Going
 mod Beginning
 mod Still
+mod Hush
 -- Handed on: what crates above name of those below.
 pub use Rattle.sd_checker.proofs as Checker
 pub use Rattle.sd_history.proofs as History
