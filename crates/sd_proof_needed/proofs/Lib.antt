@@ -6,6 +6,7 @@ mod Allowed
 mod Air
 mod Going
 mod Beginning
+mod Pasts
 mod Still
 mod Hush
 -- Handed on: what crates above name of those below.

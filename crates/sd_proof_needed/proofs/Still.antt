@@ -11,6 +11,7 @@ use Rattle.sd_history.specs.Msg.declared.Stamp.{Stamp}
 use Rattle.sd_history.specs.Msg.declared.Message.{Message}
 use Rattle.sd_history.specs.Msg.Stamps.{stamp, is_newer}
 use Rattle.sd_history.specs.Core.declared.Effect.TheVariants.{Quiet}
+use Rattle.sd_proof_needed.proofs.Pasts.{latest_none, any_none, none_is, is_plain, Plain, no_entry, since_is, duty_is, given_none}
 use Rattle.sd_history.specs.Core.Calls.{Making, Started, Call, Tick, Receive, Did, Past, Transition, Entered, Committed, Recommitted, Accepted, Moved, TookOver, Emitted, Nothing}
 use Rattle.sd_history.specs.Core.Words.{takes_up, taken_up, accepted_over, counter_of, is_move, is_takeover, duty_given, later_entry, since_entry, duty_now, given_now, heard, has_moved, is_acting, is_sealed, may_move, parent_edge, parent_now, backup_now, wait_to_move, emits_at, takes_over_at, moves_at, is_backup_root_now, transition_of, after, effect_of, accepted_by, entered_by, over_link, epoch_now, stamp_now}
 
@@ -37,10 +38,6 @@ nothing_is TookOver is = cc
 nothing_is Emitted is = cc
 nothing_is Nothing is = refl
 
-none_is : {A : Type 0} (o : Option A) → is_some o ≡ false → o ≡ None
-none_is None is = refl
-none_is (Some x) is = cc
-
 record Nought (x : Did) : Type 0 where
   pub transition : x.transition ≡ Nothing
   pub call : duty_given x.call ≡ None
@@ -50,80 +47,52 @@ nought x is =
     let (front, back) = and_parts (is_nothing x.transition) (not (is_some (duty_given x.call))) is in
     record { transition = nothing_is x.transition front; call = none_is (duty_given x.call) (not-true (is_some (duty_given x.call)) back) }
 
--- what nothing tells is told by none of such calls
-latest_none : {B : Type 0} (f : Did → Option B) (d : B) (did : List Did) → ((x : Did) → Nought x → f x ≡ None) → list_all did_nothing did ≡ true
-    → latest f did d ≡ d
-latest_none f d [] each all = refl
-latest_none f d (x ∷ xs) each all =
-    let (here, rest) = and_parts (did_nothing x) (list_all did_nothing xs) all in
-    ap (λ o. of_some o (latest f xs d) (λ told. told)) (each x (nought x here)) ∙ latest_none f d xs each rest
-
-any_none : (p : Did → Bool) (did : List Did) → ((x : Did) → Nought x → p x ≡ false) → list_all did_nothing did ≡ true → list_any p did ≡ false
-any_none p [] each all = refl
-any_none p (x ∷ xs) each all =
-    let (here, rest) = and_parts (did_nothing x) (list_all did_nothing xs) all in
-    or_from (p x) (list_any p xs) (each x (nought x here)) (any_none p xs each rest)
-
-find_none_of : (p : Did → Bool) (did : List Did) → ((x : Did) → Nought x → p x ≡ false) → list_all did_nothing did ≡ true → find p did ≡ None
-find_none_of p [] each all = refl
-find_none_of p (x ∷ xs) each all =
-    let (here, rest) = and_parts (did_nothing x) (list_all did_nothing xs) all in
-    rw (each x (nought x here)) (find_none_of p xs each rest)
-
-leading_all : (p : Did → Bool) (did : List Did) → ((x : Did) → Nought x → p x ≡ true) → list_all did_nothing did ≡ true → leading p did ≡ did
-leading_all p [] each all = refl
-leading_all p (x ∷ xs) each all =
-    let (here, rest) = and_parts (did_nothing x) (list_all did_nothing xs) all in
-    rw (each x (nought x here)) (ap (λ ys. x ∷ ys) (leading_all p xs each rest))
-
-takes_nothing : (x : Did) → Nought x → takes_up x ≡ false
-takes_nothing x n = ap (λ t. is_some (taken_up t)) n.transition
+-- so it is plain
+pub still_plain : (duty : Duty) (past : Past) → Still duty past → Plain duty past
+still_plain duty past still = record { made = still.made; did = all_plain past.did still.did }
+  where
+    all_plain : (did : List Did) → list_all did_nothing did ≡ true → list_all is_plain did ≡ true
+    all_plain [] all = refl
+    all_plain (x ∷ xs) all =
+        let (here, rest) = and_parts (did_nothing x) (list_all did_nothing xs) all in
+        let n : Nought x = nought x here in
+        let same : is_plain x ≡ true = rw (n.transition, n.call) refl in
+        and_from (is_plain x) (list_all is_plain xs) same (all_plain xs rest)
 
 module _ (duty : Duty) (past : Past) (still : Still duty past) (ordinary : duty.role ≡ Ordinary) where
-  pub no_entry : later_entry past ≡ None
-  no_entry = find_none_of takes_up past.did takes_nothing still.did
-
-  since_is : since_entry past ≡ past.did
-  since_is = leading_all (λ x. not (takes_up x)) past.did (λ x n. ap not (takes_nothing x n)) still.did
-
-  pub duty_is : duty_now past ≡ Some duty
-  duty_is =
-      latest_none (λ x. option_map Some (taken_up x.transition)) _ past.did (λ x n. ap (λ t. option_map Some (taken_up t)) n.transition) still.did
-      ∙ rw still.made refl
+  plain : Plain duty past
+  plain = still_plain duty past still
 
   pub not_acting : is_acting past ≡ false
   not_acting =
-      rw (no_entry, since_is, still.made, ordinary)
-      (any_none (λ x. is_takeover x.transition) past.did (λ x n. ap is_takeover n.transition) still.did)
+      rw (no_entry duty past plain, since_is duty past plain, still.made, ordinary)
+      (any_none did_nothing (λ x. is_takeover x.transition) past.did (λ x n. ap is_takeover (nought x n).transition) still.did)
 
   pub not_moved : has_moved past ≡ false
-  not_moved = rw since_is (any_none (λ x. is_move x.transition) past.did (λ x n. ap is_move n.transition) still.did)
-
-  pub given_none : given_now past ≡ None
-  given_none = rw since_is (latest_none (λ x. option_map Some (duty_given x.call)) None past.did (λ x n. ap (option_map Some) n.call) still.did)
+  not_moved = rw (since_is duty past plain) (any_none did_nothing (λ x. is_move x.transition) past.did (λ x n. ap is_move (nought x n).transition) still.did)
 
   pub heard_at_start : heard past ≡ 0
   heard_at_start =
-      latest_none (λ x. option_and_then (λ edge. counter_of x.call) (accepted_over x.transition)) _ past.did
-      (λ x n. ap (λ t. option_and_then (λ edge. counter_of x.call) (accepted_over t)) n.transition) still.did
+      latest_none did_nothing (λ x. option_and_then (λ edge. counter_of x.call) (accepted_over x.transition)) _ past.did
+      (λ x n. ap (λ t. option_and_then (λ edge. counter_of x.call) (accepted_over t)) (nought x n).transition) still.did
       ∙ rw still.made refl
 
   pub sealed : is_sealed past ≡ true
-  sealed = rw no_entry refl
+  sealed = rw (no_entry duty past plain) refl
 
   pub movable : may_move past ≡ true
-  movable = rw (no_entry, still.made) refl
+  movable = rw (no_entry duty past plain, still.made) refl
 
   pub on_primary : parent_edge past ≡ duty.primary
-  on_primary = rw (not_acting, not_moved, duty_is) refl
+  on_primary = rw (not_acting, not_moved, duty_is duty past plain) refl
 
   not_backup_root : is_backup_root_now past ≡ false
-  not_backup_root = rw (duty_is, ordinary) refl
+  not_backup_root = rw (duty_is duty past plain, ordinary) refl
 
   moves_when : (counter : ℕ) → moves_at past counter ≡ of_some (wait_to_move duty) false (λ wait. nat_le wait counter)
   moves_when counter =
       let same : counter - 0 ≡ counter = omega arith in
-      rw (movable, not_moved, sealed, duty_is, heard_at_start, same) refl
+      rw (movable, not_moved, sealed, duty_is duty past plain, heard_at_start, same) refl
 
   -- a tick is a move or nothing
   tick_by : (counter : ℕ) (late : Bool) → of_some (wait_to_move duty) false (λ wait. nat_le wait counter) ≡ late
@@ -145,7 +114,7 @@ module _ (duty : Duty) (past : Past) (still : Still duty past) (ordinary : duty.
   pub receipt_stays : (link : ℕ) (message : Message) (counter : ℕ) → ((edge : Edge) → duty.primary ≡ Some edge → edge.link ≢ link)
       → transition_of past (Receive link message counter) ≡ Nothing
   receipt_stays link message counter other =
-      let no_entering : entered_by past link message ≡ None = rw given_none refl in
+      let no_entering : entered_by past link message ≡ None = rw (given_none duty past plain) refl in
       let over : option_and_then (over_link link) (parent_edge past) ≡ None = rw on_primary (elsewhere duty.primary refl) in
       let refused : accepted_by past link message ≡ None = rw over (either (nat_eq (epoch_now past) message.epoch && is_newer message.stamp (stamp_now past))) in
       rw (no_entering, refused) refl
@@ -191,9 +160,9 @@ just_moved duty past counter still ordinary moves =
     on_backup : parent_edge (after past (Tick counter)) ≡ duty.backup
     on_backup =
         let acting : is_acting (after past (Tick counter)) ≡ false =
-        rw (moves, no_entry duty past still ordinary, since_is duty past still ordinary, still.made, ordinary)
-        (any_none (λ x. is_takeover x.transition) past.did (λ x n. ap is_takeover n.transition) still.did) in
+        rw (moves, no_entry duty past (still_plain duty past still), since_is duty past (still_plain duty past still), still.made, ordinary)
+        (any_none did_nothing (λ x. is_takeover x.transition) past.did (λ x n. ap is_takeover (nought x n).transition) still.did) in
         let moved : has_moved (after past (Tick counter)) ≡ true = rw moves refl in
         let duty_still : duty_now (after past (Tick counter)) ≡ Some duty =
-        ap (λ (t : Transition). of_some (option_map Some (taken_up t)) (duty_now past) (λ told. told)) moves ∙ duty_is duty past still ordinary in
+        ap (λ (t : Transition). of_some (option_map Some (taken_up t)) (duty_now past) (λ told. told)) moves ∙ duty_is duty past (still_plain duty past still) in
         rw (acting, moved, duty_still) refl
