@@ -9,6 +9,7 @@ mod Beginning
 mod Pasts
 mod Still
 mod Hush
+mod Turns
 -- Handed on: what crates above name of those below.
 pub use Rattle.sd_checker.proofs as Checker
 pub use Rattle.sd_history.proofs as History
