@@ -10,6 +10,7 @@ mod Pasts
 mod Still
 mod Hush
 mod Turns
+mod Budget
 -- Handed on: what crates above name of those below.
 pub use Rattle.sd_checker.proofs as Checker
 pub use Rattle.sd_history.proofs as History

@@ -19,10 +19,10 @@ use Rattle.sd_proof_needed.proofs.Pasts.{is_plain, Plain, no_entry, since_is, gi
 -- how a device came to send
 pub data Sends (past : Past) (call : Call) : Type 0 where
   relays : (link : ℕ) (m : Message) (counter : ℕ) → call ≡ Receive link m counter → is_newer m.stamp (stamp_now past) ≡ true
-      → stamp_now (after past call) ≡ m.stamp → is_acting (after past call) ≡ false → Sends past call
-  emits : is_acting past ≡ true → stamp_now (after past call) ≡ stamp (stamp_now past).term ((stamp_now past).round + 1)
-      → Sends past call
-  takes_over : is_acting past ≡ false → is_backup_root_now past ≡ true → stamp_now (after past call) ≡ stamp ((stamp_now past).term + 1) 1
+      → stamp_now (after past call) ≡ m.stamp → is_acting past ≡ false → is_acting (after past call) ≡ false → Sends past call
+  emits : (counter : ℕ) → call ≡ Tick counter → is_acting past ≡ true → stamp_now (after past call) ≡ stamp (stamp_now past).term ((stamp_now past).round + 1)
+      → is_acting (after past call) ≡ true → Sends past call
+  takes_over : (counter : ℕ) → call ≡ Tick counter → is_acting past ≡ false → is_backup_root_now past ≡ true → stamp_now (after past call) ≡ stamp ((stamp_now past).term + 1) 1
       → is_acting (after past call) ≡ true → Sends past call
 
 pub data Turned (past : Past) (call : Call) : Type 0 where
@@ -96,7 +96,8 @@ module _ (duty : Duty) (past : Past) (plain : Plain duty past) where
           record {
             plain = plain_when (Tick counter) Emitted t refl refl;
             turned = sends _ (effect_when (Tick counter) Emitted t) refl
-                (emits (and_parts (is_acting past) _ is_e).0 (stamp_when (Tick counter) Emitted t));
+                (emits counter refl (and_parts (is_acting past) _ is_e).0 (stamp_when (Tick counter) Emitted t)
+                (acting_when (Tick counter) Emitted t refl refl ∙ (and_parts (is_acting past) _ is_e).0));
           }
       by false true m is_e is_o is_m =
           let t : transition_of past (Tick counter) ≡ TookOver = rw (is_e, is_o) refl in
@@ -105,7 +106,7 @@ module _ (duty : Duty) (past : Past) (plain : Plain duty past) where
           record {
             plain = plain_when (Tick counter) TookOver t refl refl;
             turned = sends _ (effect_when (Tick counter) TookOver t) refl
-                (takes_over (not-true (is_acting past) idle) (and_parts (is_backup_root_now past) (has_moved past) two).0
+                (takes_over counter refl (not-true (is_acting past) idle) (and_parts (is_backup_root_now past) (has_moved past) two).0
                 (stamp_when (Tick counter) TookOver t) (acting_when (Tick counter) TookOver t refl refl));
           }
       by false false true is_e is_o is_m = moved_goes (Tick counter) (rw (is_e, is_o, is_m) refl) refl
@@ -139,7 +140,7 @@ module _ (duty : Duty) (past : Past) (plain : Plain duty past) where
           record {
             plain = plain_when (Receive link message counter) (Accepted edge) t refl refl;
             turned = sends _ (effect_when (Receive link message counter) (Accepted edge) t) refl
-                (relays link message counter refl is_n (stamp_when (Receive link message counter) (Accepted edge) t)
+                (relays link message counter refl is_n (stamp_when (Receive link message counter) (Accepted edge) t) (idle edge is_o)
                 (acting_when (Receive link message counter) (Accepted edge) t refl refl ∙ idle edge is_o));
           }
       by true true None is_e is_n is_o = nothing_goes (Receive link message counter) (transition_by None (rw (is_e, is_n, is_o) refl)) refl
