@@ -435,3 +435,66 @@ module _ (net : Network) (plan : Plan) (dom : DomainId) (down : Thing → Bool) 
               mul-le (width net plan d) ((2 * m - level m (s ∷ steps) d) + 1) (width net plan d) (2 * m - level m steps d) (omega arith) fall in
               let parts = mul-add (width net plan d) (2 * m - level m (s ∷ steps) d) 1 in
               omega (arith, scaled, parts, few)
+
+-- The budget after a tick and after a receipt
+
+filter_part : {A : Type 0} (p : A → Bool) (xs ys : List A) → length (filter p (xs ++ ys)) ≤ length xs + length (filter p ys)
+filter_part p [] ys = omega arith
+filter_part {A = A} p (x ∷ xs) ys = by (p x) (filter_part p xs ys)
+  where
+    by : (b : Bool) → length (filter p (xs ++ ys)) ≤ length xs + length (filter p ys)
+        → length (if b then x ∷ filter p (xs ++ ys) else filter p (xs ++ ys)) ≤ suc (length xs) + length (filter p ys)
+    by true rest = omega (arith, rest)
+    by false rest = omega (arith, rest)
+
+module _ (net : Network) (plan : Plan) (dom : DomainId) (down : Thing → Bool) (m k c : ℕ) (steps : List Step) (t : ℕ)
+    (world : World net plan dom down (seen_of steps) t) (stamps : Stamps net plan down k c steps) (some : 1 ≤ k) (less : k < m) where
+  pub tick_stamps : (r d : ℕ) → d < c → is_live net plan down d ≡ true → AreSteps (alone net plan) (next_step (alone net plan) steps (event.Tick r d r) ∷ steps)
+      → Stamps net plan down k d (next_step (alone net plan) steps (event.Tick r d r) ∷ steps)
+      × (budget net plan m (next_step (alone net plan) steps (event.Tick r d r) ∷ steps) ≤ budget net plan m steps)
+  tick_stamps r d below_ live is =
+      let past = stamps.there d live in
+      let goes : Goes past.0 (Tick r) = tick_turns (duty_of net plan 1 d) past.0 (stamps.plain d past.0 past.1) r in
+      let s : Step = next_step (alone net plan) steps (event.Tick r d r) in
+      let total_less_ = total_on net plan dom down m k c d steps t world stamps some less (omega (arith, below_)) (event.Tick r d r) r d (Tick r) ticks refl live past.0 past.1 goes
+      (λ counter same. (below_, omega arith)) (λ link message counter same. cc) is in
+      let few = filter_part (λ (f : Flight). f.reaches && not (was_used steps f.number)) s.sent (flights steps) in (
+        stamps_on net plan dom down m k c d steps t world stamps some less (omega (arith, below_)) (event.Tick r d r) r d (Tick r) ticks refl live past.0 past.1 goes
+            (λ counter same. (below_, omega arith)) (λ link message counter same. cc) is,
+        omega (arith, total_less_, few),
+      )
+
+  pub receipt_stamps : (f : Flight) → Among f (flights steps) → f.reaches ≡ true → was_used steps f.number ≡ false → flight_numbered steps f.number ≡ Some f
+      → is_live net plan down f.receiver ≡ true
+      → AreSteps (alone net plan) (next_step (alone net plan) steps (event.Recv f.due f.receiver f.due f.number) ∷ steps)
+      → Stamps net plan down k c (next_step (alone net plan) steps (event.Recv f.due f.receiver f.due f.number) ∷ steps)
+      × (budget net plan m (next_step (alone net plan) steps (event.Recv f.due f.receiver f.due f.number) ∷ steps) < budget net plan m steps)
+  receipt_stamps f a reaches unused found live is =
+      let e : Event = event.Recv f.due f.receiver f.due f.number in
+      let past = stamps.there f.receiver live in
+      let call : Call = Receive f.link f.message f.due in
+      let goes : Goes past.0 (Receive f.link f.message f.due) =
+      receipt_turns (duty_of net plan 1 f.receiver) past.0 (stamps.plain f.receiver past.0 past.1) f.link f.message f.due in
+      let s : Step = next_step (alone net plan) steps e in
+      let acts : act_by (alone net plan) steps e ≡ Calls f.receiver call =
+      ap (λ (o : Option Flight). of_some o Passes (λ g. Calls f.receiver (Receive g.link g.message f.due))) found in
+      let total_less_ = total_on net plan dom down m k c c steps t world stamps some less (omega arith) e f.due f.receiver call (receives f.number) acts live past.0 past.1 goes
+      (λ counter same. cc) (λ link message counter same. (f, a, received_message same)) is in
+      let few = filter_part (λ (g : Flight). g.reaches && not (nat_eq f.number g.number || was_used steps g.number)) s.sent (flights steps) in
+      let one_less = filter_fewer (λ (g : Flight). g.reaches && not (was_used steps g.number))
+      (λ (g : Flight). g.reaches && not (nat_eq f.number g.number || was_used steps g.number)) (flights steps) f
+      (λ g kept. still_unused g kept) (rw (reaches, unused) refl) (rw (reaches, eq-eqb f.number f.number refl) refl) a in (
+        stamps_on net plan dom down m k c c steps t world stamps some less (omega arith) e f.due f.receiver call (receives f.number) acts live past.0 past.1 goes
+            (λ counter same. cc) (λ link message counter same. (f, a, received_message same)) is,
+        omega (arith, total_less_, few, one_less),
+      )
+    where
+      received_message : {link counter : ℕ} {message : Message} → Receive f.link f.message f.due ≡ Receive link message counter → f.message ≡ message
+      received_message same = ap (λ (x : Call). elim x [ Receive link message counter ↦ message | _ ↦ f.message ]) same
+
+      still_unused : (g : Flight) → (g.reaches && not (nat_eq f.number g.number || was_used steps g.number)) ≡ true
+          → (g.reaches && not (was_used steps g.number)) ≡ true
+      still_unused g kept =
+          let (reaches', free) = and_parts g.reaches (not (nat_eq f.number g.number || was_used steps g.number)) kept in
+          and_from g.reaches (not (was_used steps g.number)) reaches'
+          (ap not (or_parts (nat_eq f.number g.number) (was_used steps g.number) (not-true (nat_eq f.number g.number || was_used steps g.number) free)).1)
