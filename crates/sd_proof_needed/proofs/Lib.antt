@@ -11,6 +11,7 @@ mod Still
 mod Hush
 mod Turns
 mod Budget
+mod Running
 -- Handed on: what crates above name of those below.
 pub use Rattle.sd_checker.proofs as Checker
 pub use Rattle.sd_history.proofs as History
