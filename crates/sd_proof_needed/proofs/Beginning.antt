@@ -39,6 +39,10 @@ use Rattle.sd_proof_needed.proofs.Going.{Good, length-chronicle}
 abbrev pub fresh : Network → Plan → ℕ → Past
 fresh net plan d = new_past (Started (duty_of net plan 1 d) 0 0 0)
 
+-- such a past, where it has started
+abbrev pub fresh_if : Network → Plan → ℕ → Bool → Option Past
+fresh_if net plan d started = if started then Some (fresh net plan d) else None
+
 -- the devices below a and the links below b that are to fail have failed, and the live devices below c were started
 pub record Begun (net : Network) (plan : Plan) (dom : DomainId) (down : Thing → Bool) (a b c : ℕ) (history : List Event) (seen : List Seen) : Type 0 where
   pub is : IsHistory (alone net plan) history
@@ -65,7 +69,7 @@ pub record Begun (net : Network) (plan : Plan) (dom : DomainId) (down : Thing �
   pub seen_sent : premise.flights seen ≡ []
   pub unused : (n : ℕ) → was_used (chronicle (alone net plan) history) n ≡ false
   pub early : (f : Flight) → is_overdue seen f ≡ false
-  pub past : (d : ℕ) → nat_lt d c ≡ true → is_live net plan down d ≡ true → past_in (chronicle (alone net plan) history) d ≡ Some (fresh net plan d)
+  pub past : (d : ℕ) → past_in (chronicle (alone net plan) history) d ≡ fresh_if net plan d (nat_lt d c && is_live net plan down d)
   pub failures : fails_only down history ≡ true
   pub length_ : length history ≤ a + b + c
 
@@ -187,7 +191,7 @@ module _ (net : Network) (plan : Plan) (dom : DomainId) (down : Thing → Bool) 
         seen_sent = refl;
         unused = λ n. refl;
         early = λ f. refl;
-        past = λ d below_ live. absurd (both_ways (nat_lt d 0) (le-ltb d 0 (omega arith)) below_);
+        past = λ d. ap (fresh_if net plan d) (none_below (is_live net plan down) d);
         failures = refl;
         length_ = omega arith;
       }
@@ -223,15 +227,19 @@ module _ (net : Network) (plan : Plan) (dom : DomainId) (down : Thing → Bool) 
       (and_from (holds net dom x) (list_all (holds net dom) (failures_since_closing seen)) held before) among
 
   -- a device that starts in the first plan has its duty there
-  past_started : (k : ℕ) → k ≡ 0 → (c d : ℕ) (old : Option Past) → (nat_eq c d ≡ false → old ≡ Some (fresh net plan d))
-      → (if nat_eq c d then Some (new_past (Started (duty_of net (plan_numbered setting (k + 1)) (k + 1) c) 0 0 0)) else old) ≡ Some (fresh net plan d)
-  past_started k none c d old rest =
+  past_started : (k : ℕ) → k ≡ 0 → (c d : ℕ) (old : Option Past)
+      → (if nat_eq c d then Some (new_past (Started (duty_of net (plan_numbered setting (k + 1)) (k + 1) c) 0 0 0)) else old)
+      ≡ (if nat_eq c d then Some (fresh net plan c) else old)
+  past_started k none c d old =
       ap (λ (j : ℕ). if nat_eq c d then Some (new_past (Started (duty_of net (plan_numbered setting (j + 1)) (j + 1) c) 0 0 0)) else old) none
-      ∙ by (nat_eq c d) refl
+
+  started_if : (c d : ℕ) (old : Option Past) (b : Bool) → old ≡ fresh_if net plan d b
+      → (if nat_eq c d then Some (fresh net plan c) else old) ≡ fresh_if net plan d (nat_eq c d || b)
+  started_if c d old b was = by (nat_eq c d) refl
     where
-      by : (b : Bool) → nat_eq c d ≡ b → (if b then Some (fresh net plan c) else old) ≡ Some (fresh net plan d)
+      by : (same : Bool) → nat_eq c d ≡ same → (if same then Some (fresh net plan c) else old) ≡ fresh_if net plan d (same || b)
       by true same = ap (λ (x : ℕ). Some (fresh net plan x)) (eqb-true c d same)
-      by false other = rest other
+      by false other = was
 
   fail_device : (a : ℕ) (history : List Event) → a < length net.devices → down (thing.Device a) ≡ true → holds net dom (thing.Device a) ≡ true
       → length history < 2 ^ 26
@@ -365,8 +373,9 @@ module _ (net : Network) (plan : Plan) (dom : DomainId) (down : Thing → Bool) 
         seen_sent = b.seen_sent;
         unused = b.unused;
         early = λ f. or_from (nat_lt f.due 0) (is_overdue seen f) (le-ltb f.due 0 (omega arith)) (b.early f);
-        past = λ d below_ alive. past_started (count_by (λ x. x.closed) seen) b.closings c d (past_in (steps history) d)
-            (λ other. b.past d (sym (ap (λ x. x || nat_lt d c) other) ∙ sym (below_suc c d) ∙ below_) alive);
+        past = λ d. past_started (count_by (λ x. x.closed) seen) b.closings c d (past_in (steps history) d)
+            ∙ started_if c d (past_in (steps history) d) (nat_lt d c && is_live net plan down d) (b.past d)
+            ∙ ap (fresh_if net plan d) (sym (one_more (is_live net plan down) c d live));
         failures = b.failures;
         length_ = (let before = b.length_ in omega (arith, before));
       }
@@ -390,9 +399,7 @@ module _ (net : Network) (plan : Plan) (dom : DomainId) (down : Thing → Bool) 
         device = λ d. b.device d ∙ devices d;
         ever = λ d. b.ever d ∙ devices d;
         link = λ x. b.link x ∙ links x;
-        past = λ d below_ live. b.past d
-            (and_parts (nat_lt d c) (is_live net plan down d)
-            (starts d ∙ and_from (nat_lt d c') (is_live net plan down d) below_ live)).0 live;
+        past = λ d. b.past d ∙ ap (fresh_if net plan d) (starts d);
         length_ = (let before = b.length_ in omega (arith, before, more));
         is = b.is;
         window = b.window;
@@ -487,6 +494,13 @@ module _ (net : Network) (plan : Plan) (dom : DomainId) (down : Thing → Bool) 
         gone : Among f [] → ⊥
         gone b = elim b [ ]
 
+    live_below : (d : ℕ) → (nat_lt d (length net.devices) && is_live net plan down d) ≡ is_live net plan down d
+    live_below d = by (nat_lt d (length net.devices))
+      where
+        by : (c : Bool) → (c && (c && is_member plan d && not (down (thing.Device d)))) ≡ (c && is_member plan d && not (down (thing.Device d)))
+        by true = refl
+        by false = refl
+
     -- what has begun so is good
     good_of : (history : List Event) → Begun net plan dom down (length net.devices) (length net.links) (length net.devices) history (seen_of (steps history))
         → Good net plan dom down history 0
@@ -526,13 +540,6 @@ module _ (net : Network) (plan : Plan) (dom : DomainId) (down : Thing → Bool) 
           failures = b.failures;
         }
       where
-        live_below : (d : ℕ) → (nat_lt d (length net.devices) && is_live net plan down d) ≡ is_live net plan down d
-        live_below d = by (nat_lt d (length net.devices))
-          where
-            by : (c : Bool) → (c && (c && is_member plan d && not (down (thing.Device d)))) ≡ (c && is_member plan d && not (down (thing.Device d)))
-            by true = refl
-            by false = refl
-
         touched : (d : ℕ) → d < length net.devices → is_member plan d ≡ true → (c : Bool) → down (thing.Device d) ≡ c
             → is_untouched (seen_of (steps history)) d ≡ false
         touched d within member true is =
@@ -547,7 +554,7 @@ module _ (net : Network) (plan : Plan) (dom : DomainId) (down : Thing → Bool) 
     pub record Opened : Type 0 where
       pub history : List Event
       pub good : Good net plan dom down history 0
-      pub pasts : (d : ℕ) → is_live net plan down d ≡ true → past_in (steps history) d ≡ Some (fresh net plan d)
+      pub pasts : (d : ℕ) → past_in (steps history) d ≡ fresh_if net plan d (is_live net plan down d)
       pub sent : flights (steps history) ≡ []
       pub length_ : length history ≤ 2 * length net.devices + length net.links
 
@@ -560,7 +567,7 @@ module _ (net : Network) (plan : Plan) (dom : DomainId) (down : Thing → Bool) 
         record {
           history = it.history;
           good = good_of it.history b;
-          pasts = λ d live. b.past d (lt-ltb d n (live_parts net plan down d live).within) live;
+          pasts = λ d. b.past d ∙ ap (fresh_if net plan d) (live_below d);
           sent = b.sent;
           length_ = (let long = b.length_ in omega (arith, long));
         }
