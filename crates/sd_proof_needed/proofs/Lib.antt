@@ -12,6 +12,8 @@ mod Hush
 mod Turns
 mod Budget
 mod Running
+mod Ready
+mod Moving
 -- Handed on: what crates above name of those below.
 pub use Rattle.sd_checker.proofs as Checker
 pub use Rattle.sd_history.proofs as History

@@ -202,7 +202,7 @@ module _ (net : Network) (plan : Plan) (dom : DomainId) (down : Thing → Bool) 
       )
 
   -- all that is due before the k-th multiple
-  clear : (k c left fuel : ℕ) → 1 ≤ k → k < m → (run : Running k c left) → budget net plan m (steps run.history) ≤ fuel → Clear k c left
+  pub clear : (k c left fuel : ℕ) → 1 ≤ k → k < m → (run : Running k c left) → budget net plan m (steps run.history) ≤ fuel → Clear k c left
   clear k c left zero some less run enough =
       record {
         running = run;

@@ -1,0 +1,57 @@
+-- The loop condition is needed. Where some devices may follow each other in a ring while things of a domain fail, there is a history that breaks no
+-- premise, in which only things of this domain fail and none of these devices, and at whose end each of them follows the next, and the last the first.
+--
+-- One hypothesis stands beside structure: that a history may have so many events as this one (event_bound). A schedule has at most 2 ^ 26. The history
+-- lasts as long as the wait of the plan, and each device ticks there once a tick.
+use Rattle.std.specs.Prelude.{◌≡◌, ℕ, ◌+◌, ◌-◌, ◌*◌, ◌/◌, ◌^◌, ◌≤◌, List, [], ◌∷◌, ◌++◌, length, sum_by, Some}
+use Rattle.sd_checker.specs.Topo.Network.{Network, IsNetwork, device_numbers}
+use Rattle.sd_checker.specs.Domain.Domains.{IsDomain}
+use Rattle.sd_checker.specs.Domain.declared.DomainId.{DomainId}
+use Rattle.sd_checker.specs.Plan.declared.Plan.{Plan}
+use Rattle.sd_checker.specs.Plan.Plans.{Fits}
+use Rattle.sd_checker.specs.Plan.Duties.{ends_of}
+use Rattle.sd_checker.specs.CheckLoop.Loops.{LeadsTo, IsChain, AreDifferent}
+use Rattle.sd_checker.specs.Conditions.{Holds}
+use Rattle.sd_checker.specs.Conditions as condition
+use Rattle.sd_checker.specs.Verdicts.{IsBreach}
+use Rattle.sd_checker.specs.declared.Breach.TheVariants as breach
+use Rattle.sd_history.specs.Sched.declared.Event.{Event}
+use Rattle.sd_history.specs.Chronicle.{chronicle}
+use Rattle.sd_history.specs.Lines.{counted_parent}
+use Rattle.sd_proof_needed.specs.Alone.{alone, holds_besides, IsClean}
+
+-- different devices each of which may follow the next while things of the domain fail, and the last of them the first
+pub record IsRing (net : Network) (plan : Plan) (f : DomainId) (first : ℕ) (others : List ℕ) : Type 0 where
+  pub different : AreDifferent (first ∷ others)
+  pub leads : IsChain (LeadsTo net plan f) (first ∷ (others ++ first ∷ []))
+
+-- a clean history in which nothing fails but things of the domain, none of the ring among them, and at whose end the live parents of its devices are the ring
+pub record ClosesLoop (net : Network) (plan : Plan) (f : DomainId) (first : ℕ) (others : List ℕ) : Type 0 where
+  pub history : List Event
+  pub clean : IsClean net plan (holds_besides net f (first ∷ others)) history
+  pub follows : IsChain (λ d e. counted_parent (alone net plan) (chronicle (alone net plan) history) d ≡ Some e) (first ∷ (others ++ first ∷ []))
+
+-- how many ticks of a device it takes until its wait is over
+abbrev pub ticks_of_wait : Network → Plan → ℕ
+ticks_of_wait net plan = (plan.wait + net.params.tick - 1) / net.params.tick
+
+-- the hops of a plan, counted by the devices to which they lead: over how many ends all devices send, each once
+abbrev pub hop_count : Network → Plan → ℕ
+hop_count net plan = sum_by (λ d. length (ends_of net plan d)) (device_numbers net)
+
+-- how many events such a history has at most: things fail and devices start; each device ticks, and over each hop two messages come for each tick
+abbrev pub event_bound : Network → Plan → ℕ
+event_bound net plan =
+    2 * length net.devices + length net.links + (ticks_of_wait net plan + 1) * (length net.devices + 2 * hop_count net plan)
+
+-- each ring that the loop condition forbids can come about
+abbrev pub LoopIsNeeded : Network → Plan → Type 0
+LoopIsNeeded net plan =
+    IsNetwork net → Fits net plan → Holds net plan condition.structure → event_bound net plan ≤ 2 ^ 26
+    → (f : DomainId) → IsDomain net f → (first : ℕ) (others : List ℕ) → IsRing net plan f first others → ClosesLoop net plan f first others
+
+-- so each plan that the checker refuses for a loop closes the very loop that is shown
+abbrev pub LoopRefusalIsRight : Network → Plan → Type 0
+LoopRefusalIsRight net plan =
+    IsNetwork net → Fits net plan → event_bound net plan ≤ 2 ^ 26
+    → (f : DomainId) (first : ℕ) (others : List ℕ) → IsBreach net plan (breach.Loop f (first ∷ others)) → ClosesLoop net plan f first others
