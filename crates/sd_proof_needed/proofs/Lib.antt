@@ -14,6 +14,7 @@ mod Budget
 mod Running
 mod Ready
 mod Moving
+mod Rings
 -- Handed on: what crates above name of those below.
 pub use Rattle.sd_checker.proofs as Checker
 pub use Rattle.sd_history.proofs as History

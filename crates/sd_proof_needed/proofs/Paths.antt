@@ -1,7 +1,7 @@
 -- The cut path of a device, one hop after another.
 use Rattle.std.specs.Prelude.{◌≡◌, ℕ, zero, suc, ◌<◌, Bool, true, false, ◌||◌, List, [], ◌∷◌, length, Option, Some, None, refl, if◌then◌else◌}
-use Rattle.std.proofs.Common.{sym, ap, ◌∙◌}
-use Rattle.std.proofs.lemmas.Bool.{or_parts}
+use Rattle.std.proofs.Common.{sym, ap, ◌∙◌, inl, inr}
+use Rattle.std.proofs.lemmas.Bool.{or_parts, cases_Bool}
 use Rattle.sd_checker.specs.Topo.Network.{Network}
 use Rattle.sd_checker.specs.Plan.declared.Hop.{Hop}
 use Rattle.sd_checker.specs.Plan.declared.Plan.{Plan}
@@ -43,7 +43,7 @@ pub not_root : (plan : Plan) (d : ℕ) → is_end plan d ≡ false → is_root p
 not_root plan d other = (or_parts (is_root plan d) (is_backup_root plan d) other).0
 
 -- the path cut is the walk, cut
-path_cut : (net : Network) (plan : Plan) (d : ℕ) → is_root plan d ≡ false → short_path net plan d ≡ cut (is_end plan) (walk net plan d)
+pub path_cut : (net : Network) (plan : Plan) (d : ℕ) → is_root plan d ≡ false → short_path net plan d ≡ cut (is_end plan) (walk net plan d)
 path_cut net plan d other =
     ap (λ (root : Bool). if root then [] else hops (is_end plan) plan net.params.depth d) other
     ∙ cut_hops plan net.params.depth d
@@ -67,3 +67,11 @@ path_step net plan d hop forest within is =
     rest : (p : ℕ) (b : Bool) → is_end plan p ≡ b → stop b (cut (is_end plan) (walk net plan p)) ≡ (if b then [] else short_path net plan p)
     rest p true ends = refl
     rest p false ends = sym (path_cut net plan p (not_root plan p ends))
+
+-- a device without a primary parent has no short walk
+pub no_short_walk : (net : Network) (plan : Plan) (d : ℕ) → IsForest net plan → primary_of plan d ≡ None → short_walk net plan d ≡ []
+no_short_walk net plan d forest none =
+    elim (cases_Bool (is_end plan d)) [
+      | inl ends ↦ short_walk_none net plan d ends
+      | inr other ↦ (short_walk_is net plan d other ∙ path_cut net plan d (not_root plan d other) ∙ ap (cut (is_end plan)) (forest.top d none))
+    ]

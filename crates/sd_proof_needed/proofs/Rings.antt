@@ -1,0 +1,398 @@
+-- A ring of devices that may follow each other while things of a domain fail: each of them is hit, and hit by what the domain has beside the ring.
+use Rattle.std.specs.Prelude.{◌≡◌, ◌≢◌, ℕ, zero, suc, ◌+◌, ◌<◌, ◌≤◌, Bool, true, false, ◌&&◌, ◌||◌, not, List, [], ◌∷◌, ◌++◌, length, map, find, nat_eq, nat_lt, slice_get, Option, Some, None, IsTrue, option_map, option_to_list, ◌⊎◌, refl, if◌then◌else◌}
+use Rattle.std.specs.List.{list_any, list_all}
+use Rattle.std.proofs.Common.{sym, ap, ◌∙◌, subst, arith, inl, inr}
+use Rattle.std.proofs.lemmas.Bool.{and_parts, and_from, and_right, or_cases, or_left, or_right, or_parts, or_from, eqb-true, eq-eqb, ne_eqb, ltb-true, lt-ltb, cases_lt, cases_eq, cases_Bool, both_ways, not-true, not-false, false_from_ne_true}
+use Rattle.std.proofs.lemmas.List.Folds.{list_any-append}
+use Rattle.std.proofs.lemmas.Option.{slice_get_past}
+use Rattle.sd_checker.specs.Num.Lists.{below, has, of_some, all_below}
+use Rattle.sd_checker.specs.Topo.Network.{Network, Domain, IsNetwork, device_numbers, link_numbers}
+use Rattle.sd_checker.specs.Topo.declared.Thing.{Thing}
+use Rattle.sd_checker.specs.Topo.declared.Thing.TheVariants as thing
+use Rattle.sd_checker.specs.Domain.Domains.{IsDomain, domains, holds, holds_device, holds_link, hits}
+use Rattle.sd_checker.specs.Domain.declared.DomainId.{DomainId}
+use Rattle.sd_checker.specs.Domain.declared.DomainId.TheVariants as domain
+use Rattle.sd_checker.specs.Plan.declared.Hop.{Hop}
+use Rattle.sd_checker.specs.Plan.declared.Plan.{Plan}
+use Rattle.sd_checker.specs.Plan.declared.PlanRow.{PlanRow}
+use Rattle.sd_checker.specs.Plan.Plans.{Fits, is_member, primary_of, backup_of, row_of}
+use Rattle.sd_checker.specs.Plan.Walks.{is_end, is_hit, epath, things_of, short_path, short_walk}
+use Rattle.sd_checker.specs.Plan.Structure.{structure_breach, first_failing, roots_breach, row_is_right, hops_are_right, links_differ}
+use Rattle.sd_checker.proofs.Plan.Numbered.{none_found, both_none}
+use Rattle.sd_checker.proofs.Plan.Forest.{IsForest, IsStep, forest_of, climb}
+use Rattle.sd_checker.specs.CheckLoop.Loops.{LeadsTo, IsChain, AreDifferent, hops_of}
+use Rattle.sd_history.proofs.Among.{Among, on_right}
+use Rattle.sd_history.proofs.Given.{some_is}
+use Rattle.sd_proof_needed.specs.Alone.{holds_besides}
+use Rattle.sd_proof_needed.specs.Loops.{IsRing}
+use Rattle.sd_proof_needed.proofs.Elements.{mapped, on_left, below_among}
+use Rattle.sd_proof_needed.proofs.Paths.{no_short_walk, short_walk_is, short_walk_none, path_step}
+use Rattle.sd_proof_needed.proofs.Worlds.{is_live}
+use Rattle.sd_proof_needed.proofs.Allowed.{Live, live_parts}
+use Rattle.sd_proof_needed.proofs.Hush.{IsZone}
+
+-- Domains
+
+pub domain_among : (net : Network) (f : DomainId) → IsDomain net f → Among f (domains net)
+domain_among net (domain.Listed k) is =
+    on_left (map domain.Listed (below (length net.domains)) ++ map domain.Device (device_numbers net)) (map domain.Link (link_numbers net)) (domain.Listed k)
+    (on_left (map domain.Listed (below (length net.domains))) (map domain.Device (device_numbers net)) (domain.Listed k)
+    (mapped domain.Listed (below (length net.domains)) k (below_among (length net.domains) k is)))
+domain_among net (domain.Device d) is =
+    on_left (map domain.Listed (below (length net.domains)) ++ map domain.Device (device_numbers net)) (map domain.Link (link_numbers net)) (domain.Device d)
+    (on_right (map domain.Listed (below (length net.domains))) (mapped domain.Device (device_numbers net) d (below_among (length net.devices) d is)))
+domain_among net (domain.Link l) is =
+    on_right (map domain.Listed (below (length net.domains)) ++ map domain.Device (device_numbers net))
+    (mapped domain.Link (link_numbers net) l (below_among (length net.links) l is))
+
+-- a number of the list is below the bound of all
+all_has : (bound : ℕ) (xs : List ℕ) (x : ℕ) → all_below bound xs ≡ true → has xs x ≡ true → x < bound
+all_has bound [] x all there = cc
+all_has bound (y ∷ ys) x all there =
+    let (here, rest) = and_parts (nat_lt y bound) (all_below bound ys) all in
+    elim (or_cases (nat_eq x y) (has ys x) there) [
+      | inl same ↦ (let less = ltb-true y bound here in let equal = eqb-true x y same in omega (arith, less, equal))
+      | inr more ↦ all_has bound ys x rest more
+    ]
+
+-- the things of a domain are things of the network
+pub known_device : (net : Network) (f : DomainId) (d : ℕ) → IsNetwork net → IsDomain net f → holds_device net f d ≡ true → d < length net.devices
+known_device net (domain.Listed k) d law is held = by (slice_get net.domains k) refl held
+  where
+    by : (o : Option Domain) → slice_get net.domains k ≡ o → of_some o false (λ listed. has listed.devices d) ≡ true → d < length net.devices
+    by None at held' = cc
+    by (Some x) at held' =
+        let tests = and_parts _ (all_below (length net.links) x.links) (law.each_domain k x at) in
+        all_has (length net.devices) x.devices d (and_parts _ (all_below (length net.devices) x.devices) tests.0).1 held'
+known_device net (domain.Device e) d law is held = let same = eqb-true e d held in omega (arith, is, same)
+known_device net (domain.Link l) d law is held = cc
+
+pub known_link : (net : Network) (f : DomainId) (l : ℕ) → IsNetwork net → IsDomain net f → holds_link net f l ≡ true → l < length net.links
+known_link net (domain.Listed k) l law is held = by (slice_get net.domains k) refl held
+  where
+    by : (o : Option Domain) → slice_get net.domains k ≡ o → of_some o false (λ listed. has listed.links l) ≡ true → l < length net.links
+    by None at held' = cc
+    by (Some x) at held' = all_has (length net.links) x.links l (and_parts _ (all_below (length net.links) x.links) (law.each_domain k x at)).1 held'
+known_link net (domain.Device e) l law is held = cc
+known_link net (domain.Link m) l law is held = let same = eqb-true m l held in omega (arith, is, same)
+
+-- Who comes next in a ring
+
+abbrev head_or : ℕ → List ℕ → ℕ
+head_or first [] = first
+head_or first (y ∷ ys) = y
+
+-- the element after x, or the first after the last
+abbrev pub next_in : ℕ → List ℕ → ℕ → ℕ
+next_in first [] x = first
+next_in first (y ∷ ys) x = if nat_eq y x then head_or first ys else next_in first ys x
+
+next_by : (R : ℕ → ℕ → Type 0) (first y x : ℕ) (ys : List ℕ) (b : Bool) → nat_eq y x ≡ b → R y (head_or first ys) → (nat_eq y x ≡ false → R x (next_in first ys x))
+    → R x (if b then head_or first ys else next_in first ys x)
+next_by R first y x ys true same here rest = subst (λ (v : ℕ). R v (head_or first ys)) (eqb-true y x same) here
+next_by R first y x ys false other here rest = rest other
+
+pub leads_next : (R : ℕ → ℕ → Type 0) (first y : ℕ) (ys : List ℕ) → IsChain R (y ∷ (ys ++ first ∷ [])) → (x : ℕ) → has (y ∷ ys) x ≡ true
+    → R x (next_in first (y ∷ ys) x)
+leads_next R first y [] chain x there =
+    next_by R first y x [] (nat_eq y x) refl chain.0
+    (λ other. elim (or_cases (nat_eq x y) false there) [
+      | inl same ↦ absurd (both_ways (nat_eq y x) other (eq-eqb y x (sym (eqb-true x y same))))
+      | inr never ↦ absurd (both_ways false refl never)
+    ])
+leads_next R first y (z ∷ zs) chain x there =
+    next_by R first y x (z ∷ zs) (nat_eq y x) refl chain.0
+    (λ other. elim (or_cases (nat_eq x y) (has (z ∷ zs) x) there) [
+      | inl same ↦ absurd (both_ways (nat_eq y x) other (eq-eqb y x (sym (eqb-true x y same))))
+      | inr more ↦ leads_next R first z zs chain.1 x more
+    ])
+
+pub chain_of : (R : ℕ → ℕ → Type 0) (first y : ℕ) (ys : List ℕ) → AreDifferent (y ∷ ys) → ((x : ℕ) → has (y ∷ ys) x ≡ true → R x (next_in first (y ∷ ys) x))
+    → IsChain R (y ∷ (ys ++ first ∷ []))
+chain_of R first y [] different each =
+    (subst (λ (b : Bool). R y (if b then first else first)) (eq-eqb y y refl) (each y (or_left (nat_eq y y) false (eq-eqb y y refl))), tt)
+chain_of R first y (z ∷ zs) different each =
+    (
+      subst (λ (b : Bool). R y (if b then z else next_in first (z ∷ zs) y)) (eq-eqb y y refl)
+          (each y (or_left (nat_eq y y) (has (z ∷ zs) y) (eq-eqb y y refl))),
+      chain_of R first z zs different.1 (λ x there.
+      subst (λ (b : Bool). R x (if b then z else next_in first (z ∷ zs) x)) (apart x there) (each x (or_right (nat_eq x y) (has (z ∷ zs) x) there))),
+    )
+  where
+    apart : (x : ℕ) → has (z ∷ zs) x ≡ true → nat_eq y x ≡ false
+    apart x there =
+        ne_eqb y x (λ same. both_ways (has (z ∷ zs) y) (not-true (has (z ∷ zs) y) different.0) (subst (λ (v : ℕ). has (z ∷ zs) v ≡ true) (sym same) there))
+
+-- the next is the first, or one of them
+next_or : (first : ℕ) (ys : List ℕ) (x : ℕ) → (next_in first ys x ≡ first) ⊎ (has ys (next_in first ys x) ≡ true)
+next_or first [] x = inl refl
+next_or first (y ∷ ys) x = by (nat_eq y x) (next_or first ys x)
+  where
+    head : (zs : List ℕ) → (head_or first zs ≡ first) ⊎ (has (y ∷ zs) (head_or first zs) ≡ true)
+    head [] = inl refl
+    head (z ∷ zs) = inr (or_right (nat_eq z y) (has (z ∷ zs) z) (or_left (nat_eq z z) (has zs z) (eq-eqb z z refl)))
+
+    by : (b : Bool) → (next_in first ys x ≡ first) ⊎ (has ys (next_in first ys x) ≡ true)
+        → ((if b then head_or first ys else next_in first ys x) ≡ first) ⊎ (has (y ∷ ys) (if b then head_or first ys else next_in first ys x) ≡ true)
+    by true rest = head ys
+    by false (inl same) = inl same
+    by false (inr there) = inr (or_right (nat_eq (next_in first ys x) y) (has ys (next_in first ys x)) there)
+
+pub next_has : (first : ℕ) (others : List ℕ) (x : ℕ) → has (first ∷ others) (next_in first (first ∷ others) x) ≡ true
+next_has first others x = elim (next_or first (first ∷ others) x) [
+  | inl same ↦ or_left (nat_eq (next_in first (first ∷ others) x) first) (has others (next_in first (first ∷ others) x))
+      (eq-eqb (next_in first (first ∷ others) x) first same)
+  | inr there ↦ there
+]
+
+-- Who leads to whom
+
+-- the hop is there, and leads to the device
+abbrev pub IsParent : Option Hop → ℕ → Type 0
+IsParent o y = (hop : Hop) × (o ≡ Some hop) × (hop.parent ≡ y)
+
+pub record Led (net : Network) (plan : Plan) (f : DomainId) (x y : ℕ) : Type 0 where
+  pub member : is_member plan x ≡ true
+  pub other : is_end plan x ≡ false
+  pub by : IsParent (primary_of plan x) y ⊎ ((is_hit net plan f x ≡ true) × IsParent (backup_of plan x) y)
+
+parent_of : (o : Option Hop) (y : ℕ) → list_any (λ hop. nat_eq hop.parent y) (option_to_list o) ≡ true → IsParent o y
+parent_of None y some = cc
+parent_of (Some hop) y some = elim (or_cases (nat_eq hop.parent y) false some) [
+  | inl here ↦ (hop, refl, eqb-true hop.parent y here)
+  | inr never ↦ absurd (both_ways false refl never)
+]
+
+-- the same by what is known of the device
+abbrev LedBy : Bool → Bool → Bool → Option Hop → Option Hop → ℕ → Type 0
+LedBy member ends hit primary backup y = (member ≡ true) × (ends ≡ false) × (IsParent primary y ⊎ ((hit ≡ true) × IsParent backup y))
+
+led_by : (member ends hit : Bool) (primary backup : Option Hop) (y : ℕ)
+    → list_any (λ hop. nat_eq hop.parent y)
+    (if member && not ends then option_to_list primary ++ (if hit then option_to_list backup else []) else []) ≡ true
+    → LedBy member ends hit primary backup y
+led_by false ends hit primary backup y some = cc
+led_by true true hit primary backup y some = cc
+led_by true false true primary backup y some =
+    (
+      refl,
+      refl,
+      elim (or_cases (list_any (λ hop. nat_eq hop.parent y) (option_to_list primary)) (list_any (λ hop. nat_eq hop.parent y) (option_to_list backup))
+          (sym (list_any-append (λ hop. nat_eq hop.parent y) (option_to_list primary) (option_to_list backup)) ∙ some)) [
+            | inl one ↦ inl (parent_of primary y one)
+            | inr two ↦ inr (refl, parent_of backup y two)
+          ],
+    )
+led_by true false false primary backup y some =
+    (
+      refl,
+      refl,
+      elim (or_cases (list_any (λ hop. nat_eq hop.parent y) (option_to_list primary)) false
+          (sym (list_any-append (λ hop. nat_eq hop.parent y) (option_to_list primary) []) ∙ some)) [
+            | inl one ↦ inl (parent_of primary y one)
+            | inr never ↦ absurd (both_ways false refl never)
+          ],
+    )
+
+pub led : (net : Network) (plan : Plan) (f : DomainId) (x y : ℕ) → LeadsTo net plan f x y → Led net plan f x y
+led net plan f x y leads =
+    let it = led_by (is_member plan x) (is_end plan x) (is_hit net plan f x) (primary_of plan x) (backup_of plan x) y leads in
+    record { member = it.0; other = it.1; by = it.2 }
+
+-- Structure
+
+none_mapped : {X Y : Type 0} (g : X → Y) (o : Option X) → option_map g o ≡ None → o ≡ None
+none_mapped g None none = refl
+none_mapped g (Some x) none = cc
+
+-- rule 4
+pub links_rule : (net : Network) (plan : Plan) (d : ℕ) → structure_breach net plan ≡ None → d < length net.devices → links_differ plan d ≡ true
+links_rule net plan d structured within =
+    let second = (both_none (option_map _ (roots_breach plan)) _ structured).1 in
+    let third = (both_none (first_failing net 2 (row_is_right plan)) _ second).1 in
+    let fourth = (both_none (first_failing net 3 (hops_are_right net plan)) _ third).1 in
+    let here = (both_none (first_failing net 4 (links_differ plan)) _ fourth).0 in
+    not-false (links_differ plan d)
+    (none_found (λ x. not (links_differ plan x)) (length net.devices) d
+    (none_mapped (λ x. (4, x)) (find (λ x. not (links_differ plan x)) (device_numbers net)) here) within)
+
+-- a device with a hop is one of the network
+has_hop_within : (net : Network) (plan : Plan) (x : ℕ) (hop : Hop) → Fits net plan → (primary_of plan x ≡ Some hop) ⊎ (backup_of plan x ≡ Some hop)
+    → x < length net.devices
+has_hop_within net plan x hop fits either = elim (cases_lt x (length net.devices)) [
+  | inl within ↦ within
+  | inr past ↦ (let none : row_of plan x ≡ None = ap (λ o. of_some o None (λ row. row)) (slice_get_past plan.rows x (let same = fits.entries in omega (arith, past, same))) in
+      absurd (nothing none either))
+]
+  where
+    nothing : row_of plan x ≡ None → (primary_of plan x ≡ Some hop) ⊎ (backup_of plan x ≡ Some hop) → ⊥
+    nothing none (inl is) = let gone : primary_of plan x ≡ None = ap (option_map (λ row. row.primary)) none in cc
+    nothing none (inr is) = let gone : backup_of plan x ≡ None = ap (λ (o : Option PlanRow). of_some o None (λ row. row.backup)) none in cc
+
+-- The ring
+
+module _ (net : Network) (plan : Plan) (law : IsNetwork net) (fits : Fits net plan) (structured : structure_breach net plan ≡ None) (f : DomainId)
+    (is_domain : IsDomain net f) (first : ℕ) (others : List ℕ) (ring : IsRing net plan f first others) where
+  abbrev all : List ℕ
+  all = first ∷ others
+
+  abbrev next : ℕ → ℕ
+  next x = next_in first all x
+
+  abbrev down : Thing → Bool
+  down = holds_besides net f all
+
+  forest : IsForest net plan
+  forest = forest_of net plan fits structured
+
+  pub led_next : (x : ℕ) → has all x ≡ true → Led net plan f x (next x)
+  led_next x there = led net plan f x (next x) (leads_next (LeadsTo net plan f) first first others ring.leads x there)
+
+  -- each of the ring is hit
+  hit_all : (x : ℕ) → x < length net.devices → has all x ≡ true → is_hit net plan f x ≡ true
+  hit_all = climb net plan forest (λ x. has all x ≡ true → is_hit net plan f x ≡ true)
+      (λ x within none there. top x none (led_next x there))
+      (λ x hop within is step above there. up x hop within is above there (led_next x there) (is_hit net plan f x) refl)
+    where
+      top : (x : ℕ) → primary_of plan x ≡ None → Led net plan f x (next x) → is_hit net plan f x ≡ true
+      top x none l = elim l.by [
+        | inl parent ↦ absurd (no_parent parent)
+        | inr both ↦ both.0
+      ]
+        where
+          no_parent : IsParent (primary_of plan x) (next x) → ⊥
+          no_parent parent = let there : primary_of plan x ≡ Some parent.0 = parent.1 in cc
+
+      up : (x : ℕ) (hop : Hop) → x < length net.devices → primary_of plan x ≡ Some hop → (has all hop.parent ≡ true → is_hit net plan f hop.parent ≡ true)
+          → has all x ≡ true → Led net plan f x (next x) → (b : Bool) → is_hit net plan f x ≡ b → is_hit net plan f x ≡ true
+      up x hop within is above there l true hit = hit
+      up x hop within is above there l false unhit = elim l.by [
+        | inr both ↦ both.0
+        | inl parent ↦
+            (let same : hop ≡ parent.0 = some_is (sym is ∙ parent.1) in
+            let leads : hop.parent ≡ next x = ap (λ (h : Hop). h.parent) same ∙ parent.2 in
+            let on_ring : has all hop.parent ≡ true = subst (λ (v : ℕ). has all v ≡ true) (sym leads) (next_has first others x) in
+            let other : is_end plan hop.parent ≡ false = (led_next hop.parent on_ring).other in
+            let free : hits net f (things_of (hop ∷ short_walk net plan hop.parent)) ≡ false =
+            subst (λ (hs : List Hop). hits net f (things_of hs) ≡ false) (path_step net plan x hop forest within is) unhit in
+            let rest : hits net f (things_of (short_walk net plan hop.parent)) ≡ false =
+            (or_parts (holds_device net f hop.parent) (hits net f (things_of (short_walk net plan hop.parent)))
+            (or_parts (holds_link net f hop.link) (holds_device net f hop.parent || hits net f (things_of (short_walk net plan hop.parent))) free).1).1 in
+            absurd (both_ways (is_hit net plan f hop.parent)
+            (subst (λ (hs : List Hop). hits net f (things_of hs) ≡ false) (short_walk_is net plan hop.parent other) rest) (above on_ring)))
+      ]
+
+  -- what hits a short walk is there beside the ring
+  touched_walk : (x : ℕ) → x < length net.devices → hits net f (things_of (short_walk net plan x)) ≡ true → list_any down (things_of (short_walk net plan x)) ≡ true
+  touched_walk =
+      climb net plan forest (λ x. hits net f (things_of (short_walk net plan x)) ≡ true → list_any down (things_of (short_walk net plan x)) ≡ true)
+      (λ x within none hit. absurd (empty x (no_short_walk net plan x forest none) hit))
+      (λ x hop within is step above hit.
+      elim (cases_Bool (is_end plan x)) [
+        | inl ends ↦ absurd (empty x (short_walk_none net plan x ends) hit)
+        | inr other ↦
+            (let whole : short_walk net plan x ≡ hop ∷ short_walk net plan hop.parent = short_walk_is net plan x other ∙ path_step net plan x hop forest within is in
+            subst (λ (hs : List Hop). list_any down (things_of hs) ≡ true) (sym whole)
+            (goes hop step.within above (subst (λ (hs : List Hop). hits net f (things_of hs) ≡ true) whole hit)))
+      ])
+    where
+      empty : (x : ℕ) → short_walk net plan x ≡ [] → hits net f (things_of (short_walk net plan x)) ≡ true → ⊥
+      empty x none hit = both_ways false refl (subst (λ (hs : List Hop). hits net f (things_of hs) ≡ true) none hit)
+
+      goes : (hop : Hop) → hop.parent < length net.devices
+          → (hits net f (things_of (short_walk net plan hop.parent)) ≡ true → list_any down (things_of (short_walk net plan hop.parent)) ≡ true)
+          → hits net f (things_of (hop ∷ short_walk net plan hop.parent)) ≡ true → list_any down (things_of (hop ∷ short_walk net plan hop.parent)) ≡ true
+      goes hop within above hit =
+          elim (or_cases (holds_link net f hop.link) (holds_device net f hop.parent || hits net f (things_of (short_walk net plan hop.parent))) hit) [
+            | inl link ↦ or_left (holds_link net f hop.link) (down (thing.Device hop.parent) || list_any down (things_of (short_walk net plan hop.parent))) link
+            | inr more ↦
+                or_right (holds_link net f hop.link) (down (thing.Device hop.parent) || list_any down (things_of (short_walk net plan hop.parent)))
+                (elim (or_cases (holds_device net f hop.parent) (hits net f (things_of (short_walk net plan hop.parent))) more) [
+                  | inl device ↦ at_device (has all hop.parent) refl device
+                  | inr rest ↦ or_right (down (thing.Device hop.parent)) (list_any down (things_of (short_walk net plan hop.parent))) (above rest)
+                ])
+          ]
+        where
+          at_device : (b : Bool) → has all hop.parent ≡ b → holds_device net f hop.parent ≡ true
+              → (down (thing.Device hop.parent) || list_any down (things_of (short_walk net plan hop.parent))) ≡ true
+          at_device false off device =
+              or_left (down (thing.Device hop.parent)) (list_any down (things_of (short_walk net plan hop.parent))) (rw (device, off) refl)
+          at_device true on device =
+              or_right (down (thing.Device hop.parent)) (list_any down (things_of (short_walk net plan hop.parent)))
+              (above (subst (λ (hs : List Hop). hits net f (things_of hs) ≡ true) (sym (short_walk_is net plan hop.parent (led_next hop.parent on).other))
+              (hit_all hop.parent within on)))
+
+  pub touched : (x : ℕ) → x < length net.devices → has all x ≡ true → list_any down (epath net plan x) ≡ true
+  touched x within there =
+      let same : short_walk net plan x ≡ short_path net plan x = short_walk_is net plan x (led_next x there).other in
+      subst (λ (hs : List Hop). list_any down (things_of hs) ≡ true) same
+      (touched_walk x within (subst (λ (hs : List Hop). hits net f (things_of hs) ≡ true) (sym same) (hit_all x within there)))
+
+  -- Its zone
+
+  abbrev pub zone : ℕ → Bool
+  zone z = is_live net plan down z && not (is_end plan z) && list_any down (epath net plan z)
+
+  record InZone (z : ℕ) : Type 0 where
+    pub live : is_live net plan down z ≡ true
+    pub other : is_end plan z ≡ false
+    pub touched_ : list_any down (epath net plan z) ≡ true
+
+  in_zone : (z : ℕ) → zone z ≡ true → InZone z
+  in_zone z is =
+      let (front, touched_) = and_parts (is_live net plan down z && not (is_end plan z)) (list_any down (epath net plan z)) is in
+      let (live, other) = and_parts (is_live net plan down z) (not (is_end plan z)) front in
+      record { live = live; other = not-true (is_end plan z) other; touched_ = touched_ }
+
+  zone_of : (z : ℕ) → is_live net plan down z ≡ true → is_end plan z ≡ false → list_any down (epath net plan z) ≡ true → zone z ≡ true
+  zone_of z live other touched_ = rw (live, other, touched_) refl
+
+  pub is_zone : IsZone net plan down zone
+  is_zone =
+      record {
+        live = λ z is. (in_zone z is).live;
+        ordinary = λ z is. (in_zone z is).other;
+        above = λ z hop is primary sound live. goes_up z hop (in_zone z is) primary sound live;
+        differ = λ z p b is primary falls same. differ z p b (live_parts net plan down z (in_zone z is).live).within primary falls same;
+      }
+    where
+      goes_up : (z : ℕ) (hop : Hop) → InZone z → primary_of plan z ≡ Some hop → down (thing.Link hop.link) ≡ false → is_live net plan down hop.parent ≡ true
+          → zone hop.parent ≡ true
+      goes_up z hop is primary sound live =
+          let within : z < length net.devices = (live_parts net plan down z is.live).within in
+          let spared : down (thing.Device hop.parent) ≡ false = (live_parts net plan down hop.parent live).spared in
+          let whole : list_any down (things_of (hop ∷ short_walk net plan hop.parent)) ≡ true =
+          subst (λ (hs : List Hop). list_any down (things_of hs) ≡ true) (path_step net plan z hop forest within primary) is.touched_ in
+          let rest : list_any down (things_of (short_walk net plan hop.parent)) ≡ true = beyond (down (thing.Link hop.link)) (down (thing.Device hop.parent))
+          (list_any down (things_of (short_walk net plan hop.parent))) sound spared whole in
+          elim (cases_Bool (is_end plan hop.parent)) [
+            | inl ends ↦ absurd (both_ways false refl (subst (λ (hs : List Hop). list_any down (things_of hs) ≡ true) (short_walk_none net plan hop.parent ends) rest))
+            | inr other ↦ zone_of hop.parent live other
+                (subst (λ (hs : List Hop). list_any down (things_of hs) ≡ true) (short_walk_is net plan hop.parent other) rest)
+          ]
+        where
+          beyond : (a b c : Bool) → a ≡ false → b ≡ false → (a || (b || c)) ≡ true → c ≡ true
+          beyond a b c none_a none_b either = sym (rw (none_a, none_b) refl) ∙ either
+
+      differ : (z : ℕ) (p b : Hop) → z < length net.devices → primary_of plan z ≡ Some p → backup_of plan z ≡ Some b → p.link ≡ b.link → ⊥
+      differ z p b within primary falls same =
+          let rule : of_some (Some p) true (λ x. of_some (Some b) true (λ y. not (nat_eq x.link y.link))) ≡ true =
+          subst (λ (o : Option Hop). of_some (Some p) true (λ x. of_some o true (λ y. not (nat_eq x.link y.link))) ≡ true) falls
+          (subst (λ (o : Option Hop). of_some o true (λ x. of_some (backup_of plan z) true (λ y. not (nat_eq x.link y.link))) ≡ true) primary
+          (links_rule net plan z structured within)) in
+          both_ways (nat_eq p.link b.link) (not-true (nat_eq p.link b.link) rule) (eq-eqb p.link b.link same)
+
+  -- the devices of the ring are of it
+  ring_within : (x : ℕ) → has all x ≡ true → x < length net.devices
+  ring_within x there = by (led_next x there).by
+    where
+      by : IsParent (primary_of plan x) (next x) ⊎ ((is_hit net plan f x ≡ true) × IsParent (backup_of plan x) (next x)) → x < length net.devices
+      by (inl parent) = has_hop_within net plan x parent.0 fits (inl parent.1)
+      by (inr both) = has_hop_within net plan x both.1.0 fits (inr both.1.1)
+
+  pub ring_zone : (x : ℕ) → has all x ≡ true → zone x ≡ true
+  ring_zone x there =
+      let l : Led net plan f x (next x) = led_next x there in
+      let within = ring_within x there in
+      let spared : down (thing.Device x) ≡ false = and_right (holds_device net f x) (not (has all x)) (ap not there) in
+      zone_of x (rw (lt-ltb x (length net.devices) within, l.member, spared) refl) l.other (touched x within there)
