@@ -1,9 +1,9 @@
 -- What is on its way in a calm time: each flight that reaches is received no later than its due, so that none is spoiled.
-use Rattle.std.specs.Prelude.{◌≡◌, ℕ, zero, suc, ◌+◌, ◌*◌, ◌<◌, ◌≤◌, Bool, true, false, ◌&&◌, ◌||◌, not, List, [], ◌∷◌, ◌++◌, length, count_by, filter, flat_map, map, nat_eq, nat_lt, Option, Some, None, option_map, option_and_then, refl, if◌then◌else◌}
+use Rattle.std.specs.Prelude.{◌≡◌, ℕ, ◌+◌, ◌<◌, ◌≤◌, Bool, true, false, ◌&&◌, ◌||◌, not, List, [], ◌∷◌, filter, map, nat_eq, nat_lt, Option, Some, None, option_map, refl, if◌then◌else◌}
 use Rattle.std.specs.List.{list_any, list_all}
 use Rattle.std.proofs.Common.{sym, ap, ◌∙◌, subst, arith, inl, inr}
-use Rattle.std.proofs.lemmas.Bool.{and_parts, and_from, or_left, or_right, or_cases, or_parts, or_from, cases_Bool, ltb-true, eq-eqb, eqb-true, not-true, le-ltb, both_ways, false_from_ne_true, true_from_ne_false}
-use Rattle.sd_checker.specs.Num.Lists.{of_some, same_number, latest, leading}
+use Rattle.std.proofs.lemmas.Bool.{and_parts, or_left, or_right, or_cases, or_parts, or_from, ltb-true, eq-eqb, eqb-true, not-true, le-ltb, both_ways, false_from_ne_true, true_from_ne_false}
+use Rattle.sd_checker.specs.Num.Lists.{of_some, same_number}
 use Rattle.sd_checker.specs.Topo.Network.{Network, delay_of}
 use Rattle.sd_checker.specs.Topo.declared.Thing.{Thing}
 use Rattle.sd_checker.specs.Topo.declared.Thing.TheVariants as thing
@@ -17,8 +17,8 @@ use Rattle.sd_history.specs.Core.declared.Effect.TheVariants.{Send}
 use Rattle.sd_history.specs.Sched.declared.Event.{Event}
 use Rattle.sd_history.specs.Sched.declared.Event.TheVariants as event
 use Rattle.sd_history.specs.Sched.Events.{reference_of, device_of, message_of}
-use Rattle.sd_history.specs.World.{Setting, Seen, fails, is_up, link_has_failed, plan_numbered, window, staged, in_force, epoch_in_force, staged_epoch}
-use Rattle.sd_history.specs.Steps.{Step, seen_of, flights, flight_numbered, flight_count, ends_at, flight_to}
+use Rattle.sd_history.specs.World.{Setting, Seen, fails, is_up, link_has_failed, plan_numbered, staged, in_force, epoch_in_force, staged_epoch}
+use Rattle.sd_history.specs.Steps.{Step, seen_of, flights, flight_numbered, ends_at}
 use Rattle.sd_history.specs.Chronicle.{next_step}
 use Rattle.sd_history.specs.Accepted.{AreSteps}
 use Rattle.sd_history.specs.Refusals.{was_used, was_swept, since_sending}
@@ -32,7 +32,6 @@ use Rattle.sd_history.proofs.flights.Places.{IsBelow, ends_below, changed_named}
 use Rattle.sd_proof_needed.specs.Alone.{alone}
 use Rattle.sd_proof_needed.proofs.Elements.{on_left, passes_kept, any_of}
 use Rattle.sd_proof_needed.proofs.Worlds.{IsCalm, ticks, receives, is_live, World}
-use Rattle.sd_proof_needed.proofs.Allowed.{Live, live_parts}
 
 -- what holds of a flight that was sent before this reference
 pub record FlightLaw (net : Network) (plan : Plan) (down : Thing → Bool) (steps : List Step) (t : ℕ) (f : Flight) : Type 0 where

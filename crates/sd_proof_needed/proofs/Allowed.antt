@@ -1,6 +1,6 @@
 -- In a calm time a live device may tick, and receive what is on its way to it.
-use Rattle.std.specs.Prelude.{◌≡◌, ℕ, ◌+◌, ◌^◌, ◌<◌, ◌≤◌, Bool, true, false, ◌&&◌, ◌||◌, not, List, [], ◌∷◌, length, find, map, nat_lt, Option, Some, None, option_map, refl}
-use Rattle.std.proofs.Common.{sym, ap, ◌∙◌, arith}
+use Rattle.std.specs.Prelude.{◌≡◌, ℕ, ◌^◌, ◌<◌, ◌≤◌, Bool, true, false, ◌&&◌, not, List, [], ◌∷◌, length, find, nat_lt, None, option_map, refl}
+use Rattle.std.proofs.Common.{arith}
 use Rattle.std.proofs.lemmas.Bool.{and_parts, not-true, ltb-true, lt-leb, le-ltb}
 use Rattle.std.proofs.lemmas.List.{length-map}
 use Rattle.sd_checker.specs.Topo.Network.{Network}
@@ -10,11 +10,10 @@ use Rattle.sd_checker.specs.Domain.declared.DomainId.{DomainId}
 use Rattle.sd_checker.specs.Plan.declared.Plan.{Plan}
 use Rattle.sd_checker.specs.Plan.Plans.{is_member}
 use Rattle.sd_history.specs.declared.ApplyFault.{ApplyFault}
-use Rattle.sd_history.specs.declared.ApplyFault.TheVariants as fault
 use Rattle.sd_history.specs.Sched.declared.Event.{Event}
 use Rattle.sd_history.specs.World.{Setting, Seen, latest_reading}
 use Rattle.sd_history.specs.Steps.{Step, seen_of}
-use Rattle.sd_history.specs.Refusals.{causes, refusal, unknown_device, unknown_link, dead_device, dead_link, unknown_message, spent_message, wrong_device, time_falls, counter_falls, not_started, started_twice, no_plan_left, window_order, after_end, not_failed, not_member, too_many}
+use Rattle.sd_history.specs.Refusals.{causes, refusal, unknown_device, dead_device, unknown_message, spent_message, wrong_device, time_falls, counter_falls, not_started, window_order, after_end, too_many}
 use Rattle.sd_proof_needed.specs.Alone.{alone}
 use Rattle.sd_proof_needed.proofs.Worlds.{IsCalm, ticks, receives, is_live, World}
 

@@ -1,15 +1,14 @@
 -- How such a history begins: at reference 0 some things of one domain fail, and then all other members start with true clocks.
-use Rattle.std.specs.Prelude.{◌≡◌, ℕ, zero, suc, ◌+◌, ◌-◌, ◌*◌, ◌^◌, ◌<◌, ◌≤◌, Bool, true, false, ◌&&◌, ◌||◌, not, List, [], ◌∷◌, ◌++◌, length, count_by, find, nat_eq, nat_le, nat_lt, Option, Some, None, is_some, option_to_list, refl, if◌then◌else◌}
+use Rattle.std.specs.Prelude.{◌≡◌, ℕ, zero, suc, ◌+◌, ◌*◌, ◌^◌, ◌<◌, ◌≤◌, Bool, true, false, ◌&&◌, ◌||◌, not, List, [], ◌∷◌, length, count_by, nat_eq, nat_le, nat_lt, Option, Some, None, is_some, refl, if◌then◌else◌}
 use Rattle.std.specs.List.{list_any, list_all}
 use Rattle.std.proofs.Common.{sym, ap, ◌∙◌, subst, arith, inl, inr}
-use Rattle.std.proofs.lemmas.Bool.{and_parts, and_from, and_left, and_right, or_left, or_right, or_from, both_ways, le-leb, lt-leb, le-ltb, lt-ltb, ltb-true, eq-eqb, ne_eqb, eqb-true, cases_eq, cases_lt, cases_Bool, not-true}
+use Rattle.std.proofs.lemmas.Bool.{and_from, and_left, and_right, or_left, or_right, or_from, both_ways, le-leb, lt-leb, le-ltb, lt-ltb, eq-eqb, ne_eqb, eqb-true, cases_eq, cases_lt}
 use Rattle.std.proofs.lemmas.List.{length-map}
-use Rattle.sd_checker.specs.Num.Lists.{of_some, same_number}
+use Rattle.sd_checker.specs.Num.Lists.{of_some}
 use Rattle.sd_checker.specs.Topo.Network.{Network, device_numbers}
 use Rattle.sd_checker.specs.Topo.declared.Thing.{Thing}
 use Rattle.sd_checker.specs.Topo.declared.Thing.TheVariants as thing
 use Rattle.sd_checker.specs.Domain.Domains.{holds, domains, within_one}
-use Rattle.sd_checker.specs.Domain.Failures.{same_thing}
 use Rattle.sd_checker.specs.Domain.declared.DomainId.{DomainId}
 use Rattle.sd_checker.specs.Plan.declared.Plan.{Plan}
 use Rattle.sd_checker.specs.Plan.Plans.{is_member, members}
@@ -17,11 +16,10 @@ use Rattle.sd_history.specs.Msg.declared.Flight.{Flight}
 use Rattle.sd_history.specs.Sched.declared.Event.{Event}
 use Rattle.sd_history.specs.Sched.declared.Event.TheVariants as event
 use Rattle.sd_history.specs.Sched.Events.{reference_of, is_end, is_stage}
-use Rattle.sd_history.specs.Things.{failure_of}
-use Rattle.sd_history.specs.World.{Setting, Seen, is_up, was_made, has_failed, has_ever_failed, is_untouched, latest_reference, latest_reading, has_commit, window, plan_numbered, in_force, epoch_in_force}
+use Rattle.sd_history.specs.World.{Setting, Seen, is_up, was_made, has_failed, has_ever_failed, is_untouched, latest_reference, latest_reading, has_commit, window, plan_numbered}
 use Rattle.sd_history.specs.Steps.{Step, seen_of, flights}
 use Rattle.sd_history.specs.Chronicle.{next_step, chronicle, past_in, new_past, IsHistory}
-use Rattle.sd_history.specs.Refusals.{causes, refusal, was_used, unknown_device, unknown_link, dead_device, dead_link, started_twice, not_member, after_end, too_many}
+use Rattle.sd_history.specs.Refusals.{causes, was_used, unknown_device, unknown_link, dead_device, dead_link, started_twice, not_member, after_end, too_many}
 use Rattle.sd_history.specs.Premises.{readings, start_holds, drift_holds, delay_holds, tick_holds, domain_holds, renew_holds, ticks_in_time, latest_tick, is_current_member, first_reference, failures_since_closing, fails_within_one, reads_honestly, has_mend}
 use Rattle.sd_history.specs.Premises as premise
 use Rattle.sd_history.specs.Premises.{is_overdue}
@@ -30,9 +28,8 @@ use Rattle.sd_history.specs.Core.Calls.{Past, Started}
 use Rattle.sd_history.proofs.Among.{Among, first, later, all_pass}
 use Rattle.sd_proof_needed.specs.Alone.{alone, fails_only}
 use Rattle.sd_proof_needed.proofs.Elements.{found_some}
-use Rattle.sd_proof_needed.proofs.Worlds.{is_live, World, window_on, closings_on}
-use Rattle.sd_proof_needed.proofs.Allowed.{Live, live_parts, NoneHold, none_hold}
-use Rattle.sd_proof_needed.proofs.Air.{Air}
+use Rattle.sd_proof_needed.proofs.Worlds.{is_live, window_on, closings_on}
+use Rattle.sd_proof_needed.proofs.Allowed.{Live, live_parts, none_hold}
 use Rattle.sd_proof_needed.proofs.Going.{Good, length-chronicle}
 
 -- the past of a device that has just started with a true clock
@@ -254,8 +251,11 @@ module _ (net : Network) (plan : Plan) (dom : DomainId) (down : Thing → Bool) 
       let sound : dead_device seen e ≡ false = b.device a ∙ and_left (nat_lt a a) (down (thing.Device a)) (le-ltb a a (omega arith)) in
       let goes_on : after_end seen ≡ false = b.goes_on in
       record {
-        is = (b.is, none_hold (causes setting (steps history) e)
-            (known, (refl, (sound, (refl, (refl, (refl, (refl, (rw b.latest refl, (refl, (refl, (refl, (refl, (refl, (goes_on, (refl, (refl, (few history room, tt))))))))))))))))));
+        is = (
+          b.is,
+          none_hold (causes setting (steps history) e)
+              (known, (refl, (sound, (refl, (refl, (refl, (refl, (rw b.latest refl, (refl, (refl, (refl, (refl, (refl, (goes_on, (refl, (refl, (few history room, tt))))))))))))))))),
+        );
         up = λ d. ap (λ old. of_some (if nat_eq d a then Some false else None) old (λ told. told)) (b.up d ∙ sym (none_below (is_live net plan down) d))
             ∙ told_false (nat_eq d a) ∙ none_below (is_live net plan down) d;
         made = b.made;
@@ -299,8 +299,11 @@ module _ (net : Network) (plan : Plan) (dom : DomainId) (down : Thing → Bool) 
       let sound : dead_link seen e ≡ false = b.link l ∙ and_left (nat_lt l l) (down (thing.Link l)) (le-ltb l l (omega arith)) in
       let goes_on : after_end seen ≡ false = b.goes_on in
       record {
-        is = (b.is, none_hold (causes setting (steps history) e)
-            (refl, (known, (refl, (sound, (refl, (refl, (refl, (rw b.latest refl, (refl, (refl, (refl, (refl, (refl, (goes_on, (refl, (refl, (few history room, tt))))))))))))))))));
+        is = (
+          b.is,
+          none_hold (causes setting (steps history) e)
+              (refl, (known, (refl, (sound, (refl, (refl, (refl, (rw b.latest refl, (refl, (refl, (refl, (refl, (refl, (goes_on, (refl, (refl, (few history room, tt))))))))))))))))),
+        );
         up = b.up;
         made = b.made;
         device = b.device;
@@ -330,7 +333,6 @@ module _ (net : Network) (plan : Plan) (dom : DomainId) (down : Thing → Bool) 
         length_ = (let before = b.length_ in omega (arith, before));
       }
 
-
   start : (a l c : ℕ) (history : List Event) → is_live net plan down c ≡ true → length history < 2 ^ 26
       → Begun net plan dom down a l c history (seen_of (steps history))
       → Begun net plan dom down a l (suc c) (event.Start 0 c 0 0 0 ∷ history) (seen_of (steps (event.Start 0 c 0 0 0 ∷ history)))
@@ -347,8 +349,11 @@ module _ (net : Network) (plan : Plan) (dom : DomainId) (down : Thing → Bool) 
       let member : not_member setting seen e ≡ false = rw (b.closings, parts.member) refl in
       let goes_on : after_end seen ≡ false = b.goes_on in
       record {
-        is = (b.is, none_hold (causes setting (steps history) e)
-            (known, (refl, (sound, (refl, (refl, (refl, (refl, (rw b.latest refl, (refl, (refl, (once, (refl, (refl, (goes_on, (refl, (member, (few history room, tt))))))))))))))))));
+        is = (
+          b.is,
+          none_hold (causes setting (steps history) e)
+              (known, (refl, (sound, (refl, (refl, (refl, (refl, (rw b.latest refl, (refl, (refl, (once, (refl, (refl, (goes_on, (refl, (member, (few history room, tt))))))))))))))))),
+        );
         up = λ d. told_started (nat_eq c d) (is_up seen d) ∙ ap (λ old. nat_eq c d || old) (b.up d) ∙ sym (one_more (is_live net plan down) c d live);
         made = λ d. ap (λ x. x || was_made seen d) (or_none (nat_eq c d)) ∙ ap (λ old. nat_eq c d || old) (b.made d)
             ∙ sym (one_more (is_live net plan down) c d live);
@@ -379,7 +384,6 @@ module _ (net : Network) (plan : Plan) (dom : DomainId) (down : Thing → Bool) 
         failures = b.failures;
         length_ = (let before = b.length_ in omega (arith, before));
       }
-
 
   -- such a beginning, as far as it has come
   record Start (a l c : ℕ) : Type 0 where

@@ -4,8 +4,8 @@ use Rattle.std.specs.Prelude.{◌≡◌, ◌≢◌, ℕ, zero, suc, ◌+◌, ◌
 use Rattle.std.proofs.Common.{sym, ap, ◌∙◌, subst, arith, inl, inr}
 use Rattle.std.proofs.Math.Nat.{mul-add}
 use Rattle.std.proofs.lemmas.Nat.{mul-le}
-use Rattle.std.proofs.lemmas.Bool.{and_parts, and_from, or_cases, or_parts, eqb-true, eq-eqb, ne_eqb, ltb-true, both_ways, cases_eq, not-true, not_from_true}
-use Rattle.sd_checker.specs.Num.Lists.{of_some, same_number}
+use Rattle.std.proofs.lemmas.Bool.{and_parts, and_from, or_cases, or_parts, eqb-true, eq-eqb, ne_eqb, ltb-true, both_ways, cases_eq, not-true}
+use Rattle.sd_checker.specs.Num.Lists.{of_some}
 use Rattle.sd_checker.specs.Topo.Network.{Network}
 use Rattle.sd_checker.specs.Topo.declared.Thing.{Thing}
 use Rattle.sd_checker.specs.Domain.declared.DomainId.{DomainId}
@@ -13,7 +13,7 @@ use Rattle.sd_checker.specs.Plan.declared.Plan.{Plan}
 use Rattle.sd_checker.specs.Plan.declared.Duty.{Duty}
 use Rattle.sd_checker.specs.Plan.declared.Role.TheVariants.{Root, BackupRoot, Ordinary}
 use Rattle.sd_checker.specs.Plan.Plans.{is_root, is_backup_root}
-use Rattle.sd_checker.specs.Plan.Duties.{duty_of, ends_of, role_of}
+use Rattle.sd_checker.specs.Plan.Duties.{duty_of, ends_of}
 use Rattle.sd_history.specs.Msg.declared.Flight.{Flight}
 use Rattle.sd_history.specs.Msg.declared.Message.{Message}
 use Rattle.sd_history.specs.Msg.declared.Stamp.{Stamp}
@@ -24,10 +24,10 @@ use Rattle.sd_history.specs.Core.Calls.{Call, Tick, Receive, Past}
 use Rattle.sd_history.specs.Core.Words.{stamp_now, is_acting, after, effect_of, is_backup_root_now, epoch_now}
 use Rattle.sd_history.specs.Sched.declared.Event.{Event}
 use Rattle.sd_history.specs.Sched.declared.Event.TheVariants as event
-use Rattle.sd_history.specs.Sched.Events.{reference_of, message_of}
+use Rattle.sd_history.specs.Sched.Events.{reference_of}
 use Rattle.sd_history.specs.World.{Setting}
 use Rattle.sd_history.specs.Steps.{Act, Calls, Passes, Step, seen_of, flights, flight_numbered, flight_count, act_by, ends_at, flights_by, flights_of, tells_nothing, tells_called}
-use Rattle.sd_history.specs.Chronicle.{next_step, chronicle, past_in, past_after, answers_by, told_by}
+use Rattle.sd_history.specs.Chronicle.{next_step, past_in, past_after, answers_by, told_by}
 use Rattle.sd_history.specs.Accepted.{AreSteps}
 use Rattle.sd_history.specs.Refusals.{was_used}
 use Rattle.sd_history.proofs.Among.{Among, first, later, either_side}
@@ -35,7 +35,7 @@ use Rattle.sd_history.proofs.Given.{some_is}
 use Rattle.sd_history.proofs.flights.Counts.{length-flights_to}
 use Rattle.sd_proof_needed.specs.Alone.{alone}
 use Rattle.sd_proof_needed.proofs.Worlds.{IsCalm, ticks, receives, is_live, World}
-use Rattle.sd_proof_needed.proofs.Allowed.{Live, live_parts}
+use Rattle.sd_proof_needed.proofs.Allowed.{live_parts}
 use Rattle.sd_proof_needed.proofs.Air.{IsNew, is_new}
 use Rattle.sd_proof_needed.proofs.Pasts.{Plain, duty_is}
 use Rattle.sd_proof_needed.proofs.Turns.{Sends, relays, emits, takes_over, Turned, rests, sends, Goes, plain_on, tick_turns, receipt_turns}

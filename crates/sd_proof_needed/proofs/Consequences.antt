@@ -1,12 +1,12 @@
 -- Ancestor follows from structure, root and loop; domain follows from reach.
-use Rattle.std.specs.Prelude.{◌≡◌, ℕ, zero, suc, ◌<◌, Bool, true, false, ◌&&◌, ◌||◌, not, List, [], ◌∷◌, ◌++◌, length, map, find, nat_eq, Option, Some, None, IfSome, option_map, option_to_list, refl, if◌then◌else◌}
+use Rattle.std.specs.Prelude.{◌≡◌, ℕ, ◌<◌, Bool, true, false, ◌&&◌, ◌||◌, not, List, [], ◌∷◌, ◌++◌, length, map, find, nat_eq, Option, Some, None, IfSome, option_map, option_to_list, refl, if◌then◌else◌}
 use Rattle.std.specs.List.{list_any}
 use Rattle.std.specs.Option.{option_or}
 use Rattle.std.proofs.Common.{sym, ap, ◌∙◌, subst, arith, inl, inr}
-use Rattle.std.proofs.lemmas.Bool.{and_parts, and_from, or_cases, or_left, or_right, eqb-true, eq-eqb, cases_Bool, cases_eq, both_ways, false_from_ne_true}
+use Rattle.std.proofs.lemmas.Bool.{and_parts, and_from, or_cases, or_left, or_right, eqb-true, eq-eqb, cases_Bool, both_ways, false_from_ne_true}
 use Rattle.std.proofs.lemmas.List.Folds.{list_any-append}
 use Rattle.sd_checker.specs.Num.Lists.{has, of_some, below}
-use Rattle.sd_checker.specs.Topo.Network.{Network, Each, device_numbers, link_numbers, joins}
+use Rattle.sd_checker.specs.Topo.Network.{Network, device_numbers, link_numbers, joins}
 use Rattle.sd_checker.specs.Topo.declared.Thing.TheVariants as thing
 use Rattle.sd_checker.specs.Domain.Domains.{domains, holds_device, holds_link, hits}
 use Rattle.sd_checker.specs.Domain.declared.DomainId.{DomainId}
@@ -26,7 +26,7 @@ use Rattle.sd_checker.specs.CheckReach.Reach.{Fed, IsCut, LosesBackup, ReachHold
 use Rattle.sd_checker.specs.CheckReach.Reach as reach
 use Rattle.sd_checker.specs.Conditions.{RootHolds}
 use Rattle.sd_proof_needed.specs.Consequences.{AncestorFollows, DomainFollows}
-use Rattle.sd_history.proofs.Among.{Among, first, later, on_right}
+use Rattle.sd_history.proofs.Among.{Among, on_right}
 use Rattle.sd_history.proofs.Given.{some_is}
 use Rattle.sd_proof_needed.proofs.Elements.{each_among, mapped, below_among}
 use Rattle.sd_proof_needed.proofs.Paths.{not_root, short_walk_is, short_walk_none, path_step}

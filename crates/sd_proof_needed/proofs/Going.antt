@@ -1,9 +1,9 @@
 -- A history of a calm time goes on: a live device may tick, and receive what is due first.
-use Rattle.std.specs.Prelude.{◌≡◌, ℕ, zero, suc, ◌+◌, ◌-◌, ◌^◌, ◌<◌, ◌≤◌, Bool, true, false, ◌&&◌, ◌||◌, not, List, [], ◌∷◌, length, max, nat_eq, nat_le, nat_lt, Option, Some, None, refl, if◌then◌else◌}
-use Rattle.std.proofs.Common.{sym, ap, ◌∙◌, subst, arith}
-use Rattle.std.proofs.lemmas.Bool.{and_from, or_from, le-leb, le-ltb, lt-leb, ne_eqb, eq-eqb}
-use Rattle.sd_checker.specs.Num.Lists.{of_some, same_number}
-use Rattle.sd_checker.specs.Topo.Network.{Network, IsNetwork, delay_of, delay_towards, link_of}
+use Rattle.std.specs.Prelude.{◌≡◌, ℕ, ◌+◌, ◌-◌, ◌^◌, ◌<◌, ◌≤◌, Bool, true, false, List, [], ◌∷◌, length, max, nat_eq, nat_le, nat_lt, Option, Some, None, refl, if◌then◌else◌}
+use Rattle.std.proofs.Common.{ap, ◌∙◌, arith}
+use Rattle.std.proofs.lemmas.Bool.{and_from, or_from, le-leb, le-ltb, ne_eqb, eq-eqb}
+use Rattle.sd_checker.specs.Num.Lists.{of_some}
+use Rattle.sd_checker.specs.Topo.Network.{Network, IsNetwork, delay_of, link_of}
 use Rattle.sd_checker.specs.Topo.declared.Delay.{Delay}
 use Rattle.sd_checker.specs.Topo.declared.Thing.{Thing}
 use Rattle.sd_checker.specs.Domain.Domains.{domains}
@@ -21,9 +21,9 @@ use Rattle.sd_history.specs.Refusals.{was_used, is_spent, refusal, unknown_messa
 use Rattle.sd_history.specs.Premises.{arrives_in_time, is_in_time, all_hold}
 use Rattle.sd_history.proofs.Among.{Among}
 use Rattle.sd_history.proofs.Accepting.{history_is_accepted}
-use Rattle.sd_history.proofs.Parts.{AllHold, premises_hold}
+use Rattle.sd_history.proofs.Parts.{premises_hold}
 use Rattle.sd_history.proofs.flights.Numbers.{numbers_within, numbered_itself}
-use Rattle.sd_history.proofs.flights.Places.{IsOfNetwork, flights_of_network}
+use Rattle.sd_history.proofs.flights.Places.{flights_of_network}
 use Rattle.sd_proof_needed.specs.Alone.{alone, fails_only}
 use Rattle.sd_proof_needed.proofs.Worlds.{IsCalm, ticks, receives, is_live, World, OnTime, world_goes_on}
 use Rattle.sd_proof_needed.proofs.Allowed.{allowed}

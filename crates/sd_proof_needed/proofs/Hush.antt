@@ -1,7 +1,7 @@
 -- Where a set of devices hears nothing over its primary links from outside, its devices do nothing before their waits are over.
-use Rattle.std.specs.Prelude.{◌≡◌, ◌≢◌, ℕ, ◌+◌, ◌-◌, ◌<◌, ◌≤◌, Bool, true, false, ◌&&◌, ◌||◌, not, List, [], ◌∷◌, ◌++◌, length, nat_eq, nat_le, Option, Some, None, option_map, refl, if◌then◌else◌}
-use Rattle.std.proofs.Common.{sym, ap, ◌∙◌, subst, arith, inl, inr}
-use Rattle.std.proofs.lemmas.Bool.{and_parts, or_cases, or_from, or_parts, eqb-true, eq-eqb, both_ways}
+use Rattle.std.specs.Prelude.{◌≡◌, ◌≢◌, ℕ, Bool, true, false, ◌&&◌, List, ◌∷◌, nat_eq, nat_le, Option, Some, None, option_map, refl, if◌then◌else◌}
+use Rattle.std.proofs.Common.{sym, ap, ◌∙◌, subst, inl, inr}
+use Rattle.std.proofs.lemmas.Bool.{and_parts, or_cases, or_parts, eqb-true, eq-eqb}
 use Rattle.sd_checker.specs.Num.Lists.{of_some}
 use Rattle.sd_checker.specs.Topo.Network.{Network}
 use Rattle.sd_checker.specs.Topo.declared.Thing.{Thing}
@@ -9,12 +9,11 @@ use Rattle.sd_checker.specs.Topo.declared.Thing.TheVariants as thing
 use Rattle.sd_checker.specs.Domain.declared.DomainId.{DomainId}
 use Rattle.sd_checker.specs.Plan.declared.Hop.{Hop}
 use Rattle.sd_checker.specs.Plan.declared.Edge.{Edge}
-use Rattle.sd_checker.specs.Plan.declared.Duty.{Duty}
 use Rattle.sd_checker.specs.Plan.declared.Plan.{Plan}
 use Rattle.sd_checker.specs.Plan.declared.Role.TheVariants.{Ordinary}
 use Rattle.sd_checker.specs.Plan.Plans.{is_root, is_backup_root, primary_of, backup_of}
 use Rattle.sd_checker.specs.Plan.Walks.{is_end}
-use Rattle.sd_checker.specs.Plan.Duties.{duty_of, edge_of, role_of, leads_to, follows_over}
+use Rattle.sd_checker.specs.Plan.Duties.{duty_of, edge_of, role_of, leads_to}
 use Rattle.sd_history.specs.Msg.declared.Flight.{Flight}
 use Rattle.sd_history.specs.Msg.declared.Message.{Message}
 use Rattle.sd_history.specs.Core.declared.Effect.{Effect}
@@ -25,14 +24,14 @@ use Rattle.sd_history.specs.Sched.declared.Event.{Event}
 use Rattle.sd_history.specs.Sched.declared.Event.TheVariants as event
 use Rattle.sd_history.specs.World.{Setting}
 use Rattle.sd_history.specs.Steps.{Act, Calls, Passes, Step, seen_of, flights, flight_numbered, act_by, tells_nothing, tells_called}
-use Rattle.sd_history.specs.Chronicle.{next_step, chronicle, past_in, past_after, answers_by, told_by}
+use Rattle.sd_history.specs.Chronicle.{next_step, past_in, past_after, answers_by, told_by}
 use Rattle.sd_history.specs.Accepted.{AreSteps}
 use Rattle.sd_history.proofs.Among.{Among, either_side}
 use Rattle.sd_history.proofs.Given.{some_is}
 use Rattle.sd_proof_needed.specs.Alone.{alone}
 use Rattle.sd_proof_needed.proofs.Elements.{on_left}
 use Rattle.sd_proof_needed.proofs.Worlds.{IsCalm, ticks, receives, is_live, World}
-use Rattle.sd_proof_needed.proofs.Air.{FlightLaw, Air, IsNew, is_new}
+use Rattle.sd_proof_needed.proofs.Air.{Air, IsNew, is_new}
 use Rattle.sd_proof_needed.proofs.Still.{Still, still_on, sends_nothing, tick_stays, receipt_stays}
 
 -- live ordinary devices to which only such devices lead by primary links that are sound

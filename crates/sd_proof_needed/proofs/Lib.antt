@@ -15,6 +15,7 @@ mod Running
 mod Ready
 mod Moving
 mod Rings
+pub mod Loops
 -- Handed on: what crates above name of those below.
 pub use Rattle.sd_checker.proofs as Checker
 pub use Rattle.sd_history.proofs as History

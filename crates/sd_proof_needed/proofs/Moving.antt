@@ -1,5 +1,5 @@
 -- At the end of the wait some devices of the zone tick and move, and the others have not ticked yet.
-use Rattle.std.specs.Prelude.{◌≡◌, ℕ, zero, suc, ◌+◌, ◌*◌, ◌^◌, ◌<◌, ◌≤◌, Bool, true, false, ◌&&◌, ◌||◌, not, List, [], ◌∷◌, ◌⊎◌, length, nat_eq, nat_le, Option, Some, None, is_some, option_map, option_and_then, refl, if◌then◌else◌}
+use Rattle.std.specs.Prelude.{◌≡◌, ℕ, zero, suc, ◌+◌, ◌*◌, ◌^◌, ◌<◌, ◌≤◌, Bool, true, false, ◌||◌, List, ◌∷◌, ◌⊎◌, length, nat_eq, nat_le, Option, Some, None, is_some, option_map, refl, if◌then◌else◌}
 use Rattle.std.proofs.Common.{sym, ap, ◌∙◌, subst, arith, inl, inr}
 use Rattle.std.proofs.lemmas.Bool.{cases_eq, eq-eqb, ne_eqb, le-leb, both_ways}
 use Rattle.sd_checker.specs.Num.Lists.{of_some}
@@ -14,7 +14,6 @@ use Rattle.sd_checker.specs.Plan.declared.Role.{Role}
 use Rattle.sd_checker.specs.Plan.declared.Role.TheVariants.{Root, BackupRoot, Ordinary}
 use Rattle.sd_checker.specs.Plan.Plans.{primary_of, backup_of}
 use Rattle.sd_checker.specs.Plan.Duties.{duty_of, edge_of, role_of}
-use Rattle.sd_history.specs.Msg.declared.Flight.{Flight}
 use Rattle.sd_history.specs.Msg.declared.Message.{Message}
 use Rattle.sd_history.specs.Core.declared.Effect.{Effect}
 use Rattle.sd_history.specs.Core.declared.Effect.TheVariants.{Quiet, Send}
@@ -37,9 +36,9 @@ use Rattle.sd_proof_needed.proofs.Worlds.{is_live, ticks}
 use Rattle.sd_proof_needed.proofs.Allowed.{live_parts}
 use Rattle.sd_proof_needed.proofs.Air.{NoneDue, IsNew, is_new}
 use Rattle.sd_proof_needed.proofs.Going.{Good, tick_goes}
-use Rattle.sd_proof_needed.proofs.Still.{Still, tick_moves, HasJustMoved, just_moved, follows_primary}
+use Rattle.sd_proof_needed.proofs.Still.{tick_moves, HasJustMoved, just_moved, follows_primary}
 use Rattle.sd_proof_needed.proofs.Hush.{IsZone, IsStill, is_over, role_is}
-use Rattle.sd_proof_needed.proofs.Ready.{Multiples, multiples, Ready, ready}
+use Rattle.sd_proof_needed.proofs.Ready.{multiples, Ready, ready}
 
 module _ (net : Network) (plan : Plan) (dom : DomainId) (down : Thing → Bool) (zone : ℕ → Bool) (law : IsNetwork net) (among : Among dom (domains net))
     (known_device : (d : ℕ) → down (thing.Device d) ≡ true → d < length net.devices)

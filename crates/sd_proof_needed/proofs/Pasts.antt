@@ -1,11 +1,11 @@
 -- The past of a device that was started with its duty, and that nothing made take up another one: its words, by what its calls did.
-use Rattle.std.specs.Prelude.{◌≡◌, ℕ, Bool, true, false, ◌&&◌, ◌||◌, not, List, [], ◌∷◌, find, Option, Some, None, is_some, option_map, refl, if◌then◌else◌}
+use Rattle.std.specs.Prelude.{◌≡◌, Bool, true, false, ◌&&◌, not, List, [], ◌∷◌, find, Option, Some, None, is_some, option_map, refl}
 use Rattle.std.specs.List.{list_any, list_all}
-use Rattle.std.proofs.Common.{sym, ap, ◌∙◌, subst}
-use Rattle.std.proofs.lemmas.Bool.{and_parts, and_from, or_from, not-true}
+use Rattle.std.proofs.Common.{ap, ◌∙◌}
+use Rattle.std.proofs.lemmas.Bool.{and_parts, or_from, not-true}
 use Rattle.sd_checker.specs.Num.Lists.{of_some, latest, leading}
 use Rattle.sd_checker.specs.Plan.declared.Duty.{Duty}
-use Rattle.sd_history.specs.Core.Calls.{Making, Started, Call, Did, Past, Transition}
+use Rattle.sd_history.specs.Core.Calls.{Started, Did, Past}
 use Rattle.sd_history.specs.Core.Words.{takes_up, taken_up, duty_given, later_entry, since_entry, duty_now, given_now}
 
 -- Calls of one kind

@@ -1,5 +1,5 @@
 -- The history up to the end of the wait: all but the devices of the zone go on as ever, and these have done nothing.
-use Rattle.std.specs.Prelude.{◌≡◌, ◌≢◌, ℕ, zero, suc, ◌+◌, ◌-◌, ◌*◌, ◌/◌, ◌^◌, ◌<◌, ◌≤◌, Bool, true, false, ◌&&◌, not, List, [], ◌∷◌, ◌++◌, length, filter, sum_by, nat_le, Option, Some, None, is_some, option_map, refl, if◌then◌else◌}
+use Rattle.std.specs.Prelude.{◌≡◌, ℕ, zero, suc, ◌+◌, ◌-◌, ◌*◌, ◌/◌, ◌^◌, ◌<◌, ◌≤◌, Bool, true, false, ◌&&◌, not, List, [], ◌∷◌, length, filter, sum_by, nat_le, Some, None, is_some, refl, if◌then◌else◌}
 use Rattle.std.proofs.Common.{sym, ap, ◌∙◌, subst, arith}
 use Rattle.std.proofs.Math.Nat.{mul-add, mul_comm, div-mul-le_self, lt-div-mul-add}
 use Rattle.std.proofs.lemmas.Nat.{mul-le}
@@ -17,7 +17,7 @@ use Rattle.sd_checker.specs.Plan.declared.Role.TheVariants.{Root, BackupRoot, Or
 use Rattle.sd_checker.specs.Plan.Duties.{duty_of, role_of}
 use Rattle.sd_history.specs.Msg.declared.Flight.{Flight}
 use Rattle.sd_history.specs.Core.Calls.{Past}
-use Rattle.sd_history.specs.Core.Words.{stamp_now, is_acting, wait_to_move}
+use Rattle.sd_history.specs.Core.Words.{stamp_now}
 use Rattle.sd_history.specs.Sched.declared.Event.{Event}
 use Rattle.sd_history.specs.World.{Setting}
 use Rattle.sd_history.specs.Steps.{Step, seen_of, flights}
@@ -33,11 +33,10 @@ use Rattle.sd_proof_needed.proofs.Allowed.{live_parts}
 use Rattle.sd_proof_needed.proofs.Air.{NoneDue}
 use Rattle.sd_proof_needed.proofs.Going.{Good}
 use Rattle.sd_proof_needed.proofs.Beginning.{fresh, fresh_if, Opened, opened}
-use Rattle.sd_proof_needed.proofs.Still.{Still}
 use Rattle.sd_proof_needed.proofs.Pasts.{Plain}
-use Rattle.sd_proof_needed.proofs.Hush.{IsZone, Hush, IsStill, is_over, role_is}
+use Rattle.sd_proof_needed.proofs.Hush.{IsZone, Hush, is_over, role_is}
 use Rattle.sd_proof_needed.proofs.Budget.{Stamps, acted, width, total, level, budget, pending}
-use Rattle.sd_proof_needed.proofs.Running.{Running, Clear, ticks_on, clear}
+use Rattle.sd_proof_needed.proofs.Running.{Running, ticks_on, clear}
 
 -- a sum below a number is one over a list
 total_is : (f : ℕ → ℕ) (n : ℕ) → total f n ≡ sum_by f (below n)

@@ -1,15 +1,15 @@
 -- A ring of devices that may follow each other while things of a domain fail: each of them is hit, and hit by what the domain has beside the ring.
-use Rattle.std.specs.Prelude.{◌≡◌, ◌≢◌, ℕ, zero, suc, ◌+◌, ◌<◌, ◌≤◌, Bool, true, false, ◌&&◌, ◌||◌, not, List, [], ◌∷◌, ◌++◌, length, map, find, nat_eq, nat_lt, slice_get, Option, Some, None, IsTrue, option_map, option_to_list, ◌⊎◌, refl, if◌then◌else◌}
-use Rattle.std.specs.List.{list_any, list_all}
+use Rattle.std.specs.Prelude.{◌≡◌, ℕ, zero, suc, ◌<◌, Bool, true, false, ◌&&◌, ◌||◌, not, List, [], ◌∷◌, ◌++◌, length, map, find, nat_eq, nat_lt, slice_get, Option, Some, None, option_map, option_to_list, ◌⊎◌, refl, if◌then◌else◌}
+use Rattle.std.specs.List.{list_any}
 use Rattle.std.proofs.Common.{sym, ap, ◌∙◌, subst, arith, inl, inr}
-use Rattle.std.proofs.lemmas.Bool.{and_parts, and_from, and_right, or_cases, or_left, or_right, or_parts, or_from, eqb-true, eq-eqb, ne_eqb, ltb-true, lt-ltb, cases_lt, cases_eq, cases_Bool, both_ways, not-true, not-false, false_from_ne_true}
+use Rattle.std.proofs.lemmas.Bool.{and_parts, and_right, or_cases, or_left, or_right, or_parts, eqb-true, eq-eqb, ne_eqb, ltb-true, lt-ltb, cases_lt, cases_Bool, both_ways, not-true, not-false}
 use Rattle.std.proofs.lemmas.List.Folds.{list_any-append}
 use Rattle.std.proofs.lemmas.Option.{slice_get_past}
 use Rattle.sd_checker.specs.Num.Lists.{below, has, of_some, all_below}
 use Rattle.sd_checker.specs.Topo.Network.{Network, Domain, IsNetwork, device_numbers, link_numbers}
 use Rattle.sd_checker.specs.Topo.declared.Thing.{Thing}
 use Rattle.sd_checker.specs.Topo.declared.Thing.TheVariants as thing
-use Rattle.sd_checker.specs.Domain.Domains.{IsDomain, domains, holds, holds_device, holds_link, hits}
+use Rattle.sd_checker.specs.Domain.Domains.{IsDomain, domains, holds_device, holds_link, hits}
 use Rattle.sd_checker.specs.Domain.declared.DomainId.{DomainId}
 use Rattle.sd_checker.specs.Domain.declared.DomainId.TheVariants as domain
 use Rattle.sd_checker.specs.Plan.declared.Hop.{Hop}
@@ -19,16 +19,17 @@ use Rattle.sd_checker.specs.Plan.Plans.{Fits, is_member, primary_of, backup_of, 
 use Rattle.sd_checker.specs.Plan.Walks.{is_end, is_hit, epath, things_of, short_path, short_walk}
 use Rattle.sd_checker.specs.Plan.Structure.{structure_breach, first_failing, roots_breach, row_is_right, hops_are_right, links_differ}
 use Rattle.sd_checker.proofs.Plan.Numbered.{none_found, both_none}
-use Rattle.sd_checker.proofs.Plan.Forest.{IsForest, IsStep, forest_of, climb}
-use Rattle.sd_checker.specs.CheckLoop.Loops.{LeadsTo, IsChain, AreDifferent, hops_of}
-use Rattle.sd_history.proofs.Among.{Among, on_right}
+use Rattle.sd_checker.proofs.Plan.Forest.{IsForest, forest_of, climb}
+use Rattle.sd_checker.specs.CheckLoop.Loops.{LeadsTo, IsChain, AreDifferent}
+use Rattle.sd_history.proofs.Among as among
+use Rattle.sd_history.proofs.Among.{Among, on_right, either_side}
 use Rattle.sd_history.proofs.Given.{some_is}
 use Rattle.sd_proof_needed.specs.Alone.{holds_besides}
 use Rattle.sd_proof_needed.specs.Loops.{IsRing}
-use Rattle.sd_proof_needed.proofs.Elements.{mapped, on_left, below_among}
+use Rattle.sd_proof_needed.proofs.Elements.{mapped, on_left, below_among, among_below}
 use Rattle.sd_proof_needed.proofs.Paths.{no_short_walk, short_walk_is, short_walk_none, path_step}
 use Rattle.sd_proof_needed.proofs.Worlds.{is_live}
-use Rattle.sd_proof_needed.proofs.Allowed.{Live, live_parts}
+use Rattle.sd_proof_needed.proofs.Allowed.{live_parts}
 use Rattle.sd_proof_needed.proofs.Hush.{IsZone}
 
 -- Domains
@@ -44,6 +45,40 @@ domain_among net (domain.Device d) is =
 domain_among net (domain.Link l) is =
     on_right (map domain.Listed (below (length net.domains)) ++ map domain.Device (device_numbers net))
     (mapped domain.Link (link_numbers net) l (below_among (length net.links) l is))
+
+-- an element at a place is among the elements
+got_among : {A : Type 0} (xs : List A) (k : ℕ) (x : A) → slice_get xs k ≡ Some x → Among x xs
+got_among [] k x at = cc
+got_among (y ∷ ys) zero x at = subst (λ z. Among z (y ∷ ys)) (some_is at) among.first
+got_among (y ∷ ys) (suc k) x at = among.later (got_among ys k x at)
+
+record Unmapped {A B : Type 0} (g : A → B) (xs : List A) (y : B) : Type 0 where
+  pub from : A
+  pub there : Among from xs
+  pub is : g from ≡ y
+
+unmapped : {A B : Type 0} (g : A → B) (xs : List A) (y : B) → Among y (map g xs) → Unmapped g xs y
+unmapped g [] y a = elim a [ ]
+unmapped {B = B} g (x ∷ xs) y a = at_head (g x) (map g xs) y refl a (unmapped g xs y)
+  where
+    at_head : (z : B) (zs : List B) (w : B) → g x ≡ z → Among w (z ∷ zs) → (Among w zs → Unmapped g xs w) → Unmapped g (x ∷ xs) w
+    at_head z zs w is among.first rest = record { from = x; there = among.first; is = is }
+    at_head z zs w is (among.later b) rest = let more : Unmapped g xs w = rest b in record { from = more.from; there = among.later more.there; is = more.is }
+
+-- what is at a place of the domains is a domain
+pub domain_is : (net : Network) (k : ℕ) (f : DomainId) → slice_get (domains net) k ≡ Some f → IsDomain net f
+domain_is net k f at =
+    elim (either_side (map domain.Listed (below (length net.domains)) ++ map domain.Device (device_numbers net)) (map domain.Link (link_numbers net))
+    (got_among (domains net) k f at)) [
+      | inl front ↦ elim (either_side (map domain.Listed (below (length net.domains))) (map domain.Device (device_numbers net)) front) [
+        | inl a ↦ (let it : Unmapped domain.Listed (below (length net.domains)) f = unmapped domain.Listed (below (length net.domains)) f a in
+            subst (IsDomain net) it.is (among_below (length net.domains) it.from it.there))
+        | inr a ↦ (let it : Unmapped domain.Device (device_numbers net) f = unmapped domain.Device (device_numbers net) f a in
+            subst (IsDomain net) it.is (among_below (length net.devices) it.from it.there))
+      ]
+      | inr a ↦ (let it : Unmapped domain.Link (link_numbers net) f = unmapped domain.Link (link_numbers net) f a in
+          subst (IsDomain net) it.is (among_below (length net.links) it.from it.there))
+    ]
 
 -- a number of the list is below the bound of all
 all_has : (bound : ℕ) (xs : List ℕ) (x : ℕ) → all_below bound xs ≡ true → has xs x ≡ true → x < bound
@@ -111,13 +146,12 @@ pub chain_of : (R : ℕ → ℕ → Type 0) (first y : ℕ) (ys : List ℕ) → 
     → IsChain R (y ∷ (ys ++ first ∷ []))
 chain_of R first y [] different each =
     (subst (λ (b : Bool). R y (if b then first else first)) (eq-eqb y y refl) (each y (or_left (nat_eq y y) false (eq-eqb y y refl))), tt)
-chain_of R first y (z ∷ zs) different each =
-    (
-      subst (λ (b : Bool). R y (if b then z else next_in first (z ∷ zs) y)) (eq-eqb y y refl)
-          (each y (or_left (nat_eq y y) (has (z ∷ zs) y) (eq-eqb y y refl))),
-      chain_of R first z zs different.1 (λ x there.
+chain_of R first y (z ∷ zs) different each = (
+  subst (λ (b : Bool). R y (if b then z else next_in first (z ∷ zs) y)) (eq-eqb y y refl)
+      (each y (or_left (nat_eq y y) (has (z ∷ zs) y) (eq-eqb y y refl))),
+  chain_of R first z zs different.1 (λ x there.
       subst (λ (b : Bool). R x (if b then z else next_in first (z ∷ zs) x)) (apart x there) (each x (or_right (nat_eq x y) (has (z ∷ zs) x) there))),
-    )
+)
   where
     apart : (x : ℕ) → has (z ∷ zs) x ≡ true → nat_eq y x ≡ false
     apart x there =
@@ -173,26 +207,24 @@ led_by : (member ends hit : Bool) (primary backup : Option Hop) (y : ℕ)
     → LedBy member ends hit primary backup y
 led_by false ends hit primary backup y some = cc
 led_by true true hit primary backup y some = cc
-led_by true false true primary backup y some =
-    (
-      refl,
-      refl,
-      elim (or_cases (list_any (λ hop. nat_eq hop.parent y) (option_to_list primary)) (list_any (λ hop. nat_eq hop.parent y) (option_to_list backup))
-          (sym (list_any-append (λ hop. nat_eq hop.parent y) (option_to_list primary) (option_to_list backup)) ∙ some)) [
-            | inl one ↦ inl (parent_of primary y one)
-            | inr two ↦ inr (refl, parent_of backup y two)
-          ],
-    )
-led_by true false false primary backup y some =
-    (
-      refl,
-      refl,
-      elim (or_cases (list_any (λ hop. nat_eq hop.parent y) (option_to_list primary)) false
-          (sym (list_any-append (λ hop. nat_eq hop.parent y) (option_to_list primary) []) ∙ some)) [
-            | inl one ↦ inl (parent_of primary y one)
-            | inr never ↦ absurd (both_ways false refl never)
-          ],
-    )
+led_by true false true primary backup y some = (
+  refl,
+  refl,
+  elim (or_cases (list_any (λ hop. nat_eq hop.parent y) (option_to_list primary)) (list_any (λ hop. nat_eq hop.parent y) (option_to_list backup))
+      (sym (list_any-append (λ hop. nat_eq hop.parent y) (option_to_list primary) (option_to_list backup)) ∙ some)) [
+        | inl one ↦ inl (parent_of primary y one)
+        | inr two ↦ inr (refl, parent_of backup y two)
+      ],
+)
+led_by true false false primary backup y some = (
+  refl,
+  refl,
+  elim (or_cases (list_any (λ hop. nat_eq hop.parent y) (option_to_list primary)) false
+      (sym (list_any-append (λ hop. nat_eq hop.parent y) (option_to_list primary) []) ∙ some)) [
+        | inl one ↦ inl (parent_of primary y one)
+        | inr never ↦ absurd (both_ways false refl never)
+      ],
+)
 
 pub led : (net : Network) (plan : Plan) (f : DomainId) (x y : ℕ) → LeadsTo net plan f x y → Led net plan f x y
 led net plan f x y leads =

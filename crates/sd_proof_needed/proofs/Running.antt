@@ -1,8 +1,8 @@
 -- A calm time runs on: at each multiple of the tick all live devices tick, and between them each message is received when it is due.
-use Rattle.std.specs.Prelude.{◌≡◌, ◌≢◌, ℕ, zero, suc, ◌+◌, ◌-◌, ◌*◌, ◌^◌, ◌<◌, ◌≤◌, Bool, true, false, ◌&&◌, ◌||◌, not, List, [], ◌∷◌, ◌⊎◌, length, filter, nat_eq, Option, Some, None, refl, if◌then◌else◌}
-use Rattle.std.proofs.Common.{sym, ap, ◌∙◌, subst, arith, inl, inr}
-use Rattle.std.proofs.lemmas.Bool.{and_parts, and_from, not-true, cases_lt, cases_eq, eqb-false, both_ways}
-use Rattle.sd_checker.specs.Num.Lists.{of_some, latest}
+use Rattle.std.specs.Prelude.{◌≡◌, ℕ, zero, suc, ◌+◌, ◌*◌, ◌^◌, ◌<◌, ◌≤◌, Bool, true, false, ◌&&◌, ◌||◌, not, List, [], ◌∷◌, ◌⊎◌, length, filter, nat_eq, Some, None, refl, if◌then◌else◌}
+use Rattle.std.proofs.Common.{sym, subst, arith, inl, inr}
+use Rattle.std.proofs.lemmas.Bool.{and_parts, not-true, cases_lt, cases_eq, eqb-false, both_ways}
+use Rattle.sd_checker.specs.Num.Lists.{of_some}
 use Rattle.sd_checker.specs.Topo.Network.{Network, IsNetwork}
 use Rattle.sd_checker.specs.Topo.declared.Thing.{Thing}
 use Rattle.sd_checker.specs.Domain.Domains.{domains}
@@ -13,7 +13,7 @@ use Rattle.sd_history.specs.Sched.declared.Event.{Event}
 use Rattle.sd_history.specs.Sched.declared.Event.TheVariants as event
 use Rattle.sd_history.specs.World.{Setting}
 use Rattle.sd_history.specs.Steps.{Step, seen_of, flights, flight_numbered}
-use Rattle.sd_history.specs.Chronicle.{next_step, chronicle}
+use Rattle.sd_history.specs.Chronicle.{chronicle}
 use Rattle.sd_history.specs.Accepted.{AreSteps}
 use Rattle.sd_history.specs.Refusals.{was_used}
 use Rattle.sd_history.specs.Premises.{latest_tick}
@@ -23,12 +23,12 @@ use Rattle.sd_history.proofs.Accepting.{history_is_accepted}
 use Rattle.sd_history.proofs.flights.Numbers.{numbered_itself}
 use Rattle.sd_proof_needed.specs.Alone.{alone}
 use Rattle.sd_proof_needed.proofs.Elements.{passes_kept}
-use Rattle.sd_proof_needed.proofs.Worlds.{is_live, World, OnTime}
-use Rattle.sd_proof_needed.proofs.Allowed.{Live, live_parts}
+use Rattle.sd_proof_needed.proofs.Worlds.{is_live, OnTime}
+use Rattle.sd_proof_needed.proofs.Allowed.{live_parts}
 use Rattle.sd_proof_needed.proofs.Air.{NoneDue}
 use Rattle.sd_proof_needed.proofs.Going.{Good, tick_goes, receipt_goes}
 use Rattle.sd_proof_needed.proofs.Hush.{IsZone, Hush, is_over, hush_tick, hush_receipt}
-use Rattle.sd_proof_needed.proofs.Budget.{Stamps, pending, budget, total, tick_stamps, receipt_stamps}
+use Rattle.sd_proof_needed.proofs.Budget.{Stamps, pending, budget, tick_stamps, receipt_stamps}
 
 -- The first that is due
 

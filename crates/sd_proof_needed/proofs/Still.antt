@@ -1,19 +1,18 @@
 -- A device that has done nothing since its start: what its words are, and what a tick or a receipt does.
-use Rattle.std.specs.Prelude.{◌≡◌, ◌≢◌, ℕ, ◌-◌, ◌≤◌, Bool, true, false, ◌&&◌, ◌||◌, not, List, [], ◌∷◌, find, max, nat_eq, nat_le, Option, Some, None, is_some, option_map, option_and_then, refl, if◌then◌else◌}
-use Rattle.std.specs.List.{list_any, list_all}
-use Rattle.std.proofs.Common.{sym, ap, ◌∙◌, subst, arith}
-use Rattle.std.proofs.lemmas.Bool.{and_parts, and_from, or_from, le-leb, ne_eqb, not-true}
-use Rattle.sd_checker.specs.Num.Lists.{of_some, latest, leading}
+use Rattle.std.specs.Prelude.{◌≡◌, ◌≢◌, ℕ, ◌-◌, Bool, true, false, ◌&&◌, not, List, [], ◌∷◌, nat_eq, nat_le, Option, Some, None, is_some, option_map, option_and_then, refl, if◌then◌else◌}
+use Rattle.std.specs.List.{list_all}
+use Rattle.std.proofs.Common.{ap, ◌∙◌, arith}
+use Rattle.std.proofs.lemmas.Bool.{and_parts, and_from, ne_eqb, not-true}
+use Rattle.sd_checker.specs.Num.Lists.{of_some}
 use Rattle.sd_checker.specs.Plan.declared.Duty.{Duty}
 use Rattle.sd_checker.specs.Plan.declared.Edge.{Edge}
-use Rattle.sd_checker.specs.Plan.declared.Role.TheVariants.{Root, BackupRoot, Ordinary}
-use Rattle.sd_history.specs.Msg.declared.Stamp.{Stamp}
+use Rattle.sd_checker.specs.Plan.declared.Role.TheVariants.{Ordinary}
 use Rattle.sd_history.specs.Msg.declared.Message.{Message}
-use Rattle.sd_history.specs.Msg.Stamps.{stamp, is_newer}
+use Rattle.sd_history.specs.Msg.Stamps.{is_newer}
 use Rattle.sd_history.specs.Core.declared.Effect.TheVariants.{Quiet}
 use Rattle.sd_proof_needed.proofs.Pasts.{latest_none, any_none, none_is, is_plain, Plain, no_entry, since_is, duty_is, given_none}
-use Rattle.sd_history.specs.Core.Calls.{Making, Started, Call, Tick, Receive, Did, Past, Transition, Entered, Committed, Recommitted, Accepted, Moved, TookOver, Emitted, Nothing}
-use Rattle.sd_history.specs.Core.Words.{takes_up, taken_up, accepted_over, counter_of, is_move, is_takeover, duty_given, later_entry, since_entry, duty_now, given_now, heard, has_moved, is_acting, is_sealed, may_move, parent_edge, parent_now, backup_now, wait_to_move, emits_at, takes_over_at, moves_at, is_backup_root_now, transition_of, after, effect_of, accepted_by, entered_by, over_link, epoch_now, stamp_now}
+use Rattle.sd_history.specs.Core.Calls.{Started, Call, Tick, Receive, Did, Past, Transition, Entered, Committed, Recommitted, Accepted, Moved, TookOver, Emitted, Nothing}
+use Rattle.sd_history.specs.Core.Words.{taken_up, accepted_over, counter_of, is_move, is_takeover, duty_given, duty_now, heard, has_moved, is_acting, is_sealed, may_move, parent_edge, parent_now, wait_to_move, emits_at, takes_over_at, moves_at, is_backup_root_now, transition_of, after, effect_of, accepted_by, entered_by, over_link, epoch_now, stamp_now}
 
 abbrev pub is_nothing : Transition → Bool
 is_nothing Nothing = true

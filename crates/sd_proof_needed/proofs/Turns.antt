@@ -1,19 +1,17 @@
 -- What a tick or a receipt makes of a device that takes up no other duty: it sends nothing and keeps its stamp, or it sends a message of its new
 -- stamp, which it relays, emits or takes over with.
-use Rattle.std.specs.Prelude.{◌≡◌, ℕ, ◌+◌, Bool, true, false, ◌&&◌, ◌||◌, not, List, [], ◌∷◌, nat_eq, Option, Some, None, is_some, option_map, option_and_then, refl, if◌then◌else◌}
+use Rattle.std.specs.Prelude.{◌≡◌, ℕ, ◌+◌, Bool, true, false, ◌&&◌, ◌||◌, not, nat_eq, Option, Some, None, option_and_then, refl, if◌then◌else◌}
 use Rattle.std.specs.List.{list_any, list_all}
-use Rattle.std.proofs.Common.{sym, ap, ◌∙◌, subst}
+use Rattle.std.proofs.Common.{sym, ap, ◌∙◌}
 use Rattle.std.proofs.lemmas.Bool.{and_parts, and_from, not-true}
 use Rattle.sd_checker.specs.Num.Lists.{of_some}
 use Rattle.sd_checker.specs.Plan.declared.Duty.{Duty}
 use Rattle.sd_checker.specs.Plan.declared.Edge.{Edge}
-use Rattle.sd_history.specs.Msg.declared.Stamp.{Stamp}
 use Rattle.sd_history.specs.Msg.declared.Message.{Message}
 use Rattle.sd_history.specs.Msg.Stamps.{stamp, is_newer}
-use Rattle.sd_history.specs.Core.declared.Effect.{Effect}
 use Rattle.sd_history.specs.Core.declared.Effect.TheVariants.{Quiet, Send}
-use Rattle.sd_history.specs.Core.Calls.{Making, Started, Call, Tick, Receive, Did, Past, Transition, Entered, Committed, Recommitted, Accepted, Moved, TookOver, Emitted, Nothing}
-use Rattle.sd_history.specs.Core.Words.{takes_up, taken_up, is_takeover, duty_given, starts_as_root, is_acting, backup_now, primary_now, parent_edge, emits_at, takes_over_at, moves_at, is_backup_root_now, has_moved, transition_of, after, effect_of, effect_of_latest, accepted_by, entered_by, over_link, epoch_now, stamp_now, stamp_after}
+use Rattle.sd_history.specs.Core.Calls.{Call, Tick, Receive, Past, Transition, Accepted, Moved, TookOver, Emitted, Nothing}
+use Rattle.sd_history.specs.Core.Words.{taken_up, is_takeover, duty_given, starts_as_root, is_acting, backup_now, primary_now, parent_edge, emits_at, takes_over_at, moves_at, is_backup_root_now, has_moved, transition_of, after, effect_of, effect_of_latest, accepted_by, entered_by, over_link, epoch_now, stamp_now, stamp_after}
 use Rattle.sd_proof_needed.proofs.Pasts.{is_plain, Plain, no_entry, since_is, given_none}
 
 -- how a device came to send

@@ -1,11 +1,11 @@
 -- What is seen of a history where some things failed at first, the other members started, and then devices only ticked and received: who is up,
 -- what has failed, and that each premise but that on losses holds on.
-use Rattle.std.specs.Prelude.{◌≡◌, ℕ, zero, suc, ◌+◌, ◌-◌, ◌*◌, ◌<◌, ◌≤◌, Bool, true, false, ◌&&◌, ◌||◌, not, List, [], ◌∷◌, ◌++◌, length, cond, count_by, filter, filter_map, find, nat_eq, nat_le, nat_lt, Option, Some, None, is_some, option_map, option_to_list, refl, if◌then◌else◌}
+use Rattle.std.specs.Prelude.{◌≡◌, ℕ, ◌+◌, ◌-◌, ◌*◌, ◌<◌, ◌≤◌, Bool, true, false, ◌&&◌, ◌||◌, not, List, ◌∷◌, ◌++◌, length, cond, count_by, nat_eq, nat_le, nat_lt, Some, None, is_some, option_to_list, refl, if◌then◌else◌}
 use Rattle.std.specs.List.{list_any, list_all}
-use Rattle.std.proofs.Common.{sym, ap, ◌∙◌, subst, arith, inl, inr}
-use Rattle.std.proofs.lemmas.Bool.{and_parts, and_from, or_left, or_right, le-leb, cases_Bool}
+use Rattle.std.proofs.Common.{ap, arith}
+use Rattle.std.proofs.lemmas.Bool.{and_from, or_left, or_right, le-leb}
 use Rattle.std.proofs.lemmas.List.Sums.{sum_by-cons}
-use Rattle.sd_checker.specs.Num.Lists.{below, of_some, same_number, latest, leading}
+use Rattle.sd_checker.specs.Num.Lists.{of_some}
 use Rattle.sd_checker.specs.Num.Numbers.{distance, keeps_rate}
 use Rattle.sd_checker.specs.Num.declared.Rates.{Rates}
 use Rattle.sd_checker.specs.Topo.Network.{Network, device_numbers, rates_of}
@@ -19,11 +19,11 @@ use Rattle.sd_history.specs.Sched.declared.Event.{Event}
 use Rattle.sd_history.specs.Sched.declared.Event.TheVariants as event
 use Rattle.sd_history.specs.Sched.Events.{reference_of, is_end, is_stage}
 use Rattle.sd_history.specs.Things.{failure_of}
-use Rattle.sd_history.specs.World.{Setting, Seen, is_up, has_failed, is_untouched, latest_reference, latest_reading, window, plan_numbered, in_force, epoch_in_force}
+use Rattle.sd_history.specs.World.{Setting, Seen, is_up, has_failed, is_untouched, latest_reference, latest_reading, window, plan_numbered}
 use Rattle.sd_history.specs.Steps.{Step, Told, seen_of, first_step, can_close}
 use Rattle.sd_history.specs.Chronicle.{next_step}
 use Rattle.sd_history.specs.Premises.{readings, reads_honestly, start_holds, drift_holds, delay_holds, tick_holds, domain_holds, renew_holds, arrives_in_time, ticks_in_time, latest_tick, is_current_member, first_reference, failures_since_closing, fails_within_one}
-use Rattle.sd_history.proofs.Among.{Among, first, later, all_pass, either_side}
+use Rattle.sd_history.proofs.Among.{Among, first, later, all_pass}
 use Rattle.sd_history.proofs.Filters.{kept_among}
 use Rattle.sd_proof_needed.specs.Alone.{alone}
 use Rattle.sd_proof_needed.proofs.Elements.{passes_kept, found_some, among_below}

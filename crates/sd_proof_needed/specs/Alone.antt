@@ -1,5 +1,5 @@
 -- One plan that is never renewed, and histories in which some things fail.
-use Rattle.std.specs.Prelude.{◌≡◌, ℕ, Bool, true, ◌&&◌, not, List, [], ◌∷◌, IsTrue}
+use Rattle.std.specs.Prelude.{ℕ, Bool, true, ◌&&◌, not, List, [], ◌∷◌, IsTrue}
 use Rattle.std.specs.List.{list_all}
 use Rattle.sd_checker.specs.Num.Lists.{has, of_some}
 use Rattle.sd_checker.specs.Topo.Network.{Network}
@@ -11,7 +11,7 @@ use Rattle.sd_checker.specs.Plan.declared.Plan.{Plan}
 use Rattle.sd_history.specs.Sched.declared.Event.{Event}
 use Rattle.sd_history.specs.Things.{failure_of}
 use Rattle.sd_history.specs.World.{Setting}
-use Rattle.sd_history.specs.Steps.{Step, seen_of}
+use Rattle.sd_history.specs.Steps.{seen_of}
 use Rattle.sd_history.specs.Chronicle.{chronicle, IsHistory}
 use Rattle.sd_history.specs.Premises.{all_hold}
 
