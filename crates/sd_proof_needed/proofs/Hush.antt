@@ -13,7 +13,7 @@ use Rattle.sd_checker.specs.Plan.declared.Plan.{Plan}
 use Rattle.sd_checker.specs.Plan.declared.Role.TheVariants.{Ordinary}
 use Rattle.sd_checker.specs.Plan.Plans.{is_root, is_backup_root, primary_of, backup_of}
 use Rattle.sd_checker.specs.Plan.Walks.{is_end}
-use Rattle.sd_checker.specs.Plan.Duties.{duty_of, edge_of, role_of, leads_to}
+use Rattle.sd_checker.specs.Plan.Duties.{duty_of, edge_of, role_of, follows_over}
 use Rattle.sd_history.specs.Msg.declared.Flight.{Flight}
 use Rattle.sd_history.specs.Msg.declared.Message.{Message}
 use Rattle.sd_history.specs.Core.declared.Effect.{Effect}
@@ -34,13 +34,13 @@ use Rattle.sd_proof_needed.proofs.Worlds.{IsCalm, ticks, receives, is_live, Worl
 use Rattle.sd_proof_needed.proofs.Air.{Air, IsNew, is_new}
 use Rattle.sd_proof_needed.proofs.Still.{Still, still_on, sends_nothing, tick_stays, receipt_stays}
 
--- live ordinary devices to which only such devices lead by primary links that are sound
-pub record IsZone (net : Network) (plan : Plan) (down : Thing → Bool) (zone : ℕ → Bool) : Type 0 where
+-- Live ordinary devices, and links over which nothing may come to a device: their primary links at least, and others that lead up to such devices
+-- wherever what is there is sound.
+pub record IsZone (net : Network) (plan : Plan) (down : Thing → Bool) (zone : ℕ → Bool) (mute : ℕ → ℕ → Type 0) : Type 0 where
   pub live : (z : ℕ) → zone z ≡ true → is_live net plan down z ≡ true
   pub ordinary : (z : ℕ) → zone z ≡ true → is_end plan z ≡ false
-  pub above : (z : ℕ) (hop : Hop) → zone z ≡ true → primary_of plan z ≡ Some hop → down (thing.Link hop.link) ≡ false
-      → is_live net plan down hop.parent ≡ true → zone hop.parent ≡ true
-  pub differ : (z : ℕ) (p b : Hop) → zone z ≡ true → primary_of plan z ≡ Some p → backup_of plan z ≡ Some b → p.link ≢ b.link
+  pub on_primary : (z : ℕ) (hop : Hop) → zone z ≡ true → primary_of plan z ≡ Some hop → mute z hop.link
+  pub above : (x l s : ℕ) → mute x l → follows_over plan s l x ≡ true → down (thing.Link l) ≡ false → is_live net plan down s ≡ true → zone s ≡ true
 
 -- the device's past, in which it has done nothing
 pub record IsStill (net : Network) (plan : Plan) (steps : List Step) (z : ℕ) : Type 0 where
@@ -48,11 +48,10 @@ pub record IsStill (net : Network) (plan : Plan) (steps : List Step) (z : ℕ) :
   pub is : past_in steps z ≡ Some past
   pub still : Still (duty_of net plan 1 z) past
 
--- the devices of the zone have done nothing, and nothing is on its way to them over their primary links
-pub record Hush (net : Network) (plan : Plan) (zone : ℕ → Bool) (steps : List Step) : Type 0 where
+-- the devices of the zone have done nothing, and nothing is on its way over a mute link
+pub record Hush (net : Network) (plan : Plan) (zone : ℕ → Bool) (mute : ℕ → ℕ → Type 0) (steps : List Step) : Type 0 where
   pub still : (z : ℕ) → zone z ≡ true → IsStill net plan steps z
-  pub silent : (f : Flight) → Among f (flights steps) → f.reaches ≡ true → zone f.receiver ≡ true → (hop : Hop) → primary_of plan f.receiver ≡ Some hop
-      → f.link ≢ hop.link
+  pub silent : (f : Flight) → Among f (flights steps) → f.reaches ≡ true → mute f.receiver f.link → ⊥
 
 -- a device that ends no short walk has the role of others
 pub role_is : (net : Network) (plan : Plan) (z : ℕ) → is_end plan z ≡ false → role_of plan z ≡ Ordinary
@@ -64,8 +63,8 @@ role_is net plan z other =
 abbrev pub is_over : Network → Plan → ℕ → ℕ → Bool
 is_over net plan d counter = of_some (wait_to_move (duty_of net plan 1 d)) false (λ wait. nat_le wait counter)
 
-module _ (net : Network) (plan : Plan) (dom : DomainId) (down : Thing → Bool) (zone : ℕ → Bool) (is_zone : IsZone net plan down zone) (steps : List Step)
-    (t : ℕ) (world : World net plan dom down (seen_of steps) t) (hush : Hush net plan zone steps) where
+module _ (net : Network) (plan : Plan) (dom : DomainId) (down : Thing → Bool) (zone : ℕ → Bool) (mute : ℕ → ℕ → Type 0) (is_zone : IsZone net plan down zone mute) (steps : List Step)
+    (t : ℕ) (world : World net plan dom down (seen_of steps) t) (hush : Hush net plan zone mute steps) where
   abbrev setting : Setting
   setting = alone net plan
 
@@ -75,13 +74,13 @@ module _ (net : Network) (plan : Plan) (dom : DomainId) (down : Thing → Bool) 
       → ((still : IsStill net plan steps d) → zone d ≡ true → transition_of still.past call ≡ Nothing)
       → AreSteps setting (next_step setting steps e ∷ steps)
       → Air net plan down (next_step setting steps e ∷ steps) r
-      → Hush net plan zone (next_step setting steps e ∷ steps)
+      → Hush net plan zone mute (next_step setting steps e ∷ steps)
   hush_on e r d call calm acts gives live stays is air =
       record {
         still = λ z in_. still_at z in_ (nat_eq d z) refl;
-        silent = λ f a reaches in_ hop primary same. elim (either_side s.sent (flights steps) a) [
-          | inl b ↦ silent_new f b reaches in_ hop primary same
-          | inr b ↦ hush.silent f b reaches in_ hop primary same
+        silent = λ f a reaches mutes. elim (either_side s.sent (flights steps) a) [
+          | inl b ↦ silent_new f b reaches mutes
+          | inr b ↦ hush.silent f b reaches mutes
         ];
       }
     where
@@ -124,34 +123,16 @@ module _ (net : Network) (plan : Plan) (dom : DomainId) (down : Thing → Bool) 
       not_sent : {m : Message} {effect : Effect} → effect ≡ Quiet → effect ≡ Send m → ⊥
       not_sent quiet_ sent = cc
 
-      silent_new : (f : Flight) → Among f (next_step setting steps e).sent → f.reaches ≡ true → zone f.receiver ≡ true → (hop : Hop)
-          → primary_of plan f.receiver ≡ Some hop → f.link ≢ hop.link
-      silent_new f a reaches in_ hop primary same =
+      silent_new : (f : Flight) → Among f (next_step setting steps e).sent → f.reaches ≡ true → mute f.receiver f.link → ⊥
+      silent_new f a reaches mutes =
           let n : IsNew net plan steps (next_step setting steps e) r d f = is_new net plan dom down steps t world e r d f calm is a in
-          elim (or_cases (leads_to d f.link (primary_of plan f.receiver)) (leads_to d f.link (backup_of plan f.receiver)) n.follows) [
-            | inl by_primary ↦
-                (let leads : (nat_eq hop.parent d && nat_eq hop.link f.link) ≡ true =
-                subst (λ (o : Option Hop). leads_to d f.link o ≡ true) primary by_primary in
-                let parent : hop.parent ≡ d = eqb-true hop.parent d (and_parts (nat_eq hop.parent d) (nat_eq hop.link f.link) leads).0 in
-                let sound : down (thing.Link f.link) ≡ false = (air.law f (on_left s.sent (flights steps) f a)).whole reaches in
-                let above : zone hop.parent ≡ true = is_zone.above f.receiver hop in_ primary
-                (subst (λ (l : ℕ). down (thing.Link l) ≡ false) same sound)
-                (subst (λ (x : ℕ). is_live net plan down x ≡ true) (sym parent) live) in
-                not_sent (quiet (subst (λ (x : ℕ). zone x ≡ true) parent above)) n.sends)
-            | inr by_backup ↦ other_link f (backup_of plan f.receiver) refl by_backup in_ hop primary same
-          ]
-        where
-          other_link : (g : Flight) (o : Option Hop) → backup_of plan g.receiver ≡ o → leads_to d g.link o ≡ true → zone g.receiver ≡ true → (h : Hop)
-              → primary_of plan g.receiver ≡ Some h → g.link ≡ h.link → ⊥
-          other_link g None falls leads in' h primary' same' = cc
-          other_link g (Some b) falls leads in' h primary' same' =
-              is_zone.differ g.receiver h b in' primary' falls
-              (sym same' ∙ sym (eqb-true b.link g.link (and_parts (nat_eq b.parent d) (nat_eq b.link g.link) leads).1))
+          let sound : down (thing.Link f.link) ≡ false = (air.law f (on_left s.sent (flights steps) f a)).whole reaches in
+          not_sent (quiet (is_zone.above f.receiver f.link d mutes n.follows sound live)) n.sends
 
   -- a tick, before the wait of the device is over where it is one of the zone
   pub hush_tick : (r d : ℕ) → is_live net plan down d ≡ true → (zone d ≡ true → is_over net plan d r ≡ false)
       → AreSteps setting (next_step setting steps (event.Tick r d r) ∷ steps) → Air net plan down (next_step setting steps (event.Tick r d r) ∷ steps) r
-      → Hush net plan zone (next_step setting steps (event.Tick r d r) ∷ steps)
+      → Hush net plan zone mute (next_step setting steps (event.Tick r d r) ∷ steps)
   hush_tick r d live early is air =
       hush_on (event.Tick r d r) r d (Tick r) ticks refl refl live
       (λ still in_. tick_stays (duty_of net plan 1 d) still.past still.still (role_is net plan d (is_zone.ordinary d in_)) r (early in_)) is air
@@ -160,7 +141,7 @@ module _ (net : Network) (plan : Plan) (dom : DomainId) (down : Thing → Bool) 
   pub hush_receipt : (f : Flight) → Among f (flights steps) → f.reaches ≡ true → flight_numbered steps f.number ≡ Some f → is_live net plan down f.receiver ≡ true
       → AreSteps setting (next_step setting steps (event.Recv f.due f.receiver f.due f.number) ∷ steps)
       → Air net plan down (next_step setting steps (event.Recv f.due f.receiver f.due f.number) ∷ steps) f.due
-      → Hush net plan zone (next_step setting steps (event.Recv f.due f.receiver f.due f.number) ∷ steps)
+      → Hush net plan zone mute (next_step setting steps (event.Recv f.due f.receiver f.due f.number) ∷ steps)
   hush_receipt f a reaches found live is air =
       hush_on (event.Recv f.due f.receiver f.due f.number) f.due f.receiver (Receive f.link f.message f.due) (receives f.number)
       (ap (λ (o : Option Flight). of_some o Passes (λ g. Calls f.receiver (Receive g.link g.message f.due))) found) refl live
@@ -172,4 +153,5 @@ module _ (net : Network) (plan : Plan) (dom : DomainId) (down : Thing → Bool) 
           → edge.link ≡ f.link → ⊥
       over None primary edge is_ in_ same = cc
       over (Some hop) primary edge is_ in_ same =
-          hush.silent f a reaches in_ hop primary (sym same ∙ ap (λ (x : Edge). x.link) (sym (some_is is_)))
+          hush.silent f a reaches
+          (subst (λ (l : ℕ). mute f.receiver l) (ap (λ (x : Edge). x.link) (some_is is_) ∙ same) (is_zone.on_primary f.receiver hop in_ primary))

@@ -9,6 +9,7 @@ mod Beginning
 mod Pasts
 mod Still
 mod Hush
+mod Zones
 mod Turns
 mod Budget
 mod Running

@@ -21,7 +21,8 @@ use Rattle.sd_proof_needed.specs.Alone.{alone, holds_besides}
 use Rattle.sd_proof_needed.specs.Loops.{IsRing, ClosesLoop, event_bound, LoopIsNeeded, LoopRefusalIsRight}
 use Rattle.sd_proof_needed.proofs.Going.{premises_held}
 use Rattle.sd_proof_needed.proofs.Rings as rings
-use Rattle.sd_proof_needed.proofs.Rings.{domain_among, domain_is, IsParent, Led, chain_of, next_in, led_next, is_zone, ring_zone, zone}
+use Rattle.sd_proof_needed.proofs.Rings.{domain_among, domain_is, IsParent, Led, chain_of, next_in, led_next, ring_zone}
+use Rattle.sd_proof_needed.proofs.Zones.{zone_in, IsOnPrimary, is_zone}
 use Rattle.sd_proof_needed.proofs.Moving.{HasMoved, has_moved}
 
 module _ (net : Network) (plan : Plan) (law : IsNetwork net) (fits : Fits net plan) (structured : structure_breach net plan ≡ None)
@@ -76,7 +77,7 @@ module _ (net : Network) (plan : Plan) (law : IsNetwork net) (fits : Fits net pl
   known_link : (l : ℕ) → down (thing.Link l) ≡ true → l < length net.links
   known_link l is = rings.known_link net f l law is_domain is
 
-  moves_zone : (z : ℕ) → mover z ≡ true → zone net plan law fits structured f is_domain first others ring z ≡ true
+  moves_zone : (z : ℕ) → mover z ≡ true → zone_in net plan down z ≡ true
   moves_zone z is = ring_zone net plan law fits structured f is_domain first others ring z (and_parts (has all z) (not (leads_to (primary_of plan z) (next z))) is).0
 
   moves_back : (z : ℕ) → mover z ≡ true → (hop : Hop) × (backup_of plan z ≡ Some hop)
@@ -85,13 +86,13 @@ module _ (net : Network) (plan : Plan) (law : IsNetwork net) (fits : Fits net pl
   -- the history at the end of the wait
   abbrev Ended : Type 0
   Ended =
-      HasMoved net plan f down (zone net plan law fits structured f is_domain first others ring) law (domain_among net f is_domain) known_device known_link held
-      (is_zone net plan law fits structured f is_domain first others ring) bound mover moves_zone moves_back
+      HasMoved net plan f down (zone_in net plan down) (IsOnPrimary net plan down) law (domain_among net f is_domain) known_device known_link held
+      (is_zone net plan fits structured down) bound mover moves_zone moves_back
 
   pub closes : ClosesLoop net plan f first others
   closes = by
-      (has_moved net plan f down (zone net plan law fits structured f is_domain first others ring) law (domain_among net f is_domain) known_device known_link held
-      (is_zone net plan law fits structured f is_domain first others ring) bound mover moves_zone moves_back)
+      (has_moved net plan f down (zone_in net plan down) (IsOnPrimary net plan down) law (domain_among net f is_domain) known_device known_link held
+      (is_zone net plan fits structured down) bound mover moves_zone moves_back)
     where
       follows_next : (end_ : Ended) (x : ℕ) → has all x ≡ true → (b : Bool) → mover x ≡ b
           → counted_parent (alone net plan) (chronicle (alone net plan) end_.history) x ≡ Some (next x)

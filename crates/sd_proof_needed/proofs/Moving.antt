@@ -40,11 +40,11 @@ use Rattle.sd_proof_needed.proofs.Still.{tick_moves, HasJustMoved, just_moved, f
 use Rattle.sd_proof_needed.proofs.Hush.{IsZone, IsStill, is_over, role_is}
 use Rattle.sd_proof_needed.proofs.Ready.{multiples, Ready, ready}
 
-module _ (net : Network) (plan : Plan) (dom : DomainId) (down : Thing → Bool) (zone : ℕ → Bool) (law : IsNetwork net) (among : Among dom (domains net))
+module _ (net : Network) (plan : Plan) (dom : DomainId) (down : Thing → Bool) (zone : ℕ → Bool) (mute : ℕ → ℕ → Type 0) (law : IsNetwork net) (among : Among dom (domains net))
     (known_device : (d : ℕ) → down (thing.Device d) ≡ true → d < length net.devices)
     (known_link : (l : ℕ) → down (thing.Link l) ≡ true → l < length net.links)
     (held : (x : Thing) → down x ≡ true → holds net dom x ≡ true)
-    (is_zone : IsZone net plan down zone) (bound : event_bound net plan ≤ 2 ^ 26) (mover : ℕ → Bool)
+    (is_zone : IsZone net plan down zone mute) (bound : event_bound net plan ≤ 2 ^ 26) (mover : ℕ → Bool)
     (moves_zone : (z : ℕ) → mover z ≡ true → zone z ≡ true) (moves_back : (z : ℕ) → mover z ≡ true → (hop : Hop) × (backup_of plan z ≡ Some hop)) where
   abbrev setting : Setting
   setting = alone net plan
@@ -75,8 +75,8 @@ module _ (net : Network) (plan : Plan) (dom : DomainId) (down : Thing → Bool) 
 
   none_moved : Moving 0
   none_moved =
-      let r : Ready net plan dom down zone law among known_device known_link held is_zone bound =
-      ready net plan dom down zone law among known_device known_link held is_zone bound in
+      let r : Ready net plan dom down zone mute law among known_device known_link held is_zone bound =
+      ready net plan dom down zone mute law among known_device known_link held is_zone bound in
       record {
         history = r.history;
         reference = r.reference;

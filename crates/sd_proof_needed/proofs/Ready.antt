@@ -73,11 +73,11 @@ multiples wait tick some =
           omega (arith, one, split, low_, some));
     }
 
-module _ (net : Network) (plan : Plan) (dom : DomainId) (down : Thing → Bool) (zone : ℕ → Bool) (law : IsNetwork net) (among : Among dom (domains net))
+module _ (net : Network) (plan : Plan) (dom : DomainId) (down : Thing → Bool) (zone : ℕ → Bool) (mute : ℕ → ℕ → Type 0) (law : IsNetwork net) (among : Among dom (domains net))
     (known_device : (d : ℕ) → down (thing.Device d) ≡ true → d < length net.devices)
     (known_link : (l : ℕ) → down (thing.Link l) ≡ true → l < length net.links)
     (held : (x : Thing) → down x ≡ true → holds net dom x ≡ true)
-    (is_zone : IsZone net plan down zone) (bound : event_bound net plan ≤ 2 ^ 26) where
+    (is_zone : IsZone net plan down zone mute) (bound : event_bound net plan ≤ 2 ^ 26) where
   abbrev setting : Setting
   setting = alone net plan
 
@@ -94,7 +94,7 @@ module _ (net : Network) (plan : Plan) (dom : DomainId) (down : Thing → Bool) 
     pub good : Good net plan dom down history reference
     pub before : reference ≤ last * net.params.tick
     pub ticked : (d : ℕ) → is_live net plan down d ≡ true → last * net.params.tick ≤ latest_tick (seen_of (steps history)) d + net.params.tick
-    pub hush : Hush net plan zone (steps history)
+    pub hush : Hush net plan zone mute (steps history)
     pub none : NoneDue (steps history) (last * net.params.tick)
     pub room : length history + length net.devices ≤ 2 ^ 26
 
@@ -128,11 +128,11 @@ module _ (net : Network) (plan : Plan) (dom : DomainId) (down : Thing → Bool) 
   past_there : (d : ℕ) → is_live net plan down d ≡ true → past_in (steps start.history) d ≡ Some (fresh net plan d)
   past_there d live = start.pasts d ∙ ap (fresh_if net plan d) live
 
-  hush_first : Hush net plan zone (steps start.history)
+  hush_first : Hush net plan zone mute (steps start.history)
   hush_first =
       record {
         still = λ z in_. record { past = fresh net plan z; is = past_there z (is_zone.live z in_); still = record { made = refl; did = refl } };
-        silent = λ f a reaches in_ hop primary. absurd (none_sent f a);
+        silent = λ f a reaches mutes. none_sent f a;
       }
 
   stamps_first : Stamps net plan down 1 devices (steps start.history)
@@ -162,7 +162,7 @@ module _ (net : Network) (plan : Plan) (dom : DomainId) (down : Thing → Bool) 
       omega (arith, none, scaled, same)
 
   -- so many multiples of the tick come before the last
-  begin_ : (j : ℕ) → last ≡ suc j → Running net plan dom down zone (last + 1) law among is_zone 1 devices (j * devices + devices)
+  begin_ : (j : ℕ) → last ≡ suc j → Running net plan dom down zone mute (last + 1) law among is_zone 1 devices (j * devices + devices)
   begin_ j is =
       record {
         history = start.history;
@@ -213,9 +213,9 @@ module _ (net : Network) (plan : Plan) (dom : DomainId) (down : Thing → Bool) 
             room = (let long = start.length_ in let sum = parts in omega (arith, long, sum, bound));
           }
       by (suc j) is =
-          let run = ticks_on net plan dom down zone (last + 1) law among is_zone j 1 devices (omega arith) (omega (arith, is))
+          let run = ticks_on net plan dom down zone mute (last + 1) law among is_zone j 1 devices (omega arith) (omega (arith, is))
           (λ i d below_ in_. still_early i d (omega (arith, below_, is)) in_) (begin_ j is) in
-          let it = clear net plan dom down zone (last + 1) law among is_zone (1 + j) devices devices (budget net plan (last + 1) (steps run.history))
+          let it = clear net plan dom down zone mute (last + 1) law among is_zone (1 + j) devices devices (budget net plan (last + 1) (steps run.history))
           (omega arith) (omega (arith, is)) run (omega arith) in
           let same : 1 + j ≡ last = omega (arith, is) in
           let at : (1 + j) * net.params.tick ≡ last * net.params.tick = ap (λ (k : ℕ). k * net.params.tick) same in

@@ -30,7 +30,7 @@ use Rattle.sd_proof_needed.proofs.Elements.{mapped, on_left, below_among, among_
 use Rattle.sd_proof_needed.proofs.Paths.{no_short_walk, short_walk_is, short_walk_none, path_step}
 use Rattle.sd_proof_needed.proofs.Worlds.{is_live}
 use Rattle.sd_proof_needed.proofs.Allowed.{live_parts}
-use Rattle.sd_proof_needed.proofs.Hush.{IsZone}
+use Rattle.sd_proof_needed.proofs.Zones.{zone_in, zone_of}
 
 -- Domains
 
@@ -233,21 +233,6 @@ led net plan f x y leads =
 
 -- Structure
 
-none_mapped : {X Y : Type 0} (g : X → Y) (o : Option X) → option_map g o ≡ None → o ≡ None
-none_mapped g None none = refl
-none_mapped g (Some x) none = cc
-
--- rule 4
-pub links_rule : (net : Network) (plan : Plan) (d : ℕ) → structure_breach net plan ≡ None → d < length net.devices → links_differ plan d ≡ true
-links_rule net plan d structured within =
-    let second = (both_none (option_map _ (roots_breach plan)) _ structured).1 in
-    let third = (both_none (first_failing net 2 (row_is_right plan)) _ second).1 in
-    let fourth = (both_none (first_failing net 3 (hops_are_right net plan)) _ third).1 in
-    let here = (both_none (first_failing net 4 (links_differ plan)) _ fourth).0 in
-    not-false (links_differ plan d)
-    (none_found (λ x. not (links_differ plan x)) (length net.devices) d
-    (none_mapped (λ x. (4, x)) (find (λ x. not (links_differ plan x)) (device_numbers net)) here) within)
-
 -- a device with a hop is one of the network
 has_hop_within : (net : Network) (plan : Plan) (x : ℕ) (hop : Hop) → Fits net plan → (primary_of plan x ≡ Some hop) ⊎ (backup_of plan x ≡ Some hop)
     → x < length net.devices
@@ -360,59 +345,8 @@ module _ (net : Network) (plan : Plan) (law : IsNetwork net) (fits : Fits net pl
       subst (λ (hs : List Hop). list_any down (things_of hs) ≡ true) same
       (touched_walk x within (subst (λ (hs : List Hop). hits net f (things_of hs) ≡ true) (sym same) (hit_all x within there)))
 
-  -- Its zone
-
   abbrev pub zone : ℕ → Bool
-  zone z = is_live net plan down z && not (is_end plan z) && list_any down (epath net plan z)
-
-  record InZone (z : ℕ) : Type 0 where
-    pub live : is_live net plan down z ≡ true
-    pub other : is_end plan z ≡ false
-    pub touched_ : list_any down (epath net plan z) ≡ true
-
-  in_zone : (z : ℕ) → zone z ≡ true → InZone z
-  in_zone z is =
-      let (front, touched_) = and_parts (is_live net plan down z && not (is_end plan z)) (list_any down (epath net plan z)) is in
-      let (live, other) = and_parts (is_live net plan down z) (not (is_end plan z)) front in
-      record { live = live; other = not-true (is_end plan z) other; touched_ = touched_ }
-
-  zone_of : (z : ℕ) → is_live net plan down z ≡ true → is_end plan z ≡ false → list_any down (epath net plan z) ≡ true → zone z ≡ true
-  zone_of z live other touched_ = rw (live, other, touched_) refl
-
-  pub is_zone : IsZone net plan down zone
-  is_zone =
-      record {
-        live = λ z is. (in_zone z is).live;
-        ordinary = λ z is. (in_zone z is).other;
-        above = λ z hop is primary sound live. goes_up z hop (in_zone z is) primary sound live;
-        differ = λ z p b is primary falls same. differ z p b (live_parts net plan down z (in_zone z is).live).within primary falls same;
-      }
-    where
-      goes_up : (z : ℕ) (hop : Hop) → InZone z → primary_of plan z ≡ Some hop → down (thing.Link hop.link) ≡ false → is_live net plan down hop.parent ≡ true
-          → zone hop.parent ≡ true
-      goes_up z hop is primary sound live =
-          let within : z < length net.devices = (live_parts net plan down z is.live).within in
-          let spared : down (thing.Device hop.parent) ≡ false = (live_parts net plan down hop.parent live).spared in
-          let whole : list_any down (things_of (hop ∷ short_walk net plan hop.parent)) ≡ true =
-          subst (λ (hs : List Hop). list_any down (things_of hs) ≡ true) (path_step net plan z hop forest within primary) is.touched_ in
-          let rest : list_any down (things_of (short_walk net plan hop.parent)) ≡ true = beyond (down (thing.Link hop.link)) (down (thing.Device hop.parent))
-          (list_any down (things_of (short_walk net plan hop.parent))) sound spared whole in
-          elim (cases_Bool (is_end plan hop.parent)) [
-            | inl ends ↦ absurd (both_ways false refl (subst (λ (hs : List Hop). list_any down (things_of hs) ≡ true) (short_walk_none net plan hop.parent ends) rest))
-            | inr other ↦ zone_of hop.parent live other
-                (subst (λ (hs : List Hop). list_any down (things_of hs) ≡ true) (short_walk_is net plan hop.parent other) rest)
-          ]
-        where
-          beyond : (a b c : Bool) → a ≡ false → b ≡ false → (a || (b || c)) ≡ true → c ≡ true
-          beyond a b c none_a none_b either = sym (rw (none_a, none_b) refl) ∙ either
-
-      differ : (z : ℕ) (p b : Hop) → z < length net.devices → primary_of plan z ≡ Some p → backup_of plan z ≡ Some b → p.link ≡ b.link → ⊥
-      differ z p b within primary falls same =
-          let rule : of_some (Some p) true (λ x. of_some (Some b) true (λ y. not (nat_eq x.link y.link))) ≡ true =
-          subst (λ (o : Option Hop). of_some (Some p) true (λ x. of_some o true (λ y. not (nat_eq x.link y.link))) ≡ true) falls
-          (subst (λ (o : Option Hop). of_some o true (λ x. of_some (backup_of plan z) true (λ y. not (nat_eq x.link y.link))) ≡ true) primary
-          (links_rule net plan z structured within)) in
-          both_ways (nat_eq p.link b.link) (not-true (nat_eq p.link b.link) rule) (eq-eqb p.link b.link same)
+  zone = zone_in net plan down
 
   -- the devices of the ring are of it
   ring_within : (x : ℕ) → has all x ≡ true → x < length net.devices
@@ -427,4 +361,4 @@ module _ (net : Network) (plan : Plan) (law : IsNetwork net) (fits : Fits net pl
       let l : Led net plan f x (next x) = led_next x there in
       let within = ring_within x there in
       let spared : down (thing.Device x) ≡ false = and_right (holds_device net f x) (not (has all x)) (ap not there) in
-      zone_of x (rw (lt-ltb x (length net.devices) within, l.member, spared) refl) l.other (touched x within there)
+      zone_of net plan down x (rw (lt-ltb x (length net.devices) within, l.member, spared) refl) l.other (touched x within there)

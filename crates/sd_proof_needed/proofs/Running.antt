@@ -82,8 +82,8 @@ has_length (y ∷ ys) x a = omega arith
 
 -- Running
 
-module _ (net : Network) (plan : Plan) (dom : DomainId) (down : Thing → Bool) (zone : ℕ → Bool) (m : ℕ) (law : IsNetwork net) (among : Among dom (domains net))
-    (is_zone : IsZone net plan down zone) where
+module _ (net : Network) (plan : Plan) (dom : DomainId) (down : Thing → Bool) (zone : ℕ → Bool) (mute : ℕ → ℕ → Type 0) (m : ℕ) (law : IsNetwork net) (among : Among dom (domains net))
+    (is_zone : IsZone net plan down zone mute) where
   abbrev setting : Setting
   setting = alone net plan
 
@@ -102,7 +102,7 @@ module _ (net : Network) (plan : Plan) (dom : DomainId) (down : Thing → Bool) 
     pub before : reference ≤ k * tick
     pub ticked : (d : ℕ) → is_live net plan down d ≡ true → k * tick ≤ latest_tick (seen_of (steps history)) d + tick
     pub done : (d : ℕ) → is_live net plan down d ≡ true → c ≤ d → k * tick ≤ latest_tick (seen_of (steps history)) d
-    pub hush : Hush net plan zone (steps history)
+    pub hush : Hush net plan zone mute (steps history)
     pub stamps : Stamps net plan down k c (steps history)
     pub room : length history + budget net plan m (steps history) + left ≤ 2 ^ 26
 
@@ -194,7 +194,7 @@ module _ (net : Network) (plan : Plan) (dom : DomainId) (down : Thing → Bool) 
           before = omega (arith, soon);
           ticked = run.ticked;
           done = run.done;
-          hush = hush_receipt net plan dom down zone is_zone (steps run.history) run.reference run.good.world run.hush f way.among_ way.reaches found live is good.air;
+          hush = hush_receipt net plan dom down zone mute is_zone (steps run.history) run.reference run.good.world run.hush f way.among_ way.reaches found live is good.air;
           stamps = both.0;
           room = (let fewer = both.1 in omega (arith, fewer, roomy));
         },
@@ -294,7 +294,7 @@ module _ (net : Network) (plan : Plan) (dom : DomainId) (down : Thing → Bool) 
         before = omega arith;
         ticked = λ x alive. tick_later (nat_eq d x) (k * tick) (latest_tick (seen_of (steps run.history)) x) (run.ticked x alive);
         done = λ x alive above. by x (nat_eq d x) refl alive above;
-        hush = hush_tick net plan dom down zone is_zone (steps run.history) run.reference run.good.world run.hush (k * tick) d live early is good.air;
+        hush = hush_tick net plan dom down zone mute is_zone (steps run.history) run.reference run.good.world run.hush (k * tick) d live early is good.air;
         stamps = both.0;
         room = (let fewer = both.1 in omega (arith, fewer, roomy));
       }
