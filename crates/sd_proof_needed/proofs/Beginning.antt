@@ -517,6 +517,8 @@ module _ (net : Network) (plan : Plan) (dom : DomainId) (down : Thing → Bool) 
               record {
                 up = λ d. b.up d ∙ live_below d;
                 sound = λ d live. b.device d ∙ and_right (nat_lt d n) (down (thing.Device d)) (live_parts net plan down d live).spared;
+                made = λ d live. b.made d ∙ live_below d ∙ live;
+                fallen = λ d is. b.device d ∙ and_from (nat_lt d n) (down (thing.Device d)) (lt-ltb d n (known_device d is)) is;
                 failed = λ l is. b.link l ∙ and_from (nat_lt l (length net.links)) (down (thing.Link l)) (lt-ltb l (length net.links) (known_link l is)) is;
                 window = b.window;
                 closings = b.closings;

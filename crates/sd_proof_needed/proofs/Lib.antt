@@ -17,6 +17,7 @@ mod Ready
 mod Moving
 mod Rings
 pub mod Loops
+mod Deaf
 -- Handed on: what crates above name of those below.
 pub use Rattle.sd_checker.proofs as Checker
 pub use Rattle.sd_history.proofs as History

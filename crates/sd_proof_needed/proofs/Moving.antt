@@ -14,6 +14,7 @@ use Rattle.sd_checker.specs.Plan.declared.Role.{Role}
 use Rattle.sd_checker.specs.Plan.declared.Role.TheVariants.{Root, BackupRoot, Ordinary}
 use Rattle.sd_checker.specs.Plan.Plans.{primary_of, backup_of}
 use Rattle.sd_checker.specs.Plan.Duties.{duty_of, edge_of, role_of}
+use Rattle.sd_history.specs.Msg.declared.Flight.{Flight}
 use Rattle.sd_history.specs.Msg.declared.Message.{Message}
 use Rattle.sd_history.specs.Core.declared.Effect.{Effect}
 use Rattle.sd_history.specs.Core.declared.Effect.TheVariants.{Quiet, Send}
@@ -36,7 +37,7 @@ use Rattle.sd_proof_needed.proofs.Worlds.{is_live, ticks}
 use Rattle.sd_proof_needed.proofs.Allowed.{live_parts}
 use Rattle.sd_proof_needed.proofs.Air.{NoneDue, IsNew, is_new}
 use Rattle.sd_proof_needed.proofs.Going.{Good, tick_goes}
-use Rattle.sd_proof_needed.proofs.Still.{tick_moves, HasJustMoved, just_moved, follows_primary}
+use Rattle.sd_proof_needed.proofs.Still.{Still, tick_moves, HasJustMoved, just_moved, follows_primary}
 use Rattle.sd_proof_needed.proofs.Hush.{IsZone, IsStill, is_over, role_is}
 use Rattle.sd_proof_needed.proofs.Ready.{multiples, Ready, ready}
 
@@ -61,6 +62,13 @@ module _ (net : Network) (plan : Plan) (dom : DomainId) (down : Thing → Bool) 
     pub is : past_in (steps history) z ≡ Some past
     pub parent : parent_now past ≡ option_map (λ h. h.parent) hop
 
+  -- the device did nothing, and then moved at the end of the wait
+  pub record HasTurned (history : List Event) (z : ℕ) : Type 0 where
+    pub before : Past
+    pub still : Still (duty_of net plan 1 z) before
+    pub moves : transition_of before (Tick end_) ≡ Moved
+    pub is : past_in (steps history) z ≡ Some (after before (Tick end_))
+
   -- the movers below c have moved, and all else of the zone is still
   pub record Moving (c : ℕ) : Type 0 where
     pub history : List Event
@@ -69,7 +77,8 @@ module _ (net : Network) (plan : Plan) (dom : DomainId) (down : Thing → Bool) 
     pub before : reference ≤ end_
     pub ticked : (d : ℕ) → is_live net plan down d ≡ true → end_ ≤ latest_tick (seen_of (steps history)) d + net.params.tick
     pub none : NoneDue (steps history) end_
-    pub moved : (z : ℕ) → mover z ≡ true → z < c → Follows history z (backup_of plan z)
+    pub silent : (f : Flight) → Among f (flights (steps history)) → f.reaches ≡ true → mute f.receiver f.link → ⊥
+    pub moved : (z : ℕ) → mover z ≡ true → z < c → HasTurned history z
     pub unmoved : (z : ℕ) → zone z ≡ true → (mover z ≡ false) ⊎ (c ≤ z) → IsStill net plan (steps history) z
     pub room : length history + length net.devices ≤ 2 ^ 26 + c
 
@@ -84,6 +93,7 @@ module _ (net : Network) (plan : Plan) (dom : DomainId) (down : Thing → Bool) 
         before = r.before;
         ticked = r.ticked;
         none = r.none;
+        silent = r.hush.silent;
         moved = λ z is below_. absurd (omega (arith, below_));
         unmoved = λ z in_ either. r.hush.still z in_;
         room = (let roomy = r.room in omega (arith, roomy));
@@ -129,29 +139,28 @@ module _ (net : Network) (plan : Plan) (dom : DomainId) (down : Thing → Bool) 
       let quiet : (next_step setting (steps now.history) (event.Tick end_ c end_)).told.effect ≡ Quiet =
       ap (λ (o : Option Past). (of_some o tells_nothing (λ x. tells_called (effect_of x (Tick end_)) (answers_by (after x (Tick end_))))).effect) still.is
       ∙ just.quiet in
+      let sent_before : (f : Flight) → Among f (flights (steps (event.Tick end_ c end_ ∷ now.history))) → Among f (flights (steps now.history)) = λ f a.
+      elim (either_side (next_step setting (steps now.history) (event.Tick end_ c end_)).sent (flights (steps now.history)) a) [
+        | inl b ↦
+            (let new : IsNew net plan (steps now.history) (next_step setting (steps now.history) (event.Tick end_ c end_)) end_ c f =
+            is_new net plan dom down (steps now.history) now.reference now.good.world (event.Tick end_ c end_) end_ c f ticks are b in
+            absurd (not_sent quiet new.sends))
+        | inr b ↦ b
+      ] in
       record {
         history = event.Tick end_ c end_ ∷ now.history;
         reference = end_;
         good = good;
         before = omega arith;
         ticked = λ x alive. tick_later (nat_eq c x) end_ (latest_tick (seen_of (steps now.history)) x) net.params.tick (now.ticked x alive);
-        none = λ f a reaches unused. elim (either_side (next_step setting (steps now.history) (event.Tick end_ c end_)).sent (flights (steps now.history)) a) [
-          | inl b ↦
-              (let new : IsNew net plan (steps now.history) (next_step setting (steps now.history) (event.Tick end_ c end_)) end_ c f =
-              is_new net plan dom down (steps now.history) now.reference now.good.world (event.Tick end_ c end_) end_ c f ticks are b in
-              absurd (not_sent quiet new.sends))
-          | inr b ↦ now.none f b reaches unused
-        ];
+        none = λ f a reaches unused. now.none f (sent_before f a) reaches unused;
+        silent = λ f a reaches mutes. now.silent f (sent_before f a) reaches mutes;
         moved = λ z is' below_. elim (cases_eq z c) [
-          | inl same ↦ subst (λ (x : ℕ). Follows (event.Tick end_ c end_ ∷ now.history) x (backup_of plan x)) (sym same)
-              (record {
-                past = after still.past (Tick end_);
-                is = past_of_called c now.history still.past still.is;
-                parent = just.parent ∙ edge_parent c (backup_of plan c);
-              })
+          | inl same ↦ subst (λ (x : ℕ). HasTurned (event.Tick end_ c end_ ∷ now.history) x) (sym same)
+              (record { before = still.past; still = still.still; moves = moves; is = past_of_called c now.history still.past still.is })
           | inr apart ↦
-              (let old : Follows now.history z (backup_of plan z) = now.moved z is' (omega (arith, below_, apart)) in
-              record { past = old.past; is = past_of_other c z now.history (λ same. apart (sym same)) ∙ old.is; parent = old.parent })
+              (let old : HasTurned now.history z = now.moved z is' (omega (arith, below_, apart)) in
+              record { before = old.before; still = old.still; moves = old.moves; is = past_of_other c z now.history (λ same. apart (sym same)) ∙ old.is })
         ];
         unmoved = λ z in_ either.
             (let apart : c ≡ z → ⊥ = other_than c z is either in
@@ -185,6 +194,7 @@ module _ (net : Network) (plan : Plan) (dom : DomainId) (down : Thing → Bool) 
         before = now.before;
         ticked = now.ticked;
         none = now.none;
+        silent = now.silent;
         moved = λ z is below_. elim (cases_eq z c) [
           | inl same ↦ absurd (both_ways (mover c) other (subst (λ (x : ℕ). mover x ≡ true) same is))
           | inr apart ↦ now.moved z is (omega (arith, below_, apart))
@@ -209,6 +219,9 @@ module _ (net : Network) (plan : Plan) (dom : DomainId) (down : Thing → Bool) 
     pub history : List Event
     pub reference : ℕ
     pub good : Good net plan dom down history reference
+    pub silent : (f : Flight) → Among f (flights (steps history)) → f.reaches ≡ true → mute f.receiver f.link → ⊥
+    pub turned : (z : ℕ) → mover z ≡ true → HasTurned history z
+    pub still : (z : ℕ) → zone z ≡ true → mover z ≡ false → IsStill net plan (steps history) z
     pub moved : (z : ℕ) (hop : Hop) → mover z ≡ true → backup_of plan z ≡ Some hop → counted_parent setting (steps history) z ≡ Some hop.parent
     pub unmoved : (z : ℕ) (hop : Hop) → zone z ≡ true → mover z ≡ false → primary_of plan z ≡ Some hop
         → counted_parent setting (steps history) z ≡ Some hop.parent
@@ -220,9 +233,19 @@ module _ (net : Network) (plan : Plan) (dom : DomainId) (down : Thing → Bool) 
         history = all.history;
         reference = all.reference;
         good = all.good;
+        silent = all.silent;
+        turned = λ z is. all.moved z is (live_parts net plan down z (is_zone.live z (moves_zone z is))).within;
+        still = λ z in_ stays. all.unmoved z in_ (inl stays);
         moved = λ z hop is back.
             (let live : is_live net plan down z ≡ true = is_zone.live z (moves_zone z is) in
-            counted all.history all.reference all.good z hop live (backup_of plan z) back (all.moved z is (live_parts net plan down z live).within));
+            let it : HasTurned all.history z = all.moved z is (live_parts net plan down z live).within in
+            counted all.history all.reference all.good z hop live (backup_of plan z) back
+            (record {
+              past = after it.before (Tick end_);
+              is = it.is;
+              parent = (just_moved (duty_of net plan 1 z) it.before end_ it.still (role_is net plan z (is_zone.ordinary z (moves_zone z is))) it.moves).parent
+                  ∙ edge_parent z (backup_of plan z);
+            }));
         unmoved = λ z hop in_ stays first_.
             (let live : is_live net plan down z ≡ true = is_zone.live z in_ in
             let still : IsStill net plan (steps all.history) z = all.unmoved z in_ (inl stays) in

@@ -27,7 +27,7 @@ pub record Still (duty : Duty) (past : Past) : Type 0 where
   pub made : past.making ≡ Started duty 0 0 0
   pub did : list_all did_nothing past.did ≡ true
 
-nothing_is : (t : Transition) → is_nothing t ≡ true → t ≡ Nothing
+pub nothing_is : (t : Transition) → is_nothing t ≡ true → t ≡ Nothing
 nothing_is (Entered duty edge) is = cc
 nothing_is (Committed duty) is = cc
 nothing_is (Recommitted duty) is = cc
@@ -145,6 +145,7 @@ follows_primary duty past still ordinary = ap (option_map (λ edge. edge.parent)
 
 -- one that has moved follows its backup parent, and the move sent nothing
 pub record HasJustMoved (duty : Duty) (past : Past) (call : Call) : Type 0 where
+  pub edge : parent_edge (after past call) ≡ duty.backup
   pub parent : parent_now (after past call) ≡ option_map (λ edge. edge.parent) duty.backup
   pub quiet : effect_of past call ≡ Quiet
 
@@ -152,6 +153,7 @@ pub just_moved : (duty : Duty) (past : Past) (counter : ℕ) → Still duty past
     → HasJustMoved duty past (Tick counter)
 just_moved duty past counter still ordinary moves =
     record {
+      edge = on_backup;
       parent = ap (option_map (λ (edge : Edge). edge.parent)) on_backup;
       quiet = rw moves refl;
     }

@@ -47,7 +47,7 @@ swap_or true true c = refl
 swap_or true false c = refl
 swap_or false b c = refl
 
-acting_after : (duty : Duty) (past : Past) (call : Call) → Plain duty past → is_plain (record { call = call; transition = transition_of past call }) ≡ true
+pub acting_after : (duty : Duty) (past : Past) (call : Call) → Plain duty past → is_plain (record { call = call; transition = transition_of past call }) ≡ true
     → is_acting (after past call) ≡ (is_takeover (transition_of past call) || is_acting past)
 acting_after duty past call plain is =
     acting_words duty (after past call) (plain_on duty past call plain is)

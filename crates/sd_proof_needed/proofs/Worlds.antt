@@ -19,7 +19,7 @@ use Rattle.sd_history.specs.Sched.declared.Event.{Event}
 use Rattle.sd_history.specs.Sched.declared.Event.TheVariants as event
 use Rattle.sd_history.specs.Sched.Events.{reference_of, is_end, is_stage}
 use Rattle.sd_history.specs.Things.{failure_of}
-use Rattle.sd_history.specs.World.{Setting, Seen, is_up, has_failed, is_untouched, latest_reference, latest_reading, window, plan_numbered}
+use Rattle.sd_history.specs.World.{Setting, Seen, is_up, was_made, has_failed, is_untouched, latest_reference, latest_reading, window, plan_numbered}
 use Rattle.sd_history.specs.Steps.{Step, Told, seen_of, first_step, can_close}
 use Rattle.sd_history.specs.Chronicle.{next_step}
 use Rattle.sd_history.specs.Premises.{readings, reads_honestly, start_holds, drift_holds, delay_holds, tick_holds, domain_holds, renew_holds, arrives_in_time, ticks_in_time, latest_tick, is_current_member, first_reference, failures_since_closing, fails_within_one}
@@ -41,6 +41,8 @@ is_live net plan down d = nat_lt d (length net.devices) && is_member plan d && n
 pub record World (net : Network) (plan : Plan) (f : DomainId) (down : Thing → Bool) (seen : List Seen) (t : ℕ) : Type 0 where
   pub up : (d : ℕ) → is_up seen d ≡ is_live net plan down d
   pub sound : (d : ℕ) → is_live net plan down d ≡ true → has_failed seen (thing.Device d) ≡ false
+  pub made : (d : ℕ) → is_live net plan down d ≡ true → was_made seen d ≡ true
+  pub fallen : (d : ℕ) → down (thing.Device d) ≡ true → has_failed seen (thing.Device d) ≡ true
   pub failed : (l : ℕ) → down (thing.Link l) ≡ true → has_failed seen (thing.Link l) ≡ true
   pub window : window seen ≡ None
   pub closings : count_by (λ s. s.closed) seen ≡ 0
@@ -159,6 +161,8 @@ module _ (net : Network) (plan : Plan) (f : DomainId) (down : Thing → Bool) (s
       record {
         up = world.up;
         sound = world.sound;
+        made = world.made;
+        fallen = world.fallen;
         failed = world.failed;
         window = window_on s seen open_ refl world.window;
         closings = closings_on s seen open_ world.closings;
@@ -181,6 +185,8 @@ module _ (net : Network) (plan : Plan) (f : DomainId) (down : Thing → Bool) (s
       record {
         up = world.up;
         sound = world.sound;
+        made = world.made;
+        fallen = world.fallen;
         failed = world.failed;
         window = window_on s seen open_ refl world.window;
         closings = closings_on s seen open_ world.closings;

@@ -1,0 +1,51 @@
+-- The reach condition is needed. Where a device is starved by a domain, that is neither fed nor cut off, there is a history that breaks no premise, in
+-- which only things of this domain fail, and after which this device never hears again: however the history goes on, so long as no plan is staged and
+-- nothing more fails, the device is up and accepts no message.
+--
+-- The one hypothesis beside structure is that a history may have so many events as this one (event_bound).
+use Rattle.std.specs.Prelude.{ℕ, ◌^◌, ◌≤◌, Bool, ◌||◌, not, List, ◌++◌, is_some, IsTrue, Some, ◌≡◌}
+use Rattle.std.specs.List.{list_all}
+use Rattle.sd_checker.specs.Topo.Network.{Network, IsNetwork}
+use Rattle.sd_checker.specs.Domain.Domains.{IsDomain, holds}
+use Rattle.sd_checker.specs.Domain.declared.DomainId.{DomainId}
+use Rattle.sd_checker.specs.Plan.declared.Plan.{Plan}
+use Rattle.sd_checker.specs.Plan.Plans.{Fits}
+use Rattle.sd_checker.specs.CheckReach.Reach.{IsStarved}
+use Rattle.sd_checker.specs.Conditions.{Holds}
+use Rattle.sd_checker.specs.Conditions as condition
+use Rattle.sd_checker.specs.Verdicts.{IsBreach}
+use Rattle.sd_checker.specs.declared.Breach.TheVariants as breach
+use Rattle.sd_history.specs.Core.Calls.{Past}
+use Rattle.sd_history.specs.Core.Words.{accepted_over}
+use Rattle.sd_history.specs.Sched.declared.Event.{Event}
+use Rattle.sd_history.specs.Sched.Events.{is_stage}
+use Rattle.sd_history.specs.Things.{failure_of}
+use Rattle.sd_history.specs.World.{is_up}
+use Rattle.sd_history.specs.Steps.{Step, seen_of}
+use Rattle.sd_history.specs.Chronicle.{chronicle, past_in, IsHistory}
+use Rattle.sd_proof_needed.specs.Alone.{alone, IsClean}
+use Rattle.sd_proof_needed.specs.Loops.{event_bound}
+
+-- no call of the device's life has accepted a message
+abbrev pub HasHeardNothing : List Step → ℕ → Type 0
+HasHeardNothing steps d =
+    (past : Past) → past_in steps d ≡ Some past → IsTrue (list_all (λ x. not (is_some (accepted_over x.transition))) past.did)
+
+-- none of the events stages a plan or fails a thing
+abbrev pub leaves_as_is : List Event → Bool
+leaves_as_is events = list_all (λ e. not (is_stage e || is_some (failure_of e))) events
+
+-- a clean history in which only things of the domain fail, and after which the device is up and hears nothing
+pub record StaysDeaf (net : Network) (plan : Plan) (f : DomainId) (d : ℕ) : Type 0 where
+  pub history : List Event
+  pub clean : IsClean net plan (holds net f) history
+  pub up : (more : List Event) → IsHistory (alone net plan) (more ++ history) → IsTrue (leaves_as_is more)
+      → IsTrue (is_up (seen_of (chronicle (alone net plan) (more ++ history))) d)
+  pub deaf : (more : List Event) → IsHistory (alone net plan) (more ++ history) → IsTrue (leaves_as_is more)
+      → HasHeardNothing (chronicle (alone net plan) (more ++ history)) d
+
+-- each device that a domain starves can stay deaf
+abbrev pub ReachIsNeeded : Network → Plan → Type 0
+ReachIsNeeded net plan =
+    IsNetwork net → Fits net plan → Holds net plan condition.structure → event_bound net plan ≤ 2 ^ 26
+    → (f : DomainId) → IsDomain net f → (d : ℕ) → IsStarved net plan f d → StaysDeaf net plan f d
