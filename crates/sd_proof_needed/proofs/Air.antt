@@ -1,5 +1,5 @@
 -- What is on its way in a calm time: each flight that reaches is received no later than its due, so that none is spoiled.
-use Rattle.std.specs.Prelude.{◌≡◌, ℕ, ◌+◌, ◌<◌, ◌≤◌, Bool, true, false, ◌&&◌, ◌||◌, not, List, [], ◌∷◌, filter, map, nat_eq, nat_lt, Option, Some, None, option_map, refl, if◌then◌else◌}
+use Rattle.std.specs.Prelude.{count_by, ◌≡◌, ℕ, ◌+◌, ◌<◌, ◌≤◌, Bool, true, false, ◌&&◌, ◌||◌, not, List, [], ◌∷◌, filter, map, nat_eq, nat_lt, Option, Some, None, option_map, refl, if◌then◌else◌}
 use Rattle.std.specs.List.{list_any, list_all}
 use Rattle.std.proofs.Common.{sym, ap, ◌∙◌, subst, arith, inl, inr}
 use Rattle.std.proofs.lemmas.Bool.{and_parts, or_left, or_right, or_cases, or_parts, or_from, ltb-true, eq-eqb, eqb-true, not-true, le-ltb, both_ways, false_from_ne_true, true_from_ne_false}
@@ -17,7 +17,7 @@ use Rattle.sd_history.specs.Core.declared.Effect.TheVariants.{Send}
 use Rattle.sd_history.specs.Sched.declared.Event.{Event}
 use Rattle.sd_history.specs.Sched.declared.Event.TheVariants as event
 use Rattle.sd_history.specs.Sched.Events.{reference_of, device_of, message_of}
-use Rattle.sd_history.specs.World.{Setting, Seen, fails, is_up, link_has_failed, plan_numbered, staged, in_force, epoch_in_force, staged_epoch}
+use Rattle.sd_history.specs.World.{Setting, Seen, window, fails, is_up, link_has_failed, plan_numbered, staged, in_force, epoch_in_force, staged_epoch}
 use Rattle.sd_history.specs.Steps.{Step, seen_of, flights, flight_numbered, ends_at}
 use Rattle.sd_history.specs.Chronicle.{next_step}
 use Rattle.sd_history.specs.Accepted.{AreSteps}
@@ -45,8 +45,8 @@ pub record FlightLaw (net : Network) (plan : Plan) (down : Thing → Bool) (step
 
 pub record Air (net : Network) (plan : Plan) (down : Thing → Bool) (steps : List Step) (t : ℕ) : Type 0 where
   pub law : (f : Flight) → Among f (flights steps) → FlightLaw net plan down steps t f
-  pub seen : (f : Flight) → Among f (premise.flights (seen_of steps)) → Among f (flights steps) × (f.reaches ≡ true)
-  pub unspoiled : (f : Flight) → Among f (premise.flights (seen_of steps)) → spoils (seen_of steps) f ≡ false
+  pub seen : (f : Flight) → Among f (premise.reaching_flights (seen_of steps)) → Among f (flights steps) × (f.reaches ≡ true)
+  pub unspoiled : (f : Flight) → Among f (premise.reaching_flights (seen_of steps)) → spoils (seen_of steps) f ≡ false
   pub overdue : (f : Flight) → is_overdue (seen_of steps) f ≡ true → f.due < t
   pub used : (n : ℕ) → was_used steps n ≡ true → was_received (seen_of steps) n ≡ true
 
@@ -69,7 +69,7 @@ pub loss_held : (net : Network) (plan : Plan) (down : Thing → Bool) (steps : L
     → loss_holds (alone net plan) (seen_of steps) ≡ true
 loss_held net plan down steps t air =
     let none : spoiled_rounds (seen_of steps) ≡ [] =
-    ap (map (λ (f : Flight). f.message.stamp)) (none_spoiled (seen_of steps) (premise.flights (seen_of steps)) air.unspoiled) in
+    ap (map (λ (f : Flight). f.message.stamp)) (none_spoiled (seen_of steps) (premise.reaching_flights (seen_of steps)) air.unspoiled) in
     ap (λ (rounds : List Stamp). list_all (λ r. not (premise.all_from rounds r.term r.round (net.params.loss + 1))) rounds) none
 
 -- One step more
@@ -135,29 +135,38 @@ none_staged : (net : Network) (d : ℕ) (e : End) (b : Bool) → Among e (of_som
 none_staged net d e true a = elim a [ ]
 none_staged net d e false a = elim a [ ]
 
+-- the ends of a device are those of the plan, where no window is open and none was closed
+pub ends_are : (net : Network) (plan : Plan) (steps : List Step) → window (seen_of steps) ≡ None → count_by (λ s. s.closed) (seen_of steps) ≡ 0
+    → (epoch d : ℕ) (e : End) → Among e (ends_at (alone net plan) steps epoch d) → Among e (ends_of net plan d)
+ends_are net plan steps open_ none epoch d e a = by (nat_eq epoch (epoch_in_force (seen_of steps))) a
+  where
+    by : (b : Bool)
+        → Among e
+        (of_some
+        (if b then Some (in_force (alone net plan) (seen_of steps))
+        else if nat_eq epoch (staged_epoch (seen_of steps)) then staged (alone net plan) (seen_of steps) else None) []
+        (λ p. ends_of net p d))
+        → Among e (ends_of net plan d)
+    by true b = subst (λ (k : ℕ). Among e (ends_of net (plan_numbered (alone net plan) (k + 1)) d)) none b
+    by false b =
+        absurd (none_staged net d e (nat_eq epoch (staged_epoch (seen_of steps)))
+        (subst (λ (w : Option (List Seen)).
+        Among e
+        (of_some
+        (if nat_eq epoch (staged_epoch (seen_of steps)) then option_map (λ x. plan_numbered (alone net plan) (staged_epoch (seen_of steps))) w else None) []
+        (λ p. ends_of net p d))) open_ b))
+
 module _ (net : Network) (plan : Plan) (dom : DomainId) (down : Thing → Bool) (steps : List Step) (t : ℕ)
     (world : World net plan dom down (seen_of steps) t) where
   abbrev setting : Setting
   setting = alone net plan
-
-  -- the ends of a device are those of the plan
-  ends_are : (epoch d : ℕ) (e : End) → Among e (ends_at setting steps epoch d) → Among e (ends_of net plan d)
-  ends_are epoch d e a = by (nat_eq epoch (epoch_in_force (seen_of steps))) a
-    where
-      by : (b : Bool)
-          → Among e (of_some (if b then Some (in_force setting (seen_of steps)) else if nat_eq epoch (staged_epoch (seen_of steps)) then staged setting (seen_of steps) else None) []
-          (λ p. ends_of net p d)) → Among e (ends_of net plan d)
-      by true b = subst (λ (k : ℕ). Among e (ends_of net (plan_numbered setting (k + 1)) d)) world.closings b
-      by false b = absurd (none_staged net d e (nat_eq epoch (staged_epoch (seen_of steps)))
-          (subst (λ (w : Option (List Seen)). Among e (of_some (if nat_eq epoch (staged_epoch (seen_of steps)) then option_map (λ x. plan_numbered setting (staged_epoch (seen_of steps))) w else None) []
-          (λ p. ends_of net p d))) world.window b))
 
   pub is_new : (e : Event) (r d : ℕ) (f : Flight) → IsCalm e r d → AreSteps setting (next_step setting steps e ∷ steps)
       → Among f (next_step setting steps e).sent → IsNew net plan steps (next_step setting steps e) r d f
   is_new e r d f calm is a =
       let sent : WasSent setting (next_step setting steps e) steps f = was_sent setting (next_step setting steps e) steps f is a in
       let same : sent.device ≡ d = device_is e r d sent.device calm (changed_named setting steps e sent.device sent.calls) in
-      let among : Among sent.over.end_ (ends_of net plan sent.device) = ends_are sent.answers.epoch sent.device sent.over.end_ sent.over.among in
+      let among : Among sent.over.end_ (ends_of net plan sent.device) = ends_are net plan steps world.window world.closings sent.answers.epoch sent.device sent.over.end_ sent.over.among in
       let below_ : IsBelow net plan sent.device sent.over.end_ = ends_below net plan sent.device sent.over.end_ among in
       let here : reference_of e ≡ r = reference_is e r d calm in
       subst (λ (g : Flight). IsNew net plan steps (next_step setting steps e) r d g) (sym sent.over.is)
@@ -189,11 +198,11 @@ module _ (net : Network) (plan : Plan) (dom : DomainId) (down : Thing → Bool) 
           | inl b ↦ law_new f b
           | inr b ↦ law_old f b
         ];
-        seen = λ f a. elim (either_side (filter (λ g. g.reaches) s.sent) (premise.flights (seen_of steps)) a) [
+        seen = λ f a. elim (either_side (filter (λ g. g.reaches) s.sent) (premise.reaching_flights (seen_of steps)) a) [
           | inl b ↦ (on_left s.sent (flights steps) f (kept_among (λ g. g.reaches) s.sent f b), passes_kept (λ g. g.reaches) s.sent f b)
           | inr b ↦ (let old = air.seen f b in (on_right s.sent old.0, old.1))
         ];
-        unspoiled = λ f a. elim (either_side (filter (λ g. g.reaches) s.sent) (premise.flights (seen_of steps)) a) [
+        unspoiled = λ f a. elim (either_side (filter (λ g. g.reaches) s.sent) (premise.reaching_flights (seen_of steps)) a) [
           | inl b ↦ spoiled_new s.seen (seen_of steps) f (not_overdue f (kept_among (λ g. g.reaches) s.sent f b)) (due_later f (kept_among (λ g. g.reaches) s.sent f b))
           | inr b ↦ spoiled_on s.seen (seen_of steps) f (air.unspoiled f b) (in_time f b)
         ];
@@ -221,7 +230,7 @@ module _ (net : Network) (plan : Plan) (dom : DomainId) (down : Thing → Bool) 
           false_from_ne_true (is_overdue (seen_of steps) f)
           (λ late. let due = (new f a).due in let before = air.overdue f late in omega (arith, here, due, before, later_))
 
-      in_time : (f : Flight) → Among f (premise.flights (seen_of steps)) → f.due < reference_of s.seen.event → was_received (seen_of steps) f.number ≡ true
+      in_time : (f : Flight) → Among f (premise.reaching_flights (seen_of steps)) → f.due < reference_of s.seen.event → was_received (seen_of steps) f.number ≡ true
       in_time f a late =
           air.used f.number (true_from_ne_false (was_used steps f.number)
           (λ unused. let before = none f (air.seen f a).0 (air.seen f a).1 unused in omega (arith, here, late, before)))

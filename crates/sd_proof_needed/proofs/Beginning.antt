@@ -15,7 +15,7 @@ use Rattle.sd_checker.specs.Plan.Plans.{is_member, members}
 use Rattle.sd_history.specs.Msg.declared.Flight.{Flight}
 use Rattle.sd_history.specs.Sched.declared.Event.{Event}
 use Rattle.sd_history.specs.Sched.declared.Event.TheVariants as event
-use Rattle.sd_history.specs.Sched.Events.{reference_of, is_end, is_stage}
+use Rattle.sd_history.specs.Sched.Events.{reference_of, is_end_event, is_stage}
 use Rattle.sd_history.specs.World.{Setting, Seen, is_up, was_made, has_failed, has_ever_failed, is_untouched, latest_reference, latest_reading, has_commit, window, plan_numbered}
 use Rattle.sd_history.specs.Steps.{Step, seen_of, flights}
 use Rattle.sd_history.specs.Chronicle.{next_step, chronicle, past_in, new_past, IsHistory}
@@ -50,7 +50,7 @@ pub record Begun (net : Network) (plan : Plan) (dom : DomainId) (down : Thing �
   pub link : (l : ℕ) → has_failed seen (thing.Link l) ≡ (nat_lt l b && down (thing.Link l))
   pub window : window seen ≡ None
   pub closings : count_by (λ s. s.closed) seen ≡ 0
-  pub goes_on : list_any (λ s. is_end s.event) seen ≡ false
+  pub goes_on : list_any (λ s. is_end_event s.event) seen ≡ false
   pub stages : list_any (λ s. is_stage s.event) seen ≡ false
   pub latest : latest_reference seen ≡ 0
   pub read : (d : ℕ) → latest_reading seen d ≡ 0
@@ -63,7 +63,7 @@ pub record Begun (net : Network) (plan : Plan) (dom : DomainId) (down : Thing �
   pub domain_held : domain_holds (alone net plan) seen ≡ true
   pub renew_held : renew_holds (alone net plan) seen ≡ true
   pub sent : flights (chronicle (alone net plan) history) ≡ []
-  pub seen_sent : premise.flights seen ≡ []
+  pub seen_sent : premise.reaching_flights seen ≡ []
   pub unused : (n : ℕ) → was_used (chronicle (alone net plan) history) n ≡ false
   pub early : (f : Flight) → is_overdue seen f ≡ false
   pub past : (d : ℕ) → past_in (chronicle (alone net plan) history) d ≡ fresh_if net plan d (nat_lt d c && is_live net plan down d)
@@ -492,7 +492,7 @@ module _ (net : Network) (plan : Plan) (dom : DomainId) (down : Thing → Bool) 
         gone : Among f [] → ⊥
         gone b = elim b [ ]
 
-    none_seen : (seen : List Seen) (f : Flight) → premise.flights seen ≡ [] → Among f (premise.flights seen) → ⊥
+    none_seen : (seen : List Seen) (f : Flight) → premise.reaching_flights seen ≡ [] → Among f (premise.reaching_flights seen) → ⊥
     none_seen seen f none a = gone (subst (λ (fs : List Flight). Among f fs) none a)
       where
         gone : Among f [] → ⊥

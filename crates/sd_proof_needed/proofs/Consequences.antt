@@ -15,7 +15,7 @@ use Rattle.sd_checker.specs.Plan.declared.Hop.{Hop}
 use Rattle.sd_checker.specs.Plan.declared.Plan.{Plan}
 use Rattle.sd_checker.specs.Plan.declared.PlanRow.{PlanRow}
 use Rattle.sd_checker.specs.Plan.Plans.{IsHop, is_member, is_present, is_root, is_backup_root, row_of, primary_of, backup_of}
-use Rattle.sd_checker.specs.Plan.Walks.{walk, path, is_end, is_hit, on_walk, devices_of, links_of, things_of, end_of, short_walk}
+use Rattle.sd_checker.specs.Plan.Walks.{walk, path, ends_walks, is_hit, on_walk, devices_of, links_of, things_of, end_of, short_walk}
 use Rattle.sd_checker.specs.Plan.Structure.{is_no_ancestor, hop_is_right}
 use Rattle.sd_checker.proofs.Plan.Numbered.{none_found, find_none, both_none}
 use Rattle.sd_checker.proofs.Plan.Rules.{KeepsRules, keeps_rules, hops_within}
@@ -33,16 +33,16 @@ use Rattle.sd_proof_needed.proofs.Paths.{not_root, short_walk_is, short_walk_non
 
 -- Domain from reach
 
-root_ends : (plan : Plan) (d : ℕ) → d ≡ plan.root → is_end plan d ≡ true
+root_ends : (plan : Plan) (d : ℕ) → d ≡ plan.root → ends_walks plan d ≡ true
 root_ends plan d is = or_left (is_root plan d) (is_backup_root plan d) (eq-eqb plan.root d (sym is))
 
-backup_root_ends : (plan : Plan) (d : ℕ) → d ≡ plan.backup_root → is_end plan d ≡ true
+backup_root_ends : (plan : Plan) (d : ℕ) → d ≡ plan.backup_root → ends_walks plan d ≡ true
 backup_root_ends plan d is = or_right (is_root plan d) (is_backup_root plan d) (eq-eqb plan.backup_root d (sym is))
 
-acting_ends : (net : Network) (plan : Plan) (f : DomainId) (d : ℕ) → d ≡ acting_end net plan f → is_end plan d ≡ true
+acting_ends : (net : Network) (plan : Plan) (f : DomainId) (d : ℕ) → d ≡ acting_end net plan f → ends_walks plan d ≡ true
 acting_ends net plan f d is = by (holds_device net f plan.root) is
   where
-    by : (b : Bool) → d ≡ (if b then plan.backup_root else plan.root) → is_end plan d ≡ true
+    by : (b : Bool) → d ≡ (if b then plan.backup_root else plan.root) → ends_walks plan d ≡ true
     by true same = backup_root_ends plan d same
     by false same = root_ends plan d same
 
@@ -52,8 +52,8 @@ not_both false is other = cc
 
 -- a device that is fed has lost no backup
 keeps_backup : (net : Network) (plan : Plan) (f : DomainId) (d : ℕ) → LosesBackup net plan f d → Fed net plan f d → ⊥
-keeps_backup net plan f d loses (reach.acts sound is) = not_both (is_end plan d) (acting_ends net plan f d is) loses.no_root
-keeps_backup net plan f d loses (reach.stands_by sound is) = not_both (is_end plan d) (backup_root_ends plan d is) loses.no_root
+keeps_backup net plan f d loses (reach.acts sound is) = not_both (ends_walks plan d) (acting_ends net plan f d is) loses.no_root
+keeps_backup net plan f d loses (reach.stands_by sound is) = not_both (ends_walks plan d) (backup_root_ends plan d is) loses.no_root
 keeps_backup net plan f d loses (reach.spared sound unhit) = not_both (is_hit net plan f d) loses.hit unhit
 keeps_backup net plan f d loses (reach.turns hop sound hit next link parent fed) =
     let same : hop ≡ loses.backup = turned (backup_of plan d) (primary_of plan d) loses.has_backup next in
@@ -158,22 +158,22 @@ module _ (net : Network) (plan : Plan) (forest : IsForest net plan) where
   leads_here f x d same = record { hops = []; is = refl; ends = sym same }
 
   -- the hops that the checker draws have the primary one
-  primary_drawn : (f : DomainId) (x : ℕ) (hop : Hop) → is_member plan x ≡ true → is_end plan x ≡ false → primary_of plan x ≡ Some hop
+  primary_drawn : (f : DomainId) (x : ℕ) (hop : Hop) → is_member plan x ≡ true → ends_walks plan x ≡ false → primary_of plan x ≡ Some hop
       → list_any (same_hop hop) (hops_of net plan f x) ≡ true
   primary_drawn f x hop member other is =
-      subst (λ (o : Option Hop). drawn hop (is_member plan x && not (is_end plan x)) o (is_hit net plan f x) (backup_of plan x) ≡ true) (sym is)
+      subst (λ (o : Option Hop). drawn hop (is_member plan x && not (ends_walks plan x)) o (is_hit net plan f x) (backup_of plan x) ≡ true) (sym is)
       (subst (λ (b : Bool). drawn hop b (Some hop) (is_hit net plan f x) (backup_of plan x) ≡ true)
-      (sym (and_from (is_member plan x) (not (is_end plan x)) member (ap not other)))
+      (sym (and_from (is_member plan x) (not (ends_walks plan x)) member (ap not other)))
       (or_left (same_hop hop hop) _ (itself hop)))
 
   -- and the backup one of a device that is hit
-  backup_drawn : (f : DomainId) (x : ℕ) (hop : Hop) → is_member plan x ≡ true → is_end plan x ≡ false → is_hit net plan f x ≡ true
+  backup_drawn : (f : DomainId) (x : ℕ) (hop : Hop) → is_member plan x ≡ true → ends_walks plan x ≡ false → is_hit net plan f x ≡ true
       → backup_of plan x ≡ Some hop → list_any (same_hop hop) (hops_of net plan f x) ≡ true
   backup_drawn f x hop member other hit is =
-      subst (λ (o : Option Hop). drawn hop (is_member plan x && not (is_end plan x)) (primary_of plan x) (is_hit net plan f x) o ≡ true) (sym is)
-      (subst (λ (b : Bool). drawn hop (is_member plan x && not (is_end plan x)) (primary_of plan x) b (Some hop) ≡ true) (sym hit)
+      subst (λ (o : Option Hop). drawn hop (is_member plan x && not (ends_walks plan x)) (primary_of plan x) (is_hit net plan f x) o ≡ true) (sym is)
+      (subst (λ (b : Bool). drawn hop (is_member plan x && not (ends_walks plan x)) (primary_of plan x) b (Some hop) ≡ true) (sym hit)
       (subst (λ (b : Bool). drawn hop b (primary_of plan x) true (Some hop) ≡ true)
-      (sym (and_from (is_member plan x) (not (is_end plan x)) member (ap not other)))
+      (sym (and_from (is_member plan x) (not (ends_walks plan x)) member (ap not other)))
       (list_any-append (same_hop hop) (option_to_list (primary_of plan x)) (hop ∷ [])
       ∙ or_right (list_any (same_hop hop) (option_to_list (primary_of plan x))) (same_hop hop hop || false)
       (or_left (same_hop hop hop) false (itself hop)))))
@@ -184,12 +184,12 @@ module _ (net : Network) (plan : Plan) (forest : IsForest net plan) where
   leads_down f d =
       climb net plan forest (λ x. is_member plan x ≡ true → has (devices_of x (short_walk net plan x)) d ≡ true → Leads f x d)
       (λ x within none member there.
-      elim (cases_Bool (is_end plan x)) [
+      elim (cases_Bool (ends_walks plan x)) [
         | inl ends ↦ leads_here f x d (at_end x ends there)
         | inr other ↦ (let (hop, is) = forest.hop x within member (not_root plan x other) in cc)
       ])
       (λ x hop within is step above member there.
-      elim (cases_Bool (is_end plan x)) [
+      elim (cases_Bool (ends_walks plan x)) [
         | inl ends ↦ leads_here f x d (at_end x ends there)
         | inr other ↦
             (let whole : short_walk net plan x ≡ hop ∷ short_walk net plan hop.parent =
@@ -202,7 +202,7 @@ module _ (net : Network) (plan : Plan) (forest : IsForest net plan) where
             ])
       ])
     where
-      at_end : (x : ℕ) → is_end plan x ≡ true → has (devices_of x (short_walk net plan x)) d ≡ true → d ≡ x
+      at_end : (x : ℕ) → ends_walks plan x ≡ true → has (devices_of x (short_walk net plan x)) d ≡ true → d ≡ x
       at_end x ends there =
           elim (or_cases (nat_eq d x) false (subst (λ (hs : List Hop). has (devices_of x hs) d ≡ true) (short_walk_none net plan x ends) there)) [
             | inl here ↦ eqb-true d x here
@@ -210,7 +210,7 @@ module _ (net : Network) (plan : Plan) (forest : IsForest net plan) where
           ]
 
   -- a device other than both roots is not on the short walk of its backup parent, where the link of its primary hop alone closes no loop
-  loop_keeps : (d : ℕ) (hop back : Hop) → d < length net.devices → is_end plan d ≡ false → primary_of plan d ≡ Some hop → backup_of plan d ≡ Some back
+  loop_keeps : (d : ℕ) (hop back : Hop) → d < length net.devices → ends_walks plan d ≡ false → primary_of plan d ≡ Some hop → backup_of plan d ≡ Some back
       → back.parent < length net.devices → is_member plan back.parent ≡ true
       → HasNoCycle net plan (domain.Link hop.link) → has (devices_of back.parent (short_walk net plan back.parent)) d ≡ true → ⊥
   loop_keeps d hop back within other is falls inside member none there =
@@ -271,7 +271,7 @@ ancestor_follows net plan fits structured root loop = find_none (λ d. not (is_n
         let (hop, primary) = primary_there d back within falls in
         let inside = parent_right d back within falls in
         let step : IsStep net plan d hop = forest.up d hop within primary in
-        let other : is_end plan d ≡ false = ap (λ (b : Bool). b || is_backup_root plan d) step.other ∙ is in
+        let other : ends_walks plan d ≡ false = ap (λ (b : Bool). b || is_backup_root plan d) step.other ∙ is in
         let loops : HasNoCycle net plan (domain.Link hop.link) =
         each_among (HasNoCycle net plan) (domains net) (domain.Link hop.link) loop (link_is_domain net hop.link step.link) in
         ap not (false_from_ne_true (has (devices_of back.parent (short_walk net plan back.parent)) d)

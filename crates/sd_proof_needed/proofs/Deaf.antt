@@ -29,7 +29,7 @@ pub record Settled (duty : Duty) (edge : Option Edge) (past : Past) : Type 0 whe
 
 module _ (duty : Duty) (edge : Option Edge) (past : Past) (s : Settled duty edge past) (ordinary : duty.role ≡ Ordinary) where
   -- a call that does nothing leaves it so
-  settled_on : (call : Call) → transition_of past call ≡ Nothing → duty_given call ≡ None → Settled duty edge (after past call)
+  pub settled_on : (call : Call) → transition_of past call ≡ Nothing → duty_given call ≡ None → Settled duty edge (after past call)
   settled_on call stays gives =
       let plain_is : is_plain (record { call = call; transition = transition_of past call }) ≡ true = rw (stays, gives) refl in
       let plain' : Plain duty (after past call) = plain_on duty past call s.plain plain_is in

@@ -3,7 +3,8 @@ use Rattle.std.specs.Prelude.{◌≡◌, ℕ, ◌+◌, ◌-◌, ◌^◌, ◌<◌
 use Rattle.std.proofs.Common.{ap, ◌∙◌, arith}
 use Rattle.std.proofs.lemmas.Bool.{and_from, or_from, le-leb, le-ltb, ne_eqb, eq-eqb}
 use Rattle.sd_checker.specs.Num.Lists.{of_some}
-use Rattle.sd_checker.specs.Topo.Network.{Network, IsNetwork, delay_of, link_of}
+use Rattle.sd_checker.specs.Topo.Network.{Network, delay_of, link_of}
+use Rattle.sd_checker.specs.Topo.Limits.{IsNetwork}
 use Rattle.sd_checker.specs.Topo.declared.Delay.{Delay}
 use Rattle.sd_checker.specs.Topo.declared.Thing.{Thing}
 use Rattle.sd_checker.specs.Domain.Domains.{domains}

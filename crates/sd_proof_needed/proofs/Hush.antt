@@ -12,7 +12,7 @@ use Rattle.sd_checker.specs.Plan.declared.Edge.{Edge}
 use Rattle.sd_checker.specs.Plan.declared.Plan.{Plan}
 use Rattle.sd_checker.specs.Plan.declared.Role.TheVariants.{Ordinary}
 use Rattle.sd_checker.specs.Plan.Plans.{is_root, is_backup_root, primary_of, backup_of}
-use Rattle.sd_checker.specs.Plan.Walks.{is_end}
+use Rattle.sd_checker.specs.Plan.Walks.{ends_walks}
 use Rattle.sd_checker.specs.Plan.Duties.{duty_of, edge_of, role_of, follows_over}
 use Rattle.sd_history.specs.Msg.declared.Flight.{Flight}
 use Rattle.sd_history.specs.Msg.declared.Message.{Message}
@@ -38,7 +38,7 @@ use Rattle.sd_proof_needed.proofs.Still.{Still, still_on, sends_nothing, tick_st
 -- wherever what is there is sound.
 pub record IsZone (net : Network) (plan : Plan) (down : Thing → Bool) (zone : ℕ → Bool) (mute : ℕ → ℕ → Type 0) : Type 0 where
   pub live : (z : ℕ) → zone z ≡ true → is_live net plan down z ≡ true
-  pub ordinary : (z : ℕ) → zone z ≡ true → is_end plan z ≡ false
+  pub ordinary : (z : ℕ) → zone z ≡ true → ends_walks plan z ≡ false
   pub on_primary : (z : ℕ) (hop : Hop) → zone z ≡ true → primary_of plan z ≡ Some hop → mute z hop.link
   pub above : (x l s : ℕ) → mute x l → follows_over plan s l x ≡ true → down (thing.Link l) ≡ false → is_live net plan down s ≡ true → zone s ≡ true
 
@@ -54,7 +54,7 @@ pub record Hush (net : Network) (plan : Plan) (zone : ℕ → Bool) (mute : ℕ 
   pub silent : (f : Flight) → Among f (flights steps) → f.reaches ≡ true → mute f.receiver f.link → ⊥
 
 -- a device that ends no short walk has the role of others
-pub role_is : (net : Network) (plan : Plan) (z : ℕ) → is_end plan z ≡ false → role_of plan z ≡ Ordinary
+pub role_is : (net : Network) (plan : Plan) (z : ℕ) → ends_walks plan z ≡ false → role_of plan z ≡ Ordinary
 role_is net plan z other =
     let (root, backup) = or_parts (is_root plan z) (is_backup_root plan z) other in
     rw (root, backup) refl

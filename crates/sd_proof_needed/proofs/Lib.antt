@@ -18,6 +18,8 @@ mod Moving
 mod Rings
 pub mod Loops
 mod Deaf
+mod Unfed
+mod Continuing
 -- Handed on: what crates above name of those below.
 pub use Rattle.sd_checker.proofs as Checker
 pub use Rattle.sd_history.proofs as History

@@ -3,10 +3,12 @@ use Rattle.std.specs.Prelude.{◌≡◌, ℕ, ◌^◌, ◌<◌, ◌≤◌, Bool,
 use Rattle.std.proofs.Common.{sym, ap, ◌∙◌, subst, inl, inr, append_assoc}
 use Rattle.std.proofs.lemmas.Bool.{and_parts, eq-eqb, eqb-true, not-true, not-false, both_ways}
 use Rattle.sd_checker.specs.Num.Lists.{has, of_some}
-use Rattle.sd_checker.specs.Topo.Network.{Network, IsNetwork}
+use Rattle.sd_checker.specs.Topo.Network.{Network}
+use Rattle.sd_checker.specs.Topo.Limits.{IsNetwork}
 use Rattle.sd_checker.specs.Topo.declared.Thing.{Thing}
 use Rattle.sd_checker.specs.Topo.declared.Thing.TheVariants as thing
-use Rattle.sd_checker.specs.Domain.Domains.{IsDomain, holds, holds_device}
+use Rattle.sd_checker.specs.Domain.Domains.{holds, holds_device}
+use Rattle.sd_checker.specs.Domain.Lone.{IsDomain}
 use Rattle.sd_checker.specs.Domain.declared.DomainId.{DomainId}
 use Rattle.sd_checker.specs.Plan.declared.Hop.{Hop}
 use Rattle.sd_checker.specs.Plan.declared.Plan.{Plan}

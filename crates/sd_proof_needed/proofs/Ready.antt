@@ -6,7 +6,8 @@ use Rattle.std.proofs.lemmas.Nat.{mul-le}
 use Rattle.std.proofs.lemmas.Bool.{lt-leb}
 use Rattle.std.proofs.lemmas.List.Sums.{sum_by-append, sum_by-cons}
 use Rattle.sd_checker.specs.Num.Lists.{of_some, below}
-use Rattle.sd_checker.specs.Topo.Network.{Network, IsNetwork}
+use Rattle.sd_checker.specs.Topo.Network.{Network}
+use Rattle.sd_checker.specs.Topo.Limits.{IsNetwork}
 use Rattle.sd_checker.specs.Topo.declared.Thing.{Thing}
 use Rattle.sd_checker.specs.Topo.declared.Thing.TheVariants as thing
 use Rattle.sd_checker.specs.Domain.Domains.{domains, holds}

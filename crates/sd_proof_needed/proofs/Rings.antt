@@ -6,17 +6,19 @@ use Rattle.std.proofs.lemmas.Bool.{and_parts, and_right, or_cases, or_left, or_r
 use Rattle.std.proofs.lemmas.List.Folds.{list_any-append}
 use Rattle.std.proofs.lemmas.Option.{slice_get_past}
 use Rattle.sd_checker.specs.Num.Lists.{below, has, of_some, all_below}
-use Rattle.sd_checker.specs.Topo.Network.{Network, Domain, IsNetwork, device_numbers, link_numbers}
+use Rattle.sd_checker.specs.Topo.Network.{Network, Domain, device_numbers, link_numbers}
+use Rattle.sd_checker.specs.Topo.Limits.{IsNetwork}
 use Rattle.sd_checker.specs.Topo.declared.Thing.{Thing}
 use Rattle.sd_checker.specs.Topo.declared.Thing.TheVariants as thing
-use Rattle.sd_checker.specs.Domain.Domains.{IsDomain, domains, holds_device, holds_link, hits}
+use Rattle.sd_checker.specs.Domain.Domains.{domains, holds_device, holds_link, hits}
+use Rattle.sd_checker.specs.Domain.Lone.{IsDomain}
 use Rattle.sd_checker.specs.Domain.declared.DomainId.{DomainId}
 use Rattle.sd_checker.specs.Domain.declared.DomainId.TheVariants as domain
 use Rattle.sd_checker.specs.Plan.declared.Hop.{Hop}
 use Rattle.sd_checker.specs.Plan.declared.Plan.{Plan}
 use Rattle.sd_checker.specs.Plan.declared.PlanRow.{PlanRow}
 use Rattle.sd_checker.specs.Plan.Plans.{Fits, is_member, primary_of, backup_of, row_of}
-use Rattle.sd_checker.specs.Plan.Walks.{is_end, is_hit, epath, things_of, short_path, short_walk}
+use Rattle.sd_checker.specs.Plan.Walks.{ends_walks, is_hit, epath, things_of, short_path, short_walk}
 use Rattle.sd_checker.specs.Plan.Structure.{structure_breach, first_failing, roots_breach, row_is_right, hops_are_right, links_differ}
 use Rattle.sd_checker.proofs.Plan.Numbered.{none_found, both_none}
 use Rattle.sd_checker.proofs.Plan.Forest.{IsForest, forest_of, climb}
@@ -187,7 +189,7 @@ IsParent o y = (hop : Hop) × (o ≡ Some hop) × (hop.parent ≡ y)
 
 pub record Led (net : Network) (plan : Plan) (f : DomainId) (x y : ℕ) : Type 0 where
   pub member : is_member plan x ≡ true
-  pub other : is_end plan x ≡ false
+  pub other : ends_walks plan x ≡ false
   pub by : IsParent (primary_of plan x) y ⊎ ((is_hit net plan f x ≡ true) × IsParent (backup_of plan x) y)
 
 parent_of : (o : Option Hop) (y : ℕ) → list_any (λ hop. nat_eq hop.parent y) (option_to_list o) ≡ true → IsParent o y
@@ -228,13 +230,13 @@ led_by true false false primary backup y some = (
 
 pub led : (net : Network) (plan : Plan) (f : DomainId) (x y : ℕ) → LeadsTo net plan f x y → Led net plan f x y
 led net plan f x y leads =
-    let it = led_by (is_member plan x) (is_end plan x) (is_hit net plan f x) (primary_of plan x) (backup_of plan x) y leads in
+    let it = led_by (is_member plan x) (ends_walks plan x) (is_hit net plan f x) (primary_of plan x) (backup_of plan x) y leads in
     record { member = it.0; other = it.1; by = it.2 }
 
 -- Structure
 
 -- a device with a hop is one of the network
-has_hop_within : (net : Network) (plan : Plan) (x : ℕ) (hop : Hop) → Fits net plan → (primary_of plan x ≡ Some hop) ⊎ (backup_of plan x ≡ Some hop)
+pub has_hop_within : (net : Network) (plan : Plan) (x : ℕ) (hop : Hop) → Fits net plan → (primary_of plan x ≡ Some hop) ⊎ (backup_of plan x ≡ Some hop)
     → x < length net.devices
 has_hop_within net plan x hop fits either = elim (cases_lt x (length net.devices)) [
   | inl within ↦ within
@@ -289,7 +291,7 @@ module _ (net : Network) (plan : Plan) (law : IsNetwork net) (fits : Fits net pl
             (let same : hop ≡ parent.0 = some_is (sym is ∙ parent.1) in
             let leads : hop.parent ≡ next x = ap (λ (h : Hop). h.parent) same ∙ parent.2 in
             let on_ring : has all hop.parent ≡ true = subst (λ (v : ℕ). has all v ≡ true) (sym leads) (next_has first others x) in
-            let other : is_end plan hop.parent ≡ false = (led_next hop.parent on_ring).other in
+            let other : ends_walks plan hop.parent ≡ false = (led_next hop.parent on_ring).other in
             let free : hits net f (things_of (hop ∷ short_walk net plan hop.parent)) ≡ false =
             subst (λ (hs : List Hop). hits net f (things_of hs) ≡ false) (path_step net plan x hop forest within is) unhit in
             let rest : hits net f (things_of (short_walk net plan hop.parent)) ≡ false =
@@ -305,7 +307,7 @@ module _ (net : Network) (plan : Plan) (law : IsNetwork net) (fits : Fits net pl
       climb net plan forest (λ x. hits net f (things_of (short_walk net plan x)) ≡ true → list_any down (things_of (short_walk net plan x)) ≡ true)
       (λ x within none hit. absurd (empty x (no_short_walk net plan x forest none) hit))
       (λ x hop within is step above hit.
-      elim (cases_Bool (is_end plan x)) [
+      elim (cases_Bool (ends_walks plan x)) [
         | inl ends ↦ absurd (empty x (short_walk_none net plan x ends) hit)
         | inr other ↦
             (let whole : short_walk net plan x ≡ hop ∷ short_walk net plan hop.parent = short_walk_is net plan x other ∙ path_step net plan x hop forest within is in

@@ -3,7 +3,8 @@ use Rattle.std.specs.Prelude.{◌≡◌, ℕ, zero, suc, ◌+◌, ◌*◌, ◌^�
 use Rattle.std.proofs.Common.{sym, subst, arith, inl, inr}
 use Rattle.std.proofs.lemmas.Bool.{and_parts, not-true, cases_lt, cases_eq, eqb-false, both_ways}
 use Rattle.sd_checker.specs.Num.Lists.{of_some}
-use Rattle.sd_checker.specs.Topo.Network.{Network, IsNetwork}
+use Rattle.sd_checker.specs.Topo.Network.{Network}
+use Rattle.sd_checker.specs.Topo.Limits.{IsNetwork}
 use Rattle.sd_checker.specs.Topo.declared.Thing.{Thing}
 use Rattle.sd_checker.specs.Domain.Domains.{domains}
 use Rattle.sd_checker.specs.Domain.declared.DomainId.{DomainId}

@@ -17,7 +17,7 @@ use Rattle.sd_checker.specs.Plan.declared.Plan.{Plan}
 use Rattle.sd_checker.specs.Plan.Plans.{is_member, members}
 use Rattle.sd_history.specs.Sched.declared.Event.{Event}
 use Rattle.sd_history.specs.Sched.declared.Event.TheVariants as event
-use Rattle.sd_history.specs.Sched.Events.{reference_of, is_end, is_stage}
+use Rattle.sd_history.specs.Sched.Events.{reference_of, is_end_event, is_stage}
 use Rattle.sd_history.specs.Things.{failure_of}
 use Rattle.sd_history.specs.World.{Setting, Seen, is_up, was_made, has_failed, is_untouched, latest_reference, latest_reading, window, plan_numbered}
 use Rattle.sd_history.specs.Steps.{Step, Told, seen_of, first_step, can_close}
@@ -46,7 +46,7 @@ pub record World (net : Network) (plan : Plan) (f : DomainId) (down : Thing → 
   pub failed : (l : ℕ) → down (thing.Link l) ≡ true → has_failed seen (thing.Link l) ≡ true
   pub window : window seen ≡ None
   pub closings : count_by (λ s. s.closed) seen ≡ 0
-  pub goes_on : list_any (λ s. is_end s.event) seen ≡ false
+  pub goes_on : list_any (λ s. is_end_event s.event) seen ≡ false
   pub latest : latest_reference seen ≡ t
   pub read : (d : ℕ) → latest_reading seen d ≤ t
   pub touched : (d : ℕ) → d < length net.devices → is_member plan d ≡ true → is_untouched seen d ≡ false

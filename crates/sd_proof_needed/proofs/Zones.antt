@@ -10,7 +10,7 @@ use Rattle.sd_checker.specs.Topo.declared.Thing.TheVariants as thing
 use Rattle.sd_checker.specs.Plan.declared.Hop.{Hop}
 use Rattle.sd_checker.specs.Plan.declared.Plan.{Plan}
 use Rattle.sd_checker.specs.Plan.Plans.{Fits, primary_of, backup_of}
-use Rattle.sd_checker.specs.Plan.Walks.{is_end, epath, things_of, short_walk}
+use Rattle.sd_checker.specs.Plan.Walks.{ends_walks, epath, things_of, short_walk}
 use Rattle.sd_checker.specs.Plan.Duties.{leads_to, follows_over}
 use Rattle.sd_checker.specs.Plan.Structure.{structure_breach, first_failing, roots_breach, row_is_right, hops_are_right, links_differ}
 use Rattle.sd_checker.proofs.Plan.Numbered.{none_found, both_none}
@@ -55,21 +55,41 @@ by_primary net plan x l s hop structured within primary same follows =
         both_ways (nat_eq hop.link b.link) (not-true (nat_eq hop.link b.link) rule)
         (eq-eqb hop.link b.link (same ∙ sym (eqb-true b.link l (and_parts (nat_eq b.parent s) (nat_eq b.link l) leads).1)))
 
+-- and a hop over the backup link is the backup one
+pub by_backup : (net : Network) (plan : Plan) (x l s : ℕ) (hop : Hop) → structure_breach net plan ≡ None → x < length net.devices
+    → backup_of plan x ≡ Some hop → hop.link ≡ l → follows_over plan s l x ≡ true → hop.parent ≡ s
+by_backup net plan x l s hop structured within falls same follows =
+    elim (or_cases (leads_to s l (primary_of plan x)) (leads_to s l (backup_of plan x)) follows) [
+      | inl one ↦ absurd (by (primary_of plan x) refl one)
+      | inr two ↦ (let leads : (nat_eq hop.parent s && nat_eq hop.link l) ≡ true = subst (λ (o : Option Hop). leads_to s l o ≡ true) falls two in
+          eqb-true hop.parent s (and_parts (nat_eq hop.parent s) (nat_eq hop.link l) leads).0)
+    ]
+  where
+    by : (o : Option Hop) → primary_of plan x ≡ o → leads_to s l o ≡ true → ⊥
+    by None primary leads = cc
+    by (Some p) primary leads =
+        let rule : of_some (Some p) true (λ v. of_some (Some hop) true (λ q. not (nat_eq v.link q.link))) ≡ true =
+        subst (λ (o : Option Hop). of_some (Some p) true (λ v. of_some o true (λ q. not (nat_eq v.link q.link))) ≡ true) falls
+        (subst (λ (o : Option Hop). of_some o true (λ v. of_some (backup_of plan x) true (λ q. not (nat_eq v.link q.link))) ≡ true) primary
+        (links_rule net plan x structured within)) in
+        both_ways (nat_eq p.link hop.link) (not-true (nat_eq p.link hop.link) rule)
+        (eq-eqb p.link hop.link (eqb-true p.link l (and_parts (nat_eq p.parent s) (nat_eq p.link l) leads).1 ∙ sym same))
+
 abbrev pub zone_in : Network → Plan → (Thing → Bool) → ℕ → Bool
-zone_in net plan down z = is_live net plan down z && not (is_end plan z) && list_any down (epath net plan z)
+zone_in net plan down z = is_live net plan down z && not (ends_walks plan z) && list_any down (epath net plan z)
 
 pub record InZone (net : Network) (plan : Plan) (down : Thing → Bool) (z : ℕ) : Type 0 where
   pub live : is_live net plan down z ≡ true
-  pub other : is_end plan z ≡ false
+  pub other : ends_walks plan z ≡ false
   pub touched : list_any down (epath net plan z) ≡ true
 
 pub in_zone : (net : Network) (plan : Plan) (down : Thing → Bool) (z : ℕ) → zone_in net plan down z ≡ true → InZone net plan down z
 in_zone net plan down z is =
-    let (front, touched) = and_parts (is_live net plan down z && not (is_end plan z)) (list_any down (epath net plan z)) is in
-    let (live, other) = and_parts (is_live net plan down z) (not (is_end plan z)) front in
-    record { live = live; other = not-true (is_end plan z) other; touched = touched }
+    let (front, touched) = and_parts (is_live net plan down z && not (ends_walks plan z)) (list_any down (epath net plan z)) is in
+    let (live, other) = and_parts (is_live net plan down z) (not (ends_walks plan z)) front in
+    record { live = live; other = not-true (ends_walks plan z) other; touched = touched }
 
-pub zone_of : (net : Network) (plan : Plan) (down : Thing → Bool) (z : ℕ) → is_live net plan down z ≡ true → is_end plan z ≡ false
+pub zone_of : (net : Network) (plan : Plan) (down : Thing → Bool) (z : ℕ) → is_live net plan down z ≡ true → ends_walks plan z ≡ false
     → list_any down (epath net plan z) ≡ true → zone_in net plan down z ≡ true
 zone_of net plan down z live other touched = rw (live, other, touched) refl
 
@@ -103,7 +123,7 @@ module _ (net : Network) (plan : Plan) (fits : Fits net plan) (structured : stru
           subst (λ (hs : List Hop). list_any down (things_of hs) ≡ true) (path_step net plan z hop forest within primary) is.touched in
           let rest : list_any down (things_of (short_walk net plan hop.parent)) ≡ true = beyond (down (thing.Link hop.link)) (down (thing.Device hop.parent))
           (list_any down (things_of (short_walk net plan hop.parent))) sound' spared whole in
-          elim (cases_Bool (is_end plan hop.parent)) [
+          elim (cases_Bool (ends_walks plan hop.parent)) [
             | inl ends ↦ absurd (both_ways false refl (subst (λ (hs : List Hop). list_any down (things_of hs) ≡ true) (short_walk_none net plan hop.parent ends) rest))
             | inr other ↦ zone_of net plan down hop.parent live' other
                 (subst (λ (hs : List Hop). list_any down (things_of hs) ≡ true) (short_walk_is net plan hop.parent other) rest)

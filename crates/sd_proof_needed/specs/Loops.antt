@@ -4,8 +4,9 @@
 -- One hypothesis stands beside structure: that a history may have so many events as this one (event_bound). A schedule has at most 2 ^ 26. The history
 -- lasts as long as the wait of the plan, and each device ticks there once a tick.
 use Rattle.std.specs.Prelude.{◌≡◌, ℕ, ◌+◌, ◌-◌, ◌*◌, ◌/◌, ◌^◌, ◌≤◌, List, [], ◌∷◌, ◌++◌, length, sum_by, Some}
-use Rattle.sd_checker.specs.Topo.Network.{Network, IsNetwork, device_numbers}
-use Rattle.sd_checker.specs.Domain.Domains.{IsDomain}
+use Rattle.sd_checker.specs.Topo.Network.{Network, device_numbers}
+use Rattle.sd_checker.specs.Topo.Limits.{IsNetwork}
+use Rattle.sd_checker.specs.Domain.Lone.{IsDomain}
 use Rattle.sd_checker.specs.Domain.declared.DomainId.{DomainId}
 use Rattle.sd_checker.specs.Plan.declared.Plan.{Plan}
 use Rattle.sd_checker.specs.Plan.Plans.{Fits}

@@ -5,8 +5,10 @@
 -- The one hypothesis beside structure is that a history may have so many events as this one (event_bound).
 use Rattle.std.specs.Prelude.{ℕ, ◌^◌, ◌≤◌, Bool, ◌||◌, not, List, ◌++◌, is_some, IsTrue, Some, ◌≡◌}
 use Rattle.std.specs.List.{list_all}
-use Rattle.sd_checker.specs.Topo.Network.{Network, IsNetwork}
-use Rattle.sd_checker.specs.Domain.Domains.{IsDomain, holds}
+use Rattle.sd_checker.specs.Topo.Network.{Network}
+use Rattle.sd_checker.specs.Topo.Limits.{IsNetwork}
+use Rattle.sd_checker.specs.Domain.Domains.{holds}
+use Rattle.sd_checker.specs.Domain.Lone.{IsDomain}
 use Rattle.sd_checker.specs.Domain.declared.DomainId.{DomainId}
 use Rattle.sd_checker.specs.Plan.declared.Plan.{Plan}
 use Rattle.sd_checker.specs.Plan.Plans.{Fits}
