@@ -1,16 +1,14 @@
 -- However a history goes on in which no plan is staged and nothing more fails: devices that are not fed, settled on their next hops, hear nothing.
-use Rattle.std.specs.Prelude.{◌≡◌, ◌≢◌, ℕ, ◌+◌, ◌<◌, Bool, true, false, ◌&&◌, ◌||◌, not, List, [], ◌∷◌, ◌++◌, length, count_by, nat_eq, Option, Some, None, is_some, option_map, refl, if◌then◌else◌}
+use Rattle.std.specs.Prelude.{◌≡◌, ℕ, ◌+◌, ◌<◌, Bool, true, false, ◌&&◌, ◌||◌, not, List, [], ◌∷◌, ◌++◌, length, count_by, nat_eq, Option, Some, None, is_some, option_map, refl, if◌then◌else◌}
 use Rattle.std.proofs.Common.{sym, ap, ◌∙◌, subst, inl, inr}
 use Rattle.std.proofs.lemmas.Bool.{and_parts, or_parts, eqb-true, eq-eqb, both_ways, not-true, not-false, false_from_ne_true, lt-ltb}
 use Rattle.sd_checker.specs.Num.Lists.{of_some}
 use Rattle.sd_checker.specs.Topo.Network.{Network}
-use Rattle.sd_checker.specs.Topo.declared.Thing.{Thing}
 use Rattle.sd_checker.specs.Topo.declared.Thing.TheVariants as thing
 use Rattle.sd_checker.specs.Domain.Domains.{holds, holds_device, holds_link}
 use Rattle.sd_checker.specs.Domain.declared.DomainId.{DomainId}
 use Rattle.sd_checker.specs.Plan.declared.Hop.{Hop}
 use Rattle.sd_checker.specs.Plan.declared.Edge.{Edge}
-use Rattle.sd_checker.specs.Plan.declared.End.{End}
 use Rattle.sd_checker.specs.Plan.declared.Plan.{Plan}
 use Rattle.sd_checker.specs.Plan.Plans.{Fits, is_member}
 use Rattle.sd_checker.specs.Plan.Duties.{duty_of, edge_of, ends_of, follows_over}
@@ -22,16 +20,15 @@ use Rattle.sd_history.specs.Core.declared.Effect.{Effect}
 use Rattle.sd_history.specs.Core.declared.Effect.TheVariants.{Quiet, Send}
 use Rattle.sd_history.specs.Core.Calls.{Call, Tick, Receive, Fix, Past, Nothing}
 use Rattle.sd_history.specs.Core.Words.{duty_given, transition_of, after, effect_of}
-use Rattle.sd_history.specs.declared.ApplyFault.{ApplyFault}
 use Rattle.sd_history.specs.Sched.declared.Event.{Event}
 use Rattle.sd_history.specs.Sched.declared.Event.TheVariants as event
 use Rattle.sd_history.specs.Sched.Events.{is_stage}
 use Rattle.sd_history.specs.Things.{failure_of}
 use Rattle.sd_history.specs.World.{Setting, Seen, is_up, was_made, has_failed, link_has_failed, plan_numbered, in_force, window}
-use Rattle.sd_history.specs.Steps.{Act, changed, Calls, Passes, Step, Told, seen_of, flights, flights_of, flight_numbered, act_by, first_step, can_close, tells_nothing, tells_called}
+use Rattle.sd_history.specs.Steps.{Act, changed, Calls, Passes, Step, seen_of, flights, flights_of, flight_numbered, act_by, tells_nothing, tells_called}
 use Rattle.sd_history.specs.Chronicle.{next_step, chronicle, past_in, past_after, answers_by, told_by, IsHistory}
 use Rattle.sd_history.specs.Accepted.{AreSteps}
-use Rattle.sd_history.specs.Refusals.{causes, refusal, is_spent, dead_device, not_started, started_twice, window_order, not_member}
+use Rattle.sd_history.specs.Refusals.{causes, refusal, is_spent, not_started, window_order, not_member}
 use Rattle.sd_history.proofs.Among.{Among, first, later, either_side, found}
 use Rattle.sd_history.proofs.Given.{some_is}
 use Rattle.sd_history.proofs.Contained.{none_holds}
@@ -42,12 +39,11 @@ use Rattle.sd_history.proofs.flights.Places.{IsBelow, ends_below}
 use Rattle.sd_proof_needed.specs.Alone.{alone}
 use Rattle.sd_proof_needed.specs.Reaches.{leaves_as_is}
 use Rattle.sd_proof_needed.proofs.Worlds.{is_live, window_on, closings_on}
-use Rattle.sd_proof_needed.proofs.Allowed.{Live, live_parts}
 use Rattle.sd_proof_needed.proofs.Air.{ends_are}
 use Rattle.sd_proof_needed.proofs.Still.{sends_nothing}
 use Rattle.sd_proof_needed.proofs.Hush.{role_is}
 use Rattle.sd_proof_needed.proofs.Deaf.{Settled, settled_on, tick_rests, receipt_rests}
-use Rattle.sd_proof_needed.proofs.Unfed.{Unfed, IsOnNext, unfed_live, unfed_other, next_above}
+use Rattle.sd_proof_needed.proofs.Unfed.{Unfed, IsOnNext, unfed_other, next_above}
 
 -- who is up and what has failed, where no window is open
 pub record Frame (net : Network) (plan : Plan) (f : DomainId) (seen : List Seen) : Type 0 where

@@ -1,17 +1,16 @@
 -- A device that is settled on a hop over which nothing comes: no call makes it hear.
-use Rattle.std.specs.Prelude.{◌≡◌, ◌≢◌, ℕ, Bool, true, false, ◌&&◌, ◌||◌, not, List, [], ◌∷◌, ◌⊎◌, nat_eq, Option, Some, None, is_some, option_map, option_and_then, refl, if◌then◌else◌}
+use Rattle.std.specs.Prelude.{◌≡◌, ◌≢◌, ℕ, Bool, true, false, ◌&&◌, ◌||◌, not, List, [], ◌∷◌, ◌⊎◌, nat_eq, Option, Some, None, is_some, option_and_then, refl, if◌then◌else◌}
 use Rattle.std.specs.List.{list_any, list_all}
-use Rattle.std.proofs.Common.{sym, ap, ◌∙◌, subst, inl, inr}
+use Rattle.std.proofs.Common.{sym, ap, ◌∙◌, inl, inr}
 use Rattle.std.proofs.lemmas.Bool.{and_parts, and_from, and_left, and_right, ne_eqb}
-use Rattle.sd_checker.specs.Num.Lists.{of_some}
 use Rattle.sd_checker.specs.Plan.declared.Duty.{Duty}
 use Rattle.sd_checker.specs.Plan.declared.Edge.{Edge}
 use Rattle.sd_checker.specs.Plan.declared.Role.TheVariants.{Ordinary}
 use Rattle.sd_history.specs.Msg.declared.Message.{Message}
 use Rattle.sd_history.specs.Msg.Stamps.{is_newer}
-use Rattle.sd_history.specs.Core.Calls.{Call, Tick, Receive, Fix, Did, Past, Transition, Nothing, Moved}
-use Rattle.sd_history.specs.Core.Words.{takes_up, accepted_over, is_move, is_takeover, duty_given, is_acting, may_move, is_sealed, has_moved, duty_now, parent_edge, backup_now, primary_now, wait_to_move, emits_at, takes_over_at, moves_at, is_backup_root_now, transition_of, after, accepted_by, entered_by, over_link, epoch_now, stamp_now}
-use Rattle.sd_proof_needed.proofs.Pasts.{is_plain, Plain, no_entry, since_is, duty_is, given_none}
+use Rattle.sd_history.specs.Core.Calls.{Call, Tick, Receive, Did, Past, Transition, Nothing, Moved}
+use Rattle.sd_history.specs.Core.Words.{accepted_over, is_move, is_takeover, duty_given, is_acting, may_move, is_sealed, has_moved, duty_now, parent_edge, wait_to_move, emits_at, takes_over_at, moves_at, transition_of, after, accepted_by, entered_by, over_link, epoch_now, stamp_now}
+use Rattle.sd_proof_needed.proofs.Pasts.{is_plain, Plain, since_is, duty_is, given_none}
 use Rattle.sd_proof_needed.proofs.Still.{Still, still_plain, is_nothing, nothing_is, did_nothing, on_primary, not_acting, just_moved}
 use Rattle.sd_proof_needed.proofs.Turns.{plain_on, acting_after}
 

@@ -1,7 +1,7 @@
 -- Where a set of devices hears nothing over its primary links from outside, its devices do nothing before their waits are over.
-use Rattle.std.specs.Prelude.{◌≡◌, ◌≢◌, ℕ, Bool, true, false, ◌&&◌, List, ◌∷◌, nat_eq, nat_le, Option, Some, None, option_map, refl, if◌then◌else◌}
+use Rattle.std.specs.Prelude.{◌≡◌, ℕ, Bool, true, false, List, ◌∷◌, nat_eq, nat_le, Option, Some, None, option_map, refl, if◌then◌else◌}
 use Rattle.std.proofs.Common.{sym, ap, ◌∙◌, subst, inl, inr}
-use Rattle.std.proofs.lemmas.Bool.{and_parts, or_cases, or_parts, eqb-true, eq-eqb}
+use Rattle.std.proofs.lemmas.Bool.{or_parts, eqb-true, eq-eqb}
 use Rattle.sd_checker.specs.Num.Lists.{of_some}
 use Rattle.sd_checker.specs.Topo.Network.{Network}
 use Rattle.sd_checker.specs.Topo.declared.Thing.{Thing}
@@ -11,7 +11,7 @@ use Rattle.sd_checker.specs.Plan.declared.Hop.{Hop}
 use Rattle.sd_checker.specs.Plan.declared.Edge.{Edge}
 use Rattle.sd_checker.specs.Plan.declared.Plan.{Plan}
 use Rattle.sd_checker.specs.Plan.declared.Role.TheVariants.{Ordinary}
-use Rattle.sd_checker.specs.Plan.Plans.{is_root, is_backup_root, primary_of, backup_of}
+use Rattle.sd_checker.specs.Plan.Plans.{is_root, is_backup_root, primary_of}
 use Rattle.sd_checker.specs.Plan.Walks.{ends_walks}
 use Rattle.sd_checker.specs.Plan.Duties.{duty_of, edge_of, role_of, follows_over}
 use Rattle.sd_history.specs.Msg.declared.Flight.{Flight}

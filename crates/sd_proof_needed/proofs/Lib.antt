@@ -20,6 +20,7 @@ pub mod Loops
 mod Deaf
 mod Unfed
 mod Continuing
+pub mod Reaches
 -- Handed on: what crates above name of those below.
 pub use Rattle.sd_checker.proofs as Checker
 pub use Rattle.sd_history.proofs as History

@@ -1,8 +1,8 @@
 -- A ring of devices that may follow each other while things of a domain fail: each of them is hit, and hit by what the domain has beside the ring.
-use Rattle.std.specs.Prelude.{◌≡◌, ℕ, zero, suc, ◌<◌, Bool, true, false, ◌&&◌, ◌||◌, not, List, [], ◌∷◌, ◌++◌, length, map, find, nat_eq, nat_lt, slice_get, Option, Some, None, option_map, option_to_list, ◌⊎◌, refl, if◌then◌else◌}
+use Rattle.std.specs.Prelude.{◌≡◌, ℕ, zero, suc, ◌<◌, Bool, true, false, ◌&&◌, ◌||◌, not, List, [], ◌∷◌, ◌++◌, length, map, nat_eq, nat_lt, slice_get, Option, Some, None, option_map, option_to_list, ◌⊎◌, refl, if◌then◌else◌}
 use Rattle.std.specs.List.{list_any}
 use Rattle.std.proofs.Common.{sym, ap, ◌∙◌, subst, arith, inl, inr}
-use Rattle.std.proofs.lemmas.Bool.{and_parts, and_right, or_cases, or_left, or_right, or_parts, eqb-true, eq-eqb, ne_eqb, ltb-true, lt-ltb, cases_lt, cases_Bool, both_ways, not-true, not-false}
+use Rattle.std.proofs.lemmas.Bool.{and_parts, and_right, or_cases, or_left, or_right, or_parts, eqb-true, eq-eqb, ne_eqb, ltb-true, lt-ltb, cases_lt, cases_Bool, both_ways, not-true}
 use Rattle.std.proofs.lemmas.List.Folds.{list_any-append}
 use Rattle.std.proofs.lemmas.Option.{slice_get_past}
 use Rattle.sd_checker.specs.Num.Lists.{below, has, of_some, all_below}
@@ -19,8 +19,7 @@ use Rattle.sd_checker.specs.Plan.declared.Plan.{Plan}
 use Rattle.sd_checker.specs.Plan.declared.PlanRow.{PlanRow}
 use Rattle.sd_checker.specs.Plan.Plans.{Fits, is_member, primary_of, backup_of, row_of}
 use Rattle.sd_checker.specs.Plan.Walks.{ends_walks, is_hit, epath, things_of, short_path, short_walk}
-use Rattle.sd_checker.specs.Plan.Structure.{structure_breach, first_failing, roots_breach, row_is_right, hops_are_right, links_differ}
-use Rattle.sd_checker.proofs.Plan.Numbered.{none_found, both_none}
+use Rattle.sd_checker.specs.Plan.Structure.{structure_breach}
 use Rattle.sd_checker.proofs.Plan.Forest.{IsForest, forest_of, climb}
 use Rattle.sd_checker.specs.CheckLoop.Loops.{LeadsTo, IsChain, AreDifferent}
 use Rattle.sd_history.proofs.Among as among
@@ -30,8 +29,6 @@ use Rattle.sd_proof_needed.specs.Alone.{holds_besides}
 use Rattle.sd_proof_needed.specs.Loops.{IsRing}
 use Rattle.sd_proof_needed.proofs.Elements.{mapped, on_left, below_among, among_below}
 use Rattle.sd_proof_needed.proofs.Paths.{no_short_walk, short_walk_is, short_walk_none, path_step}
-use Rattle.sd_proof_needed.proofs.Worlds.{is_live}
-use Rattle.sd_proof_needed.proofs.Allowed.{live_parts}
 use Rattle.sd_proof_needed.proofs.Zones.{zone_in, zone_of}
 
 -- Domains

@@ -1,6 +1,5 @@
 -- The devices that a domain leaves sound and does not feed: each is hit, and over its next hop only such devices lead up to it.
-use Rattle.std.specs.Prelude.{◌≡◌, ℕ, ◌<◌, Bool, true, false, ◌&&◌, ◌||◌, not, List, [], ◌∷◌, ◌⊎◌, length, nat_eq, nat_lt, Option, Some, None, refl, if◌then◌else◌}
-use Rattle.std.specs.List.{list_any}
+use Rattle.std.specs.Prelude.{◌≡◌, ℕ, ◌<◌, Bool, true, false, not, List, ◌⊎◌, length, Option, Some, None, refl, if◌then◌else◌}
 use Rattle.std.specs.Option.{option_or}
 use Rattle.std.proofs.Common.{sym, ap, ◌∙◌, subst, inl, inr}
 use Rattle.std.proofs.lemmas.Bool.{and_parts, or_cases, eqb-true, lt-ltb, both_ways, not-true, false_from_ne_true, true_from_ne_false}
@@ -12,7 +11,7 @@ use Rattle.sd_checker.specs.Domain.declared.DomainId.{DomainId}
 use Rattle.sd_checker.specs.Plan.declared.Hop.{Hop}
 use Rattle.sd_checker.specs.Plan.declared.Plan.{Plan}
 use Rattle.sd_checker.specs.Plan.Plans.{Fits, is_member, is_root, is_backup_root, primary_of, backup_of}
-use Rattle.sd_checker.specs.Plan.Walks.{ends_walks, is_hit, things_of, short_walk}
+use Rattle.sd_checker.specs.Plan.Walks.{ends_walks, is_hit, things_of}
 use Rattle.sd_checker.specs.Plan.Duties.{follows_over}
 use Rattle.sd_checker.specs.Plan.Structure.{structure_breach}
 use Rattle.sd_checker.proofs.Plan.Forest.{IsForest, forest_of, by_option}
@@ -23,7 +22,7 @@ use Rattle.sd_proof_needed.proofs.Worlds.{is_live}
 use Rattle.sd_proof_needed.proofs.Allowed.{Live, live_parts}
 use Rattle.sd_proof_needed.proofs.Rings.{has_hop_within}
 use Rattle.sd_proof_needed.proofs.Hush.{IsZone}
-use Rattle.sd_proof_needed.proofs.Zones.{by_primary, by_backup, zone_in, zone_of, in_zone, InZone, IsOnPrimary, zone_above}
+use Rattle.sd_proof_needed.proofs.Zones.{by_primary, by_backup, zone_in, zone_of, in_zone, IsOnPrimary, zone_above}
 
 -- sound, and not fed
 pub record Unfed (net : Network) (plan : Plan) (f : DomainId) (x : ℕ) : Type 0 where

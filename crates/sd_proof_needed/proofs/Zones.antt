@@ -1,7 +1,7 @@
 -- The devices that what fails cuts off from above, up to the first of backup root and root: a zone.
-use Rattle.std.specs.Prelude.{◌≡◌, ℕ, ◌<◌, Bool, true, false, ◌&&◌, ◌||◌, not, List, [], ◌∷◌, length, find, nat_eq, Option, Some, None, option_map, refl}
+use Rattle.std.specs.Prelude.{◌≡◌, ℕ, ◌<◌, Bool, true, false, ◌&&◌, ◌||◌, not, List, ◌∷◌, length, find, nat_eq, Option, Some, None, option_map, refl}
 use Rattle.std.specs.List.{list_any}
-use Rattle.std.proofs.Common.{sym, ap, ◌∙◌, subst, inl, inr}
+use Rattle.std.proofs.Common.{sym, ◌∙◌, subst, inl, inr}
 use Rattle.std.proofs.lemmas.Bool.{and_parts, or_cases, eqb-true, eq-eqb, cases_Bool, both_ways, not-true, not-false}
 use Rattle.sd_checker.specs.Num.Lists.{of_some}
 use Rattle.sd_checker.specs.Topo.Network.{Network, device_numbers}
@@ -17,7 +17,7 @@ use Rattle.sd_checker.proofs.Plan.Numbered.{none_found, both_none}
 use Rattle.sd_checker.proofs.Plan.Forest.{IsForest, forest_of}
 use Rattle.sd_proof_needed.proofs.Paths.{short_walk_is, short_walk_none, path_step}
 use Rattle.sd_proof_needed.proofs.Worlds.{is_live}
-use Rattle.sd_proof_needed.proofs.Allowed.{Live, live_parts}
+use Rattle.sd_proof_needed.proofs.Allowed.{live_parts}
 use Rattle.sd_proof_needed.proofs.Hush.{IsZone}
 
 none_mapped : {X Y : Type 0} (g : X → Y) (o : Option X) → option_map g o ≡ None → o ≡ None

@@ -12,7 +12,7 @@ use Rattle.sd_checker.specs.Domain.Lone.{IsDomain}
 use Rattle.sd_checker.specs.Domain.declared.DomainId.{DomainId}
 use Rattle.sd_checker.specs.Plan.declared.Plan.{Plan}
 use Rattle.sd_checker.specs.Plan.Plans.{Fits}
-use Rattle.sd_checker.specs.CheckReach.Reach.{IsStarved}
+use Rattle.sd_checker.specs.CheckReach.Reach.{IsStarved, begins_with}
 use Rattle.sd_checker.specs.Conditions.{Holds}
 use Rattle.sd_checker.specs.Conditions as condition
 use Rattle.sd_checker.specs.Verdicts.{IsBreach}
@@ -51,3 +51,10 @@ abbrev pub ReachIsNeeded : Network → Plan → Type 0
 ReachIsNeeded net plan =
     IsNetwork net → Fits net plan → Holds net plan condition.structure → event_bound net plan ≤ 2 ^ 26
     → (f : DomainId) → IsDomain net f → (d : ℕ) → IsStarved net plan f d → StaysDeaf net plan f d
+
+-- so wherever the checker refuses a plan for its reach, the first device that it shows can stay deaf
+abbrev pub ReachRefusalIsRight : Network → Plan → Type 0
+ReachRefusalIsRight net plan =
+    IsNetwork net → Fits net plan → event_bound net plan ≤ 2 ^ 26
+    → (f : DomainId) (chain : List ℕ) → IsBreach net plan (breach.Reach f chain)
+    → (first : ℕ) × IsTrue (begins_with chain first) × StaysDeaf net plan f first
