@@ -1,7 +1,10 @@
 -- The sentences of the headline hold of what is written for the reading of a schedule.
 use Rattle.std.specs.List.{concat}
+use Rattle.std.proofs.lemmas.List.Folds.{concat-append}
+use Rattle.sd_cmd_files.specs.Outside.Pieces.{piece_of}
+use Rattle.sd_cmd_files.proofs.Outside.Adding.{concat_piece}
 use Rattle.std.specs.Prelude.{◌≡◌, ℕ, ◌+◌, ◌<◌, Bool, true, false, List, [], ◌∷◌, ◌++◌, length, map, count_by, Option, Some, None, option_map, option_to_list, codes, decimal, refl}
-use Rattle.std.proofs.Common.{arith, sym, ◌∙◌, subst}
+use Rattle.std.proofs.Common.{ap, arith, sym, ◌∙◌, subst}
 use Rattle.std.proofs.lemmas.List.{length_push}
 use Rattle.sd_wait.specs.Num.Lists.{of_some}
 use Rattle.sd_replay.specs.Topo.Limits.{IsNetwork}
@@ -186,6 +189,13 @@ waits_quiet tally =
 
 -- Works
 
+-- the bytes of two writes
+both_pieces : (a b : List ℕ) → concat (piece_of a ++ piece_of b) ≡ a ++ b
+both_pieces a b =
+    concat-append (piece_of a) (piece_of b)
+    ∙ ap (λ (l : List ℕ). l ++ concat (piece_of b)) (concat_piece a)
+    ∙ ap (λ (l : List ℕ). a ++ l) (concat_piece b)
+
 module _ (setting : Setting) (net : IsNetwork setting.net) (work : Work Event) where
   module _ (prints : PrintsEvents setting work) where
     lines_printed : (earlier : List Event) (e : Event) → AreLines (work.bytes earlier e) (event_lines setting (chronicle setting (e ∷ earlier)))
@@ -194,7 +204,8 @@ module _ (setting : Setting) (net : IsNetwork setting.net) (work : Work Event) w
         (bytes_are_lines setting (chronicle setting (e ∷ earlier)) net)
 
     last_printed : (events : List Event) → IsQuiet (concat (work.last_pieces events))
-    last_printed events = subst IsQuiet (sym (prints.last events)) (done_quiet (chronicle setting events))
+    last_printed events =
+        subst IsQuiet (sym (ap concat (prints.last events) ∙ concat_piece (done_bytes (chronicle setting events)))) (done_quiet (chronicle setting events))
 
     pub events_keep_interval : (schedule : List ℕ) → no_early_interval (written_for work (reading work schedule)) ≡ true
     events_keep_interval =
@@ -230,7 +241,9 @@ module _ (setting : Setting) (net : IsNetwork setting.net) (work : Work Event) w
 
     both_last : (events : List Event) → IsQuiet (concat (work.last_pieces events))
     both_last events =
-        subst IsQuiet (sym (prints.last events))
+        subst IsQuiet
+        (sym (ap concat (prints.last events)
+        ∙ both_pieces (done_bytes (chronicle setting events)) (waits_line (tally_of (reports (chronicle setting events))))))
         (quiet_behind (done_quiet (chronicle setting events)) (waits_quiet (tally_of (reports (chronicle setting events)))))
 
     -- lines of commit wait none of which is bad go on quietly behind those of their event

@@ -1,6 +1,6 @@
 -- Works that read a schedule event by event and print what is due of each event.
 use Rattle.std.specs.Prelude.{◌≡◌, ℕ, List, [], ◌∷◌, ◌++◌, length, None, Ok, Err, IsTrue}
-use Rattle.std.specs.List.{concat}
+use Rattle.sd_cmd_files.specs.Outside.Pieces.{piece_of}
 use Rattle.sd_wait.specs.Num.Lists.{of_some}
 use Rattle.sd_replay.specs.Sched.declared.Event.{Event}
 use Rattle.sd_replay.specs.History.World.{Setting}
@@ -24,7 +24,7 @@ pub record ReadsEvents (setting : Setting) (work : Work Event) : Type 0 where
 pub record PrintsEvents (setting : Setting) (work : Work Event) : Type 0 where
   pub reads : ReadsEvents setting work
   pub bytes : (earlier : List Event) (e : Event) → work.bytes earlier e ≡ bytes_of setting (chronicle setting (e ∷ earlier))
-  pub last : (events : List Event) → concat (work.last_pieces events) ≡ done_bytes (chronicle setting events)
+  pub last : (events : List Event) → work.last_pieces events ≡ piece_of (done_bytes (chronicle setting events))
 
 -- the lines of commit wait of a step behind others
 abbrev pub wait_bytes : Setting → List Step → Step → List ℕ
@@ -37,4 +37,4 @@ pub record PrintsWaits (setting : Setting) (work : Work Event) : Type 0 where
   pub bytes : (earlier : List Event) (e : Event) → work.bytes earlier e
       ≡ bytes_of setting (chronicle setting (e ∷ earlier)) ++ wait_bytes setting (chronicle setting earlier) (next_step setting (chronicle setting earlier) e)
   pub last : (events : List Event)
-      → concat (work.last_pieces events) ≡ done_bytes (chronicle setting events) ++ waits_line (tally_of (reports (chronicle setting events)))
+      → work.last_pieces events ≡ piece_of (done_bytes (chronicle setting events)) ++ piece_of (waits_line (tally_of (reports (chronicle setting events))))

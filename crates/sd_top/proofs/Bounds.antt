@@ -6,9 +6,9 @@ use Rattle.sd_num.specs.Lists.{of_some}
 use Rattle.sd_topo.specs.Network.{Network}
 use Rattle.sd_plan.specs.Domain.declared.DomainId.{DomainId}
 use Rattle.sd_plan.specs.declared.Plan.{Plan}
-use Rattle.sd_drill.specs.Bounds.{AreBounds, bound_at}
-use Rattle.sd_drill.specs.Drill.{IsListed, IsWorst}
-use Rattle.sd_drill.specs.declared.Budget.{Budget}
+use Rattle.sd_proof_bound.specs.Drill.Bounds.{AreBounds, bound_at}
+use Rattle.sd_proof_bound.specs.Drill.Drill.{IsListed, IsWorst}
+use Rattle.sd_proof_bound.specs.Drill.declared.Budget.{Budget}
 use Rattle.sd_cmd_files.specs.Texts.{Texts, texts_of}
 use Rattle.sd_proof_headline.proofs.Runs.{text_is_network, plan_fits}
 use Rattle.sd_proof_bound.proofs.Bounded.{bound_holds}

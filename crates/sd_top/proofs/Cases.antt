@@ -6,9 +6,9 @@ use Rattle.sd_topo.specs.Limits.{IsNetwork}
 use Rattle.sd_plan.specs.Plans.{Fits}
 use Rattle.sd_plan.specs.declared.Absent.{Absent}
 use Rattle.sd_plan.specs.declared.Plan.{Plan}
-use Rattle.sd_checker.specs.Verdicts.{IsAccepted, IsVerdict}
-use Rattle.sd_checker.specs.declared.Verdict.{Verdict}
-use Rattle.sd_checker.specs.declared.Verdict.TheVariants.{Accepted, Refused}
+use Rattle.sd_cmd_files.specs.Checker.Verdicts.{IsAccepted, IsVerdict}
+use Rattle.sd_cmd_files.specs.Checker.declared.Verdict.{Verdict}
+use Rattle.sd_cmd_files.specs.Checker.declared.Verdict.TheVariants.{Accepted, Refused}
 use Rattle.sd_proof_bound.specs.History.World.{Setting}
 use Rattle.sd_cmd_case.specs.Gen.fabric.Fabrics.{fabric, first_absent, second_absent}
 use Rattle.sd_cmd_case.specs.Gen.Drafts.{history_of}

@@ -5,12 +5,12 @@ use Rattle.std.specs.List.{concat}
 use Rattle.sd_outside.specs.Pieces.{Pieces, piece_of}
 use Rattle.sd_topo.specs.Network.{Network}
 use Rattle.sd_plan.specs.declared.Plan.{Plan}
-use Rattle.sd_checker.specs.Text.{refused_line}
-use Rattle.sd_checker.specs.Verdicts.{IsAccepted, IsBreach}
-use Rattle.sd_checker.specs.declared.Breach.{Breach}
-use Rattle.sd_checker.specs.declared.Verdict.TheVariants.{Accepted, Refused}
-use Rattle.sd_checker.proofs.Exclusive.{accepted_unbroken}
-use Rattle.sd_drill.specs.declared.Budget.{Budget}
+use Rattle.sd_cmd_files.specs.Checker.Text.{refused_line}
+use Rattle.sd_cmd_files.specs.Checker.Verdicts.{IsAccepted, IsBreach}
+use Rattle.sd_cmd_files.specs.Checker.declared.Breach.{Breach}
+use Rattle.sd_cmd_files.specs.Checker.declared.Verdict.TheVariants.{Accepted, Refused}
+use Rattle.sd_cmd_files.proofs.Checker.Exclusive.{accepted_unbroken}
+use Rattle.sd_proof_bound.specs.Drill.declared.Budget.{Budget}
 use Rattle.sd_cmd_drill.specs.Adding.{Drills, IsDrillIn}
 use Rattle.sd_cmd_drill.proofs.Prefixes.{drill_bytes}
 use Rattle.sd_cmd_files.specs.Answering.{After, AtOnce, InWrites, May, MayWrite, WritesAfter}

@@ -1,19 +1,14 @@
 -- The works of `replay` and `order` print what the headline speaks of, and so keep it.
-use Rattle.std.specs.Prelude.{◌≡◌, ℕ, true, ◌++◌, List, Option, None, Some, Result, Ok, Err, nat_le, codes, decimal, refl}
-use Rattle.std.proofs.Common.{◌∙◌, ap, subst}
-use Rattle.std.specs.List.{concat}
+use Rattle.std.specs.Prelude.{◌≡◌, ℕ, true, List, Option, None, Some, Result, Ok, Err, nat_le, codes, decimal, refl}
+use Rattle.std.proofs.Common.{◌∙◌, subst}
 use Rattle.std.proofs.lemmas.Bool.{and_from}
-use Rattle.std.proofs.lemmas.List.Folds.{concat-append, list_all-append}
+use Rattle.std.proofs.lemmas.List.Folds.{list_all-append}
 use Rattle.sd_sched.specs.declared.Event.{Event}
 use Rattle.sd_sched.specs.declared.LineFault.{LineFault}
 use Rattle.sd_sched.specs.declared.LineFault.TheVariants.{UnknownWord, FieldCount, Number}
 use Rattle.sd_sched.specs.Lines.{event_of_line}
 use Rattle.sd_proof_bound.specs.History.World.{Setting}
 use Rattle.sd_proof_bound.specs.History.Chronicle.{chronicle}
-use Rattle.sd_proof_bound.specs.History.Lines.{reports}
-use Rattle.sd_proof_bound.specs.History.Text.{done_bytes}
-use Rattle.sd_outside.specs.Pieces.{piece_of}
-use Rattle.sd_outside.proofs.Adding.{concat_piece}
 use Rattle.sd_proof_bound.specs.History.Refusals.{refusal}
 use Rattle.sd_proof_bound.specs.History.declared.ApplyFault.{ApplyFault}
 use Rattle.sd_proof_bound.specs.History.declared.ApplyFault.TheVariants as apply
@@ -89,13 +84,8 @@ replay_prints setting =
         name = refl;
       };
       bytes = λ earlier e. refl;
-      last = λ events. concat_piece (done_bytes (chronicle setting events));
+      last = λ events. refl;
     }
-
-both_pieces : (a b : List ℕ) → concat (piece_of a ++ piece_of b) ≡ a ++ b
-both_pieces a b =
-    concat-append (piece_of a) (piece_of b) ∙ ap (λ (l : List ℕ). l ++ concat (piece_of b)) (concat_piece a)
-    ∙ ap (λ (l : List ℕ). a ++ l) (concat_piece b)
 
 pub order_prints : (setting : Setting) → PrintsWaits setting (order_work setting)
 order_prints setting =
@@ -106,7 +96,7 @@ order_prints setting =
         name = refl;
       };
       bytes = λ earlier e. refl;
-      last = λ events. both_pieces (done_bytes (chronicle setting events)) (waits_line (tally_of (reports (chronicle setting events))));
+      last = λ events. refl;
     }
 
 module _ (topology : List ℕ) (plans : List (List ℕ)) (schedule : List ℕ) where

@@ -4,11 +4,11 @@ use Rattle.sd_solo.proofs.Contained.{reports_contain}
 use Rattle.sd_topo.specs.Network.{Network}
 use Rattle.sd_plan.specs.declared.Absent.{Absent}
 use Rattle.sd_plan.specs.declared.Plan.{Plan}
-use Rattle.sd_checker.specs.Verdicts.{IsAccepted, IsVerdict}
-use Rattle.sd_checker.specs.declared.Verdict.{Verdict}
-use Rattle.sd_checker.specs.declared.Verdict.TheVariants.{Accepted, Refused}
-use Rattle.sd_checker.proofs.Exclusive.{accepted_unbroken}
-use Rattle.sd_drill.specs.declared.Budget.{Budget}
+use Rattle.sd_cmd_files.specs.Checker.Verdicts.{IsAccepted, IsVerdict}
+use Rattle.sd_cmd_files.specs.Checker.declared.Verdict.{Verdict}
+use Rattle.sd_cmd_files.specs.Checker.declared.Verdict.TheVariants.{Accepted, Refused}
+use Rattle.sd_cmd_files.proofs.Checker.Exclusive.{accepted_unbroken}
+use Rattle.sd_proof_bound.specs.Drill.declared.Budget.{Budget}
 use Rattle.sd_cmd_files.specs.planfiles.PlanFiles.{AfterJudged, AfterPlan, AfterVerdict}
 use Rattle.sd_planner.proofs.Single.{same_greedy}
 use Rattle.sd_cmd_files.specs.Answering.{May, After}
@@ -28,19 +28,10 @@ use Rattle.sd_cmd_twoway.specs.Twoways.{twoway_work}
 use Rattle.sd_cmd_case.proofs.Lawful.{case_completes}
 use Rattle.sd_cmd_replay.proofs.Lawful.{order_completes, replay_completes}
 use Rattle.sd_cmd_twoway.proofs.Twoway.Covering.{none_is_honest}
+use Rattle.sd_top.proofs.Judged.{after_file, verdict_done}
 use Rattle.sd_top.proofs.Migrating.{migration_law}
+use Rattle.sd_top.proofs.Slack.{slack_keeps_plans, slack_raises_no_bound}
 use Rattle.sd_top.proofs.Unique.{one_answer}
-
--- a file that is not refused
-after_file : {X : Type 0} (says : Result X Refusal) (x : X) (Then : X → May) (bytes : List ℕ) (status : Status) → says ≡ Ok x → After says Then bytes status
-    → Then x bytes status
-after_file {X = X} says x Then bytes status is written = subst (λ (s : Result X Refusal). After s Then bytes status) is written
-
--- the verdict on an accepted plan
-verdict_done : (net : Network) (plan : Plan) (verdict : Verdict) (status : Status) → IsAccepted net plan → IsVerdict net plan verdict
-    → status ≡ verdict_status verdict → status ≡ Done
-verdict_done net plan Accepted status accepted says is = is
-verdict_done net plan (Refused breach) status accepted says is = absurd (accepted_unbroken net plan breach accepted says)
 
 -- a greedy plan that is accepted
 planning_done : (net : Network) (root : ℕ) (absent : Absent) (bytes : List ℕ) (status : Status) → IsPlannable net root absent
@@ -116,4 +107,6 @@ laws =
       migration_law = migration_law;
       reports_contain = reports_contain;
       none_is_honest = none_is_honest;
+      slack_keeps_plans = slack_keeps_plans;
+      slack_raises_no_bound = slack_raises_no_bound;
     }

@@ -11,6 +11,9 @@ pub mod Within
 pub mod Headlines
 pub mod Migrating
 pub mod Unique
+mod Judged
+mod SamePlans
+mod Slack
 pub mod Lawful
 pub mod Alone
 pub mod Bounding

@@ -9,11 +9,11 @@ use Rattle.sd_plan.specs.declared.Plan.{Plan}
 use Rattle.sd_plantext.specs.Reading.{tree_of}
 use Rattle.sd_plantext.specs.declared.fault.PlanFault.{PlanFault}
 use Rattle.sd_plantext.proofs.Versions.{plan_of-with_version, absent_of-with_version, plan_text-with_version}
-use Rattle.sd_checker.specs.declared.Verdict.{Verdict}
-use Rattle.sd_checker.specs.declared.Verdict.TheVariants.{Accepted, Refused}
-use Rattle.sd_checker.proofs.Versions.{accepted_line-with_version, refused_line-with_version, IsVerdict-with_version}
-use Rattle.sd_drill.specs.declared.Budget.{Budget}
-use Rattle.sd_drill.proofs.Versions.{IsDrill-with_version}
+use Rattle.sd_cmd_files.specs.Checker.declared.Verdict.{Verdict}
+use Rattle.sd_cmd_files.specs.Checker.declared.Verdict.TheVariants.{Accepted, Refused}
+use Rattle.sd_cmd_files.proofs.Checker.Versions.{accepted_line-with_version, refused_line-with_version, IsVerdict-with_version}
+use Rattle.sd_proof_bound.specs.Drill.declared.Budget.{Budget}
+use Rattle.sd_proof_bound.proofs.Drill.Versions.{IsDrill-with_version}
 use Rattle.sd_cmd_files.specs.planfiles.PlanFiles.{AfterJudged, AfterPlan, AfterVerdict}
 use Rattle.sd_planner.proofs.Versions.{IsGreedy-with_version}
 use Rattle.sd_cmd_files.specs.Answering.{May, After}

@@ -5,9 +5,9 @@ use Rattle.sd_topo.specs.Network.{Network}
 use Rattle.sd_plan.specs.Plans.{Fits}
 use Rattle.sd_plan.specs.declared.Absent.{Absent}
 use Rattle.sd_plan.specs.declared.Plan.{Plan}
-use Rattle.sd_checker.specs.Verdicts.{IsVerdict}
-use Rattle.sd_checker.specs.declared.Verdict.{Verdict}
-use Rattle.sd_checker.specs.declared.Verdict.TheVariants.{Accepted, Refused}
+use Rattle.sd_cmd_files.specs.Checker.Verdicts.{IsVerdict}
+use Rattle.sd_cmd_files.specs.Checker.declared.Verdict.{Verdict}
+use Rattle.sd_cmd_files.specs.Checker.declared.Verdict.TheVariants.{Accepted, Refused}
 use Rattle.sd_top.specs.Checks.{IsJudged, verdict_text, verdict_status}
 use Rattle.sd_planner.specs.Planning.{IsPlanned}
 use Rattle.sd_planner.specs.declared.Planned.{Planned}

@@ -5,13 +5,13 @@ use Rattle.sd_topotext.specs.Meaning.{network_of}
 use Rattle.sd_topotext.specs.Reading.{tree_of}
 use Rattle.sd_plan.specs.declared.Absent.{Absent}
 use Rattle.sd_plan.specs.declared.Plan.{Plan}
-use Rattle.sd_checker.specs.Verdicts.{IsVerdict}
-use Rattle.sd_checker.specs.declared.Verdict.{Verdict}
-use Rattle.sd_checker.specs.declared.Verdict.TheVariants.{Accepted, Refused}
-use Rattle.sd_drill.specs.declared.Budget.{Budget}
-use Rattle.sd_drill.proofs.Unique.{one_drill}
+use Rattle.sd_cmd_files.specs.Checker.Verdicts.{IsVerdict}
+use Rattle.sd_cmd_files.specs.Checker.declared.Verdict.{Verdict}
+use Rattle.sd_cmd_files.specs.Checker.declared.Verdict.TheVariants.{Accepted, Refused}
+use Rattle.sd_proof_bound.specs.Drill.declared.Budget.{Budget}
+use Rattle.sd_proof_bound.proofs.Drill.Unique.{one_drill}
 use Rattle.sd_cmd_files.specs.planfiles.PlanFiles.{AfterJudged, AfterVerdict}
-use Rattle.sd_checker.proofs.Unique.{one_verdict}
+use Rattle.sd_cmd_files.proofs.Checker.Unique.{one_verdict}
 use Rattle.sd_planner.proofs.Single.{same_greedy}
 use Rattle.sd_cmd_files.specs.Answering.{May, After}
 use Rattle.sd_cmd_files.specs.Inputs.{topology_of, plan_in_file, absent_in_file}

@@ -2,10 +2,10 @@
 use Rattle.std.specs.Prelude.{◌≡◌, ℕ, List}
 use Rattle.sd_topo.specs.Network.{Network}
 use Rattle.sd_plan.specs.declared.Plan.{Plan}
-use Rattle.sd_drill.specs.Printed.{IsDrill as IsDrillOf}
-use Rattle.sd_drill.specs.declared.Budget.{Budget}
+use Rattle.sd_proof_bound.specs.Drill.Printed.{IsDrill as IsDrillOf}
+use Rattle.sd_proof_bound.specs.Drill.declared.Budget.{Budget}
 use Rattle.sd_outside.specs.Pieces.{Pieces}
-use Rattle.sd_checker.specs.Verdicts.{IsAccepted}
+use Rattle.sd_cmd_files.specs.Checker.Verdicts.{IsAccepted}
 use Rattle.sd_cmd_drill.specs.Adding.{IsDrillIn}
 use Rattle.sd_cmd_files.specs.Answering.{After, AtOnce, InWrites, May, MayWrite, WritesAfter}
 use Rattle.sd_cmd_files.specs.Inputs.{plan_in_file, topology_of}

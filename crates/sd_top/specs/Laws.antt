@@ -9,6 +9,7 @@ use Rattle.sd_top.specs.Drills.{DrillCompletes}
 use Rattle.sd_top.specs.Migration.{MigrationCompletes}
 use Rattle.sd_top.specs.Plannings.{PlanCompletes, RenewalCompletes}
 use Rattle.sd_top.specs.Schedules.{SoloCompletes}
+use Rattle.sd_top.specs.Slack.{SlackKeepsPlans, SlackRaisesNoBound}
 use Rattle.sd_top.specs.Twoways.{TwowayCompletes}
 use Rattle.sd_top.specs.Unique.{HasOneAnswer}
 use Rattle.sd_top.specs.Versions.{MigrationLaw}
@@ -34,3 +35,6 @@ pub record Laws : Type 0 where
   pub reports_contain : ReportsContain
   -- an exchange that goes backwards, or is impossible, has no honest run
   pub none_is_honest : NoneIsHonest
+  -- better oscillators, narrower delays, less loss and fewer listed domains take no plan away, and raise no number of a drill
+  pub slack_keeps_plans : SlackKeepsPlans
+  pub slack_raises_no_bound : SlackRaisesNoBound

@@ -12,9 +12,12 @@ pub mod Promise
 pub mod Headlines
 pub mod Versions
 pub mod Unique
+pub mod Slack
 pub mod Laws
 pub mod Ends
 pub mod Gives
 pub mod PlannedAnswers
 pub mod Parsed
 pub mod Alone
+-- Handed on: what crates above name of those below.
+pub use Rattle.sd_cmd_files.specs as CmdFiles

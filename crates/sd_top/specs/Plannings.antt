@@ -5,10 +5,10 @@ use Rattle.sd_topo.specs.Network.{Network}
 use Rattle.sd_plan.specs.declared.Absent.{Absent}
 use Rattle.sd_plan.specs.declared.Plan.{Plan}
 use Rattle.sd_plantext.specs.Printed.{plan_text as text_of_plan}
-use Rattle.sd_checker.specs.Text.{refused_line}
-use Rattle.sd_checker.specs.Verdicts.{IsAccepted, IsVerdict}
-use Rattle.sd_checker.specs.declared.Verdict.{Verdict}
-use Rattle.sd_checker.specs.declared.Verdict.TheVariants.{Accepted, Refused}
+use Rattle.sd_cmd_files.specs.Checker.Text.{refused_line}
+use Rattle.sd_cmd_files.specs.Checker.Verdicts.{IsAccepted, IsVerdict}
+use Rattle.sd_cmd_files.specs.Checker.declared.Verdict.{Verdict}
+use Rattle.sd_cmd_files.specs.Checker.declared.Verdict.TheVariants.{Accepted, Refused}
 use Rattle.sd_planner.specs.Greedy.{IsGreedy}
 use Rattle.sd_cmd_files.specs.Answering.{May, After}
 use Rattle.sd_cmd_files.specs.Inputs.{topology_of, plan_in_file, absent_in_file}

@@ -4,7 +4,7 @@ use Rattle.std.specs.Str.{bytes_eq}
 use Rattle.sd_num.specs.Decimals.{number}
 use Rattle.sd_num.specs.Lists.{of_some}
 use Rattle.sd_num.specs.declared.NumFault.{NumFault}
-use Rattle.sd_drill.specs.declared.Budget.{Budget}
+use Rattle.sd_proof_bound.specs.Drill.declared.Budget.{Budget}
 use Rattle.sd_cmd_case.specs.declared.Fabric.{Fabric}
 
 -- a command, with the names of its files and its numbers

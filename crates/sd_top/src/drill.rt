@@ -1,8 +1,8 @@
 //! `drill`: the greatest epsilon that each device can report when a domain fails.
 ghost use Rattle.std.specs.Prelude.{◌≡◌, ◌≢◌, ◌≤◌, [], ◌∷◌, true, Err, IsTrue, IfOk, IfSome};
-ghost use Rattle.sd_checker.specs.Text as text;
-ghost use Rattle.sd_checker.specs.Verdicts.{IsVerdict};
-ghost use Rattle.sd_drill.specs.Budgets.{IsBudget};
+ghost use Rattle.sd_cmd_files.specs.Checker.Text as text;
+ghost use Rattle.sd_cmd_files.specs.Checker.Verdicts.{IsVerdict};
+ghost use Rattle.sd_proof_bound.specs.Drill.Budgets.{IsBudget};
 ghost use Rattle.sd_outside.specs.Causes.{RisesFor};
 ghost use Rattle.sd_outside.specs.Shelves.{KeepsShelf};
 ghost use Rattle.sd_outside.specs.Pieces.{piece_of};
@@ -16,10 +16,10 @@ ghost use Rattle.sd_cmd_files.specs.Writes.{Adds};
 ghost use Rattle.sd_top.specs.Drills.{DrillIn, DrilledInSteps, IsDrilled, PlanDrilledInSteps};
 ghost use Rattle.sd_cmd_files.specs.work.Ending.{LeavesAt};
 
-use sd_checker::{Breach, Verdict, check};
+use sd_planner::checker::{Breach, Verdict, check};
 use sd_cmd_drill::write_drill;
 use sd_cmd_files::{IoError, Status, load_plan, load_topology, refused_plan, send, write_answer};
-use sd_drill::Budget;
+use sd_cmd_drill::drill::Budget;
 use sd_num::NoMemory;
 use sd_outside::{Shelf, Sink};
 use sd_plan::Plan;

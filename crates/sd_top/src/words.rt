@@ -1,13 +1,13 @@
 //! What the words of the command mean.
 ghost use Rattle.std.specs.Prelude.{◌≡◌, ◌≤◌, ◌&&◌, ◌^◌, map, option_map, string_bytes, IfSome};
 ghost use Rattle.sd_cmd_case.specs.Sizes.{IsWithin};
-ghost use Rattle.sd_drill.specs.Budgets.{IsBudget};
+ghost use Rattle.sd_proof_bound.specs.Drill.Budgets.{IsBudget};
 ghost use Rattle.sd_top.specs.Parsed.{IsGranted, named};
 ghost use Rattle.sd_top.specs.Words as meaning;
 
 use sd_cmd_case::Fabric;
 use sd_cmd_replay::Files;
-use sd_drill::Budget;
+use sd_cmd_drill::drill::Budget;
 use sd_num::read_u64;
 
 /// A command, with the names of its files and its numbers.

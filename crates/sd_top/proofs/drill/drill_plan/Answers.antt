@@ -1,6 +1,6 @@
 use Rattle.std.proofs.Common.{subst}
 use Rattle.sd_topo.specs.Topologies.{network}
-use Rattle.sd_checker.specs.Verdicts.{IsVerdict}
+use Rattle.sd_cmd_files.specs.Checker.Verdicts.{IsVerdict}
 use Rattle.sd_top.proofs.Drilling.{drilled, refused}
 use Rattle.sd_top.proofs.drill.drill_plan.Goals as goal
 
