@@ -247,12 +247,110 @@ class PremisesHold(unittest.TestCase):
     def test_who_is_left_out_and_still_joined(self):
         said = json.loads(PLANS[1].read_text())
         said["absent_devices"], said["rows"] = ["x"], said["rows"][:1]
-        schedule = ["start 0 0 0 0 500", "start 0 1 0 0 500", "start 0 2 0 0 500", "stage 0", "give 0 0", "give 0 1", "commit 0 0 0", "end 0"]
+        starts = ["start 0 0 0 0 500", "start 0 1 0 0 500", "start 0 2 0 0 500"]
+        schedule = [*starts, "stage 0", "give 0 0", "give 0 1", "commit 0 0 0", "end 0"]
         with directory() as path:
             (path / "plan").write_text(json.dumps(said))
             self.assertEqual(replayed(schedule, plans=[PLANS[0], path / "plan"])[0], ["broken 7 renew", "done 8 0"])
             schedule[2] = "fail 0 device 2"
             self.assertEqual(replayed(schedule, plans=[PLANS[0], path / "plan"])[0], ["done 8 0"])
+
+
+class Windows(unittest.TestCase):
+    """Joins, renewals and what follows them, with expected lines worked by hand."""
+
+    def setUp(self):
+        self.path = self.enterContext(directory())
+
+    def plan(self, name, **changes):
+        """The first plan of the triangle with other values, as a file."""
+        said = {**json.loads(PLANS[0].read_text()), **changes}
+        said["rows"] = [row for row in said["rows"] if row["device"] not in [*said["absent_devices"], said["root"]]]
+        (self.path / name).write_text(json.dumps(said))
+        return self.path / name
+
+    def joining(self):
+        """Two plans: the first leaves x out."""
+        return [self.plan("small", absent_devices=["x"]), PLANS[1]]
+
+    def lines(self, schedule, plans=PLANS, topology=None):
+        ref = schedule[-1].split()[1]
+        return replayed([*schedule, f"end {ref}"], topology, plans)[0][:-1]
+
+    def test_nobody_moves_before_its_seal(self):
+        entered, late = BASE[:24], ticks(306_000_000, 32, (0, 1, 2))
+        kept = [line for line in self.lines([*entered, *late]) if line.startswith("alarm")]
+        self.assertEqual(kept, [])
+        sealed = [*entered, "seal 216000000 0", "seal 216000000 1", "seal 216000000 2"]
+        kept = [line for line in self.lines([*sealed, *late]) if line.startswith("alarm")]
+        self.assertEqual([line.split()[2:] for line in kept], [["roots", "r", "x"]])
+
+    def test_who_was_not_given_its_duty_does_not_enter(self):
+        schedule = [line for line in BASE[:20] if line != "give 112000000 1"]
+        told = self.lines([*schedule, "recv 215900000 1 215900000 5", "ask 215900000 1 215900000"])
+        self.assertEqual(told, ["broken 15 renew", "report 21 b 215900000 345540"])
+        told = self.lines([*BASE[:20], "recv 215900000 1 215900000 5", "ask 215900000 1 215900000"])
+        self.assertEqual(told, ["report 22 b 215700000 345500"])
+
+    def test_who_follows_no_plan_any_more_sends_to_nobody(self):
+        rows = [{"device": "x", "parent": "b", "link": "bx"}]
+        plans = [PLANS[0], self.plan("next", root="b", backup_root="x", absent_devices=["r"], rows=rows)]
+        window = ["stage 0", "give 0 1", "give 0 2", "commit 0 1 0"]
+        entry = [*ticks(90_000_000, 1, (0, 1, 2)), "tick 100000000 1 100000000", "recv 100700000 2 100700000 1"]
+        schedule = [*STARTS, *window, *entry, "seal 100700000 1", "seal 100700000 2", *ticks(180_000_000, 1, (0, 1, 2))]
+        lines, status = replayed([*schedule, "recv 180700000 1 180700000 2"], plans=plans)
+        self.assertEqual(lines[-1], f"input schedule {len(schedule) + 1} UnknownMessage")
+
+    def test_who_joined_in_the_window_counts(self):
+        schedule = [*BASE[:2], "stage 0", "join 0 2 0 0 0"]
+        self.assertEqual(self.lines(schedule, self.joining()), [])
+        lines, _ = replayed([*schedule, "join 0 2 0 0 0"], plans=self.joining())
+        self.assertEqual(lines, ["input schedule 5 StartedTwice"])
+
+    def test_who_joined_in_the_window_has_to_tick(self):
+        schedule = [*BASE[:2], "stage 0", "join 0 2 0 0 0", *ticks(90_000_000, 1, (0, 1)), "fix 90000001 0 90000001 90000001 0"]
+        self.assertEqual(self.lines(schedule, self.joining()), ["broken 7 tick"])
+        schedule.insert(6, "tick 90000000 2 90000000")
+        self.assertEqual(self.lines(schedule, self.joining()), [])
+
+    def test_who_joins_anew_is_given_its_duty_anew(self):
+        joined = [*BASE[:2], "stage 0", "join 0 2 5 0 0", "give 0 0", "give 0 1", "give 0 2"]
+        anew = [*joined, "fail 0 device 2", "mend 0 device 2", "join 0 2 0 0 0"]
+        self.assertEqual(self.lines([*anew, "commit 0 0 0"], self.joining()), ["broken 11 renew"])
+        self.assertEqual(self.lines([*anew, "give 0 2", "tick 0 2 0", "commit 0 0 0"], self.joining()), [])
+
+    def test_who_was_touched_before_may_join(self):
+        schedule = [*STARTS, "fail 0 device 2", "stage 0", "mend 0 device 2", "join 0 2 0 0 0"]
+        self.assertEqual(self.lines(schedule), [])
+
+    def test_nothing_fails_after_a_mend(self):
+        schedule = [*STARTS, "fail 0 link 2", "stage 0", "mend 0 link 2"]
+        self.assertEqual(self.lines(schedule), [])
+        self.assertEqual(self.lines([*schedule, "fail 0 link 2"]), ["broken 7 renew"])
+
+    def test_a_closing_begins_the_failures_anew(self):
+        schedule = [*BEFORE_THE_WINDOW, "fail 112000000 link 2", *BASE[11:27]]
+        told = self.lines([*schedule, "fail 216000000 link 0"])
+        self.assertEqual([line for line in told if line.startswith("broken")], ["broken 17 renew"])
+        self.assertEqual(self.lines([*schedule[:-1], "fail 216000000 link 0"])[-1], "broken 28 domain")
+
+    def test_a_failure_excuses_what_was_on_its_way(self):
+        topology = TRIANGLE.read_text().replace("loss = 1", "loss = 0")
+        sent, to_x, late = BASE[:7], "recv 110700000 2 110700000 2", "tick 112000000 0 112000000"
+        to_b, on_to_x = "recv 110700000 1 110700000 1", "recv 111400000 2 111400000 3"
+        for schedule, expected in (
+            ([*sent, to_x, late], ["broken 9 loss"]),
+            ([*sent, to_x, "recv 111000001 1 111000001 1"], ["broken 9 delay"]),
+            ([*sent, "fail 110500000 device 1", to_x, late], []),
+            ([*sent, "fail 110500000 link 1", to_b, late], ["broken 10 loss"]),
+            ([*sent, "fail 110500000 link 1", to_b, on_to_x, late], []),
+        ):
+            with self.subTest(schedule[7:]):
+                self.assertEqual(self.lines(schedule, topology=topology), expected)
+
+    def test_who_never_starts_is_missed(self):
+        schedule = ["start 0 0 0 0 500", "tick 90000000 0 90000000", "fix 90000001 0 90000001 90000001 0"]
+        self.assertEqual(self.lines(schedule), ["broken 3 tick"])
 
 
 class Words(unittest.TestCase):

@@ -1,6 +1,6 @@
 """What happened in a fabric: the accepted events in order, and what they say of devices, links, plans and messages.
 
-docs/FLEET.md has the words. Each word is looked up in the lists. Nothing is kept for it.
+docs/FLEET.md has the words. Each is looked up in the lists of events and messages.
 """
 
 from __future__ import annotations

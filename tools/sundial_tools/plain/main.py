@@ -44,7 +44,9 @@ def _parser() -> argparse.ArgumentParser:
         "`sundial check` refuses. docs/CONDITIONS.md has such schedules.",
     )
     parser.add_argument("topology", metavar="TOPOLOGY")
-    parser.add_argument("plan", metavar="PLAN", nargs="+", help="the first is in force at the beginning; each renewal brings in the next")
+    parser.add_argument(
+        "plan", metavar="PLAN", nargs="+", help="the first is in force at the beginning; each renewal brings in the next"
+    )
     parser.add_argument("schedule", metavar="SCHEDULE")
     parser.add_argument("--output", "-o", metavar="FILE")
     return parser

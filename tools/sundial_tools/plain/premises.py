@@ -2,12 +2,13 @@
 
 from __future__ import annotations
 
-from typing import Callable, List, Sequence, Set, Tuple
+from typing import Callable, List, Optional, Sequence, Set, Tuple
 
 from sundial_tools.plain.device import MILLION
 from sundial_tools.plain.history import History, Message, Step, Thing, number_of, thing_of
 from sundial_tools.plan import Plan
 from sundial_tools.schedule import Event
+from sundial_tools.topology import Domain
 
 Premise = Callable[[History, Event], bool]
 
@@ -95,8 +96,12 @@ def _domain(before: History, event: Event) -> bool:
     failed = {thing_of(step.event) for step in before.of("fail") if step.number > begin}
     if event.word == "fail":
         failed.add(thing_of(event))
-    listed = [{("device", it) for it in domain.devices} | {("link", it) for it in domain.links} for domain in before.topology.domains]
-    return len(failed) <= 1 or any(failed <= things for things in listed)
+    return len(failed) <= 1 or any(failed <= _things(domain) for domain in before.topology.domains)
+
+
+def _things(domain: Domain) -> Set[Optional[Thing]]:
+    """What a listed domain has."""
+    return {("device", it) for it in domain.devices} | {("link", it) for it in domain.links}
 
 
 def _renew(before: History, event: Event) -> bool:
