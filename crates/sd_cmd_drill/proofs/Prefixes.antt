@@ -21,7 +21,8 @@ use Rattle.sd_cmd_files.specs.declared.command_error.IoError.{IoError}
 use Rattle.sd_cmd_files.specs.declared.command_error.IoError.TheVariants as stop
 use Rattle.sd_cmd_files.specs.work.Leaving.{are_lines}
 use Rattle.sd_cmd_files.proofs.work.Whole.{append_whole, text_whole}
-use Rattle.sd_cmd_drill.specs.Adding.{Added, AddsLines, AreWrites, Drills, EndLines, IsDrillIn}
+use Rattle.sd_cmd_drill.specs.Adding.{Added, AddsLines, Drills, EndLines}
+use Rattle.sd_cmd_drill.specs.Writes.{AreWrites, IsDrillIn}
 
 -- printed lines are whole
 printed_ends : (net : Network) (f : DomainId) (bounds : List (Option ℕ)) (ds : List ℕ) → are_lines (flat_map (bound_line net f bounds) ds) ≡ true

@@ -1,11 +1,9 @@
 -- What a drill leaves at its sink, where it ends and where it is stopped.
-use Rattle.std.specs.Prelude.{◌≡◌, ℕ, All, List, [], ◌∷◌, ◌++◌, Option, IsTrue, Result, Ok, Err}
-use Rattle.sd_outside.specs.Pieces.{AddsFront, AddsPieces, Pieces, piece_of}
+use Rattle.std.specs.Prelude.{◌≡◌, All, List, ◌++◌, Option, IsTrue, Result, Ok, Err}
+use Rattle.sd_outside.specs.Pieces.{AddsFront, AddsPieces, Pieces}
 use Rattle.sd_topo.specs.Network.{Network}
-use Rattle.sd_domain.specs.Domains.{domains}
 use Rattle.sd_domain.specs.declared.DomainId.{DomainId}
 use Rattle.sd_plan.specs.declared.Plan.{Plan}
-use Rattle.sd_drill.specs.Printed.{IsLinesOf, done_line}
 use Rattle.sd_drill.specs.declared.Budget.{Budget}
 use Rattle.sd_cmd_files.specs.declared.Status.{Status}
 use Rattle.sd_cmd_files.specs.declared.Status.TheVariants.{Done}
@@ -16,16 +14,6 @@ use Rattle.sd_cmd_files.specs.declared.command_error.IoError.TheVariants as stop
 -- each piece is whole lines
 abbrev pub EndLines : Pieces → Type 0
 EndLines pieces = All (λ piece. IsTrue (are_lines piece)) pieces
-
--- the lines of these domains, in order, each domain by one write
-abbrev pub AreWrites : Network → Plan → Budget → List DomainId → Pieces → Type 0
-AreWrites net plan budget [] pieces = pieces ≡ []
-AreWrites net plan budget (f ∷ others) pieces = (lines : List ℕ) × (rest : Pieces) × IsLinesOf net plan budget f lines × AreWrites net plan budget others rest
-    × (pieces ≡ piece_of lines ++ rest)
-
--- all that is written for an accepted plan: the last line is a write of its own
-abbrev pub IsDrillIn : Network → Plan → Budget → Pieces → Type 0
-IsDrillIn net plan budget pieces = (lines : Pieces) × AreWrites net plan budget (domains net) lines × (pieces ≡ lines ++ piece_of (done_line net plan))
 
 -- the lines of these domains were added
 abbrev pub Added : Network → Plan → Budget → List DomainId → Option Pieces → Option Pieces → Type 0

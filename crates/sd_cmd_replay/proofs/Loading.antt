@@ -42,7 +42,8 @@ use Rattle.sd_cmd_files.proofs.work.Leaving.{leaves_more, leaves_once, once_in_s
 use Rattle.sd_cmd_files.specs.work.Works.{Work, InSteps, IsOutcome, refused_part}
 use Rattle.sd_cmd_replay.specs.Replays.{IsRun, refused_over, replay_work}
 use Rattle.sd_replay.specs.Settings.{setting_over}
-use Rattle.sd_cmd_replay.specs.Loaded.{AreLoaded, RunsIn}
+use Rattle.sd_cmd_replay.specs.Loaded.{AreLoaded}
+use Rattle.sd_cmd_replay.specs.Writes.{RunsIn}
 use Rattle.sd_cmd_replay.specs.Early.{EndsBefore}
 use Rattle.sd_cmd_replay.proofs.Cuts.{cut_before, cut_loaded}
 use Rattle.sd_cmd_replay.specs.Starting.{HasStarted}

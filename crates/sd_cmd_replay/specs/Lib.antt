@@ -2,6 +2,7 @@ pub mod Reasons
 pub mod Reasoned
 pub mod Replays
 pub mod Loaded
+pub mod Writes
 pub mod Early
 pub mod Starting
 pub mod Doing

@@ -5,11 +5,10 @@ use Rattle.sd_cmd_files.specs.Checker.Verdicts.{IsAccepted}
 use Rattle.sd_outside.specs.Pieces.{Pieces}
 use Rattle.sd_sched.specs.declared.Event.{Event}
 use Rattle.sd_replay.specs.History.World.{Setting}
-use Rattle.sd_cmd_files.specs.Answering.{AtOnce, InWrites, MayWrite}
+use Rattle.sd_cmd_files.specs.Answering.{AtOnce}
 use Rattle.sd_cmd_files.specs.Inputs.{topology_of}
 use Rattle.sd_cmd_files.specs.planfiles.PlanFiles.{AreRead}
 use Rattle.sd_cmd_files.specs.work.Works.{Work, InSteps}
-use Rattle.sd_cmd_replay.specs.Replays.{IsRun}
 
 -- the topology and the plans were read, and each plan is accepted
 pub record AreLoaded (topology : List ℕ) (plans : List (List ℕ)) (setting : Setting) : Type 0 where
@@ -21,7 +20,3 @@ pub record AreLoaded (topology : List ℕ) (plans : List (List ℕ)) (setting : 
 pub record RunsInSteps (work : Setting → Work Event) (topology : List ℕ) (plans : List (List ℕ)) (schedule : List ℕ) (pieces : Pieces) : Type 0 where
   pub loaded : (setting : Setting) → AreLoaded topology plans setting → InSteps (work setting) schedule pieces
   pub ended : ((setting : Setting) → AreLoaded topology plans setting → ⊥) → AtOnce pieces
-
--- what may be written, by these writes
-abbrev pub RunsIn : (Setting → Work Event) → (topology : List ℕ) (plans : List (List ℕ)) (schedule : List ℕ) → MayWrite
-RunsIn work topology plans schedule = InWrites (RunsInSteps work topology plans schedule) (IsRun work topology plans schedule)

@@ -10,7 +10,7 @@ ghost use Rattle.sd_cmd_files.specs.work.Ending.{LeavesAt};
 ghost use Rattle.sd_cmd_files.specs.work.Works.{InSteps, IsOutcome, Work, refused_part};
 ghost use Rattle.sd_cmd_files.specs.work.WholeLines.{WritesWhole};
 ghost use Rattle.sd_cmd_files.specs.Answering.{InWrites};
-ghost use Rattle.sd_cmd_replay.specs.Loaded.{RunsIn};
+ghost use Rattle.sd_cmd_replay.specs.Writes.{RunsIn};
 ghost use Rattle.sd_cmd_replay.specs.Replays.{order_work, refused_over, replay_work};
 
 use crate::Files;

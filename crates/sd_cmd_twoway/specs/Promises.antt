@@ -17,8 +17,8 @@ abbrev pub replier : Network → (link side : ℕ) → Rates
 replier net link side = rates_on net link (nat_eq side 1)
 
 -- both delays meet the topology's bounds of the link in each honest run
-abbrev pub Meets : Network → (link side : ℕ) → Exchange → Type 0
-Meets net link side x =
+abbrev pub MeetsLink : Network → (link side : ℕ) → Exchange → Type 0
+MeetsLink net link side x =
     (r1 r2 r3 r4 : ℕ) → IsHonestRun (beginner net link side) (replier net link side) x r1 r2 r3 r4
     → IsWithinBounds (link_of net link) (r2 - r1) × IsWithinBounds (link_of net link) (r4 - r3)
 
@@ -28,7 +28,7 @@ pub record IsBounded (net : Network) (taken : List ExchangeLine) (link side : �
   pub joint : Span × ℕ
   pub is_joint : span_after net taken link ≡ Some joint
   pub covers : Covers (beginner net link side) (replier net link side) x joint.0
-  pub meets : IsTrue (is_inside (link_of net link) joint.0) → Meets net link side x
+  pub meets : IsTrue (is_inside (link_of net link) joint.0) → MeetsLink net link side x
 
 -- each exchange that was taken is so
 abbrev pub BoundsHold : Network → List ExchangeLine → Type 0

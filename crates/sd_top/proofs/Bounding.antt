@@ -20,7 +20,8 @@ use Rattle.sd_cmd_files.specs.declared.command_error.IoError.TheVariants as stop
 use Rattle.sd_cmd_files.specs.work.Ending.{LeavesAt}
 use Rattle.sd_cmd_files.specs.work.Works.{InSteps, IsOutcome, refused_part}
 use Rattle.sd_cmd_twoway.specs.Twoways.{twoway_work}
-use Rattle.sd_top.specs.Twoways.{TwowayIn, refused_over}
+use Rattle.sd_top.specs.Twoways.{refused_over}
+use Rattle.sd_top.specs.TwowayWrites.{TwowayIn}
 use Rattle.sd_top.proofs.Drilling.{unloaded_leaves}
 
 -- the texts of a shelf, where they are told

@@ -11,7 +11,8 @@ use Rattle.sd_cmd_files.specs.Checker.declared.Breach.{Breach}
 use Rattle.sd_cmd_files.specs.Checker.declared.Verdict.TheVariants.{Accepted, Refused}
 use Rattle.sd_cmd_files.proofs.Checker.Exclusive.{accepted_unbroken}
 use Rattle.sd_proof_bound.specs.Drill.declared.Budget.{Budget}
-use Rattle.sd_cmd_drill.specs.Adding.{Drills, IsDrillIn}
+use Rattle.sd_cmd_drill.specs.Adding.{Drills}
+use Rattle.sd_cmd_drill.specs.Writes.{IsDrillIn}
 use Rattle.sd_cmd_drill.proofs.Prefixes.{drill_bytes}
 use Rattle.sd_cmd_files.specs.Answering.{After, AtOnce, InWrites, May, MayWrite, WritesAfter}
 use Rattle.sd_cmd_files.specs.Loads.{Loads}

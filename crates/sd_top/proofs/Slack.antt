@@ -49,6 +49,6 @@ slack_keeps_plans before after plan both bytes written other status again =
 
 pub slack_raises_no_bound : SlackRaisesNoBound
 slack_raises_no_bound before after text both plan says = (
-    sym (plan_same both.network both.tightened both.tighter text) ∙ says,
-    λ budget f g same d w listed. no_bound_rises both.network both.tightened both.tighter plan budget f g same d w listed,
+  sym (plan_same both.network both.tightened both.tighter text) ∙ says,
+  λ budget f g same d w listed. no_bound_rises both.network both.tightened both.tighter plan budget f g same d w listed,
 )

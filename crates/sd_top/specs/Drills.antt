@@ -6,8 +6,8 @@ use Rattle.sd_proof_bound.specs.Drill.Printed.{IsDrill as IsDrillOf}
 use Rattle.sd_proof_bound.specs.Drill.declared.Budget.{Budget}
 use Rattle.sd_outside.specs.Pieces.{Pieces}
 use Rattle.sd_cmd_files.specs.Checker.Verdicts.{IsAccepted}
-use Rattle.sd_cmd_drill.specs.Adding.{IsDrillIn}
-use Rattle.sd_cmd_files.specs.Answering.{After, AtOnce, InWrites, May, MayWrite, WritesAfter}
+use Rattle.sd_cmd_drill.specs.Writes.{IsDrillIn}
+use Rattle.sd_cmd_files.specs.Answering.{After, AtOnce, May, WritesAfter}
 use Rattle.sd_cmd_files.specs.Inputs.{plan_in_file, topology_of}
 use Rattle.sd_cmd_files.specs.declared.Status.{Status}
 use Rattle.sd_cmd_files.specs.declared.Status.TheVariants.{Done}
@@ -31,9 +31,6 @@ PlanDrilledInSteps net budget plan pieces = WritesAfter (plan_in_file net 1 plan
 
 abbrev pub DrillInSteps : List ℕ → List ℕ → Budget → Pieces → Type 0
 DrillInSteps topology plan budget pieces = WritesAfter (topology_of topology) (λ net. PlanDrilledInSteps net budget plan) pieces
-
-abbrev pub DrillIn : List ℕ → List ℕ → Budget → MayWrite
-DrillIn topology plan budget = InWrites (DrillInSteps topology plan budget) (IsDrill topology plan budget)
 
 -- an accepted plan is drilled to the end
 abbrev pub DrillCompletes : Type 0

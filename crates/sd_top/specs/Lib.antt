@@ -2,11 +2,14 @@ pub mod Promised
 pub mod Bounds
 pub mod Words
 pub mod Schedules
+pub mod SoloWrites
 pub mod Migration
 pub mod Checks
 pub mod Drills
+pub mod DrillWrites
 pub mod Plannings
 pub mod Twoways
+pub mod TwowayWrites
 pub mod Replays
 pub mod Promise
 pub mod Headlines

@@ -9,10 +9,10 @@ use Rattle.sd_solo.specs.Histories.{refusal, bytes_of, done_text}
 use Rattle.sd_solo.specs.Lines.{solo_event}
 use Rattle.sd_solo.specs.Promises.{start_holds, drift_holds, reports_truly}
 use Rattle.sd_outside.specs.Pieces.{piece_of}
-use Rattle.sd_cmd_files.specs.Answering.{InWrites, May, MayWrite}
+use Rattle.sd_cmd_files.specs.Answering.{May}
 use Rattle.sd_cmd_files.specs.declared.Status.{Status}
 use Rattle.sd_cmd_files.specs.declared.Status.TheVariants.{Done}
-use Rattle.sd_cmd_files.specs.work.Works.{InSteps, IsOutcome, Work, reading}
+use Rattle.sd_cmd_files.specs.work.Works.{IsOutcome, Work, reading}
 use Rattle.sd_cmd_replay.specs.Reasons.{line_reason}
 
 abbrev pub unless_refused : Option SoloFault → Event → Result Event (List ℕ)
@@ -39,10 +39,6 @@ solo_work =
 -- what `solo` writes and answers for the text of a schedule
 abbrev pub IsSolo : List ℕ → May
 IsSolo = IsOutcome solo_work
-
--- each step by one write
-abbrev pub SoloIn : List ℕ → MayWrite
-SoloIn schedule = InWrites (InSteps solo_work schedule) (IsSolo schedule)
 
 -- of each of these events, the newest first: where the clock that each start and fix set was right, and the oscillator kept its rates, up to that event, the
 -- report that it prints has its reference time inside

@@ -2,7 +2,7 @@
 use Rattle.std.specs.Prelude.{◌≡◌, ℕ, List, Option, None, Some, Result, Ok, Err}
 use Rattle.sd_topo.specs.Network.{Network}
 use Rattle.sd_outside.specs.Pieces.{Pieces}
-use Rattle.sd_cmd_files.specs.Answering.{After, InWrites, May, MayWrite, WritesAfter}
+use Rattle.sd_cmd_files.specs.Answering.{After, May, WritesAfter}
 use Rattle.sd_cmd_files.specs.Inputs.{topology_of}
 use Rattle.sd_cmd_files.specs.declared.Status.{Status}
 use Rattle.sd_cmd_files.specs.declared.Status.TheVariants.{Done}
@@ -17,9 +17,6 @@ IsTwoway topology exchanges bytes status = After (topology_of topology) (λ net.
 -- each link's line by one write, and the last line by one
 abbrev pub TwowayInSteps : List ℕ → List ℕ → Pieces → Type 0
 TwowayInSteps topology exchanges pieces = WritesAfter (topology_of topology) (λ net. InSteps (twoway_work net) exchanges) pieces
-
-abbrev pub TwowayIn : List ℕ → List ℕ → MayWrite
-TwowayIn topology exchanges = InWrites (TwowayInSteps topology exchanges) (IsTwoway topology exchanges)
 
 -- what stands in the text of exchanges from the line on at which it is refused, where the topology is not
 abbrev pub refused_over : Result Network Refusal → List ℕ → Option (List ℕ)

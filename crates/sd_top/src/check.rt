@@ -10,10 +10,10 @@ ghost use Rattle.sd_cmd_files.specs.Writes.{Makes};
 ghost use Rattle.sd_top.specs.Checks.{IsCheck, IsJudged, verdict_status, verdict_text};
 ghost use Rattle.sd_top.specs.Gives.{GivesAmong};
 
-use sd_planner::checker::{Verdict, accepted_line, check as check_plan};
 use sd_cmd_files::{Answer, CommandError, Status, load_plan, load_topology, refused_plan};
 use sd_outside::Shelf;
 use sd_plan::Plan;
+use sd_planner::checker::{Verdict, accepted_line, check as check_plan};
 use sd_topo::Topology;
 use std::alloc::Global;
 

@@ -13,16 +13,17 @@ ghost use Rattle.sd_cmd_files.specs.planfiles.PlanFiles.{AfterJudged, AfterPlan}
 ghost use Rattle.sd_cmd_files.specs.Statuses.{is_among};
 ghost use Rattle.sd_cmd_files.specs.Texts.{texts_of};
 ghost use Rattle.sd_cmd_files.specs.Writes.{Adds};
-ghost use Rattle.sd_top.specs.Drills.{DrillIn, DrilledInSteps, IsDrilled, PlanDrilledInSteps};
+ghost use Rattle.sd_top.specs.Drills.{DrilledInSteps, IsDrilled, PlanDrilledInSteps};
+ghost use Rattle.sd_top.specs.DrillWrites.{DrillIn};
 ghost use Rattle.sd_cmd_files.specs.work.Ending.{LeavesAt};
 
-use sd_planner::checker::{Breach, Verdict, check};
+use sd_cmd_drill::drill::Budget;
 use sd_cmd_drill::write_drill;
 use sd_cmd_files::{IoError, Status, load_plan, load_topology, refused_plan, send, write_answer};
-use sd_cmd_drill::drill::Budget;
 use sd_num::NoMemory;
 use sd_outside::{Shelf, Sink};
 use sd_plan::Plan;
+use sd_planner::checker::{Breach, Verdict, check};
 use sd_topo::Topology;
 use std::alloc::Global;
 

@@ -6,7 +6,8 @@ ghost use Rattle.sd_cmd_files.specs.Stream.Reader.{IsNear};
 ghost use Rattle.sd_cmd_files.specs.Statuses.{is_among};
 ghost use Rattle.sd_cmd_files.specs.work.Ending.{LeavesAt};
 ghost use Rattle.sd_cmd_files.specs.work.Works.{refused_part};
-ghost use Rattle.sd_top.specs.Schedules.{SoloIn, solo_work};
+ghost use Rattle.sd_top.specs.Schedules.{solo_work};
+ghost use Rattle.sd_top.specs.SoloWrites.{SoloIn};
 
 use crate::lines::{print_done, print_report};
 use crate::reasons::print_solo_fault;

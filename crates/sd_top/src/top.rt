@@ -13,7 +13,8 @@ ghost use Rattle.sd_top.specs.Ends.{MeetsResult};
 ghost use Rattle.sd_top.specs.Headlines.{MeetsHeadline};
 ghost use Rattle.sd_top.specs.Laws.{Laws};
 ghost use Rattle.sd_top.specs.Promise.{IsNearRefusal, IsUsage, KeepsPromise, MeetsOutcome, task_of};
-ghost use Rattle.sd_top.specs.Schedules.{SoloIn, solo_work};
+ghost use Rattle.sd_top.specs.Schedules.{solo_work};
+ghost use Rattle.sd_top.specs.SoloWrites.{SoloIn};
 ghost use Rattle.sd_top.specs.Words as meaning;
 ghost use Rattle.sd_top.specs.Words.{files_of, name_of};
 

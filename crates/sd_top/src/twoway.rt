@@ -11,7 +11,8 @@ ghost use Rattle.sd_cmd_files.specs.Texts.{texts_of};
 ghost use Rattle.sd_cmd_files.specs.work.Ending.{LeavesAt};
 ghost use Rattle.sd_cmd_files.specs.work.Works.{InSteps, IsOutcome, refused_part};
 ghost use Rattle.sd_cmd_twoway.specs.Twoways.{twoway_work};
-ghost use Rattle.sd_top.specs.Twoways.{TwowayIn, refused_over};
+ghost use Rattle.sd_top.specs.Twoways.{refused_over};
+ghost use Rattle.sd_top.specs.TwowayWrites.{TwowayIn};
 
 use sd_cmd_files::work::work_through;
 use sd_cmd_files::{IoError, Status, load_topology, write_answer};

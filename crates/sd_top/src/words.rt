@@ -6,8 +6,8 @@ ghost use Rattle.sd_top.specs.Parsed.{IsGranted, named};
 ghost use Rattle.sd_top.specs.Words as meaning;
 
 use sd_cmd_case::Fabric;
-use sd_cmd_replay::Files;
 use sd_cmd_drill::drill::Budget;
+use sd_cmd_replay::Files;
 use sd_num::read_u64;
 
 /// A command, with the names of its files and its numbers.
