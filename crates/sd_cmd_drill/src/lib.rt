@@ -8,5 +8,4 @@ mod page;
 mod writing;
 
 pub use sd_drill as drill;
-pub use sd_drill as drill;
 pub use writing::write_drill;
