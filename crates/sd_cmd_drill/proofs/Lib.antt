@@ -1,4 +1,4 @@
-mod Prefixes
+pub mod Prefixes
 mod Ranges
 mod Names
 mod Membership

@@ -4,7 +4,7 @@ use Rattle.std.specs.Prelude.{flat_map, IfErr, IfOk, IsTrue}
 use Rattle.std.specs.List.{concat}
 use Rattle.std.proofs.lemmas.List.Elements.{All-append, All-cons, All-nil}
 use Rattle.std.proofs.lemmas.List.Folds.{concat-append}
-use Rattle.sd_outside.specs.Pieces.{AddsFront, AddsPieces, Pieces, piece_of}
+use Rattle.sd_outside.specs.Pieces.{AddsFront, Pieces, piece_of}
 use Rattle.sd_outside.proofs.Adding.{adds_both, adds_none, concat_piece, front_behind}
 use Rattle.sd_topo.specs.Network.{Network}
 use Rattle.sd_domain.specs.Domains.{domains}

@@ -5,6 +5,7 @@ use Rattle.sd_topo.specs.Network.{Network}
 use Rattle.sd_domain.specs.declared.DomainId.{DomainId}
 use Rattle.sd_plan.specs.declared.Plan.{Plan}
 use Rattle.sd_drill.specs.declared.Budget.{Budget}
+use Rattle.sd_cmd_drill.specs.Writes.{AreWrites, IsDrillIn}
 use Rattle.sd_cmd_files.specs.declared.Status.{Status}
 use Rattle.sd_cmd_files.specs.declared.Status.TheVariants.{Done}
 use Rattle.sd_cmd_files.specs.work.Leaving.{are_lines}

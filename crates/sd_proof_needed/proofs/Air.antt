@@ -166,7 +166,8 @@ module _ (net : Network) (plan : Plan) (dom : DomainId) (down : Thing → Bool) 
   is_new e r d f calm is a =
       let sent : WasSent setting (next_step setting steps e) steps f = was_sent setting (next_step setting steps e) steps f is a in
       let same : sent.device ≡ d = device_is e r d sent.device calm (changed_named setting steps e sent.device sent.calls) in
-      let among : Among sent.over.end_ (ends_of net plan sent.device) = ends_are net plan steps world.window world.closings sent.answers.epoch sent.device sent.over.end_ sent.over.among in
+      let among : Among sent.over.end_ (ends_of net plan sent.device) = ends_are net plan steps world.window world.closings sent.answers.epoch sent.device
+      sent.over.end_ sent.over.among in
       let below_ : IsBelow net plan sent.device sent.over.end_ = ends_below net plan sent.device sent.over.end_ among in
       let here : reference_of e ≡ r = reference_is e r d calm in
       subst (λ (g : Flight). IsNew net plan steps (next_step setting steps e) r d g) (sym sent.over.is)
@@ -202,8 +203,14 @@ module _ (net : Network) (plan : Plan) (dom : DomainId) (down : Thing → Bool) 
           | inl b ↦ (on_left s.sent (flights steps) f (kept_among (λ g. g.reaches) s.sent f b), passes_kept (λ g. g.reaches) s.sent f b)
           | inr b ↦ (let old = air.seen f b in (on_right s.sent old.0, old.1))
         ];
+<<<<<<< HEAD
         unspoiled = λ f a. elim (either_side (filter (λ g. g.reaches) s.sent) (premise.reaching_flights (seen_of steps)) a) [
           | inl b ↦ spoiled_new s.seen (seen_of steps) f (not_overdue f (kept_among (λ g. g.reaches) s.sent f b)) (due_later f (kept_among (λ g. g.reaches) s.sent f b))
+=======
+        unspoiled = λ f a. elim (either_side (filter (λ g. g.reaches) s.sent) (premise.reaching_flights (seen_of steps)) a) [
+          | inl b ↦ spoiled_new s.seen (seen_of steps) f (not_overdue f (kept_among (λ g. g.reaches) s.sent f b))
+              (due_later f (kept_among (λ g. g.reaches) s.sent f b))
+>>>>>>> 8fefa6f (Route for the reader; helpers stand once)
           | inr b ↦ spoiled_on s.seen (seen_of steps) f (air.unspoiled f b) (in_time f b)
         ];
         overdue = λ f late. elim (or_cases (nat_lt f.due (reference_of e)) (is_overdue (seen_of steps) f) late) [
@@ -249,7 +256,8 @@ module _ (net : Network) (plan : Plan) (dom : DomainId) (down : Thing → Bool) 
             due = due ∙ ap (λ (k : ℕ). k + (delay_of net f.link f.receiver).max) (sym sent);
             last = n.last;
             follows = subst (λ (x : ℕ). follows_over plan x f.link f.receiver ≡ true) (sym n.sender) n.follows;
-            whole = λ reaches. sound_link f (and_parts (not (link_has_failed (seen_of steps) f.link)) (is_up (seen_of steps) f.receiver) (sym n.reaches ∙ reaches)).0;
+            whole = λ reaches. sound_link f
+                (and_parts (not (link_has_failed (seen_of steps) f.link)) (is_up (seen_of steps) f.receiver) (sym n.reaches ∙ reaches)).0;
             live = λ reaches. sym (world.up f.receiver)
                 ∙ (and_parts (not (link_has_failed (seen_of steps) f.link)) (is_up (seen_of steps) f.receiver) (sym n.reaches ∙ reaches)).1;
             unswept = swept_new s steps f a;

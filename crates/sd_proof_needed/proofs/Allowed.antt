@@ -56,7 +56,8 @@ module _ (net : Network) (plan : Plan) (f : DomainId) (down : Thing → Bool) (s
       let open_ : window_order setting steps e ≡ false = refl in
       let goes_on : after_end seen ≡ false = world.goes_on in
       let few : too_many seen ≡ false = lt-leb (2 ^ 26) (length seen) (omega (arith, room, length-map steps (λ s. s.seen))) in
-      none_hold (causes setting steps e) (known, (refl, (sound, (refl, (unknown, (spent, (wrong, (time, (counter, (up, (refl, (refl, (open_, (goes_on, (refl, (refl, (few, tt)))))))))))))))))
+      none_hold (causes setting steps e)
+      (known, (refl, (sound, (refl, (unknown, (spent, (wrong, (time, (counter, (up, (refl, (refl, (open_, (goes_on, (refl, (refl, (few, tt)))))))))))))))))
   allowed e r d (receives n) live later_ room unknown spent wrong =
       let parts : Live net plan down d = live_parts net plan down d live in
       let known : unknown_device setting e ≡ false = lt-leb (length net.devices) d parts.within in
@@ -67,4 +68,5 @@ module _ (net : Network) (plan : Plan) (f : DomainId) (down : Thing → Bool) (s
       let open_ : window_order setting steps e ≡ false = refl in
       let goes_on : after_end seen ≡ false = world.goes_on in
       let few : too_many seen ≡ false = lt-leb (2 ^ 26) (length seen) (omega (arith, room, length-map steps (λ s. s.seen))) in
-      none_hold (causes setting steps e) (known, (refl, (sound, (refl, (unknown, (spent, (wrong, (time, (counter, (up, (refl, (refl, (open_, (goes_on, (refl, (refl, (few, tt)))))))))))))))))
+      none_hold (causes setting steps e)
+      (known, (refl, (sound, (refl, (unknown, (spent, (wrong, (time, (counter, (up, (refl, (refl, (open_, (goes_on, (refl, (refl, (few, tt)))))))))))))))))

@@ -253,8 +253,19 @@ module _ (net : Network) (plan : Plan) (dom : DomainId) (down : Thing → Bool) 
       record {
         is = (
           b.is,
-          none_hold (causes setting (steps history) e)
-              (known, (refl, (sound, (refl, (refl, (refl, (refl, (rw b.latest refl, (refl, (refl, (refl, (refl, (refl, (goes_on, (refl, (refl, (few history room, tt))))))))))))))))),
+          none_hold (causes setting (steps history) e) (
+            known,
+            (
+              refl,
+              (
+                sound,
+                (
+                  refl,
+                  (refl, (refl, (refl, (rw b.latest refl, (refl, (refl, (refl, (refl, (refl, (goes_on, (refl, (refl, (few history room, tt))))))))))))),
+                ),
+              ),
+            ),
+          ),
         );
         up = λ d. ap (λ old. of_some (if nat_eq d a then Some false else None) old (λ told. told)) (b.up d ∙ sym (none_below (is_live net plan down) d))
             ∙ told_false (nat_eq d a) ∙ none_below (is_live net plan down) d;
@@ -301,8 +312,19 @@ module _ (net : Network) (plan : Plan) (dom : DomainId) (down : Thing → Bool) 
       record {
         is = (
           b.is,
-          none_hold (causes setting (steps history) e)
-              (refl, (known, (refl, (sound, (refl, (refl, (refl, (rw b.latest refl, (refl, (refl, (refl, (refl, (refl, (goes_on, (refl, (refl, (few history room, tt))))))))))))))))),
+          none_hold (causes setting (steps history) e) (
+            refl,
+            (
+              known,
+              (
+                refl,
+                (
+                  sound,
+                  (refl, (refl, (refl, (rw b.latest refl, (refl, (refl, (refl, (refl, (refl, (goes_on, (refl, (refl, (few history room, tt))))))))))))),
+                ),
+              ),
+            ),
+          ),
         );
         up = b.up;
         made = b.made;
@@ -351,8 +373,19 @@ module _ (net : Network) (plan : Plan) (dom : DomainId) (down : Thing → Bool) 
       record {
         is = (
           b.is,
-          none_hold (causes setting (steps history) e)
-              (known, (refl, (sound, (refl, (refl, (refl, (refl, (rw b.latest refl, (refl, (refl, (once, (refl, (refl, (goes_on, (refl, (member, (few history room, tt))))))))))))))))),
+          none_hold (causes setting (steps history) e) (
+            known,
+            (
+              refl,
+              (
+                sound,
+                (
+                  refl,
+                  (refl, (refl, (refl, (rw b.latest refl, (refl, (refl, (once, (refl, (refl, (goes_on, (refl, (member, (few history room, tt))))))))))))),
+                ),
+              ),
+            ),
+          ),
         );
         up = λ d. told_started (nat_eq c d) (is_up seen d) ∙ ap (λ old. nat_eq c d || old) (b.up d) ∙ sym (one_more (is_live net plan down) c d live);
         made = λ d. ap (λ x. x || was_made seen d) (or_none (nat_eq c d)) ∙ ap (λ old. nat_eq c d || old) (b.made d)
@@ -372,7 +405,8 @@ module _ (net : Network) (plan : Plan) (dom : DomainId) (down : Thing → Bool) 
         drift_held = and_from (drift_holds setting seen) (reads_honestly setting s seen) b.drift_held (rw (eq-eqb c c refl) refl);
         delay_held = b.delay_held;
         tick_held = and_from (tick_holds setting seen) (ticks_in_time setting s seen) b.tick_held (in_time s seen refl);
-        domain_held = and_from (domain_holds setting seen) (fails_within_one setting s seen) b.domain_held (found_some (λ g. list_all (holds net g) (failures_since_closing seen)) (domains net) dom b.within among);
+        domain_held = and_from (domain_holds setting seen) (fails_within_one setting s seen) b.domain_held
+            (found_some (λ g. list_all (holds net g) (failures_since_closing seen)) (domains net) dom b.within among);
         renew_held = and_from (renew_holds setting seen) (not (list_any (λ x. is_stage x.event) seen) && true) b.renew_held (rw b.stages refl);
         sent = b.sent;
         seen_sent = b.seen_sent;

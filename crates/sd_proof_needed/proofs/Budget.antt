@@ -37,6 +37,7 @@ use Rattle.sd_proof_needed.specs.Alone.{alone}
 use Rattle.sd_proof_needed.proofs.Worlds.{IsCalm, ticks, receives, is_live, World}
 use Rattle.sd_proof_needed.proofs.Allowed.{live_parts}
 use Rattle.sd_proof_needed.proofs.Air.{IsNew, is_new}
+use Rattle.sd_proof_needed.proofs.Still.{not_sent}
 use Rattle.sd_proof_needed.proofs.Pasts.{Plain, duty_is}
 use Rattle.sd_proof_needed.proofs.Turns.{Sends, relays, emits, takes_over, Turned, rests, sends, Goes, plain_on, tick_turns, receipt_turns}
 
@@ -154,7 +155,8 @@ filter_fewer p q (y ∷ ys) x each is_p is_q a = fewer_head p q y x ys each is_p
 backup_root_is : (net : Network) (plan : Plan) (d : ℕ) (past : Past) → Plain (duty_of net plan 1 d) past → is_backup_root_now past ≡ true → plan.backup_root ≡ d
 backup_root_is net plan d past plain is =
     by (is_root plan d) (is_backup_root plan d) refl
-    (sym (ap (λ (o : Option Duty). of_some o false (λ duty. elim duty.role [ BackupRoot ↦ true | _ ↦ false ])) (duty_is (duty_of net plan 1 d) past plain)) ∙ is)
+    (sym (ap (λ (o : Option Duty). of_some o false (λ duty. elim duty.role [ BackupRoot ↦ true | _ ↦ false ])) (duty_is (duty_of net plan 1 d) past plain))
+    ∙ is)
   where
     by : (root backup : Bool) → is_backup_root plan d ≡ backup
         → (elim (if root then Root else if backup then BackupRoot else Ordinary) [ BackupRoot ↦ true | _ ↦ false ]) ≡ true → plan.backup_root ≡ d
@@ -197,9 +199,6 @@ one_if_more true false on = absurd (both_ways false refl (on refl))
 one_if_most : (x : Bool) → one_if x ≤ 1
 one_if_most true = omega arith
 one_if_most false = omega arith
-
-not_sent : {m : Message} {effect : Effect} → effect ≡ Quiet → effect ≡ Send m → ⊥
-not_sent quiet sent = cc
 
 same_message : {m n : Message} {effect : Effect} → effect ≡ Send m → effect ≡ Send n → m ≡ n
 same_message {m = m} one two = ap (λ (x : Effect). elim x [ Quiet ↦ m | Send y ↦ y ]) (sym one ∙ two)
@@ -262,7 +261,8 @@ module _ (net : Network) (plan : Plan) (dom : DomainId) (down : Thing → Bool) 
       by : Turned past call → IsLawful (acted plan (s ∷ steps)) k c' d (after past call)
       by (rests quiet same acting) =
           record {
-            term = (let old = stamps.term d past past_is in let more = acted_more in let term = ap (λ (x : Stamp). x.term) same in omega (arith, old, more, term));
+            term = (let old = stamps.term d past past_is in let more = acted_more in let term = ap (λ (x : Stamp). x.term) same in omega
+                (arith, old, more, term));
             round = (let old = stamps.round d past past_is in let round = ap (λ (x : Stamp). x.round) same in omega (arith, old, round));
             due = λ acts_on below_.
                 (let old = stamps.due d past past_is (sym acting ∙ acts_on) (omega (arith, below_, fewer)) in
@@ -273,7 +273,8 @@ module _ (net : Network) (plan : Plan) (dom : DomainId) (down : Thing → Bool) 
           let given = by_receipt link mess counter is in
           let equal : stamp_now (after past call) ≡ given.0.message.stamp = st ∙ ap (λ (x : Message). x.stamp) (sym given.2) in
           record {
-            term = (let old = stamps.sent_term given.0 given.1 in let more = acted_more in let term = ap (λ (x : Stamp). x.term) equal in omega (arith, old, more, term));
+            term = (let old = stamps.sent_term given.0 given.1 in let more = acted_more in let term = ap (λ (x : Stamp). x.term) equal in omega
+                (arith, old, more, term));
             round = (let old = stamps.sent_round given.0 given.1 in let round = ap (λ (x : Stamp). x.round) equal in omega (arith, old, round));
             due = λ acts_on below_. absurd (both_ways (is_acting (after past call)) idle_on acts_on);
           }
@@ -281,7 +282,8 @@ module _ (net : Network) (plan : Plan) (dom : DomainId) (down : Thing → Bool) 
           let turn = by_tick counter is in
           let early = stamps.due d past past_is acting turn.0 in
           record {
-            term = (let old = stamps.term d past past_is in let more = acted_more in let term = ap (λ (x : Stamp). x.term) st in omega (arith, old, more, term));
+            term = (let old = stamps.term d past past_is in let more = acted_more in let term = ap (λ (x : Stamp). x.term) st in omega
+                (arith, old, more, term));
             round = (let round = ap (λ (x : Stamp). x.round) st in omega (arith, early, round));
             due = λ acts_on below_. absurd (omega (arith, below_, turn.1));
           }
@@ -412,7 +414,8 @@ module _ (net : Network) (plan : Plan) (dom : DomainId) (down : Thing → Bool) 
           let term = lawful.term in
           let one = acted_most in
           let round = lawful.round in
-          let first_ : (stamp_now (after past call)).term * m ≤ 1 * m = mul-le (stamp_now (after past call)).term m 1 m (omega (arith, term, one)) (omega arith) in
+          let first_ : (stamp_now (after past call)).term * m ≤ 1 * m = mul-le (stamp_now (after past call)).term m 1 m (omega (arith, term, one))
+          (omega arith) in
           omega (arith, first_, round, less)
 
       here : width net plan d * (2 * m - level m (s ∷ steps) d) + length s.sent ≤ width net plan d * (2 * m - level m steps d)
@@ -456,10 +459,12 @@ module _ (net : Network) (plan : Plan) (dom : DomainId) (down : Thing → Bool) 
       let past = stamps.there d live in
       let goes : Goes past.0 (Tick r) = tick_turns (duty_of net plan 1 d) past.0 (stamps.plain d past.0 past.1) r in
       let s : Step = next_step (alone net plan) steps (event.Tick r d r) in
-      let total_less_ = total_on net plan dom down m k c d steps t world stamps some less (omega (arith, below_)) (event.Tick r d r) r d (Tick r) ticks refl live past.0 past.1 goes
+      let total_less_ = total_on net plan dom down m k c d steps t world stamps some less (omega (arith, below_)) (event.Tick r d r) r d (Tick r) ticks refl
+      live past.0 past.1 goes
       (λ counter same. (below_, omega arith)) (λ link message counter same. cc) is in
       let few = filter_part (λ (f : Flight). f.reaches && not (was_used steps f.number)) s.sent (flights steps) in (
-        stamps_on net plan dom down m k c d steps t world stamps some less (omega (arith, below_)) (event.Tick r d r) r d (Tick r) ticks refl live past.0 past.1 goes
+        stamps_on net plan dom down m k c d steps t world stamps some less (omega (arith, below_)) (event.Tick r d r) r d (Tick r) ticks refl live past.0
+            past.1 goes
             (λ counter same. (below_, omega arith)) (λ link message counter same. cc) is,
         omega (arith, total_less_, few),
       )
@@ -478,13 +483,15 @@ module _ (net : Network) (plan : Plan) (dom : DomainId) (down : Thing → Bool) 
       let s : Step = next_step (alone net plan) steps e in
       let acts : act_by (alone net plan) steps e ≡ Calls f.receiver call =
       ap (λ (o : Option Flight). of_some o Passes (λ g. Calls f.receiver (Receive g.link g.message f.due))) found in
-      let total_less_ = total_on net plan dom down m k c c steps t world stamps some less (omega arith) e f.due f.receiver call (receives f.number) acts live past.0 past.1 goes
+      let total_less_ = total_on net plan dom down m k c c steps t world stamps some less (omega arith) e f.due f.receiver call (receives f.number) acts
+      live past.0 past.1 goes
       (λ counter same. cc) (λ link message counter same. (f, a, received_message same)) is in
       let few = filter_part (λ (g : Flight). g.reaches && not (nat_eq f.number g.number || was_used steps g.number)) s.sent (flights steps) in
       let one_less = filter_fewer (λ (g : Flight). g.reaches && not (was_used steps g.number))
       (λ (g : Flight). g.reaches && not (nat_eq f.number g.number || was_used steps g.number)) (flights steps) f
       (λ g kept. still_unused g kept) (rw (reaches, unused) refl) (rw (reaches, eq-eqb f.number f.number refl) refl) a in (
-        stamps_on net plan dom down m k c c steps t world stamps some less (omega arith) e f.due f.receiver call (receives f.number) acts live past.0 past.1 goes
+        stamps_on net plan dom down m k c c steps t world stamps some less (omega arith) e f.due f.receiver call (receives f.number) acts live past.0 past.1
+            goes
             (λ counter same. cc) (λ link message counter same. (f, a, received_message same)) is,
         omega (arith, total_less_, few, one_less),
       )

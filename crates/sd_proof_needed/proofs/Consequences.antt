@@ -28,7 +28,7 @@ use Rattle.sd_checker.specs.Conditions.{RootHolds}
 use Rattle.sd_proof_needed.specs.Consequences.{AncestorFollows, DomainFollows}
 use Rattle.sd_history.proofs.Among.{Among, on_right}
 use Rattle.sd_history.proofs.Given.{some_is}
-use Rattle.sd_proof_needed.proofs.Elements.{each_among, mapped, below_among}
+use Rattle.sd_proof_needed.proofs.Elements.{each_among, mapped, below_among, none_mapped}
 use Rattle.sd_proof_needed.proofs.Paths.{not_root, short_walk_is, short_walk_none, path_step}
 
 -- Domain from reach
@@ -79,10 +79,6 @@ pub domain_follows : (net : Network) (plan : Plan) → DomainFollows net plan
 domain_follows net plan holds_ i f at = domain_holds net plan f (holds_ i f at)
 
 -- Ancestor from structure, root and loop
-
-none_mapped : {X Y : Type 0} (f : X → Y) (o : Option X) → option_map f o ≡ None → o ≡ None
-none_mapped f None none = refl
-none_mapped f (Some x) none = cc
 
 -- each link alone is a domain
 link_is_domain : (net : Network) (l : ℕ) → l < length net.links → Among (domain.Link l) (domains net)
@@ -265,7 +261,8 @@ ancestor_follows net plan fits structured root loop = find_none (λ d. not (is_n
         let roots : root_breach net plan (domain.Link hop.link) ≡ None =
         each_among (RootHolds net plan) (domains net) (domain.Link hop.link) root (link_is_domain net hop.link step.link) in
         ap not (false_from_ne_true (on_walk net plan back.parent d) (λ on.
-        root_keeps net plan forest hop back (omega (arith, within, here)) (ap (primary_of plan) here ∙ primary) (ap (backup_of plan) here ∙ falls) inside.0 roots
+        root_keeps net plan forest hop back (omega (arith, within, here)) (ap (primary_of plan) here ∙ primary) (ap (backup_of plan) here ∙ falls) inside.0
+        roots
         (subst (λ (x : ℕ). on_walk net plan back.parent x ≡ true) (sym here) on)))
     by_backup d within (Some back) falls false is =
         let (hop, primary) = primary_there d back within falls in

@@ -15,9 +15,7 @@ use Rattle.sd_checker.specs.Plan.Duties.{duty_of, edge_of, ends_of, follows_over
 use Rattle.sd_checker.specs.Plan.Structure.{structure_breach}
 use Rattle.sd_checker.specs.CheckReach.Reach.{next_hop}
 use Rattle.sd_history.specs.Msg.declared.Flight.{Flight}
-use Rattle.sd_history.specs.Msg.declared.Message.{Message}
-use Rattle.sd_history.specs.Core.declared.Effect.{Effect}
-use Rattle.sd_history.specs.Core.declared.Effect.TheVariants.{Quiet, Send}
+use Rattle.sd_history.specs.Core.declared.Effect.TheVariants.{Quiet}
 use Rattle.sd_history.specs.Core.Calls.{Call, Tick, Receive, Fix, Past, Nothing}
 use Rattle.sd_history.specs.Core.Words.{duty_given, transition_of, after, effect_of}
 use Rattle.sd_history.specs.Sched.declared.Event.{Event}
@@ -40,7 +38,7 @@ use Rattle.sd_proof_needed.specs.Alone.{alone}
 use Rattle.sd_proof_needed.specs.Reaches.{leaves_as_is}
 use Rattle.sd_proof_needed.proofs.Worlds.{is_live, window_on, closings_on}
 use Rattle.sd_proof_needed.proofs.Air.{ends_are}
-use Rattle.sd_proof_needed.proofs.Still.{sends_nothing}
+use Rattle.sd_proof_needed.proofs.Still.{sends_nothing, not_sent}
 use Rattle.sd_proof_needed.proofs.Hush.{role_is}
 use Rattle.sd_proof_needed.proofs.Deaf.{Settled, settled_on, tick_rests, receipt_rests}
 use Rattle.sd_proof_needed.proofs.Unfed.{Unfed, IsOnNext, unfed_other, next_above}
@@ -203,9 +201,6 @@ pub record Later (net : Network) (plan : Plan) (f : DomainId) (steps : List Step
   pub settled : (x : ℕ) → Unfed net plan f x → IsSettled net plan steps x
   pub silent : (g : Flight) → Among g (flights steps) → g.reaches ≡ true → IsOnNext net plan f g.receiver g.link → ⊥
 
-not_sent : {m : Message} {effect : Effect} → effect ≡ Quiet → effect ≡ Send m → ⊥
-not_sent quiet sent = cc
-
 module _ (net : Network) (plan : Plan) (fits : Fits net plan) (structured : structure_breach net plan ≡ None) (f : DomainId) (steps : List Step)
     (old : Later net plan f steps) where
   -- an event that calls a device that is up
@@ -245,8 +240,10 @@ module _ (net : Network) (plan : Plan) (fits : Fits net plan) (structured : stru
       at : (x : ℕ) → Unfed net plan f x → (b : Bool) → nat_eq d x ≡ b → IsSettled net plan (next_step (alone net plan) steps e ∷ steps) x
       at x u true same =
           let equal : d ≡ x = eqb-true d x same in
-          subst (λ (y : ℕ). IsSettled net plan (next_step (alone net plan) steps e ∷ steps) y) equal (here (subst (λ (y : ℕ). Unfed net plan f y) (sym equal) u))
-      at x u false other = let was : IsSettled net plan steps x = old.settled x u in record { past = was.past; is = past_at x false other ∙ was.is; settled = was.settled }
+          subst (λ (y : ℕ). IsSettled net plan (next_step (alone net plan) steps e ∷ steps) y) equal
+          (here (subst (λ (y : ℕ). Unfed net plan f y) (sym equal) u))
+      at x u false other = let was : IsSettled net plan steps x = old.settled x u in record
+          { past = was.past; is = past_at x false other ∙ was.is; settled = was.settled }
 
       quiet : Unfed net plan f d → (next_step (alone net plan) steps e).told.effect ≡ Quiet
       quiet u =
@@ -257,7 +254,8 @@ module _ (net : Network) (plan : Plan) (fits : Fits net plan) (structured : stru
 
       new : (g : Flight) → Among g (next_step (alone net plan) steps e).sent → g.reaches ≡ true → IsOnNext net plan f g.receiver g.link → ⊥
       new g a reaches on =
-          let sent : WasSent (alone net plan) (next_step (alone net plan) steps e) steps g = was_sent (alone net plan) (next_step (alone net plan) steps e) steps g are a in
+          let sent : WasSent (alone net plan) (next_step (alone net plan) steps e) steps g = was_sent (alone net plan) (next_step (alone net plan) steps e)
+          steps g are a in
           let same : sent.device ≡ d = some_is (sym sent.calls ∙ ap changed acts) in
           let among : Among sent.over.end_ (ends_of net plan sent.device) =
           ends_are net plan steps old.frame.window old.frame.closings sent.answers.epoch sent.device sent.over.end_ sent.over.among in

@@ -45,7 +45,8 @@ module _ (duty : Duty) (edge : Option Edge) (past : Past) (s : Settled duty edge
         idle = idle';
         parent = same ∙ s.parent;
         settled = elim s.settled [ inl was ↦ inl (moved ∙ was) | inr none ↦ inr none ];
-        heard = and_from (heard_nothing (record { call = call; transition = transition_of past call })) (list_all heard_nothing past.did) (rw stays refl) s.heard;
+        heard = and_from (heard_nothing (record { call = call; transition = transition_of past call })) (list_all heard_nothing past.did) (rw stays refl)
+            s.heard;
       }
 
   pub tick_rests : (counter : ℕ) → transition_of past (Tick counter) ≡ Nothing
@@ -66,7 +67,8 @@ module _ (duty : Duty) (edge : Option Edge) (past : Past) (s : Settled duty edge
   receipt_rests link message counter other =
       let no_entering : entered_by past link message ≡ None = rw (given_none duty past s.plain) refl in
       let over : option_and_then (over_link link) (parent_edge past) ≡ None = rw s.parent (elsewhere edge refl) in
-      let refused : accepted_by past link message ≡ None = rw over (either (nat_eq (epoch_now past) message.epoch && is_newer message.stamp (stamp_now past))) in
+      let refused : accepted_by past link message ≡ None = rw over
+      (either (nat_eq (epoch_now past) message.epoch && is_newer message.stamp (stamp_now past))) in
       rw (no_entering, refused) refl
     where
       elsewhere : (o : Option Edge) → edge ≡ o → option_and_then (over_link link) o ≡ None
@@ -82,7 +84,8 @@ all_heard [] all = refl
 all_heard (x ∷ xs) all =
     let (here, rest) = and_parts (did_nothing x) (list_all did_nothing xs) all in
     and_from (heard_nothing x) (list_all heard_nothing xs)
-    (ap (λ (t : Transition). not (is_some (accepted_over t))) (nothing_is x.transition (and_parts (is_nothing x.transition) (not (is_some (duty_given x.call))) here).0))
+    (ap (λ (t : Transition). not (is_some (accepted_over t)))
+    (nothing_is x.transition (and_parts (is_nothing x.transition) (not (is_some (duty_given x.call))) here).0))
     (all_heard xs rest)
 
 -- a still device without a wait is settled on its primary edge

@@ -1,5 +1,5 @@
 -- Elements of lists.
-use Rattle.std.specs.Prelude.{◌≡◌, ℕ, zero, suc, ◌<◌, Bool, true, false, List, [], ◌∷◌, ◌++◌, filter, find, map, Some, is_some, refl, if◌then◌else◌}
+use Rattle.std.specs.Prelude.{Option, None, option_map, ◌≡◌, ℕ, zero, suc, ◌<◌, Bool, true, false, List, [], ◌∷◌, ◌++◌, filter, find, map, Some, is_some, refl, if◌then◌else◌}
 use Rattle.std.specs.List.{list_any}
 use Rattle.std.proofs.Common.{subst, arith, inl, inr}
 use Rattle.std.proofs.lemmas.Bool.{or_left, or_right, cases_eq}
@@ -70,3 +70,22 @@ pub any_of : {A : Type 0} (p : A → Bool) (xs : List A) (x : A) → p x ≡ tru
 any_of p [] x is a = elim a [ ]
 any_of p (y ∷ ys) x is first = or_left (p y) (list_any p ys) is
 any_of p (y ∷ ys) x is (later a) = or_right (p y) (list_any p ys) (any_of p ys x is a)
+
+-- nothing is made of nothing alone
+pub none_mapped : {X Y : Type 0} (f : X → Y) (o : Option X) → option_map f o ≡ None → o ≡ None
+none_mapped f None none = refl
+none_mapped f (Some x) none = cc
+
+-- what passes and is among the elements is among those that are kept
+passing_head : {A : Type 0} (p : A → Bool) (y x : A) (ys : List A) → p x ≡ true → (Among x ys → Among x (filter p ys)) → Among x (y ∷ ys)
+    → Among x (filter p (y ∷ ys))
+passing_head p y x ys is rest first = rw is first
+passing_head p y x ys is rest (later a) = by (p y) (rest a)
+  where
+    by : (b : Bool) → Among x (filter p ys) → Among x (if b then y ∷ filter p ys else filter p ys)
+    by true c = later c
+    by false c = c
+
+pub among_kept : {A : Type 0} (p : A → Bool) (xs : List A) (x : A) → p x ≡ true → Among x xs → Among x (filter p xs)
+among_kept p [] x is a = elim a [ ]
+among_kept p (y ∷ ys) x is a = passing_head p y x ys is (among_kept p ys x is) a

@@ -15,9 +15,7 @@ use Rattle.sd_checker.specs.Plan.Plans.{is_root, is_backup_root, primary_of}
 use Rattle.sd_checker.specs.Plan.Walks.{ends_walks}
 use Rattle.sd_checker.specs.Plan.Duties.{duty_of, edge_of, role_of, follows_over}
 use Rattle.sd_history.specs.Msg.declared.Flight.{Flight}
-use Rattle.sd_history.specs.Msg.declared.Message.{Message}
-use Rattle.sd_history.specs.Core.declared.Effect.{Effect}
-use Rattle.sd_history.specs.Core.declared.Effect.TheVariants.{Quiet, Send}
+use Rattle.sd_history.specs.Core.declared.Effect.TheVariants.{Quiet}
 use Rattle.sd_history.specs.Core.Calls.{Call, Tick, Receive, Past, Nothing}
 use Rattle.sd_history.specs.Core.Words.{duty_given, transition_of, after, effect_of, wait_to_move}
 use Rattle.sd_history.specs.Sched.declared.Event.{Event}
@@ -32,7 +30,7 @@ use Rattle.sd_proof_needed.specs.Alone.{alone}
 use Rattle.sd_proof_needed.proofs.Elements.{on_left}
 use Rattle.sd_proof_needed.proofs.Worlds.{IsCalm, ticks, receives, is_live, World}
 use Rattle.sd_proof_needed.proofs.Air.{Air, IsNew, is_new}
-use Rattle.sd_proof_needed.proofs.Still.{Still, still_on, sends_nothing, tick_stays, receipt_stays}
+use Rattle.sd_proof_needed.proofs.Still.{Still, still_on, sends_nothing, tick_stays, receipt_stays, not_sent}
 
 -- Live ordinary devices, and links over which nothing may come to a device: their primary links at least, and others that lead up to such devices
 -- wherever what is there is sound.
@@ -63,7 +61,8 @@ role_is net plan z other =
 abbrev pub is_over : Network → Plan → ℕ → ℕ → Bool
 is_over net plan d counter = of_some (wait_to_move (duty_of net plan 1 d)) false (λ wait. nat_le wait counter)
 
-module _ (net : Network) (plan : Plan) (dom : DomainId) (down : Thing → Bool) (zone : ℕ → Bool) (mute : ℕ → ℕ → Type 0) (is_zone : IsZone net plan down zone mute) (steps : List Step)
+module _ (net : Network) (plan : Plan) (dom : DomainId) (down : Thing → Bool) (zone : ℕ → Bool) (mute : ℕ → ℕ → Type 0)
+    (is_zone : IsZone net plan down zone mute) (steps : List Step)
     (t : ℕ) (world : World net plan dom down (seen_of steps) t) (hush : Hush net plan zone mute steps) where
   abbrev setting : Setting
   setting = alone net plan
@@ -120,9 +119,6 @@ module _ (net : Network) (plan : Plan) (dom : DomainId) (down : Thing → Bool) 
           ∙ ap (λ (o : Option Past). (of_some o tells_nothing (λ past. tells_called (effect_of past call) (answers_by (after past call)))).effect) old.is
           ∙ sends_nothing old.past call (stays old in_)
 
-      not_sent : {m : Message} {effect : Effect} → effect ≡ Quiet → effect ≡ Send m → ⊥
-      not_sent quiet_ sent = cc
-
       silent_new : (f : Flight) → Among f (next_step setting steps e).sent → f.reaches ≡ true → mute f.receiver f.link → ⊥
       silent_new f a reaches mutes =
           let n : IsNew net plan steps (next_step setting steps e) r d f = is_new net plan dom down steps t world e r d f calm is a in
@@ -138,7 +134,8 @@ module _ (net : Network) (plan : Plan) (dom : DomainId) (down : Thing → Bool) 
       (λ still in_. tick_stays (duty_of net plan 1 d) still.past still.still (role_is net plan d (is_zone.ordinary d in_)) r (early in_)) is air
 
   -- a receipt
-  pub hush_receipt : (f : Flight) → Among f (flights steps) → f.reaches ≡ true → flight_numbered steps f.number ≡ Some f → is_live net plan down f.receiver ≡ true
+  pub hush_receipt : (f : Flight) → Among f (flights steps) → f.reaches ≡ true → flight_numbered steps f.number ≡ Some f
+      → is_live net plan down f.receiver ≡ true
       → AreSteps setting (next_step setting steps (event.Recv f.due f.receiver f.due f.number) ∷ steps)
       → Air net plan down (next_step setting steps (event.Recv f.due f.receiver f.due f.number) ∷ steps) f.due
       → Hush net plan zone mute (next_step setting steps (event.Recv f.due f.receiver f.due f.number) ∷ steps)
@@ -146,7 +143,8 @@ module _ (net : Network) (plan : Plan) (dom : DomainId) (down : Thing → Bool) 
       hush_on (event.Recv f.due f.receiver f.due f.number) f.due f.receiver (Receive f.link f.message f.due) (receives f.number)
       (ap (λ (o : Option Flight). of_some o Passes (λ g. Calls f.receiver (Receive g.link g.message f.due))) found) refl live
       (λ still in_.
-      receipt_stays (duty_of net plan 1 f.receiver) still.past still.still (role_is net plan f.receiver (is_zone.ordinary f.receiver in_)) f.link f.message f.due
+      receipt_stays (duty_of net plan 1 f.receiver) still.past still.still (role_is net plan f.receiver (is_zone.ordinary f.receiver in_)) f.link f.message
+      f.due
       (λ edge is_ same. over (primary_of plan f.receiver) refl edge is_ in_ same)) is air
     where
       over : (o : Option Hop) → primary_of plan f.receiver ≡ o → (edge : Edge) → option_map (edge_of net f.receiver) o ≡ Some edge → zone f.receiver ≡ true

@@ -28,7 +28,8 @@ use Rattle.sd_proof_needed.proofs.Zones.{zone_in, IsOnPrimary, is_zone}
 use Rattle.sd_proof_needed.proofs.Moving.{HasMoved, has_moved}
 
 module _ (net : Network) (plan : Plan) (law : IsNetwork net) (fits : Fits net plan) (structured : structure_breach net plan ≡ None)
-    (bound : event_bound net plan ≤ 2 ^ 26) (f : DomainId) (is_domain : IsDomain net f) (first : ℕ) (others : List ℕ) (ring : IsRing net plan f first others) where
+    (bound : event_bound net plan ≤ 2 ^ 26) (f : DomainId) (is_domain : IsDomain net f) (first : ℕ) (others : List ℕ)
+    (ring : IsRing net plan f first others) where
   abbrev all : List ℕ
   all = first ∷ others
 
@@ -63,7 +64,8 @@ module _ (net : Network) (plan : Plan) (law : IsNetwork net) (fits : Fits net pl
 
   -- another one follows the next
   leads_up : (x : ℕ) → has all x ≡ true → mover x ≡ false → IsParent (primary_of plan x) (next x)
-  leads_up x there is = by (primary_of plan x) refl (not-false (leads_to (primary_of plan x) (next x)) (sym (ap (λ b. b && not (leads_to (primary_of plan x) (next x))) there) ∙ is))
+  leads_up x there is = by (primary_of plan x) refl
+      (not-false (leads_to (primary_of plan x) (next x)) (sym (ap (λ b. b && not (leads_to (primary_of plan x) (next x))) there) ∙ is))
     where
       by : (o : Option Hop) → primary_of plan x ≡ o → leads_to o (next x) ≡ true → IsParent (primary_of plan x) (next x)
       by None primary leads = cc
@@ -80,7 +82,8 @@ module _ (net : Network) (plan : Plan) (law : IsNetwork net) (fits : Fits net pl
   known_link l is = rings.known_link net f l law is_domain is
 
   moves_zone : (z : ℕ) → mover z ≡ true → zone_in net plan down z ≡ true
-  moves_zone z is = ring_zone net plan law fits structured f is_domain first others ring z (and_parts (has all z) (not (leads_to (primary_of plan z) (next z))) is).0
+  moves_zone z is = ring_zone net plan law fits structured f is_domain first others ring z
+      (and_parts (has all z) (not (leads_to (primary_of plan z) (next z))) is).0
 
   moves_back : (z : ℕ) → mover z ≡ true → (hop : Hop) × (backup_of plan z ≡ Some hop)
   moves_back z is = let parent = falls_back z is in (parent.0, parent.1)
@@ -151,4 +154,5 @@ shown_ring net plan f first others shown =
 
 pub loop_refusal_is_right : (net : Network) (plan : Plan) → LoopRefusalIsRight net plan
 loop_refusal_is_right net plan law fits bound f first others broken =
-    loop_is_needed net plan law fits (broken.before condition.structure refl) bound f (domain_is net (broken.shows.0.0) f broken.shows.0.1) first others (shown_ring net plan f first others broken.shows.1)
+    loop_is_needed net plan law fits (broken.before condition.structure refl) bound f (domain_is net (broken.shows.0.0) f broken.shows.0.1) first others
+    (shown_ring net plan f first others broken.shows.1)

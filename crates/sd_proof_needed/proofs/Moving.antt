@@ -1,5 +1,5 @@
 -- At the end of the wait some devices of the zone tick and move, and the others have not ticked yet.
-use Rattle.std.specs.Prelude.{◌≡◌, ℕ, zero, suc, ◌+◌, ◌*◌, ◌^◌, ◌<◌, ◌≤◌, Bool, true, false, ◌||◌, List, ◌∷◌, ◌⊎◌, length, nat_eq, nat_le, Option, Some, None, is_some, option_map, refl, if◌then◌else◌}
+use Rattle.std.specs.Prelude.{◌≡◌, ℕ, zero, suc, ◌+◌, ◌*◌, ◌^◌, ◌<◌, ◌≤◌, Bool, true, false, List, ◌∷◌, ◌⊎◌, length, nat_eq, nat_le, Option, Some, None, is_some, option_map, refl, if◌then◌else◌}
 use Rattle.std.proofs.Common.{sym, ap, ◌∙◌, subst, arith, inl, inr}
 use Rattle.std.proofs.lemmas.Bool.{cases_eq, eq-eqb, ne_eqb, le-leb, both_ways}
 use Rattle.sd_checker.specs.Num.Lists.{of_some}
@@ -16,9 +16,7 @@ use Rattle.sd_checker.specs.Plan.declared.Role.TheVariants.{Root, BackupRoot, Or
 use Rattle.sd_checker.specs.Plan.Plans.{primary_of, backup_of}
 use Rattle.sd_checker.specs.Plan.Duties.{duty_of, edge_of, role_of}
 use Rattle.sd_history.specs.Msg.declared.Flight.{Flight}
-use Rattle.sd_history.specs.Msg.declared.Message.{Message}
-use Rattle.sd_history.specs.Core.declared.Effect.{Effect}
-use Rattle.sd_history.specs.Core.declared.Effect.TheVariants.{Quiet, Send}
+use Rattle.sd_history.specs.Core.declared.Effect.TheVariants.{Quiet}
 use Rattle.sd_history.specs.Core.Calls.{Past, Tick, Moved}
 use Rattle.sd_history.specs.Core.Words.{parent_now, after, effect_of, transition_of}
 use Rattle.sd_history.specs.Sched.declared.Event.{Event}
@@ -34,15 +32,16 @@ use Rattle.sd_history.proofs.Accepting.{history_is_accepted}
 use Rattle.sd_history.proofs.Bridges.{answers_by_words}
 use Rattle.sd_proof_needed.specs.Alone.{alone}
 use Rattle.sd_proof_needed.specs.Loops.{ticks_of_wait, event_bound}
-use Rattle.sd_proof_needed.proofs.Worlds.{is_live, ticks}
+use Rattle.sd_proof_needed.proofs.Worlds.{is_live, ticks, tick_later}
 use Rattle.sd_proof_needed.proofs.Allowed.{live_parts}
 use Rattle.sd_proof_needed.proofs.Air.{NoneDue, IsNew, is_new}
 use Rattle.sd_proof_needed.proofs.Going.{Good, tick_goes}
-use Rattle.sd_proof_needed.proofs.Still.{Still, tick_moves, HasJustMoved, just_moved, follows_primary}
+use Rattle.sd_proof_needed.proofs.Still.{Still, tick_moves, HasJustMoved, just_moved, follows_primary, not_sent}
 use Rattle.sd_proof_needed.proofs.Hush.{IsZone, IsStill, is_over, role_is}
 use Rattle.sd_proof_needed.proofs.Ready.{multiples, Ready, ready}
 
-module _ (net : Network) (plan : Plan) (dom : DomainId) (down : Thing → Bool) (zone : ℕ → Bool) (mute : ℕ → ℕ → Type 0) (law : IsNetwork net) (among : Among dom (domains net))
+module _ (net : Network) (plan : Plan) (dom : DomainId) (down : Thing → Bool) (zone : ℕ → Bool) (mute : ℕ → ℕ → Type 0) (law : IsNetwork net)
+    (among : Among dom (domains net))
     (known_device : (d : ℕ) → down (thing.Device d) ≡ true → d < length net.devices)
     (known_link : (l : ℕ) → down (thing.Link l) ≡ true → l < length net.links)
     (held : (x : Thing) → down x ≡ true → holds net dom x ≡ true)
@@ -111,13 +110,6 @@ module _ (net : Network) (plan : Plan) (dom : DomainId) (down : Thing → Bool) 
           → of_some (elim role [ Root ↦ None | BackupRoot ↦ Some plan.wait_first | Ordinary ↦ if b then Some plan.wait else None ]) false
           (λ wait. nat_le wait end_) ≡ true
       late b is_b role is_role = rw (is_role, is_b) (le-leb plan.wait end_ (multiples plan.wait net.params.tick law.tick.0).over)
-
-  not_sent : {m : Message} {effect : Effect} → effect ≡ Quiet → effect ≡ Send m → ⊥
-  not_sent quiet sent = cc
-
-  tick_later : (b : Bool) (r old tick : ℕ) → r ≤ old + tick → r ≤ of_some (if b || false then Some r else None) old (λ told. told) + tick
-  tick_later true r old tick late = omega arith
-  tick_later false r old tick late = late
 
   -- the edge of a hop leads to its parent
   edge_parent : (z : ℕ) (o : Option Hop) → option_map (λ e. e.parent) (option_map (edge_of net z) o) ≡ option_map (λ h. h.parent) o
@@ -254,7 +246,8 @@ module _ (net : Network) (plan : Plan) (dom : DomainId) (down : Thing → Bool) 
             (record {
               past = still.past;
               is = still.is;
-              parent = follows_primary (duty_of net plan 1 z) still.past still.still (role_is net plan z (is_zone.ordinary z in_)) ∙ edge_parent z (primary_of plan z);
+              parent = follows_primary (duty_of net plan 1 z) still.past still.still (role_is net plan z (is_zone.ordinary z in_))
+                  ∙ edge_parent z (primary_of plan z);
             }));
       }
     where

@@ -99,7 +99,8 @@ module _ (net : Network) (plan : Plan) (law : IsNetwork net) (fits : Fits net pl
                 (moved_settled (duty_of net plan 1 x) it.before end_ it.still ordinary it.moves);
           }
       by None falls =
-          let stays : mover x ≡ false = and_right (zone_in net plan (holds net f) x) (has_backup plan x) (ap (λ (o : Option Hop). of_some o false (λ hop. true)) falls) in
+          let stays : mover x ≡ false = and_right (zone_in net plan (holds net f) x) (has_backup plan x)
+          (ap (λ (o : Option Hop). of_some o false (λ hop. true)) falls) in
           let it = end.still x in_zone stays in
           let none : (duty_of net plan 1 x).backup ≡ None = ap (option_map (edge_of net x)) falls in
           let no_wait : wait_to_move (duty_of net plan 1 x) ≡ None = waits (duty_of net plan 1 x).role ordinary (duty_of net plan 1 x).backup none in
@@ -163,5 +164,6 @@ reach_refusal_is_right net plan law fits bound f chain broken =
     let shown = broken.shows.1 in (
       shown.first,
       shown.begins,
-      reach_is_needed net plan law fits (broken.before condition.structure refl) bound f (domain_is net broken.shows.0.0 f broken.shows.0.1) shown.first shown.starved,
+      reach_is_needed net plan law fits (broken.before condition.structure refl) bound f (domain_is net broken.shows.0.0 f broken.shows.0.1) shown.first
+          shown.starved,
     )

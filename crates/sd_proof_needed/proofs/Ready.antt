@@ -69,12 +69,14 @@ multiples wait tick some =
     record {
       over = omega (arith, up_, some);
       early = λ i less.
-          (let one : (i + 1) * tick ≤ (wait + tick - 1) / tick * tick = mul-le (i + 1) tick ((wait + tick - 1) / tick) tick (omega (arith, less)) (omega arith) in
+          (let one : (i + 1) * tick ≤ (wait + tick - 1) / tick * tick = mul-le (i + 1) tick ((wait + tick - 1) / tick) tick (omega (arith, less))
+          (omega arith) in
           let split : (i + 1) * tick ≡ i * tick + tick = grind arith in
           omega (arith, one, split, low_, some));
     }
 
-module _ (net : Network) (plan : Plan) (dom : DomainId) (down : Thing → Bool) (zone : ℕ → Bool) (mute : ℕ → ℕ → Type 0) (law : IsNetwork net) (among : Among dom (domains net))
+module _ (net : Network) (plan : Plan) (dom : DomainId) (down : Thing → Bool) (zone : ℕ → Bool) (mute : ℕ → ℕ → Type 0) (law : IsNetwork net)
+    (among : Among dom (domains net))
     (known_device : (d : ℕ) → down (thing.Device d) ≡ true → d < length net.devices)
     (known_link : (l : ℕ) → down (thing.Link l) ≡ true → l < length net.links)
     (held : (x : Thing) → down x ≡ true → holds net dom x ≡ true)

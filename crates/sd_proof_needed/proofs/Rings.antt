@@ -121,7 +121,8 @@ abbrev pub next_in : ℕ → List ℕ → ℕ → ℕ
 next_in first [] x = first
 next_in first (y ∷ ys) x = if nat_eq y x then head_or first ys else next_in first ys x
 
-next_by : (R : ℕ → ℕ → Type 0) (first y x : ℕ) (ys : List ℕ) (b : Bool) → nat_eq y x ≡ b → R y (head_or first ys) → (nat_eq y x ≡ false → R x (next_in first ys x))
+next_by : (R : ℕ → ℕ → Type 0) (first y x : ℕ) (ys : List ℕ) (b : Bool) → nat_eq y x ≡ b → R y (head_or first ys)
+    → (nat_eq y x ≡ false → R x (next_in first ys x))
     → R x (if b then head_or first ys else next_in first ys x)
 next_by R first y x ys true same here rest = subst (λ (v : ℕ). R v (head_or first ys)) (eqb-true y x same) here
 next_by R first y x ys false other here rest = rest other
@@ -237,7 +238,9 @@ pub has_hop_within : (net : Network) (plan : Plan) (x : ℕ) (hop : Hop) → Fit
     → x < length net.devices
 has_hop_within net plan x hop fits either = elim (cases_lt x (length net.devices)) [
   | inl within ↦ within
-  | inr past ↦ (let none : row_of plan x ≡ None = ap (λ o. of_some o None (λ row. row)) (slice_get_past plan.rows x (let same = fits.entries in omega (arith, past, same))) in
+  | inr past ↦
+      (let none : row_of plan x ≡ None = ap (λ o. of_some o None (λ row. row))
+      (slice_get_past plan.rows x (let same = fits.entries in omega (arith, past, same))) in
       absurd (nothing none either))
 ]
   where
@@ -299,7 +302,8 @@ module _ (net : Network) (plan : Plan) (law : IsNetwork net) (fits : Fits net pl
       ]
 
   -- what hits a short walk is there beside the ring
-  touched_walk : (x : ℕ) → x < length net.devices → hits net f (things_of (short_walk net plan x)) ≡ true → list_any down (things_of (short_walk net plan x)) ≡ true
+  touched_walk : (x : ℕ) → x < length net.devices → hits net f (things_of (short_walk net plan x)) ≡ true
+      → list_any down (things_of (short_walk net plan x)) ≡ true
   touched_walk =
       climb net plan forest (λ x. hits net f (things_of (short_walk net plan x)) ≡ true → list_any down (things_of (short_walk net plan x)) ≡ true)
       (λ x within none hit. absurd (empty x (no_short_walk net plan x forest none) hit))
@@ -307,7 +311,8 @@ module _ (net : Network) (plan : Plan) (law : IsNetwork net) (fits : Fits net pl
       elim (cases_Bool (ends_walks plan x)) [
         | inl ends ↦ absurd (empty x (short_walk_none net plan x ends) hit)
         | inr other ↦
-            (let whole : short_walk net plan x ≡ hop ∷ short_walk net plan hop.parent = short_walk_is net plan x other ∙ path_step net plan x hop forest within is in
+            (let whole : short_walk net plan x ≡ hop ∷ short_walk net plan hop.parent = short_walk_is net plan x other
+            ∙ path_step net plan x hop forest within is in
             subst (λ (hs : List Hop). list_any down (things_of hs) ≡ true) (sym whole)
             (goes hop step.within above (subst (λ (hs : List Hop). hits net f (things_of hs) ≡ true) whole hit)))
       ])

@@ -1,5 +1,5 @@
 -- A calm time runs on: at each multiple of the tick all live devices tick, and between them each message is received when it is due.
-use Rattle.std.specs.Prelude.{◌≡◌, ℕ, zero, suc, ◌+◌, ◌*◌, ◌^◌, ◌<◌, ◌≤◌, Bool, true, false, ◌&&◌, ◌||◌, not, List, [], ◌∷◌, ◌⊎◌, length, filter, nat_eq, Some, None, refl, if◌then◌else◌}
+use Rattle.std.specs.Prelude.{◌≡◌, ℕ, zero, suc, ◌+◌, ◌*◌, ◌^◌, ◌<◌, ◌≤◌, Bool, true, false, ◌&&◌, ◌||◌, not, List, [], ◌∷◌, ◌⊎◌, length, nat_eq, Some, None, refl, if◌then◌else◌}
 use Rattle.std.proofs.Common.{sym, subst, arith, inl, inr}
 use Rattle.std.proofs.lemmas.Bool.{and_parts, not-true, cases_lt, cases_eq, eqb-false, both_ways}
 use Rattle.sd_checker.specs.Num.Lists.{of_some}
@@ -23,8 +23,8 @@ use Rattle.sd_history.proofs.Filters.{kept_among}
 use Rattle.sd_history.proofs.Accepting.{history_is_accepted}
 use Rattle.sd_history.proofs.flights.Numbers.{numbered_itself}
 use Rattle.sd_proof_needed.specs.Alone.{alone}
-use Rattle.sd_proof_needed.proofs.Elements.{passes_kept}
-use Rattle.sd_proof_needed.proofs.Worlds.{is_live, OnTime}
+use Rattle.sd_proof_needed.proofs.Elements.{passes_kept, among_kept}
+use Rattle.sd_proof_needed.proofs.Worlds.{is_live, OnTime, tick_later}
 use Rattle.sd_proof_needed.proofs.Allowed.{live_parts}
 use Rattle.sd_proof_needed.proofs.Air.{NoneDue}
 use Rattle.sd_proof_needed.proofs.Going.{Good, tick_goes, receipt_goes}
@@ -64,26 +64,14 @@ first_due (f ∷ fs) = inr (with_one f fs (first_due fs))
       | inr more ↦ record { flight = f; among = first; least = here f fs h more }
     ]
 
--- what passes and is among the elements is among those that are kept
-kept_head : {A : Type 0} (p : A → Bool) (y x : A) (ys : List A) → p x ≡ true → (Among x ys → Among x (filter p ys)) → Among x (y ∷ ys) → Among x (filter p (y ∷ ys))
-kept_head p y x ys is rest first = rw is first
-kept_head p y x ys is rest (later a) = by (p y) (rest a)
-  where
-    by : (b : Bool) → Among x (filter p ys) → Among x (if b then y ∷ filter p ys else filter p ys)
-    by true c = later c
-    by false c = c
-
-among_kept : {A : Type 0} (p : A → Bool) (xs : List A) (x : A) → p x ≡ true → Among x xs → Among x (filter p xs)
-among_kept p [] x is a = elim a [ ]
-among_kept p (y ∷ ys) x is a = kept_head p y x ys is (among_kept p ys x is) a
-
 has_length : {A : Type 0} (xs : List A) (x : A) → Among x xs → 1 ≤ length xs
 has_length [] x a = elim a [ ]
 has_length (y ∷ ys) x a = omega arith
 
 -- Running
 
-module _ (net : Network) (plan : Plan) (dom : DomainId) (down : Thing → Bool) (zone : ℕ → Bool) (mute : ℕ → ℕ → Type 0) (m : ℕ) (law : IsNetwork net) (among : Among dom (domains net))
+module _ (net : Network) (plan : Plan) (dom : DomainId) (down : Thing → Bool) (zone : ℕ → Bool) (mute : ℕ → ℕ → Type 0) (m : ℕ) (law : IsNetwork net)
+    (among : Among dom (domains net))
     (is_zone : IsZone net plan down zone mute) where
   abbrev setting : Setting
   setting = alone net plan
@@ -136,11 +124,6 @@ module _ (net : Network) (plan : Plan) (dom : DomainId) (down : Thing → Bool) 
         sent_round = λ f a. (let old = stamps.sent_round f a in omega (arith, old));
       }
 
-  -- a tick is the latest one of its device
-  tick_later : (b : Bool) (r old : ℕ) → r ≤ old + tick → r ≤ of_some (if b || false then Some r else None) old (λ told. told) + tick
-  tick_later true r old late = omega arith
-  tick_later false r old late = late
-
   -- a flight that is on its way is pending
   is_pending : (history : List Event) (f : Flight) → Among f (flights (steps history)) → f.reaches ≡ true → was_used (steps history) f.number ≡ false
       → Among f (pending (steps history))
@@ -187,7 +170,8 @@ module _ (net : Network) (plan : Plan) (dom : DomainId) (down : Thing → Bool) 
       (λ g a reaches unused. h.least g (is_pending run.history g a reaches unused)) in
       let is : AreSteps setting (steps (event.Recv f.due f.receiver f.due f.number ∷ run.history)) =
       history_is_accepted setting (event.Recv f.due f.receiver f.due f.number ∷ run.history) good.is in
-      let both = receipt_stamps net plan dom down m k c (steps run.history) run.reference run.good.world run.stamps some less f way.among_ way.reaches way.unused found live is in (
+      let both = receipt_stamps net plan dom down m k c (steps run.history) run.reference run.good.world run.stamps some less f way.among_ way.reaches
+      way.unused found live is in (
         record {
           history = event.Recv f.due f.receiver f.due f.number ∷ run.history;
           reference = f.due;
@@ -195,7 +179,8 @@ module _ (net : Network) (plan : Plan) (dom : DomainId) (down : Thing → Bool) 
           before = omega (arith, soon);
           ticked = run.ticked;
           done = run.done;
-          hush = hush_receipt net plan dom down zone mute is_zone (steps run.history) run.reference run.good.world run.hush f way.among_ way.reaches found live is good.air;
+          hush = hush_receipt net plan dom down zone mute is_zone (steps run.history) run.reference run.good.world run.hush f way.among_ way.reaches found
+              live is good.air;
           stamps = both.0;
           room = (let fewer = both.1 in omega (arith, fewer, roomy));
         },
@@ -277,7 +262,8 @@ module _ (net : Network) (plan : Plan) (dom : DomainId) (down : Thing → Bool) 
       }
 
   -- a device ticks
-  tick_one : (k d left : ℕ) → 1 ≤ k → k < m → is_live net plan down d ≡ true → (zone d ≡ true → is_over net plan d (k * tick) ≡ false) → Clear k (suc d) (suc left)
+  tick_one : (k d left : ℕ) → 1 ≤ k → k < m → is_live net plan down d ≡ true → (zone d ≡ true → is_over net plan d (k * tick) ≡ false)
+      → Clear k (suc d) (suc left)
       → Running k d left
   tick_one k d left some less live early clear_ =
       let run : Running k (suc d) (suc left) = clear_.running in
@@ -287,13 +273,14 @@ module _ (net : Network) (plan : Plan) (dom : DomainId) (down : Thing → Bool) 
       tick_goes net plan dom down law among run.history run.reference run.good few (k * tick) d live run.before run.ticked clear_.none in
       let is : AreSteps setting (steps (event.Tick (k * tick) d (k * tick) ∷ run.history)) =
       history_is_accepted setting (event.Tick (k * tick) d (k * tick) ∷ run.history) good.is in
-      let both = tick_stamps net plan dom down m k (suc d) (steps run.history) run.reference run.good.world run.stamps some less (k * tick) d (omega arith) live is in
+      let both = tick_stamps net plan dom down m k (suc d) (steps run.history) run.reference run.good.world run.stamps some less (k * tick) d (omega arith)
+      live is in
       record {
         history = event.Tick (k * tick) d (k * tick) ∷ run.history;
         reference = k * tick;
         good = good;
         before = omega arith;
-        ticked = λ x alive. tick_later (nat_eq d x) (k * tick) (latest_tick (seen_of (steps run.history)) x) (run.ticked x alive);
+        ticked = λ x alive. tick_later (nat_eq d x) (k * tick) (latest_tick (seen_of (steps run.history)) x) tick (run.ticked x alive);
         done = λ x alive above. by x (nat_eq d x) refl alive above;
         hush = hush_tick net plan dom down zone mute is_zone (steps run.history) run.reference run.good.world run.hush (k * tick) d live early is good.air;
         stamps = both.0;
@@ -312,7 +299,8 @@ module _ (net : Network) (plan : Plan) (dom : DomainId) (down : Thing → Bool) 
       tick_all k c left some less early (by (is_live net plan down c) refl (with_left k (suc c) (suc c + left) (suc (c + left)) (omega arith) run))
     where
       by : (b : Bool) → is_live net plan down c ≡ b → Running k (suc c) (suc (c + left)) → Running k c (c + left)
-      by true live now = tick_one k c (c + left) some less live (early c) (clear k (suc c) (suc (c + left)) (budget net plan m (steps now.history)) some less now (omega arith))
+      by true live now = tick_one k c (c + left) some less live (early c)
+          (clear k (suc c) (suc (c + left)) (budget net plan m (steps now.history)) some less now (omega arith))
       by false dead now = passed_by k c (c + left) dead now
 
   -- j multiples of the tick
@@ -326,7 +314,8 @@ module _ (net : Network) (plan : Plan) (dom : DomainId) (down : Thing → Bool) 
       let n : ℕ = length net.devices in
       let split : suc j * n + left ≡ n + (j * n + left) = grind arith in
       let all : Running k 0 (j * n + left) =
-      tick_all k n (j * n + left) some (omega (arith, less)) (λ d in_. early k d (omega arith) in_) (with_left k n (suc j * n + left) (n + (j * n + left)) (omega (arith, split)) run) in
+      tick_all k n (j * n + left) some (omega (arith, less)) (λ d in_. early k d (omega arith) in_)
+      (with_left k n (suc j * n + left) (n + (j * n + left)) (omega (arith, split)) run) in
       let same : suc k + j ≡ k + suc j = omega arith in
       subst (λ (i : ℕ). Running i n left) same
       (ticks_on j (suc k) left (omega arith) (omega (arith, less)) (λ i d below_. early i d (omega (arith, below_))) (next_multiple k (j * n + left) all))

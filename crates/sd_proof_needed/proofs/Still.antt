@@ -9,7 +9,8 @@ use Rattle.sd_checker.specs.Plan.declared.Edge.{Edge}
 use Rattle.sd_checker.specs.Plan.declared.Role.TheVariants.{Ordinary}
 use Rattle.sd_history.specs.Msg.declared.Message.{Message}
 use Rattle.sd_history.specs.Msg.Stamps.{is_newer}
-use Rattle.sd_history.specs.Core.declared.Effect.TheVariants.{Quiet}
+use Rattle.sd_history.specs.Core.declared.Effect.{Effect}
+use Rattle.sd_history.specs.Core.declared.Effect.TheVariants.{Quiet, Send}
 use Rattle.sd_proof_needed.proofs.Pasts.{latest_none, any_none, none_is, is_plain, Plain, no_entry, since_is, duty_is, given_none}
 use Rattle.sd_history.specs.Core.Calls.{Started, Call, Tick, Receive, Did, Past, Transition, Entered, Committed, Recommitted, Accepted, Moved, TookOver, Emitted, Nothing}
 use Rattle.sd_history.specs.Core.Words.{taken_up, accepted_over, counter_of, is_move, is_takeover, duty_given, duty_now, heard, has_moved, is_acting, is_sealed, may_move, parent_edge, parent_now, wait_to_move, emits_at, takes_over_at, moves_at, is_backup_root_now, transition_of, after, effect_of, accepted_by, entered_by, over_link, epoch_now, stamp_now}
@@ -115,7 +116,8 @@ module _ (duty : Duty) (past : Past) (still : Still duty past) (ordinary : duty.
   receipt_stays link message counter other =
       let no_entering : entered_by past link message ≡ None = rw (given_none duty past plain) refl in
       let over : option_and_then (over_link link) (parent_edge past) ≡ None = rw on_primary (elsewhere duty.primary refl) in
-      let refused : accepted_by past link message ≡ None = rw over (either (nat_eq (epoch_now past) message.epoch && is_newer message.stamp (stamp_now past))) in
+      let refused : accepted_by past link message ≡ None = rw over
+      (either (nat_eq (epoch_now past) message.epoch && is_newer message.stamp (stamp_now past))) in
       rw (no_entering, refused) refl
     where
       elsewhere : (o : Option Edge) → duty.primary ≡ o → option_and_then (over_link link) o ≡ None
@@ -132,7 +134,8 @@ pub still_on : (duty : Duty) (past : Past) (call : Call) → Still duty past →
 still_on duty past call still stays gives =
     record {
       made = still.made;
-      did = and_from (did_nothing (record { call = call; transition = transition_of past call })) (list_all did_nothing past.did) (rw (stays, gives) refl) still.did;
+      did = and_from (did_nothing (record { call = call; transition = transition_of past call })) (list_all did_nothing past.did) (rw (stays, gives) refl)
+          still.did;
     }
 
 -- and sends nothing
@@ -165,5 +168,10 @@ just_moved duty past counter still ordinary moves =
         (any_none did_nothing (λ x. is_takeover x.transition) past.did (λ x n. ap is_takeover (nought x n).transition) still.did) in
         let moved : has_moved (after past (Tick counter)) ≡ true = rw moves refl in
         let duty_still : duty_now (after past (Tick counter)) ≡ Some duty =
-        ap (λ (t : Transition). of_some (option_map Some (taken_up t)) (duty_now past) (λ told. told)) moves ∙ duty_is duty past (still_plain duty past still) in
+        ap (λ (t : Transition). of_some (option_map Some (taken_up t)) (duty_now past) (λ told. told)) moves
+        ∙ duty_is duty past (still_plain duty past still) in
         rw (acting, moved, duty_still) refl
+
+-- what sends nothing sends no message
+pub not_sent : {m : Message} {effect : Effect} → effect ≡ Quiet → effect ≡ Send m → ⊥
+not_sent quiet sent = cc

@@ -20,7 +20,8 @@ pub data Sends (past : Past) (call : Call) : Type 0 where
       → stamp_now (after past call) ≡ m.stamp → is_acting past ≡ false → is_acting (after past call) ≡ false → Sends past call
   emits : (counter : ℕ) → call ≡ Tick counter → is_acting past ≡ true → stamp_now (after past call) ≡ stamp (stamp_now past).term ((stamp_now past).round + 1)
       → is_acting (after past call) ≡ true → Sends past call
-  takes_over : (counter : ℕ) → call ≡ Tick counter → is_acting past ≡ false → is_backup_root_now past ≡ true → stamp_now (after past call) ≡ stamp ((stamp_now past).term + 1) 1
+  takes_over : (counter : ℕ) → call ≡ Tick counter → is_acting past ≡ false → is_backup_root_now past ≡ true
+      → stamp_now (after past call) ≡ stamp ((stamp_now past).term + 1) 1
       → is_acting (after past call) ≡ true → Sends past call
 
 pub data Turned (past : Past) (call : Call) : Type 0 where
@@ -35,7 +36,11 @@ pub record Goes (past : Past) (call : Call) : Type 0 where
 pub plain_on : (duty : Duty) (past : Past) (call : Call) → Plain duty past → is_plain (record { call = call; transition = transition_of past call }) ≡ true
     → Plain duty (after past call)
 plain_on duty past call plain is =
-    record { made = plain.made; did = and_from (is_plain (record { call = call; transition = transition_of past call })) (list_all is_plain past.did) is plain.did }
+    record {
+      made = plain.made;
+      did = and_from (is_plain (record { call = call; transition = transition_of past call })) (list_all is_plain past.did) is
+          plain.did;
+    }
 
 -- who acts
 pub acting_words : (duty : Duty) (past : Past) → Plain duty past
@@ -65,10 +70,12 @@ module _ (duty : Duty) (past : Past) (plain : Plain duty past) where
   acting_when call t is takes gives =
       acting_after duty past call plain (plain_when call t is takes gives) ∙ ap (λ (u : Transition). is_takeover u || is_acting past) is
 
-  stamp_when : (call : Call) (t : Transition) → transition_of past call ≡ t → stamp_now (after past call) ≡ stamp_after (record { call = call; transition = t }) (stamp_now past)
+  stamp_when : (call : Call) (t : Transition) → transition_of past call ≡ t
+      → stamp_now (after past call) ≡ stamp_after (record { call = call; transition = t }) (stamp_now past)
   stamp_when call t is = ap (λ (u : Transition). stamp_after (record { call = call; transition = u }) (stamp_now past)) is
 
-  effect_when : (call : Call) (t : Transition) → transition_of past call ≡ t → effect_of past call ≡ effect_of_latest (after past call) (record { call = call; transition = t })
+  effect_when : (call : Call) (t : Transition) → transition_of past call ≡ t
+      → effect_of past call ≡ effect_of_latest (after past call) (record { call = call; transition = t })
   effect_when call t is = ap (λ (u : Transition). effect_of_latest (after past call) (record { call = call; transition = u })) is
 
   nothing_goes : (call : Call) → transition_of past call ≡ Nothing → duty_given call ≡ None → Goes past call

@@ -70,7 +70,8 @@ module _ (net : Network) (plan : Plan) (fits : Fits net plan) (structured : stru
   unfed_within x u =
       by_option (primary_of plan x) (x < length net.devices)
       (λ none. absurd (both_ways (is_hit net plan f x)
-      (subst (λ (hs : List Hop). hits net f (things_of hs) ≡ false) (sym (no_short_walk net plan x forest none) ∙ short_walk_is net plan x (unfed_other x u)) refl)
+      (subst (λ (hs : List Hop). hits net f (things_of hs) ≡ false)
+      (sym (no_short_walk net plan x forest none) ∙ short_walk_is net plan x (unfed_other x u)) refl)
       (hit x u)))
       (λ hop is. has_hop_within net plan x hop fits (inl is))
 

@@ -63,6 +63,11 @@ pub record World (net : Network) (plan : Plan) (f : DomainId) (down : Thing → 
 abbrev pub OnTime : Network → Plan → (Thing → Bool) → List Seen → ℕ → Type 0
 OnTime net plan down seen r = (d : ℕ) → is_live net plan down d ≡ true → r ≤ latest_tick seen d + net.params.tick
 
+-- a tick is the latest one of its device
+pub tick_later : (b : Bool) (r old tick : ℕ) → r ≤ old + tick → r ≤ of_some (if b || false then Some r else None) old (λ told. told) + tick
+tick_later true r old tick late = omega arith
+tick_later false r old tick late = late
+
 -- Calm events
 
 same_rate : (rates : Rates) (a : ℕ) → keeps_rate rates a a ≡ true
@@ -135,7 +140,8 @@ module _ (net : Network) (plan : Plan) (f : DomainId) (down : Thing → Bool) (s
       (members net (plan_numbered setting 1))
       (λ d a.
       or_left (not (is_untouched seen d)) (nat_le (reference_of s.event) (first_reference seen s + net.params.tick))
-      (ap not (world.touched d (among_below (length net.devices) d (kept_among (is_member plan) (device_numbers net) d a)) (passes_kept (is_member plan) (device_numbers net) d a)))))
+      (ap not (world.touched d (among_below (length net.devices) d (kept_among (is_member plan) (device_numbers net) d a))
+      (passes_kept (is_member plan) (device_numbers net) d a)))))
     where
       in_time : (d : ℕ) (b : Bool) → is_live net plan down d ≡ b
           → (not (is_up seen d && is_current_member setting seen d) || nat_le (reference_of s.event) (latest_tick seen d + net.params.tick)) ≡ true

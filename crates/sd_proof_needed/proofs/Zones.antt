@@ -15,14 +15,11 @@ use Rattle.sd_checker.specs.Plan.Duties.{leads_to, follows_over}
 use Rattle.sd_checker.specs.Plan.Structure.{structure_breach, first_failing, roots_breach, row_is_right, hops_are_right, links_differ}
 use Rattle.sd_checker.proofs.Plan.Numbered.{none_found, both_none}
 use Rattle.sd_checker.proofs.Plan.Forest.{IsForest, forest_of}
+use Rattle.sd_proof_needed.proofs.Elements.{none_mapped}
 use Rattle.sd_proof_needed.proofs.Paths.{short_walk_is, short_walk_none, path_step}
 use Rattle.sd_proof_needed.proofs.Worlds.{is_live}
 use Rattle.sd_proof_needed.proofs.Allowed.{live_parts}
 use Rattle.sd_proof_needed.proofs.Hush.{IsZone}
-
-none_mapped : {X Y : Type 0} (g : X → Y) (o : Option X) → option_map g o ≡ None → o ≡ None
-none_mapped g None none = refl
-none_mapped g (Some x) none = cc
 
 -- rule 4
 pub links_rule : (net : Network) (plan : Plan) (d : ℕ) → structure_breach net plan ≡ None → d < length net.devices → links_differ plan d ≡ true
@@ -123,8 +120,14 @@ module _ (net : Network) (plan : Plan) (fits : Fits net plan) (structured : stru
           subst (λ (hs : List Hop). list_any down (things_of hs) ≡ true) (path_step net plan z hop forest within primary) is.touched in
           let rest : list_any down (things_of (short_walk net plan hop.parent)) ≡ true = beyond (down (thing.Link hop.link)) (down (thing.Device hop.parent))
           (list_any down (things_of (short_walk net plan hop.parent))) sound' spared whole in
+<<<<<<< HEAD
           elim (cases_Bool (ends_walks plan hop.parent)) [
             | inl ends ↦ absurd (both_ways false refl (subst (λ (hs : List Hop). list_any down (things_of hs) ≡ true) (short_walk_none net plan hop.parent ends) rest))
+=======
+          elim (cases_Bool (is_end plan hop.parent)) [
+            | inl ends ↦ absurd
+                (both_ways false refl (subst (λ (hs : List Hop). list_any down (things_of hs) ≡ true) (short_walk_none net plan hop.parent ends) rest))
+>>>>>>> 8fefa6f (Route for the reader; helpers stand once)
             | inr other ↦ zone_of net plan down hop.parent live' other
                 (subst (λ (hs : List Hop). list_any down (things_of hs) ≡ true) (short_walk_is net plan hop.parent other) rest)
           ]

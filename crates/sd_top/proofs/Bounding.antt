@@ -6,6 +6,7 @@ use Rattle.sd_topo.specs.Network.{Network}
 use Rattle.sd_topo.specs.Topologies.{network}
 use Rattle.sd_topo.specs.declared.topology.Topology.{Topology}
 use Rattle.sd_outside.specs.Pieces.{Pieces}
+use Rattle.sd_outside.specs.Rests.{RestIs}
 use Rattle.sd_cmd_files.specs.Answering.{After, InWrites, WritesAfter}
 use Rattle.sd_cmd_files.specs.Inputs.{topology_of}
 use Rattle.sd_cmd_files.specs.Loads.{Loads}
@@ -56,3 +57,10 @@ module _ (topology exchanges : List ℕ) where
   told_before (Some h) why old new result says writes =
       unloaded_leaves network (topology_of (texts_of h topology)) (λ net. IsOutcome (twoway_work net) (texts_of h exchanges))
       (λ net. InSteps (twoway_work net) (texts_of h exchanges)) old new result why says writes
+
+-- what holds of the text that was begun holds of the text of its name
+pub rest_told : (P : List ℕ → Type 0) (held : Held) (name : List ℕ) (rest : Option (List ℕ)) → RestIs held name rest → IfSome rest P
+    → IfSome held (λ h. P (texts_of h name))
+rest_told P None name rest is holds = tt
+rest_told P (Some h) name None is holds = absurd is
+rest_told P (Some h) name (Some bytes) is holds = subst P is holds

@@ -62,14 +62,15 @@ pub fn run<S: Shelf, O: Sink>(alloc: Global, words: &[String], shelf: &mut S, ou
     ensures bounds { MeetsBounds (S.held shelf.old) (map string_bytes words.now) }
 
     // Over every shelf and sink: a run that is not stopped gives one of the command's statuses. The
-    // outside is blamed only where it failed in this call, and another answer, out of memory too, is
+    // outside is blamed only where it failed in this call. Any other answer, out of memory too, is
     // given only where it did not fail.
     ensures gives { stop_of result ≡ None
         → IsTrue (is_among (task_of (meaning.command_of (map string_bytes words.now))).gives
         result) }
     ensures usage { meaning.command_of (map string_bytes words.now) ≡ None
         → (result ≡ Status.Usage) ⊎ (result ≡ Status.SinkFault) }
-    ensures shelf { RisesFor (result ≡ Status.ShelfFault) (S.faults shelf.old) (S.faults shelf.new) }
+    ensures shelf { RisesFor (result ≡ Status.ShelfFault) (S.faults shelf.old)
+        (S.faults shelf.new) }
     ensures sink { RisesFor (result ≡ Status.SinkFault) (O.faults out.old) (O.faults out.new) }
     ensures complete { (Rose (S.faults shelf.old) (S.faults shelf.new) → ⊥)
         → (Rose (O.faults out.old) (O.faults out.new) → ⊥)

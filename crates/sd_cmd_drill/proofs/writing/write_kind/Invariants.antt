@@ -1,4 +1,4 @@
-use Rattle.std.proofs.Common.{◌≡◌, ◌≤◌}
+use Rattle.std.proofs.Common.{◌≡◌}
 use Rattle.sd_topo.specs.Topologies.{network}
 use Rattle.sd_cmd_drill.specs.Adding.{Added}
 use Rattle.sd_cmd_drill.specs.Kinds.{first_of}
