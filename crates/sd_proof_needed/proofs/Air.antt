@@ -203,14 +203,9 @@ module _ (net : Network) (plan : Plan) (dom : DomainId) (down : Thing → Bool) 
           | inl b ↦ (on_left s.sent (flights steps) f (kept_among (λ g. g.reaches) s.sent f b), passes_kept (λ g. g.reaches) s.sent f b)
           | inr b ↦ (let old = air.seen f b in (on_right s.sent old.0, old.1))
         ];
-<<<<<<< HEAD
-        unspoiled = λ f a. elim (either_side (filter (λ g. g.reaches) s.sent) (premise.reaching_flights (seen_of steps)) a) [
-          | inl b ↦ spoiled_new s.seen (seen_of steps) f (not_overdue f (kept_among (λ g. g.reaches) s.sent f b)) (due_later f (kept_among (λ g. g.reaches) s.sent f b))
-=======
         unspoiled = λ f a. elim (either_side (filter (λ g. g.reaches) s.sent) (premise.reaching_flights (seen_of steps)) a) [
           | inl b ↦ spoiled_new s.seen (seen_of steps) f (not_overdue f (kept_among (λ g. g.reaches) s.sent f b))
               (due_later f (kept_among (λ g. g.reaches) s.sent f b))
->>>>>>> 8fefa6f (Route for the reader; helpers stand once)
           | inr b ↦ spoiled_on s.seen (seen_of steps) f (air.unspoiled f b) (in_time f b)
         ];
         overdue = λ f late. elim (or_cases (nat_lt f.due (reference_of e)) (is_overdue (seen_of steps) f) late) [

@@ -17,6 +17,8 @@ mod Ready
 mod Moving
 mod Rings
 pub mod Loops
+pub mod Seen
+pub mod Cycles
 mod Deaf
 mod Unfed
 mod Continuing

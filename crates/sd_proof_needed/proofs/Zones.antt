@@ -120,14 +120,9 @@ module _ (net : Network) (plan : Plan) (fits : Fits net plan) (structured : stru
           subst (λ (hs : List Hop). list_any down (things_of hs) ≡ true) (path_step net plan z hop forest within primary) is.touched in
           let rest : list_any down (things_of (short_walk net plan hop.parent)) ≡ true = beyond (down (thing.Link hop.link)) (down (thing.Device hop.parent))
           (list_any down (things_of (short_walk net plan hop.parent))) sound' spared whole in
-<<<<<<< HEAD
           elim (cases_Bool (ends_walks plan hop.parent)) [
-            | inl ends ↦ absurd (both_ways false refl (subst (λ (hs : List Hop). list_any down (things_of hs) ≡ true) (short_walk_none net plan hop.parent ends) rest))
-=======
-          elim (cases_Bool (is_end plan hop.parent)) [
             | inl ends ↦ absurd
                 (both_ways false refl (subst (λ (hs : List Hop). list_any down (things_of hs) ≡ true) (short_walk_none net plan hop.parent ends) rest))
->>>>>>> 8fefa6f (Route for the reader; helpers stand once)
             | inr other ↦ zone_of net plan down hop.parent live' other
                 (subst (λ (hs : List Hop). list_any down (things_of hs) ≡ true) (short_walk_is net plan hop.parent other) rest)
           ]

@@ -3,22 +3,24 @@
 --
 -- One hypothesis stands beside structure: that a history may have so many events as this one (event_bound). A schedule has at most 2 ^ 26. The history
 -- lasts as long as the wait of the plan, and each device ticks there once a tick.
-use Rattle.std.specs.Prelude.{◌≡◌, ℕ, ◌+◌, ◌-◌, ◌*◌, ◌/◌, ◌^◌, ◌≤◌, List, [], ◌∷◌, ◌++◌, length, sum_by, Some}
+use Rattle.std.specs.Prelude.{◌≡◌, ℕ, ◌+◌, ◌-◌, ◌*◌, ◌/◌, ◌^◌, ◌≤◌, List, [], ◌∷◌, ◌++◌, length, sum_by, is_some, IsTrue, Some}
 use Rattle.sd_checker.specs.Topo.Network.{Network, device_numbers}
 use Rattle.sd_checker.specs.Topo.Limits.{IsNetwork}
 use Rattle.sd_checker.specs.Domain.Lone.{IsDomain}
 use Rattle.sd_checker.specs.Domain.declared.DomainId.{DomainId}
+use Rattle.sd_checker.specs.Plan.declared.Hop.{Hop}
 use Rattle.sd_checker.specs.Plan.declared.Plan.{Plan}
 use Rattle.sd_checker.specs.Plan.Plans.{Fits}
+use Rattle.sd_checker.specs.Plan.Walks.{end_of}
 use Rattle.sd_checker.specs.Plan.Duties.{ends_of}
-use Rattle.sd_checker.specs.CheckLoop.Loops.{LeadsTo, IsChain, AreDifferent}
+use Rattle.sd_checker.specs.CheckLoop.Loops.{LeadsTo, IsChain, AreDifferent, is_walk}
 use Rattle.sd_checker.specs.Conditions.{Holds}
 use Rattle.sd_checker.specs.Conditions as condition
 use Rattle.sd_checker.specs.Verdicts.{IsBreach}
 use Rattle.sd_checker.specs.declared.Breach.TheVariants as breach
 use Rattle.sd_history.specs.Sched.declared.Event.{Event}
 use Rattle.sd_history.specs.Chronicle.{chronicle}
-use Rattle.sd_history.specs.Lines.{counted_parent}
+use Rattle.sd_history.specs.Lines.{counted_parent, first_on_loop}
 use Rattle.sd_proof_needed.specs.Alone.{alone, holds_besides, IsClean}
 
 -- different devices each of which may follow the next while things of the domain fail, and the last of them the first
@@ -56,3 +58,16 @@ abbrev pub LoopRefusalIsRight : Network → Plan → Type 0
 LoopRefusalIsRight net plan =
     IsNetwork net → Fits net plan → event_bound net plan ≤ 2 ^ 26
     → (f : DomainId) (first : ℕ) (others : List ℕ) → IsBreach net plan (breach.Loop f (first ∷ others)) → ClosesLoop net plan f first others
+
+-- at the end of such a history an onlooker finds a loop, which is an alarm of the lines of a history
+abbrev pub LoopIsSeen : Network → Plan → Type 0
+LoopIsSeen net plan =
+    (f : DomainId) (first : ℕ) (others : List ℕ) → AreDifferent (first ∷ others) → (closes : ClosesLoop net plan f first others)
+    → IsTrue (is_some (first_on_loop (alone net plan) (chronicle (alone net plan) closes.history)))
+
+-- wherever the condition fails, that is a walk comes back to where it began, some ring comes about so
+abbrev pub CycleIsNeeded : Network → Plan → Type 0
+CycleIsNeeded net plan =
+    IsNetwork net → Fits net plan → Holds net plan condition.structure → event_bound net plan ≤ 2 ^ 26
+    → (f : DomainId) → IsDomain net f → (d : ℕ) (hop : Hop) (hops : List Hop) → IsTrue (is_walk net plan f d (hop ∷ hops)) → end_of hop.parent hops ≡ d
+    → (first : ℕ) × ((others : List ℕ) × AreDifferent (first ∷ others) × ClosesLoop net plan f first others)

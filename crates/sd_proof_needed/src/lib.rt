@@ -9,10 +9,13 @@
 //! | `domain_follows` | domain follows from reach | `Consequences` |
 //! | `loop_is_needed` | each ring of devices that loop forbids can come about | `Loops` |
 //! | `loop_refusal_is_right` | so the very loop that the checker shows can | `Loops` |
+//! | `cycle_is_needed` | so where a walk comes back, some ring can | `Loops`, `Cycles` |
+//! | `loop_is_seen` | an onlooker finds that loop: it is an alarm | `Loops`, `Seen` |
 //! | `reach_is_needed` | a device that a domain starves can stay deaf for good | `Reaches` |
 //! | `reach_refusal_is_right` | so can the first device of the chain that is shown | `Reaches` |
 //!
-//! Each has its statement in specs/ and its proof in proofs/, in a file of this name.
+//! Each has its statement in specs/ and its proof in proofs/. Of two files the first has the
+//! statement, the second the proof.
 //!
 //! 'Can' means: there is a history of the plan alone that breaks none of the seven premises, in
 //! which only things of the one domain fail. For loop, none of the ring is among them. Timing, root
