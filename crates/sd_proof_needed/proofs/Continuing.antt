@@ -40,7 +40,7 @@ use Rattle.sd_proof_needed.proofs.Worlds.{is_live, window_on, closings_on}
 use Rattle.sd_proof_needed.proofs.Air.{ends_are}
 use Rattle.sd_proof_needed.proofs.Still.{sends_nothing, not_sent}
 use Rattle.sd_proof_needed.proofs.Hush.{role_is}
-use Rattle.sd_proof_needed.proofs.Deaf.{Settled, settled_on, tick_rests, receipt_rests}
+use Rattle.sd_proof_needed.proofs.Deaf.{Settled, settled_on, ordinary_rests, receipt_rests}
 use Rattle.sd_proof_needed.proofs.Unfed.{Unfed, IsOnNext, unfed_other, next_above}
 
 -- who is up and what has failed, where no window is open
@@ -234,7 +234,7 @@ module _ (net : Network) (plan : Plan) (fits : Fits net plan) (structured : stru
             past = after was.past call;
             is = past_at d true (eq-eqb d d refl) ∙ ap (option_map (λ past. after past call)) was.is;
             settled = settled_on (duty_of net plan 1 d) (option_map (edge_of net d) (next_hop plan d)) was.past was.settled
-                (role_is net plan d (unfed_other net plan fits structured f d u)) call (stays was u) gives;
+                call (stays was u) gives;
           }
 
       at : (x : ℕ) → Unfed net plan f x → (b : Bool) → nat_eq d x ≡ b → IsSettled net plan (next_step (alone net plan) steps e ∷ steps) x
@@ -305,8 +305,8 @@ module _ (net : Network) (plan : Plan) (fits : Fits net plan) (structured : stru
       → Later net plan f (next_step (alone net plan) steps e ∷ steps)
   later_on e (ticks {r = r} {d = d} {c = c}) none are =
       later_call e d (Tick c) ticks refl refl (called_up e d none refl)
-      (λ is u. tick_rests (duty_of net plan 1 d) (option_map (edge_of net d) (next_hop plan d)) is.past is.settled
-      (role_is net plan d (unfed_other net plan fits structured f d u)) c) are
+      (λ is u. ordinary_rests (duty_of net plan 1 d) (option_map (edge_of net d) (next_hop plan d)) is.past is.settled c
+      (role_is net plan d (unfed_other net plan fits structured f d u))) are
   later_on e (receives {r = r} {d = d} {c = c} {n = n}) none are = by (flight_numbered steps n) refl
     where
       e' : Event
@@ -327,7 +327,7 @@ module _ (net : Network) (plan : Plan) (fits : Fits net plan) (structured : stru
           (ap (λ (o : Option Flight). of_some o Passes (λ h. Calls d (Receive h.link h.message c))) found_) refl (called_up (event.Recv r d c n) d none refl)
           (λ is u.
           receipt_rests (duty_of net plan 1 d) (option_map (edge_of net d) (next_hop plan d)) is.past is.settled
-          (role_is net plan d (unfed_other net plan fits structured f d u)) g.link g.message c
+          g.link g.message c
           (λ edge is_ over. not_over g u among reaches same (next_hop plan d) refl edge is_ over)) are
         where
           not_over : (g : Flight) → Unfed net plan f d → Among g (flights steps) → g.reaches ≡ true → d ≡ g.receiver → (o : Option Hop) → next_hop plan d ≡ o

@@ -8,8 +8,8 @@ use Rattle.sd_checker.specs.Plan.declared.Edge.{Edge}
 use Rattle.sd_checker.specs.Plan.declared.Role.TheVariants.{Ordinary}
 use Rattle.sd_history.specs.Msg.declared.Message.{Message}
 use Rattle.sd_history.specs.Msg.Stamps.{is_newer}
-use Rattle.sd_history.specs.Core.Calls.{Call, Tick, Receive, Did, Past, Transition, Nothing, Moved}
-use Rattle.sd_history.specs.Core.Words.{accepted_over, is_move, is_takeover, duty_given, is_acting, may_move, is_sealed, has_moved, duty_now, parent_edge, wait_to_move, emits_at, takes_over_at, moves_at, transition_of, after, accepted_by, entered_by, over_link, epoch_now, stamp_now}
+use Rattle.sd_history.specs.Core.Calls.{Started, Call, Tick, Receive, Did, Past, Transition, Nothing, Moved}
+use Rattle.sd_history.specs.Core.Words.{starts_as_root, accepted_over, is_move, is_takeover, duty_given, is_acting, may_move, is_sealed, has_moved, duty_now, parent_edge, wait_to_move, emits_at, takes_over_at, moves_at, transition_of, after, accepted_by, entered_by, over_link, epoch_now, stamp_now}
 use Rattle.sd_proof_needed.proofs.Pasts.{is_plain, Plain, since_is, duty_is, given_none}
 use Rattle.sd_proof_needed.proofs.Still.{Still, still_plain, is_nothing, nothing_is, did_nothing, on_primary, not_acting, just_moved}
 use Rattle.sd_proof_needed.proofs.Turns.{plain_on, acting_after}
@@ -26,7 +26,7 @@ pub record Settled (duty : Duty) (edge : Option Edge) (past : Past) : Type 0 whe
   pub settled : (has_moved past ≡ true) ⊎ (wait_to_move duty ≡ None)
   pub heard : list_all heard_nothing past.did ≡ true
 
-module _ (duty : Duty) (edge : Option Edge) (past : Past) (s : Settled duty edge past) (ordinary : duty.role ≡ Ordinary) where
+module _ (duty : Duty) (edge : Option Edge) (past : Past) (s : Settled duty edge past) where
   -- a call that does nothing leaves it so
   pub settled_on : (call : Call) → transition_of past call ≡ Nothing → duty_given call ≡ None → Settled duty edge (after past call)
   settled_on call stays gives =
@@ -49,10 +49,10 @@ module _ (duty : Duty) (edge : Option Edge) (past : Past) (s : Settled duty edge
             s.heard;
       }
 
-  pub tick_rests : (counter : ℕ) → transition_of past (Tick counter) ≡ Nothing
-  tick_rests counter =
+  -- a tick that is no takeover
+  pub tick_rests : (counter : ℕ) → takes_over_at past counter ≡ false → transition_of past (Tick counter) ≡ Nothing
+  tick_rests counter no_takeover =
       let no_emission : emits_at past counter ≡ false = rw s.idle refl in
-      let no_takeover : takes_over_at past counter ≡ false = rw (duty_is duty past s.plain, ordinary) refl in
       let no_move : moves_at past counter ≡ false = by s.settled in
       rw (no_emission, no_takeover, no_move) refl
     where
@@ -61,6 +61,10 @@ module _ (duty : Duty) (edge : Option Edge) (past : Past) (s : Settled duty edge
           and_left (may_move past && not (has_moved past) && is_sealed past) _
           (and_left (may_move past && not (has_moved past)) (is_sealed past) (and_right (may_move past) (not (has_moved past)) (ap not moved)))
       by (inr none) = and_right (may_move past && not (has_moved past) && is_sealed past) _ (rw (duty_is duty past s.plain, none) refl)
+
+  -- an ordinary device takes over never
+  pub ordinary_rests : (counter : ℕ) → duty.role ≡ Ordinary → transition_of past (Tick counter) ≡ Nothing
+  ordinary_rests counter ordinary = tick_rests counter (rw (duty_is duty past s.plain, ordinary) refl)
 
   pub receipt_rests : (link : ℕ) (message : Message) (counter : ℕ) → ((e : Edge) → edge ≡ Some e → e.link ≢ link)
       → transition_of past (Receive link message counter) ≡ Nothing
@@ -89,27 +93,28 @@ all_heard (x ∷ xs) all =
     (all_heard xs rest)
 
 -- a still device without a wait is settled on its primary edge
-pub still_settled : (duty : Duty) (past : Past) → Still duty past → duty.role ≡ Ordinary → wait_to_move duty ≡ None → Settled duty duty.primary past
-still_settled duty past still ordinary none =
+pub still_settled : (duty : Duty) (past : Past) → Still duty past → starts_as_root (Started duty 0 0 0) ≡ false → wait_to_move duty ≡ None
+    → Settled duty duty.primary past
+still_settled duty past still other none =
     record {
       plain = still_plain duty past still;
-      idle = not_acting duty past still ordinary;
-      parent = on_primary duty past still ordinary;
+      idle = not_acting duty past still other;
+      parent = on_primary duty past still other;
       settled = inr none;
       heard = all_heard past.did still.did;
     }
 
 -- one that has just moved is settled on its backup edge
-pub moved_settled : (duty : Duty) (past : Past) (counter : ℕ) → Still duty past → duty.role ≡ Ordinary → transition_of past (Tick counter) ≡ Moved
-    → Settled duty duty.backup (after past (Tick counter))
-moved_settled duty past counter still ordinary moves =
+pub moved_settled : (duty : Duty) (past : Past) (counter : ℕ) → Still duty past → starts_as_root (Started duty 0 0 0) ≡ false
+    → transition_of past (Tick counter) ≡ Moved → Settled duty duty.backup (after past (Tick counter))
+moved_settled duty past counter still other moves =
     let plain_is : is_plain (record { call = Tick counter; transition = transition_of past (Tick counter) }) ≡ true = rw moves refl in
     let here : heard_nothing (record { call = Tick counter; transition = transition_of past (Tick counter) }) ≡ true = rw moves refl in
     record {
       plain = plain_on duty past (Tick counter) (still_plain duty past still) plain_is;
       idle = acting_after duty past (Tick counter) (still_plain duty past still) plain_is
-          ∙ ap (λ (t : Transition). is_takeover t || is_acting past) moves ∙ not_acting duty past still ordinary;
-      parent = (just_moved duty past counter still ordinary moves).edge;
+          ∙ ap (λ (t : Transition). is_takeover t || is_acting past) moves ∙ not_acting duty past still other;
+      parent = (just_moved duty past counter still other moves).edge;
       settled = inl (rw moves refl);
       heard = and_from (heard_nothing (record { call = Tick counter; transition = transition_of past (Tick counter) })) (list_all heard_nothing past.did) here
           (all_heard past.did still.did);

@@ -1,7 +1,7 @@
 -- At the end of the wait some devices of the zone tick and move, and the others have not ticked yet.
 use Rattle.std.specs.Prelude.{◌≡◌, ℕ, zero, suc, ◌+◌, ◌*◌, ◌^◌, ◌<◌, ◌≤◌, Bool, true, false, List, ◌∷◌, ◌⊎◌, length, nat_eq, nat_le, Option, Some, None, is_some, option_map, refl, if◌then◌else◌}
 use Rattle.std.proofs.Common.{sym, ap, ◌∙◌, subst, arith, inl, inr}
-use Rattle.std.proofs.lemmas.Bool.{cases_eq, eq-eqb, ne_eqb, le-leb, both_ways}
+use Rattle.std.proofs.lemmas.Bool.{cases_eq, eq-eqb, ne_eqb, le-leb, lt-leb, both_ways}
 use Rattle.sd_checker.specs.Num.Lists.{of_some}
 use Rattle.sd_checker.specs.Topo.Network.{Network}
 use Rattle.sd_checker.specs.Topo.Limits.{IsNetwork}
@@ -17,8 +17,8 @@ use Rattle.sd_checker.specs.Plan.Plans.{primary_of, backup_of}
 use Rattle.sd_checker.specs.Plan.Duties.{duty_of, edge_of, role_of}
 use Rattle.sd_history.specs.Msg.declared.Flight.{Flight}
 use Rattle.sd_history.specs.Core.declared.Effect.TheVariants.{Quiet}
-use Rattle.sd_history.specs.Core.Calls.{Past, Tick, Moved}
-use Rattle.sd_history.specs.Core.Words.{parent_now, after, effect_of, transition_of}
+use Rattle.sd_history.specs.Core.Calls.{Started, Past, Tick, Moved}
+use Rattle.sd_history.specs.Core.Words.{starts_as_root, parent_now, after, effect_of, transition_of}
 use Rattle.sd_history.specs.Sched.declared.Event.{Event}
 use Rattle.sd_history.specs.Sched.declared.Event.TheVariants as event
 use Rattle.sd_history.specs.World.{Setting, is_up, is_counted}
@@ -36,9 +36,9 @@ use Rattle.sd_proof_needed.proofs.Worlds.{is_live, ticks, tick_later}
 use Rattle.sd_proof_needed.proofs.Allowed.{live_parts}
 use Rattle.sd_proof_needed.proofs.Air.{NoneDue, IsNew, is_new}
 use Rattle.sd_proof_needed.proofs.Going.{Good, tick_goes}
-use Rattle.sd_proof_needed.proofs.Still.{Still, tick_moves, HasJustMoved, just_moved, follows_primary, not_sent}
-use Rattle.sd_proof_needed.proofs.Hush.{IsZone, IsStill, is_over, role_is}
-use Rattle.sd_proof_needed.proofs.Ready.{multiples, Ready, ready}
+use Rattle.sd_proof_needed.proofs.Still.{Still, ordinary_starts, tick_moves, HasJustMoved, just_moved, follows_primary, not_sent}
+use Rattle.sd_proof_needed.proofs.Hush.{IsZone, IsStill, Idles, still_idles, is_over, role_is}
+use Rattle.sd_proof_needed.proofs.Ready.{multiples, ready}
 
 module _ (net : Network) (plan : Plan) (dom : DomainId) (down : Thing → Bool) (zone : ℕ → Bool) (mute : ℕ → ℕ → Type 0) (law : IsNetwork net)
     (among : Among dom (domains net))
@@ -82,10 +82,24 @@ module _ (net : Network) (plan : Plan) (dom : DomainId) (down : Thing → Bool) 
     pub unmoved : (z : ℕ) → zone z ≡ true → (mover z ≡ false) ⊎ (c ≤ z) → IsStill net plan (steps history) z
     pub room : length history + length net.devices ≤ 2 ^ 26 + c
 
+  -- before the end no wait of the zone is over
+  still_early : (i d : ℕ) → i < ticks_of_wait net plan → zone d ≡ true → is_over net plan d (i * net.params.tick) ≡ false
+  still_early i d less in_ =
+      early (is_some (duty_of net plan 1 d).backup) (role_of plan d) (role_is net plan d (is_zone.ordinary d in_))
+    where
+      early : (b : Bool) (role : Role) → role ≡ Ordinary
+          → of_some (elim role [ Root ↦ None | BackupRoot ↦ Some plan.wait_first | Ordinary ↦ if b then Some plan.wait else None ]) false
+          (λ wait. nat_le wait (i * net.params.tick)) ≡ false
+      early true role is =
+          rw is (lt-leb plan.wait (i * net.params.tick) ((multiples plan.wait net.params.tick law.tick.0).early i less))
+      early false role is = rw is refl
+
   none_moved : Moving 0
   none_moved =
-      let r : Ready net plan dom down zone mute law among known_device known_link held is_zone bound =
-      ready net plan dom down zone mute law among known_device known_link held is_zone bound in
+      let idles : Idles net.params.tick (ticks_of_wait net plan) zone mute (λ i z. Still (duty_of net plan 1 z)) =
+      still_idles net plan down zone mute net.params.tick (ticks_of_wait net plan) is_zone still_early in
+      let r = ready net plan dom down zone mute law among known_device known_link held is_zone.shut (ticks_of_wait net plan)
+      (λ i z. Still (duty_of net plan 1 z)) idles (λ z in_. record { made = refl; did = refl }) bound in
       record {
         history = r.history;
         reference = r.reference;
@@ -98,6 +112,10 @@ module _ (net : Network) (plan : Plan) (dom : DomainId) (down : Thing → Bool) 
         unmoved = λ z in_ either. r.hush.still z in_;
         room = (let roomy = r.room in omega (arith, roomy));
       }
+
+  -- none of the zone starts as root
+  starts : (z : ℕ) → zone z ≡ true → starts_as_root (Started (duty_of net plan 1 z) 0 0 0) ≡ false
+  starts z in_ = ordinary_starts (duty_of net plan 1 z) (role_is net plan z (is_zone.ordinary z in_))
 
   -- the wait of a mover is over
   over : (z : ℕ) → mover z ≡ true → is_over net plan z end_ ≡ true
@@ -120,11 +138,11 @@ module _ (net : Network) (plan : Plan) (dom : DomainId) (down : Thing → Bool) 
   move : (c : ℕ) → c < length net.devices → mover c ≡ true → Moving c → Moving (suc c)
   move c within is now =
       let still : IsStill net plan (steps now.history) c = now.unmoved c (moves_zone c is) (inr (omega arith)) in
-      let ordinary = role_is net plan c (is_zone.ordinary c (moves_zone c is)) in
+      let ordinary = starts c (moves_zone c is) in
       let moves : transition_of still.past (Tick end_) ≡ Moved =
       tick_moves (duty_of net plan 1 c) still.past still.still ordinary end_ (over c is) in
       let just : HasJustMoved (duty_of net plan 1 c) still.past (Tick end_) = just_moved (duty_of net plan 1 c) still.past end_ still.still ordinary moves in
-      let live : is_live net plan down c ≡ true = is_zone.live c (moves_zone c is) in
+      let live : is_live net plan down c ≡ true = is_zone.shut.live c (moves_zone c is) in
       let roomy = now.room in
       let good : Good net plan dom down (event.Tick end_ c end_ ∷ now.history) end_ =
       tick_goes net plan dom down law among now.history now.reference now.good (omega (arith, roomy, within)) end_ c live now.before now.ticked now.none in
@@ -227,26 +245,26 @@ module _ (net : Network) (plan : Plan) (dom : DomainId) (down : Thing → Bool) 
         reference = all.reference;
         good = all.good;
         silent = all.silent;
-        turned = λ z is. all.moved z is (live_parts net plan down z (is_zone.live z (moves_zone z is))).within;
+        turned = λ z is. all.moved z is (live_parts net plan down z (is_zone.shut.live z (moves_zone z is))).within;
         still = λ z in_ stays. all.unmoved z in_ (inl stays);
         moved = λ z hop is back.
-            (let live : is_live net plan down z ≡ true = is_zone.live z (moves_zone z is) in
+            (let live : is_live net plan down z ≡ true = is_zone.shut.live z (moves_zone z is) in
             let it : HasTurned all.history z = all.moved z is (live_parts net plan down z live).within in
             counted all.history all.reference all.good z hop live (backup_of plan z) back
             (record {
               past = after it.before (Tick end_);
               is = it.is;
-              parent = (just_moved (duty_of net plan 1 z) it.before end_ it.still (role_is net plan z (is_zone.ordinary z (moves_zone z is))) it.moves).parent
+              parent = (just_moved (duty_of net plan 1 z) it.before end_ it.still (starts z (moves_zone z is)) it.moves).parent
                   ∙ edge_parent z (backup_of plan z);
             }));
         unmoved = λ z hop in_ stays first_.
-            (let live : is_live net plan down z ≡ true = is_zone.live z in_ in
+            (let live : is_live net plan down z ≡ true = is_zone.shut.live z in_ in
             let still : IsStill net plan (steps all.history) z = all.unmoved z in_ (inl stays) in
             counted all.history all.reference all.good z hop live (primary_of plan z) first_
             (record {
               past = still.past;
               is = still.is;
-              parent = follows_primary (duty_of net plan 1 z) still.past still.still (role_is net plan z (is_zone.ordinary z in_))
+              parent = follows_primary (duty_of net plan 1 z) still.past still.still (starts z in_)
                   ∙ edge_parent z (primary_of plan z);
             }));
       }

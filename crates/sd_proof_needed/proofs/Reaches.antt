@@ -30,6 +30,7 @@ use Rattle.sd_proof_needed.specs.Loops.{ticks_of_wait, event_bound}
 use Rattle.sd_proof_needed.specs.Reaches.{StaysDeaf, ReachIsNeeded, ReachRefusalIsRight}
 use Rattle.sd_proof_needed.proofs.Going.{premises_held}
 use Rattle.sd_proof_needed.proofs.Rings.{domain_among, domain_is, known_device, known_link}
+use Rattle.sd_proof_needed.proofs.Still.{ordinary_starts}
 use Rattle.sd_proof_needed.proofs.Hush.{role_is}
 use Rattle.sd_proof_needed.proofs.Zones.{zone_in}
 use Rattle.sd_proof_needed.proofs.Moving.{HasMoved, has_moved}
@@ -96,7 +97,8 @@ module _ (net : Network) (plan : Plan) (law : IsNetwork net) (fits : Fits net pl
             past = after it.before (Tick end_);
             is = it.is;
             settled = subst (λ (o : Option Edge). Settled (duty_of net plan 1 x) o (after it.before (Tick end_))) edge
-                (moved_settled (duty_of net plan 1 x) it.before end_ it.still ordinary it.moves);
+                (moved_settled (duty_of net plan 1 x) it.before end_ it.still
+                (ordinary_starts (duty_of net plan 1 x) ordinary) it.moves);
           }
       by None falls =
           let stays : mover x ≡ false = and_right (zone_in net plan (holds net f) x) (has_backup plan x)
@@ -110,7 +112,8 @@ module _ (net : Network) (plan : Plan) (law : IsNetwork net) (fits : Fits net pl
             past = it.past;
             is = it.is;
             settled = subst (λ (o : Option Edge). Settled (duty_of net plan 1 x) o it.past) edge
-                (still_settled (duty_of net plan 1 x) it.past it.still ordinary no_wait);
+                (still_settled (duty_of net plan 1 x) it.past it.still (ordinary_starts (duty_of net plan 1 x) ordinary)
+                no_wait);
           }
         where
           waits : (role : Role) → role ≡ Ordinary → (o : Option Edge) → o ≡ None

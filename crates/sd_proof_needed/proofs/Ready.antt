@@ -1,4 +1,4 @@
--- The history up to the end of the wait: all but the devices of the zone go on as ever, and these have done nothing.
+-- The history up to a multiple of the tick: all but the devices of the zone go on as ever, and these have sent nothing.
 use Rattle.std.specs.Prelude.{◌≡◌, ℕ, zero, suc, ◌+◌, ◌-◌, ◌*◌, ◌/◌, ◌^◌, ◌<◌, ◌≤◌, Bool, true, false, ◌&&◌, not, List, [], ◌∷◌, length, filter, sum_by, nat_le, Some, None, is_some, refl, if◌then◌else◌}
 use Rattle.std.proofs.Common.{sym, ap, ◌∙◌, subst, arith}
 use Rattle.std.proofs.Math.Nat.{mul-add, mul_comm, div-mul-le_self, lt-div-mul-add}
@@ -13,9 +13,7 @@ use Rattle.sd_checker.specs.Topo.declared.Thing.TheVariants as thing
 use Rattle.sd_checker.specs.Domain.Domains.{domains, holds}
 use Rattle.sd_checker.specs.Domain.declared.DomainId.{DomainId}
 use Rattle.sd_checker.specs.Plan.declared.Plan.{Plan}
-use Rattle.sd_checker.specs.Plan.declared.Role.{Role}
-use Rattle.sd_checker.specs.Plan.declared.Role.TheVariants.{Root, BackupRoot, Ordinary}
-use Rattle.sd_checker.specs.Plan.Duties.{duty_of, role_of}
+use Rattle.sd_checker.specs.Plan.Duties.{duty_of}
 use Rattle.sd_history.specs.Msg.declared.Flight.{Flight}
 use Rattle.sd_history.specs.Core.Calls.{Past}
 use Rattle.sd_history.specs.Core.Words.{stamp_now}
@@ -28,16 +26,16 @@ use Rattle.sd_history.specs.Premises.{latest_tick}
 use Rattle.sd_history.proofs.Among.{Among}
 use Rattle.sd_history.proofs.Given.{some_is}
 use Rattle.sd_proof_needed.specs.Alone.{alone}
-use Rattle.sd_proof_needed.specs.Loops.{ticks_of_wait, hop_count, event_bound}
+use Rattle.sd_proof_needed.specs.Loops.{hop_count, events_until}
 use Rattle.sd_proof_needed.proofs.Worlds.{is_live}
 use Rattle.sd_proof_needed.proofs.Allowed.{live_parts}
 use Rattle.sd_proof_needed.proofs.Air.{NoneDue}
 use Rattle.sd_proof_needed.proofs.Going.{Good}
 use Rattle.sd_proof_needed.proofs.Beginning.{fresh, fresh_if, Opened, opened}
 use Rattle.sd_proof_needed.proofs.Pasts.{Plain}
-use Rattle.sd_proof_needed.proofs.Hush.{IsZone, Hush, is_over, role_is}
+use Rattle.sd_proof_needed.proofs.Hush.{IsShut, Hush, Idles}
 use Rattle.sd_proof_needed.proofs.Budget.{Stamps, acted, width, total, level, budget, pending}
-use Rattle.sd_proof_needed.proofs.Running.{Running, ticks_on, clear}
+use Rattle.sd_proof_needed.proofs.Running.{Running, made, made_before, hush_as, ticks_on, clear}
 
 -- a sum below a number is one over a list
 total_is : (f : ℕ → ℕ) (n : ℕ) → total f n ≡ sum_by f (below n)
@@ -80,24 +78,24 @@ module _ (net : Network) (plan : Plan) (dom : DomainId) (down : Thing → Bool) 
     (known_device : (d : ℕ) → down (thing.Device d) ≡ true → d < length net.devices)
     (known_link : (l : ℕ) → down (thing.Link l) ≡ true → l < length net.links)
     (held : (x : Thing) → down x ≡ true → holds net dom x ≡ true)
-    (is_zone : IsZone net plan down zone mute) (bound : event_bound net plan ≤ 2 ^ 26) where
+    (shut : IsShut net plan down zone mute) (last : ℕ) (state : ℕ → ℕ → Past → Type 0) (idles : Idles net.params.tick last zone mute state)
+    (begins : (z : ℕ) → zone z ≡ true → state 0 z (fresh net plan z)) (bound : events_until net plan last ≤ 2 ^ 26) where
   abbrev setting : Setting
   setting = alone net plan
 
   abbrev steps : List Event → List Step
   steps history = chronicle setting history
 
-  abbrev last : ℕ
-  last = ticks_of_wait net plan
-
-  -- the wait of each device of the zone can be over now
+  -- before the last multiple
   pub record Ready : Type 0 where
     pub history : List Event
     pub reference : ℕ
     pub good : Good net plan dom down history reference
     pub before : reference ≤ last * net.params.tick
     pub ticked : (d : ℕ) → is_live net plan down d ≡ true → last * net.params.tick ≤ latest_tick (seen_of (steps history)) d + net.params.tick
-    pub hush : Hush net plan zone mute (steps history)
+    pub hush : Hush zone mute (λ z. state (last - 1) z) (steps history)
+    pub there : (d : ℕ) → is_live net plan down d ≡ true → (past : Past) × (past_in (steps history) d ≡ Some past)
+    pub plain : (d : ℕ) (past : Past) → past_in (steps history) d ≡ Some past → Plain (duty_of net plan 1 d) past
     pub none : NoneDue (steps history) (last * net.params.tick)
     pub room : length history + length net.devices ≤ 2 ^ 26
 
@@ -105,7 +103,7 @@ module _ (net : Network) (plan : Plan) (dom : DomainId) (down : Thing → Bool) 
   devices = length net.devices
 
   -- the parts of the bound
-  parts : event_bound net plan ≡ 2 * devices + length net.links + (last * devices + devices) + 2 * (last + 1) * hop_count net plan
+  parts : events_until net plan last ≡ 2 * devices + length net.links + (last * devices + devices) + 2 * (last + 1) * hop_count net plan
   parts = spread devices (length net.links) last (hop_count net plan)
     where
       spread : (n l k h : ℕ) → 2 * n + l + (k + 1) * (n + 2 * h) ≡ 2 * n + l + (k * n + n) + 2 * (k + 1) * h
@@ -131,10 +129,14 @@ module _ (net : Network) (plan : Plan) (dom : DomainId) (down : Thing → Bool) 
   past_there : (d : ℕ) → is_live net plan down d ≡ true → past_in (steps start.history) d ≡ Some (fresh net plan d)
   past_there d live = start.pasts d ∙ ap (fresh_if net plan d) live
 
-  hush_first : Hush net plan zone mute (steps start.history)
-  hush_first =
+  hush_first : (of : ℕ → ℕ) → ((z : ℕ) → zone z ≡ true → of z ≡ 0) → Hush zone mute (λ z. state (of z) z) (steps start.history)
+  hush_first of none =
       record {
-        still = λ z in_. record { past = fresh net plan z; is = past_there z (is_zone.live z in_); still = record { made = refl; did = refl } };
+        still = λ z in_. record {
+            past = fresh net plan z;
+            is = past_there z (shut.live z in_);
+            still = subst (λ (i : ℕ). state i z (fresh net plan z)) (sym (none z in_)) (begins z in_);
+          };
         silent = λ f a reaches mutes. none_sent f a;
       }
 
@@ -165,7 +167,7 @@ module _ (net : Network) (plan : Plan) (dom : DomainId) (down : Thing → Bool) 
       omega (arith, none, scaled, same)
 
   -- so many multiples of the tick come before the last
-  begin_ : (j : ℕ) → last ≡ suc j → Running net plan dom down zone mute (last + 1) law among is_zone 1 devices (j * devices + devices)
+  begin_ : (j : ℕ) → last ≡ suc j → Running net plan dom down zone mute last law among shut state idles 1 devices (j * devices + devices)
   begin_ j is =
       record {
         history = start.history;
@@ -174,7 +176,9 @@ module _ (net : Network) (plan : Plan) (dom : DomainId) (down : Thing → Bool) 
         before = omega arith;
         ticked = λ d live. omega arith;
         done = λ d live above. (let within = (live_parts net plan down d live).within in absurd (omega (arith, within, above)));
-        hush = hush_first;
+        hush = hush_first (made net plan dom down zone mute last law among shut state idles 1 devices)
+            (λ z in_. made_before net plan dom down zone mute last law among shut state idles 1 devices z
+            (live_parts net plan down z (shut.live z in_)).within);
         stamps = stamps_first;
         room =
             (let long = start.length_ in
@@ -186,18 +190,6 @@ module _ (net : Network) (plan : Plan) (dom : DomainId) (down : Thing → Bool) 
     where
       next : (a n : ℕ) → suc a * n ≡ a * n + n
       next a n = grind arith
-
-  -- before the last multiple no wait of the zone is over
-  still_early : (i d : ℕ) → i < last → zone d ≡ true → is_over net plan d (i * net.params.tick) ≡ false
-  still_early i d less in_ =
-      early (is_some (duty_of net plan 1 d).backup) (role_of plan d) (role_is net plan d (is_zone.ordinary d in_))
-    where
-      early : (b : Bool) (role : Role) → role ≡ Ordinary
-          → of_some (elim role [ Root ↦ None | BackupRoot ↦ Some plan.wait_first | Ordinary ↦ if b then Some plan.wait else None ]) false
-          (λ wait. nat_le wait (i * net.params.tick)) ≡ false
-      early true role is =
-          rw is (lt-leb plan.wait (i * net.params.tick) ((multiples plan.wait net.params.tick law.tick.0).early i less))
-      early false role is = rw is refl
 
   pub ready : Ready
   ready = by last refl
@@ -211,14 +203,15 @@ module _ (net : Network) (plan : Plan) (dom : DomainId) (down : Thing → Bool) 
             good = start.good;
             before = omega arith;
             ticked = λ d live. omega (arith, none);
-            hush = hush_first;
+            hush = hush_first (λ z. last - 1) (λ z in_. omega (arith, is));
+            there = stamps_first.there;
+            plain = stamps_first.plain;
             none = λ f a reaches unused. absurd (none_sent f a);
             room = (let long = start.length_ in let sum = parts in omega (arith, long, sum, bound));
           }
       by (suc j) is =
-          let run = ticks_on net plan dom down zone mute (last + 1) law among is_zone j 1 devices (omega arith) (omega (arith, is))
-          (λ i d below_ in_. still_early i d (omega (arith, below_, is)) in_) (begin_ j is) in
-          let it = clear net plan dom down zone mute (last + 1) law among is_zone (1 + j) devices devices (budget net plan (last + 1) (steps run.history))
+          let run = ticks_on net plan dom down zone mute last law among shut state idles j 1 devices (omega arith) (omega (arith, is)) (begin_ j is) in
+          let it = clear net plan dom down zone mute last law among shut state idles (1 + j) devices devices (budget net plan (last + 1) (steps run.history))
           (omega arith) (omega (arith, is)) run (omega arith) in
           let same : 1 + j ≡ last = omega (arith, is) in
           let at : (1 + j) * net.params.tick ≡ last * net.params.tick = ap (λ (k : ℕ). k * net.params.tick) same in
@@ -228,7 +221,12 @@ module _ (net : Network) (plan : Plan) (dom : DomainId) (down : Thing → Bool) 
             good = it.running.good;
             before = (let before = it.running.before in omega (arith, before, at));
             ticked = λ d live. (let late = it.running.ticked d live in omega (arith, late, at));
-            hush = it.running.hush;
+            hush = hush_as net plan dom down zone mute last law among shut state idles
+                (made net plan dom down zone mute last law among shut state idles (1 + j) devices) (λ z. last - 1) (steps it.running.history)
+                (λ z in_. made_before net plan dom down zone mute last law among shut state idles (1 + j) devices z
+                (live_parts net plan down z (shut.live z in_)).within ∙ omega (arith, same)) it.running.hush;
+            there = it.running.stamps.there;
+            plain = it.running.stamps.plain;
             none = λ f a reaches unused. (let late = it.none f a reaches unused in omega (arith, late, at));
             room = (let roomy = it.running.room in omega (arith, roomy));
           }

@@ -1,7 +1,7 @@
 -- A calm time runs on: at each multiple of the tick all live devices tick, and between them each message is received when it is due.
-use Rattle.std.specs.Prelude.{◌≡◌, ℕ, zero, suc, ◌+◌, ◌*◌, ◌^◌, ◌<◌, ◌≤◌, Bool, true, false, ◌&&◌, ◌||◌, not, List, [], ◌∷◌, ◌⊎◌, length, nat_eq, Some, None, refl, if◌then◌else◌}
-use Rattle.std.proofs.Common.{sym, subst, arith, inl, inr}
-use Rattle.std.proofs.lemmas.Bool.{and_parts, not-true, cases_lt, cases_eq, eqb-false, both_ways}
+use Rattle.std.specs.Prelude.{◌≡◌, ℕ, zero, suc, ◌+◌, ◌-◌, ◌*◌, ◌^◌, ◌<◌, ◌≤◌, Bool, true, false, ◌&&◌, ◌||◌, not, List, [], ◌∷◌, ◌⊎◌, length, nat_eq, nat_lt, Some, None, refl, if◌then◌else◌}
+use Rattle.std.proofs.Common.{sym, ◌∙◌, subst, arith, inl, inr}
+use Rattle.std.proofs.lemmas.Bool.{and_parts, not-true, cases_lt, cases_eq, eqb-false, lt-ltb, le-ltb, both_ways}
 use Rattle.sd_checker.specs.Num.Lists.{of_some}
 use Rattle.sd_checker.specs.Topo.Network.{Network}
 use Rattle.sd_checker.specs.Topo.Limits.{IsNetwork}
@@ -10,6 +10,7 @@ use Rattle.sd_checker.specs.Domain.Domains.{domains}
 use Rattle.sd_checker.specs.Domain.declared.DomainId.{DomainId}
 use Rattle.sd_checker.specs.Plan.declared.Plan.{Plan}
 use Rattle.sd_history.specs.Msg.declared.Flight.{Flight}
+use Rattle.sd_history.specs.Core.Calls.{Past, Tick}
 use Rattle.sd_history.specs.Sched.declared.Event.{Event}
 use Rattle.sd_history.specs.Sched.declared.Event.TheVariants as event
 use Rattle.sd_history.specs.World.{Setting}
@@ -28,7 +29,7 @@ use Rattle.sd_proof_needed.proofs.Worlds.{is_live, OnTime, tick_later}
 use Rattle.sd_proof_needed.proofs.Allowed.{live_parts}
 use Rattle.sd_proof_needed.proofs.Air.{NoneDue}
 use Rattle.sd_proof_needed.proofs.Going.{Good, tick_goes, receipt_goes}
-use Rattle.sd_proof_needed.proofs.Hush.{IsZone, Hush, is_over, hush_tick, hush_receipt}
+use Rattle.sd_proof_needed.proofs.Hush.{IsShut, Hush, Idles, Silent, hush_tick, hush_receipt}
 use Rattle.sd_proof_needed.proofs.Budget.{Stamps, pending, budget, tick_stamps, receipt_stamps}
 
 -- The first that is due
@@ -70,9 +71,9 @@ has_length (y ∷ ys) x a = omega arith
 
 -- Running
 
-module _ (net : Network) (plan : Plan) (dom : DomainId) (down : Thing → Bool) (zone : ℕ → Bool) (mute : ℕ → ℕ → Type 0) (m : ℕ) (law : IsNetwork net)
+module _ (net : Network) (plan : Plan) (dom : DomainId) (down : Thing → Bool) (zone : ℕ → Bool) (mute : ℕ → ℕ → Type 0) (last : ℕ) (law : IsNetwork net)
     (among : Among dom (domains net))
-    (is_zone : IsZone net plan down zone mute) where
+    (shut : IsShut net plan down zone mute) (state : ℕ → ℕ → Past → Type 0) (idles : Idles net.params.tick last zone mute state) where
   abbrev setting : Setting
   setting = alone net plan
 
@@ -82,7 +83,37 @@ module _ (net : Network) (plan : Plan) (dom : DomainId) (down : Thing → Bool) 
   abbrev tick : ℕ
   tick = net.params.tick
 
-  -- a good history before its k-th multiple of the tick: the devices below c have still to tick there, the zone is still, and there is room for the
+  -- more than each device ticks
+  abbrev m : ℕ
+  m = last + 1
+
+  -- how often a device ticked before its k-th multiple of the tick, where the devices from c on ticked there
+  abbrev pub made : ℕ → ℕ → ℕ → ℕ
+  made k c z = if nat_lt z c then k - 1 else k
+
+  pub made_before : (k c z : ℕ) → z < c → made k c z ≡ k - 1
+  made_before k c z less = rw (lt-ltb z c less) refl
+
+  pub made_now : (k c z : ℕ) → c ≤ z → made k c z ≡ k
+  made_now k c z more = rw (le-ltb z c more) refl
+
+  made_other : (k d z : ℕ) → (d ≡ z → ⊥) → made k (suc d) z ≡ made k d z
+  made_other k d z other =
+      elim (cases_lt z d) [
+        | inl less ↦ (made_before k (suc d) z (omega (arith, less)) ∙ sym (made_before k d z less))
+        | inr more ↦ (made_now k (suc d) z (omega (arith, more, other)) ∙ sym (made_now k d z more))
+      ]
+
+  pub hush_as : (a b : ℕ → ℕ) (st : List Step) → ((z : ℕ) → zone z ≡ true → a z ≡ b z) → Hush zone mute (λ z. state (a z) z) st
+      → Hush zone mute (λ z. state (b z) z) st
+  hush_as a b st same hush =
+      record {
+        still = λ z in_. (let old = hush.still z in_ in
+            record { past = old.past; is = old.is; still = subst (λ (i : ℕ). state i z old.past) (same z in_) old.still });
+        silent = hush.silent;
+      }
+
+  -- a good history before its k-th multiple of the tick: the devices below c have still to tick there, the zone is as it should be, and there is room for the
   -- messages that can come and for so many more ticks
   pub record Running (k c left : ℕ) : Type 0 where
     pub history : List Event
@@ -91,7 +122,7 @@ module _ (net : Network) (plan : Plan) (dom : DomainId) (down : Thing → Bool) 
     pub before : reference ≤ k * tick
     pub ticked : (d : ℕ) → is_live net plan down d ≡ true → k * tick ≤ latest_tick (seen_of (steps history)) d + tick
     pub done : (d : ℕ) → is_live net plan down d ≡ true → c ≤ d → k * tick ≤ latest_tick (seen_of (steps history)) d
-    pub hush : Hush net plan zone mute (steps history)
+    pub hush : Hush zone mute (λ z. state (made k c z) z) (steps history)
     pub stamps : Stamps net plan down k c (steps history)
     pub room : length history + budget net plan m (steps history) + left ≤ 2 ^ 26
 
@@ -179,8 +210,9 @@ module _ (net : Network) (plan : Plan) (dom : DomainId) (down : Thing → Bool) 
           before = omega (arith, soon);
           ticked = run.ticked;
           done = run.done;
-          hush = hush_receipt net plan dom down zone mute is_zone (steps run.history) run.reference run.good.world run.hush f way.among_ way.reaches found
-              live is good.air;
+          hush = hush_receipt net plan dom down zone mute shut (λ z. state (made k c z) z) (steps run.history) run.reference run.good.world run.hush f
+              way.among_ way.reaches found live
+              (λ past in_ sounds at. idles.hears (made k c f.receiver) f.receiver past f.link f.message f.due in_ sounds at) is good.air;
           stamps = both.0;
           room = (let fewer = both.1 in omega (arith, fewer, roomy));
         },
@@ -240,7 +272,9 @@ module _ (net : Network) (plan : Plan) (dom : DomainId) (down : Thing → Bool) 
           | inl same ↦ absurd (both_ways (is_live net plan down c) dead (subst (λ (x : ℕ). is_live net plan down x ≡ true) (sym same) live))
           | inr other ↦ run.done d live (omega (arith, above, other))
         ];
-        hush = run.hush;
+        hush = hush_as (made k (suc c)) (made k c) (steps run.history)
+            (λ z in_. made_other k c z (λ same.
+            both_ways (is_live net plan down c) dead (subst (λ (x : ℕ). is_live net plan down x ≡ true) (sym same) (shut.live z in_)))) run.hush;
         stamps = fewer_due k (suc c) c (omega arith) (steps run.history) run.stamps;
         room = (let roomy = run.room in omega (arith, roomy));
       }
@@ -256,16 +290,18 @@ module _ (net : Network) (plan : Plan) (dom : DomainId) (down : Thing → Bool) 
         before = (let before = run.before in omega (arith, before, next));
         ticked = λ d live. (let late = run.done d live (omega arith) in omega (arith, late, next));
         done = λ d live above. (let within = (live_parts net plan down d live).within in absurd (omega (arith, within, above)));
-        hush = run.hush;
+        hush = hush_as (made k 0) (made (suc k) (length net.devices)) (steps run.history)
+            (λ z in_. (let now = made_now k 0 z (omega arith) in
+            let before = made_before (suc k) (length net.devices) z (live_parts net plan down z (shut.live z in_)).within in
+            omega (arith, now, before))) run.hush;
         stamps = more_rounds k (length net.devices) (steps run.history) run.stamps;
         room = run.room;
       }
 
   -- a device ticks
-  tick_one : (k d left : ℕ) → 1 ≤ k → k < m → is_live net plan down d ≡ true → (zone d ≡ true → is_over net plan d (k * tick) ≡ false)
-      → Clear k (suc d) (suc left)
-      → Running k d left
-  tick_one k d left some less live early clear_ =
+  tick_one : (k d left : ℕ) → 1 ≤ k → k < last → is_live net plan down d ≡ true → Clear k (suc d) (suc left) → Running k d left
+  tick_one k d left some less_ live clear_ =
+      let less : k < m = omega (arith, less_) in
       let run : Running k (suc d) (suc left) = clear_.running in
       let roomy = run.room in
       let few : length run.history < 2 ^ 26 = omega (arith, roomy) in
@@ -282,40 +318,48 @@ module _ (net : Network) (plan : Plan) (dom : DomainId) (down : Thing → Bool) 
         before = omega arith;
         ticked = λ x alive. tick_later (nat_eq d x) (k * tick) (latest_tick (seen_of (steps run.history)) x) tick (run.ticked x alive);
         done = λ x alive above. by x (nat_eq d x) refl alive above;
-        hush = hush_tick net plan dom down zone mute is_zone (steps run.history) run.reference run.good.world run.hush (k * tick) d live early is good.air;
+        hush = hush_tick net plan dom down zone mute shut (λ z. state (made k (suc d) z) z) (steps run.history) run.reference run.good.world run.hush
+            (λ z. state (made k d z) z) (k * tick) d live
+            (λ past in_ at. subst (λ (i : ℕ). Silent (state i d) past (Tick (k * tick))) (sym (made_now k d d (omega arith)))
+            (ticked_once past in_ (subst (λ (i : ℕ). state i d past) (made_before k (suc d) d (omega arith)) at)))
+            (λ z past in_ other at. subst (λ (i : ℕ). state i z past) (made_other k d z (eqb-false d z other)) at) is good.air;
         stamps = both.0;
         room = (let fewer = both.1 in omega (arith, fewer, roomy));
       }
     where
+      ticked_once : (past : Past) → zone d ≡ true → state (k - 1) d past → Silent (state k d) past (Tick (k * tick))
+      ticked_once past in_ at =
+          let one : suc (k - 1) ≡ k = omega (arith, some) in
+          subst (λ (i : ℕ). Silent (state i d) past (Tick (i * tick))) one (idles.ticks (k - 1) d past (omega (arith, some, less_)) in_ at)
+
       by : (x : ℕ) (b : Bool) → nat_eq d x ≡ b → is_live net plan down x ≡ true → d ≤ x
           → k * tick ≤ of_some (if b || false then Some (k * tick) else None) (latest_tick (seen_of (steps clear_.running.history)) x) (λ told. told)
       by x true same alive above = omega arith
       by x false other alive above = clear_.running.done x alive (omega (arith, above, eqb-false d x other))
 
   -- all devices below c tick
-  tick_all : (k c left : ℕ) → 1 ≤ k → k < m → ((d : ℕ) → zone d ≡ true → is_over net plan d (k * tick) ≡ false) → Running k c (c + left) → Running k 0 left
-  tick_all k zero left some less early run = with_left k 0 (0 + left) left (omega arith) run
-  tick_all k (suc c) left some less early run =
-      tick_all k c left some less early (by (is_live net plan down c) refl (with_left k (suc c) (suc c + left) (suc (c + left)) (omega arith) run))
+  tick_all : (k c left : ℕ) → 1 ≤ k → k < last → Running k c (c + left) → Running k 0 left
+  tick_all k zero left some less run = with_left k 0 (0 + left) left (omega arith) run
+  tick_all k (suc c) left some less run =
+      tick_all k c left some less (by (is_live net plan down c) refl (with_left k (suc c) (suc c + left) (suc (c + left)) (omega arith) run))
     where
       by : (b : Bool) → is_live net plan down c ≡ b → Running k (suc c) (suc (c + left)) → Running k c (c + left)
-      by true live now = tick_one k c (c + left) some less live (early c)
-          (clear k (suc c) (suc (c + left)) (budget net plan m (steps now.history)) some less now (omega arith))
+      by true live now = tick_one k c (c + left) some less live
+          (clear k (suc c) (suc (c + left)) (budget net plan m (steps now.history)) some (omega (arith, less)) now (omega arith))
       by false dead now = passed_by k c (c + left) dead now
 
   -- j multiples of the tick
-  pub ticks_on : (j k left : ℕ) → 1 ≤ k → k + j ≤ m → ((i d : ℕ) → i < k + j → zone d ≡ true → is_over net plan d (i * tick) ≡ false)
-      → Running k (length net.devices) (j * length net.devices + left) → Running (k + j) (length net.devices) left
-  ticks_on zero k left some less early run =
+  pub ticks_on : (j k left : ℕ) → 1 ≤ k → k + j ≤ last → Running k (length net.devices) (j * length net.devices + left) → Running (k + j) (length net.devices) left
+  ticks_on zero k left some less run =
       let same : k + 0 ≡ k = omega arith in
       subst (λ (i : ℕ). Running i (length net.devices) left) (sym same)
       (with_left k (length net.devices) (0 * length net.devices + left) left (omega arith) run)
-  ticks_on (suc j) k left some less early run =
+  ticks_on (suc j) k left some less run =
       let n : ℕ = length net.devices in
       let split : suc j * n + left ≡ n + (j * n + left) = grind arith in
       let all : Running k 0 (j * n + left) =
-      tick_all k n (j * n + left) some (omega (arith, less)) (λ d in_. early k d (omega arith) in_)
+      tick_all k n (j * n + left) some (omega (arith, less))
       (with_left k n (suc j * n + left) (n + (j * n + left)) (omega (arith, split)) run) in
       let same : suc k + j ≡ k + suc j = omega arith in
       subst (λ (i : ℕ). Running i n left) same
-      (ticks_on j (suc k) left (omega arith) (omega (arith, less)) (λ i d below_. early i d (omega (arith, below_))) (next_multiple k (j * n + left) all))
+      (ticks_on j (suc k) left (omega arith) (omega (arith, less)) (next_multiple k (j * n + left) all))

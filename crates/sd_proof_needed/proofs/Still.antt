@@ -1,5 +1,5 @@
 -- A device that has done nothing since its start: what its words are, and what a tick or a receipt does.
-use Rattle.std.specs.Prelude.{◌≡◌, ◌≢◌, ℕ, ◌-◌, Bool, true, false, ◌&&◌, not, List, [], ◌∷◌, nat_eq, nat_le, Option, Some, None, is_some, option_map, option_and_then, refl, if◌then◌else◌}
+use Rattle.std.specs.Prelude.{◌≡◌, ◌≢◌, ℕ, ◌-◌, Bool, true, false, ◌&&◌, not, List, [], ◌∷◌, max, nat_eq, nat_le, Option, Some, None, is_some, option_map, option_and_then, refl, if◌then◌else◌}
 use Rattle.std.specs.List.{list_all}
 use Rattle.std.proofs.Common.{ap, ◌∙◌, arith}
 use Rattle.std.proofs.lemmas.Bool.{and_parts, and_from, ne_eqb, not-true}
@@ -13,7 +13,7 @@ use Rattle.sd_history.specs.Core.declared.Effect.{Effect}
 use Rattle.sd_history.specs.Core.declared.Effect.TheVariants.{Quiet, Send}
 use Rattle.sd_proof_needed.proofs.Pasts.{latest_none, any_none, none_is, is_plain, Plain, no_entry, since_is, duty_is, given_none}
 use Rattle.sd_history.specs.Core.Calls.{Started, Call, Tick, Receive, Did, Past, Transition, Entered, Committed, Recommitted, Accepted, Moved, TookOver, Emitted, Nothing}
-use Rattle.sd_history.specs.Core.Words.{taken_up, accepted_over, counter_of, is_move, is_takeover, duty_given, duty_now, heard, has_moved, is_acting, is_sealed, may_move, parent_edge, parent_now, wait_to_move, emits_at, takes_over_at, moves_at, is_backup_root_now, transition_of, after, effect_of, accepted_by, entered_by, over_link, epoch_now, stamp_now}
+use Rattle.sd_history.specs.Core.Words.{taken_up, accepted_over, counter_of, is_move, is_takeover, duty_given, duty_now, heard, has_moved, is_acting, is_sealed, may_move, moved_at, starts_as_root, parent_edge, parent_now, wait_to_move, emits_at, takes_over_at, moves_at, is_backup_root_now, transition_of, after, effect_of, accepted_by, entered_by, over_link, epoch_now, stamp_now}
 
 abbrev pub is_nothing : Transition → Bool
 is_nothing Nothing = true
@@ -59,13 +59,17 @@ still_plain duty past still = record { made = still.made; did = all_plain past.d
         let same : is_plain x ≡ true = rw (n.transition, n.call) refl in
         and_from (is_plain x) (list_all is_plain xs) same (all_plain xs rest)
 
-module _ (duty : Duty) (past : Past) (still : Still duty past) (ordinary : duty.role ≡ Ordinary) where
+-- who is ordinary does not start as root
+pub ordinary_starts : (duty : Duty) → duty.role ≡ Ordinary → starts_as_root (Started duty 0 0 0) ≡ false
+ordinary_starts duty ordinary = rw ordinary refl
+
+module _ (duty : Duty) (past : Past) (still : Still duty past) (other : starts_as_root (Started duty 0 0 0) ≡ false) where
   plain : Plain duty past
   plain = still_plain duty past still
 
   pub not_acting : is_acting past ≡ false
   not_acting =
-      rw (no_entry duty past plain, since_is duty past plain, still.made, ordinary)
+      rw (no_entry duty past plain, since_is duty past plain, still.made, other)
       (any_none did_nothing (λ x. is_takeover x.transition) past.did (λ x n. ap is_takeover (nought x n).transition) still.did)
 
   pub not_moved : has_moved past ≡ false
@@ -86,9 +90,6 @@ module _ (duty : Duty) (past : Past) (still : Still duty past) (ordinary : duty.
   pub on_primary : parent_edge past ≡ duty.primary
   on_primary = rw (not_acting, not_moved, duty_is duty past plain) refl
 
-  not_backup_root : is_backup_root_now past ≡ false
-  not_backup_root = rw (duty_is duty past plain, ordinary) refl
-
   moves_when : (counter : ℕ) → moves_at past counter ≡ of_some (wait_to_move duty) false (λ wait. nat_le wait counter)
   moves_when counter =
       let same : counter - 0 ≡ counter = omega arith in
@@ -99,8 +100,13 @@ module _ (duty : Duty) (past : Past) (still : Still duty past) (ordinary : duty.
       → transition_of past (Tick counter) ≡ (if late then Moved else Nothing)
   tick_by counter late is =
       let no_emission : emits_at past counter ≡ false = rw not_acting refl in
-      let no_takeover : takes_over_at past counter ≡ false = rw not_backup_root refl in
+      let no_takeover : takes_over_at past counter ≡ false = rw not_moved (no_backup (is_backup_root_now past)) in
       rw (no_emission, no_takeover, moves_when counter, is) refl
+    where
+      no_backup : (b : Bool) → (b && false && not (is_acting past)
+          && of_some (duty_now past) false (λ duty. nat_le duty.wait_second (counter - max (heard past) (moved_at past)))) ≡ false
+      no_backup true = refl
+      no_backup false = refl
 
   -- a tick before its wait is over
   pub tick_stays : (counter : ℕ) → of_some (wait_to_move duty) false (λ wait. nat_le wait counter) ≡ false → transition_of past (Tick counter) ≡ Nothing
@@ -143,8 +149,9 @@ pub sends_nothing : (past : Past) (call : Call) → transition_of past call ≡ 
 sends_nothing past call stays = rw stays refl
 
 -- a still device follows its primary parent
-pub follows_primary : (duty : Duty) (past : Past) → Still duty past → duty.role ≡ Ordinary → parent_now past ≡ option_map (λ edge. edge.parent) duty.primary
-follows_primary duty past still ordinary = ap (option_map (λ edge. edge.parent)) (on_primary duty past still ordinary)
+pub follows_primary : (duty : Duty) (past : Past) → Still duty past → starts_as_root (Started duty 0 0 0) ≡ false
+    → parent_now past ≡ option_map (λ edge. edge.parent) duty.primary
+follows_primary duty past still other = ap (option_map (λ edge. edge.parent)) (on_primary duty past still other)
 
 -- one that has moved follows its backup parent, and the move sent nothing
 pub record HasJustMoved (duty : Duty) (past : Past) (call : Call) : Type 0 where
@@ -152,9 +159,10 @@ pub record HasJustMoved (duty : Duty) (past : Past) (call : Call) : Type 0 where
   pub parent : parent_now (after past call) ≡ option_map (λ edge. edge.parent) duty.backup
   pub quiet : effect_of past call ≡ Quiet
 
-pub just_moved : (duty : Duty) (past : Past) (counter : ℕ) → Still duty past → duty.role ≡ Ordinary → transition_of past (Tick counter) ≡ Moved
+pub just_moved : (duty : Duty) (past : Past) (counter : ℕ) → Still duty past → starts_as_root (Started duty 0 0 0) ≡ false
+    → transition_of past (Tick counter) ≡ Moved
     → HasJustMoved duty past (Tick counter)
-just_moved duty past counter still ordinary moves =
+just_moved duty past counter still other moves =
     record {
       edge = on_backup;
       parent = ap (option_map (λ (edge : Edge). edge.parent)) on_backup;
@@ -164,7 +172,7 @@ just_moved duty past counter still ordinary moves =
     on_backup : parent_edge (after past (Tick counter)) ≡ duty.backup
     on_backup =
         let acting : is_acting (after past (Tick counter)) ≡ false =
-        rw (moves, no_entry duty past (still_plain duty past still), since_is duty past (still_plain duty past still), still.made, ordinary)
+        rw (moves, no_entry duty past (still_plain duty past still), since_is duty past (still_plain duty past still), still.made, other)
         (any_none did_nothing (λ x. is_takeover x.transition) past.did (λ x n. ap is_takeover (nought x n).transition) still.did) in
         let moved : has_moved (after past (Tick counter)) ≡ true = rw moves refl in
         let duty_still : duty_now (after past (Tick counter)) ≡ Some duty =

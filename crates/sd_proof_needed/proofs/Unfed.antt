@@ -109,11 +109,14 @@ module _ (net : Network) (plan : Plan) (fits : Fits net plan) (structured : stru
   pub mute_zone : IsZone net plan down (zone_in net plan down) (IsMute net plan f)
   mute_zone =
       record {
-        live = λ z is. (in_zone net plan down z is).live;
+        shut =
+            record {
+              live = λ z is. (in_zone net plan down z is).live;
+              above = λ x l s mutes follows sound live. elim mutes [
+                | inl on ↦ zone_above net plan fits structured down x l s on follows sound live
+                | inr on ↦ unfed_zone s (next_above x l s on follows sound live)
+              ];
+            };
         ordinary = λ z is. (in_zone net plan down z is).other;
         on_primary = λ z hop is primary. inl (record { in_ = is; hop = hop; primary = primary; link = refl });
-        above = λ x l s mutes follows sound live. elim mutes [
-          | inl on ↦ zone_above net plan fits structured down x l s on follows sound live
-          | inr on ↦ unfed_zone s (next_above x l s on follows sound live)
-        ];
       }

@@ -133,8 +133,7 @@ module _ (net : Network) (plan : Plan) (fits : Fits net plan) (structured : stru
   pub is_zone : IsZone net plan down (zone_in net plan down) (IsOnPrimary net plan down)
   is_zone =
       record {
-        live = λ z is. (in_zone net plan down z is).live;
+        shut = record { live = λ z is. (in_zone net plan down z is).live; above = zone_above };
         ordinary = λ z is. (in_zone net plan down z is).other;
         on_primary = λ z hop is primary. record { in_ = is; hop = hop; primary = primary; link = refl };
-        above = zone_above;
       }

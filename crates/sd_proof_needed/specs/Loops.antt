@@ -42,10 +42,14 @@ ticks_of_wait net plan = (plan.wait + net.params.tick - 1) / net.params.tick
 abbrev pub hop_count : Network → Plan → ℕ
 hop_count net plan = sum_by (λ d. length (ends_of net plan d)) (device_numbers net)
 
--- how many events such a history has at most: things fail and devices start; each device ticks, and over each hop two messages come for each tick
+-- how many events a history has at most in which each device ticks so often: things fail and devices start; each device ticks once more, and over each hop
+-- two messages come for each tick
+abbrev pub events_until : Network → Plan → ℕ → ℕ
+events_until net plan ticks = 2 * length net.devices + length net.links + (ticks + 1) * (length net.devices + 2 * hop_count net plan)
+
+-- how many such a history has until the wait is over
 abbrev pub event_bound : Network → Plan → ℕ
-event_bound net plan =
-    2 * length net.devices + length net.links + (ticks_of_wait net plan + 1) * (length net.devices + 2 * hop_count net plan)
+event_bound net plan = events_until net plan (ticks_of_wait net plan)
 
 -- each ring that the loop condition forbids can come about
 abbrev pub LoopIsNeeded : Network → Plan → Type 0
