@@ -27,6 +27,14 @@ pub record Settled (duty : Duty) (edge : Option Edge) (past : Past) : Type 0 whe
   pub heard : list_all heard_nothing past.did ≡ true
 
 module _ (duty : Duty) (edge : Option Edge) (past : Past) (s : Settled duty edge past) where
+  -- it has moved just as before
+  pub moved_as_before : (call : Call) → transition_of past call ≡ Nothing → duty_given call ≡ None → has_moved (after past call) ≡ has_moved past
+  moved_as_before call stays gives =
+      let plain_is : is_plain (record { call = call; transition = transition_of past call }) ≡ true = rw (stays, gives) refl in
+      ap (list_any (λ x. is_move x.transition)) (since_is duty (after past call) (plain_on duty past call s.plain plain_is))
+      ∙ ap (λ (t : Transition). is_move t || list_any (λ x. is_move x.transition) past.did) stays
+      ∙ sym (ap (list_any (λ x. is_move x.transition)) (since_is duty past s.plain))
+
   -- a call that does nothing leaves it so
   pub settled_on : (call : Call) → transition_of past call ≡ Nothing → duty_given call ≡ None → Settled duty edge (after past call)
   settled_on call stays gives =
@@ -34,10 +42,7 @@ module _ (duty : Duty) (edge : Option Edge) (past : Past) (s : Settled duty edge
       let plain' : Plain duty (after past call) = plain_on duty past call s.plain plain_is in
       let idle' : is_acting (after past call) ≡ false =
       acting_after duty past call s.plain plain_is ∙ ap (λ (t : Transition). is_takeover t || is_acting past) stays ∙ s.idle in
-      let moved : has_moved (after past call) ≡ has_moved past =
-      ap (list_any (λ x. is_move x.transition)) (since_is duty (after past call) plain')
-      ∙ ap (λ (t : Transition). is_move t || list_any (λ x. is_move x.transition) past.did) stays
-      ∙ sym (ap (list_any (λ x. is_move x.transition)) (since_is duty past s.plain)) in
+      let moved : has_moved (after past call) ≡ has_moved past = moved_as_before call stays gives in
       let duty' : duty_now (after past call) ≡ Some duty = duty_is duty (after past call) plain' in
       let same : parent_edge (after past call) ≡ parent_edge past = rw (idle', moved, duty', s.idle, duty_is duty past s.plain) refl in
       record {

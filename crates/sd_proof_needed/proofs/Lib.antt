@@ -23,6 +23,10 @@ mod Deaf
 mod Unfed
 mod Continuing
 pub mod Reaches
+mod Times
+mod Takeovers
+mod CutOff
+pub mod Roots
 -- Handed on: what crates above name of those below.
 pub use Rattle.sd_checker.proofs as Checker
 pub use Rattle.sd_history.proofs as History

@@ -34,9 +34,13 @@ pub record ClosesLoop (net : Network) (plan : Plan) (f : DomainId) (first : ℕ)
   pub clean : IsClean net plan (holds_besides net f (first ∷ others)) history
   pub follows : IsChain (λ d e. counted_parent (alone net plan) (chronicle (alone net plan) history) d ≡ Some e) (first ∷ (others ++ first ∷ []))
 
--- how many ticks of a device it takes until its wait is over
+-- how many ticks of a device it takes until so long a time is over
+abbrev pub ticks_until : Network → ℕ → ℕ
+ticks_until net time = (time + net.params.tick - 1) / net.params.tick
+
+-- how many it takes until its wait is over
 abbrev pub ticks_of_wait : Network → Plan → ℕ
-ticks_of_wait net plan = (plan.wait + net.params.tick - 1) / net.params.tick
+ticks_of_wait net plan = ticks_until net plan.wait
 
 -- the hops of a plan, counted by the devices to which they lead: over how many ends all devices send, each once
 abbrev pub hop_count : Network → Plan → ℕ

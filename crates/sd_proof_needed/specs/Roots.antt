@@ -1,0 +1,56 @@
+-- The root condition is needed, as far as it forbids two acting roots. Where things of a domain other than both roots hit the path of the backup root, and
+-- also take something of what it falls back on, there is a history that breaks no premise, in which only such things fail, and at whose end root and backup
+-- root both act.
+--
+-- The hypotheses beside structure and timing are that a history may have so many events as this one (events_until). It lasts as long as the backup root's
+-- waits, and each device ticks there once a tick.
+use Rattle.std.specs.Prelude.{ℕ, ◌+◌, ◌^◌, ◌≤◌, List, [], ◌∷◌, ◌++◌, map, length, IsTrue}
+use Rattle.std.specs.List.{list_any}
+use Rattle.sd_checker.specs.Num.Lists.{has}
+use Rattle.sd_checker.specs.Topo.Network.{Network}
+use Rattle.sd_checker.specs.Topo.Limits.{IsNetwork}
+use Rattle.sd_checker.specs.Topo.declared.Thing.{Thing}
+use Rattle.sd_checker.specs.Topo.declared.Thing.TheVariants as thing
+use Rattle.sd_checker.specs.Domain.Lone.{IsDomain}
+use Rattle.sd_checker.specs.Domain.declared.DomainId.{DomainId}
+use Rattle.sd_checker.specs.Plan.declared.Plan.{Plan}
+use Rattle.sd_checker.specs.Plan.Plans.{Fits}
+use Rattle.sd_checker.specs.Plan.Walks.{path}
+use Rattle.sd_checker.specs.CheckRoot.Roots.{fallback_devices, fallback_links}
+use Rattle.sd_checker.specs.Conditions.{Holds}
+use Rattle.sd_checker.specs.Conditions as condition
+use Rattle.sd_history.specs.Sched.declared.Event.{Event}
+use Rattle.sd_history.specs.Chronicle.{chronicle}
+use Rattle.sd_history.specs.Lines.{roots}
+use Rattle.sd_proof_needed.specs.Alone.{alone, holds_besides, IsClean}
+use Rattle.sd_proof_needed.specs.Loops.{ticks_until, events_until}
+
+abbrev pub both_roots : Plan → List ℕ
+both_roots plan = plan.root ∷ plan.backup_root ∷ []
+
+-- what the backup root falls back on: the devices of the walk from its backup parent other than the root, its backup link and the links of that walk
+abbrev pub fallback : Network → Plan → List Thing
+fallback net plan = map thing.Device (fallback_devices net plan) ++ map thing.Link (fallback_links net plan)
+
+-- things of the domain other than both roots are on the path of the backup root, and such things are of its fallback
+pub record TakesBoth (net : Network) (plan : Plan) (f : DomainId) : Type 0 where
+  pub path : IsTrue (list_any (holds_besides net f (both_roots plan)) (path net plan plan.backup_root))
+  pub fallback : IsTrue (list_any (holds_besides net f (both_roots plan)) (fallback net plan))
+
+-- a clean history in which nothing fails but things of the domain other than both roots, and at whose end both are up and act as root
+pub record MakesTwoRoots (net : Network) (plan : Plan) (f : DomainId) : Type 0 where
+  pub history : List Event
+  pub clean : IsClean net plan (holds_besides net f (both_roots plan)) history
+  pub root : IsTrue (has (roots (alone net plan) (chronicle (alone net plan) history)) plan.root)
+  pub backup_root : IsTrue (has (roots (alone net plan) (chronicle (alone net plan) history)) plan.backup_root)
+
+-- how many ticks it takes until the backup root moves, and then until it takes over
+abbrev pub ticks_of_takeover : Network → Plan → ℕ
+ticks_of_takeover net plan = ticks_until net plan.wait_first + ticks_until net plan.wait_second
+
+-- each domain that takes path and fallback can make a second acting root
+abbrev pub RootIsNeeded : Network → Plan → Type 0
+RootIsNeeded net plan =
+    IsNetwork net → Fits net plan → Holds net plan condition.structure → Holds net plan condition.timing
+    → events_until net plan (ticks_of_takeover net plan) ≤ 2 ^ 26
+    → (f : DomainId) → IsDomain net f → TakesBoth net plan f → MakesTwoRoots net plan f
