@@ -27,6 +27,7 @@ mod Times
 mod Takeovers
 mod CutOff
 pub mod Roots
+pub mod Taken
 -- Handed on: what crates above name of those below.
 pub use Rattle.sd_checker.proofs as Checker
 pub use Rattle.sd_history.proofs as History

@@ -53,12 +53,12 @@ use Rattle.sd_proof_needed.proofs.Takeovers.{HasMovedAt, moved_now, moved_on, ta
 use Rattle.sd_proof_needed.proofs.CutOff.{is_cut_off, CutOff, cut_off, IsUnheard, is_shut, touched_off}
 
 -- rule 1
-record HasRoots (plan : Plan) : Type 0 where
+pub record HasRoots (plan : Plan) : Type 0 where
   pub root : is_member plan plan.root ≡ true
   pub backup_root : is_member plan plan.backup_root ≡ true
   pub apart : nat_eq plan.root plan.backup_root ≡ false
 
-has_roots : (net : Network) (plan : Plan) → structure_breach net plan ≡ None → HasRoots plan
+pub has_roots : (net : Network) (plan : Plan) → structure_breach net plan ≡ None → HasRoots plan
 has_roots net plan structured =
     by (is_member plan plan.root) (is_member plan plan.backup_root) (nat_eq plan.root plan.backup_root) refl refl refl
     (none_mapped (λ d. (1, d)) (roots_breach plan) (both_none (option_map _ (roots_breach plan)) _ structured).0)

@@ -4,13 +4,14 @@
 --
 -- The hypotheses beside structure and timing are that a history may have so many events as this one (events_until). It lasts as long as the backup root's
 -- waits, and each device ticks there once a tick.
-use Rattle.std.specs.Prelude.{ℕ, ◌+◌, ◌^◌, ◌≤◌, List, [], ◌∷◌, ◌++◌, map, length, IsTrue}
+use Rattle.std.specs.Prelude.{ℕ, ◌+◌, ◌^◌, ◌≤◌, ◌&&◌, not, List, [], ◌∷◌, ◌++◌, map, length, IsTrue}
 use Rattle.std.specs.List.{list_any}
 use Rattle.sd_checker.specs.Num.Lists.{has}
 use Rattle.sd_checker.specs.Topo.Network.{Network}
 use Rattle.sd_checker.specs.Topo.Limits.{IsNetwork}
 use Rattle.sd_checker.specs.Topo.declared.Thing.{Thing}
 use Rattle.sd_checker.specs.Topo.declared.Thing.TheVariants as thing
+use Rattle.sd_checker.specs.Domain.Domains.{holds_device}
 use Rattle.sd_checker.specs.Domain.Lone.{IsDomain}
 use Rattle.sd_checker.specs.Domain.declared.DomainId.{DomainId}
 use Rattle.sd_checker.specs.Plan.declared.Plan.{Plan}
@@ -19,6 +20,8 @@ use Rattle.sd_checker.specs.Plan.Walks.{path}
 use Rattle.sd_checker.specs.CheckRoot.Roots.{fallback_devices, fallback_links}
 use Rattle.sd_checker.specs.Conditions.{Holds}
 use Rattle.sd_checker.specs.Conditions as condition
+use Rattle.sd_checker.specs.Verdicts.{IsBreach}
+use Rattle.sd_checker.specs.declared.Breach.TheVariants as breach
 use Rattle.sd_history.specs.Sched.declared.Event.{Event}
 use Rattle.sd_history.specs.Chronicle.{chronicle}
 use Rattle.sd_history.specs.Lines.{roots}
@@ -54,3 +57,24 @@ RootIsNeeded net plan =
     IsNetwork net → Fits net plan → Holds net plan condition.structure → Holds net plan condition.timing
     → events_until net plan (ticks_of_takeover net plan) ≤ 2 ^ 26
     → (f : DomainId) → IsDomain net f → TakesBoth net plan f → MakesTwoRoots net plan f
+
+-- So each plan that the checker refuses for its roots makes two acting ones, where the domain that is shown has not both roots and what it has besides the
+-- root is on the path of the backup root too.
+abbrev pub RootRefusalIsRight : Network → Plan → Type 0
+RootRefusalIsRight net plan =
+    IsNetwork net → Fits net plan → events_until net plan (ticks_of_takeover net plan) ≤ 2 ^ 26
+    → (f : DomainId) (x : Thing) → IsBreach net plan (breach.Root f x)
+    → IsTrue (not (holds_device net f plan.root && holds_device net f plan.backup_root))
+    → IsTrue (list_any (holds_besides net f (plan.root ∷ [])) (path net plan plan.backup_root)) → MakesTwoRoots net plan f
+
+-- in particular where the domain has not the root
+abbrev pub RefusalBesidesRootIsRight : Network → Plan → Type 0
+RefusalBesidesRootIsRight net plan =
+    IsNetwork net → Fits net plan → events_until net plan (ticks_of_takeover net plan) ≤ 2 ^ 26
+    → (f : DomainId) (x : Thing) → IsBreach net plan (breach.Root f x) → IsTrue (not (holds_device net f plan.root)) → MakesTwoRoots net plan f
+
+-- at the end of such a history an onlooker counts two acting roots, which is an alarm of the lines of a history
+abbrev pub TwoRootsAreSeen : Network → Plan → Type 0
+TwoRootsAreSeen net plan =
+    Holds net plan condition.structure → (f : DomainId) → (makes : MakesTwoRoots net plan f)
+    → 2 ≤ length (roots (alone net plan) (chronicle (alone net plan) makes.history))
