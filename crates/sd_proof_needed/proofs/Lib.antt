@@ -26,8 +26,9 @@ pub mod Reaches
 mod Times
 mod Takeovers
 mod CutOff
+mod Taken
 pub mod Roots
-pub mod Taken
+pub mod Refusals
 -- Handed on: what crates above name of those below.
 pub use Rattle.sd_checker.proofs as Checker
 pub use Rattle.sd_history.proofs as History

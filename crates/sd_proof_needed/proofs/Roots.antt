@@ -19,6 +19,7 @@ use Rattle.sd_checker.specs.Plan.declared.Plan.{Plan}
 use Rattle.sd_checker.specs.Plan.declared.Role.{Role}
 use Rattle.sd_checker.specs.Plan.declared.Role.TheVariants.{Root, BackupRoot, Ordinary}
 use Rattle.sd_checker.specs.Plan.Plans.{Fits, is_member, is_root, is_backup_root, primary_of, backup_of}
+use Rattle.sd_checker.specs.Plan.Walks.{path}
 use Rattle.sd_checker.specs.Plan.Duties.{duty_of, edge_of, role_of}
 use Rattle.sd_checker.specs.Plan.Structure.{structure_breach, roots_breach}
 use Rattle.sd_checker.proofs.Plan.Numbered.{both_none}
@@ -50,25 +51,8 @@ use Rattle.sd_proof_needed.proofs.Rings.{domain_among}
 use Rattle.sd_proof_needed.proofs.Ready.{multiples, Multiples, Ready, ready}
 use Rattle.sd_proof_needed.proofs.Times.{IsOrdered, ordered}
 use Rattle.sd_proof_needed.proofs.Takeovers.{HasMovedAt, moved_now, moved_on, takes_over_when, acts_then}
+use Rattle.sd_proof_needed.proofs.Taken.{HasRoots, has_roots, path_taken, fallback_taken}
 use Rattle.sd_proof_needed.proofs.CutOff.{is_cut_off, CutOff, cut_off, IsUnheard, is_shut, touched_off}
-
--- rule 1
-pub record HasRoots (plan : Plan) : Type 0 where
-  pub root : is_member plan plan.root ≡ true
-  pub backup_root : is_member plan plan.backup_root ≡ true
-  pub apart : nat_eq plan.root plan.backup_root ≡ false
-
-pub has_roots : (net : Network) (plan : Plan) → structure_breach net plan ≡ None → HasRoots plan
-has_roots net plan structured =
-    by (is_member plan plan.root) (is_member plan plan.backup_root) (nat_eq plan.root plan.backup_root) refl refl refl
-    (none_mapped (λ d. (1, d)) (roots_breach plan) (both_none (option_map _ (roots_breach plan)) _ structured).0)
-  where
-    by : (a b e : Bool) → is_member plan plan.root ≡ a → is_member plan plan.backup_root ≡ b → nat_eq plan.root plan.backup_root ≡ e
-        → (if not a then Some plan.root else if not b || e then Some plan.backup_root else None) ≡ None → HasRoots plan
-    by true true false is_a is_b is_e none = record { root = is_a; backup_root = is_b; apart = is_e }
-    by true true true is_a is_b is_e none = cc
-    by true false e is_a is_b is_e none = cc
-    by false b e is_a is_b is_e none = cc
 
 module _ (net : Network) (plan : Plan) (law : IsNetwork net) (fits : Fits net plan) (structured : structure_breach net plan ≡ None)
     (order : IsOrdered net plan) (bound : events_until net plan (ticks_of_takeover net plan) ≤ 2 ^ 26)
@@ -81,6 +65,12 @@ module _ (net : Network) (plan : Plan) (law : IsNetwork net) (fits : Fits net pl
 
   abbrev down : Thing → Bool
   down = holds_besides net f (both_roots plan)
+
+  on_path : list_any down (path net plan plan.backup_root) ≡ true
+  on_path = path_taken net plan fits structured f takes.path
+
+  on_fallback : list_any down (fallback net plan) ≡ true
+  on_fallback = fallback_taken net plan fits structured f on_path takes.fallback
 
   abbrev zone : ℕ → Bool
   zone = is_cut_off net plan down
@@ -288,20 +278,20 @@ module _ (net : Network) (plan : Plan) (law : IsNetwork net) (fits : Fits net pl
       (or_right (nat_eq b plan.root) (has (b ∷ []) b) (or_left (nat_eq b b) false (eq-eqb b b refl)))
 
   b_zone : zone b ≡ true
-  b_zone = touched_off net plan fits structured down takes.fallback b b_live takes.path
+  b_zone = touched_off net plan fits structured down on_fallback b b_live on_path
 
   -- The end
 
   abbrev Ended : Type 0
   Ended =
       Ready net plan f down zone mute law (domain_among net f is_domain) known_device known_link held
-      (is_shut net plan fits structured down takes.fallback) last IsWaiting idles
+      (is_shut net plan fits structured down on_fallback) last IsWaiting idles
       (λ z in_. inl ((λ same. some_first), record { made = refl; did = refl })) bound
 
   ended : Ended
   ended =
       ready net plan f down zone mute law (domain_among net f is_domain) known_device known_link held
-      (is_shut net plan fits structured down takes.fallback) last IsWaiting idles
+      (is_shut net plan fits structured down on_fallback) last IsWaiting idles
       (λ z in_. inl ((λ same. some_first), record { made = refl; did = refl })) bound
 
   abbrev end_ : ℕ

@@ -1,9 +1,9 @@
--- What the checker shows of a plan that it refuses for its roots: a domain that takes path and fallback of the backup root.
+-- What a domain takes of path and fallback of the backup root without the root, it takes without both roots too.
 use Rattle.std.specs.Prelude.{◌≡◌, ℕ, ◌+◌, ◌<◌, ◌≤◌, Bool, true, false, ◌&&◌, ◌||◌, not, List, [], ◌∷◌, ◌++◌, ◌⊎◌, length, filter, find, map, nat_eq, Option, Some, None, option_map, refl, if◌then◌else◌}
 use Rattle.std.specs.List.{list_any}
 use Rattle.std.specs.Option.{option_or}
 use Rattle.std.proofs.Common.{sym, ap, ◌∙◌, subst, arith, inl, inr}
-use Rattle.std.proofs.lemmas.Bool.{and_parts, and_from, or_cases, or_parts, or_from, or_left, or_right, eqb-true, eq-eqb, cases_Bool, both_ways, not-true, not-false, false_from_ne_true}
+use Rattle.std.proofs.lemmas.Bool.{and_parts, and_from, and_right, or_cases, or_parts, or_from, or_left, or_right, eqb-true, eq-eqb, cases_Bool, both_ways, not-true, not-false, false_from_ne_true}
 use Rattle.std.proofs.lemmas.List.Folds.{list_any-append}
 use Rattle.sd_checker.specs.Num.Lists.{has, of_some}
 use Rattle.sd_checker.specs.Topo.Network.{Network, device_numbers, link_numbers}
@@ -14,25 +14,37 @@ use Rattle.sd_checker.specs.Domain.Domains.{holds, holds_device, holds_link, hit
 use Rattle.sd_checker.specs.Domain.declared.DomainId.{DomainId}
 use Rattle.sd_checker.specs.Plan.declared.Hop.{Hop}
 use Rattle.sd_checker.specs.Plan.declared.Plan.{Plan}
-use Rattle.sd_checker.specs.Plan.Plans.{Fits, is_root, is_backup_root, backup_of}
-use Rattle.sd_checker.specs.Plan.Walks.{walk, short_walk, path, things_of, devices_of, on_walk}
-use Rattle.sd_checker.specs.Plan.Structure.{structure_breach, ancestor_breach, is_no_ancestor}
+use Rattle.sd_checker.specs.Plan.Plans.{Fits, is_member, primary_of, is_root, is_backup_root, backup_of}
+use Rattle.sd_checker.specs.Plan.Walks.{walk, short_walk, path, things_of, devices_of, links_of, on_walk}
+use Rattle.sd_checker.specs.Plan.Structure.{structure_breach, roots_breach}
 use Rattle.sd_checker.specs.CheckRoot.Roots.{fallback_devices, fallback_links, fallback_breach, root_breach}
-use Rattle.sd_checker.specs.Conditions as condition
-use Rattle.sd_checker.specs.Verdicts.{IsBreach}
-use Rattle.sd_checker.specs.declared.Breach.TheVariants as breach
-use Rattle.sd_checker.proofs.Plan.Numbered.{none_found, found_passes}
-use Rattle.sd_checker.proofs.Plan.Forest.{IsForest, IsStep, forest_of, not_above}
-use Rattle.sd_history.specs.Chronicle.{chronicle}
-use Rattle.sd_history.specs.Lines.{roots}
-use Rattle.sd_proof_needed.specs.Alone.{alone, holds_besides}
-use Rattle.sd_proof_needed.specs.Roots.{both_roots, fallback, TakesBoth, MakesTwoRoots, RootRefusalIsRight, RefusalBesidesRootIsRight, TwoRootsAreSeen}
-use Rattle.sd_proof_needed.proofs.Rings.{domain_is}
-use Rattle.sd_proof_needed.proofs.Roots.{HasRoots, has_roots, root_is_needed}
+use Rattle.sd_checker.proofs.Plan.Numbered.{both_none}
+use Rattle.sd_checker.proofs.Plan.Forest.{IsForest, IsStep, forest_of, not_above, climb, on_top, on_up, on_inside}
+use Rattle.sd_proof_needed.specs.Alone.{holds_besides}
+use Rattle.sd_proof_needed.specs.Roots.{both_roots, fallback}
+use Rattle.sd_proof_needed.proofs.Elements.{none_mapped}
+
+-- rule 1
+pub record HasRoots (plan : Plan) : Type 0 where
+  pub root : is_member plan plan.root ≡ true
+  pub backup_root : is_member plan plan.backup_root ≡ true
+  pub apart : nat_eq plan.root plan.backup_root ≡ false
+
+pub has_roots : (net : Network) (plan : Plan) → structure_breach net plan ≡ None → HasRoots plan
+has_roots net plan structured =
+    by (is_member plan plan.root) (is_member plan plan.backup_root) (nat_eq plan.root plan.backup_root) refl refl refl
+    (none_mapped (λ d. (1, d)) (roots_breach plan) (both_none (option_map _ (roots_breach plan)) _ structured).0)
+  where
+    by : (a b e : Bool) → is_member plan plan.root ≡ a → is_member plan plan.backup_root ≡ b → nat_eq plan.root plan.backup_root ≡ e
+        → (if not a then Some plan.root else if not b || e then Some plan.backup_root else None) ≡ None → HasRoots plan
+    by true true false is_a is_b is_e none = record { root = is_a; backup_root = is_b; apart = is_e }
+    by true true true is_a is_b is_e none = cc
+    by true false e is_a is_b is_e none = cc
+    by false b e is_a is_b is_e none = cc
 
 -- Lists
 
-mapped_hit : (make : ℕ → Thing) (q : Thing → Bool) (xs : List ℕ) (d : ℕ) → has xs d ≡ true → q (make d) ≡ true → list_any q (map make xs) ≡ true
+pub mapped_hit : (make : ℕ → Thing) (q : Thing → Bool) (xs : List ℕ) (d : ℕ) → has xs d ≡ true → q (make d) ≡ true → list_any q (map make xs) ≡ true
 mapped_hit make q [] d there is = cc
 mapped_hit make q (x ∷ xs) d there is = elim (or_cases (nat_eq d x) (has xs d) there) [
   | inl here ↦ or_left (q (make x)) _ (subst (λ (y : ℕ). q (make y) ≡ true) (eqb-true d x here) is)
@@ -40,7 +52,7 @@ mapped_hit make q (x ∷ xs) d there is = elim (or_cases (nat_eq d x) (has xs d)
 ]
 
 -- what is kept is among the numbers, and passes
-kept_has : (keep : ℕ → Bool) (xs : List ℕ) (d : ℕ) → has (filter keep xs) d ≡ true → (has xs d ≡ true) × (keep d ≡ true)
+pub kept_has : (keep : ℕ → Bool) (xs : List ℕ) (d : ℕ) → has (filter keep xs) d ≡ true → (has xs d ≡ true) × (keep d ≡ true)
 kept_has keep [] d there = cc
 kept_has keep (x ∷ xs) d there = by (keep x) refl there (kept_has keep xs d)
   where
@@ -53,7 +65,7 @@ kept_has keep (x ∷ xs) d there = by (keep x) refl there (kept_has keep xs d)
     by false is there' rest = let it = rest there' in (or_right (nat_eq d x) (has xs d) it.0, it.1)
 
 -- hops that do not lead to a device are hit by other things
-hit_besides : (p q : Thing → Bool) (d : ℕ) (hs : List Hop) → has (map (λ hop. hop.parent) hs) d ≡ false
+pub hit_besides : (p q : Thing → Bool) (d : ℕ) (hs : List Hop) → has (map (λ hop. hop.parent) hs) d ≡ false
     → ((l : ℕ) → p (thing.Link l) ≡ true → q (thing.Link l) ≡ true)
     → ((x : ℕ) → nat_eq d x ≡ false → p (thing.Device x) ≡ true → q (thing.Device x) ≡ true)
     → list_any p (things_of hs) ≡ true → list_any q (things_of hs) ≡ true
@@ -68,12 +80,49 @@ hit_besides p q d (h ∷ hs) apart link device is =
       ])
     ]
 
-turned : (a b : ℕ) → nat_eq a b ≡ false → nat_eq b a ≡ false
+pub turned : (a b : ℕ) → nat_eq a b ≡ false → nat_eq b a ≡ false
 turned a b none = false_from_ne_true (nat_eq b a) (λ is. both_ways (nat_eq a b) none (eq-eqb a b (sym (eqb-true b a is))))
 
-module _ (net : Network) (plan : Plan) (fits : Fits net plan) (structured : structure_breach net plan ≡ None) (above : ancestor_breach net plan ≡ None)
-    (f : DomainId) (x : Thing) (shown : root_breach net plan f ≡ Some x)
-    (apart : (holds_device net f plan.root && holds_device net f plan.backup_root) ≡ false) where
+-- numbers of which one is hit, by fewer things and by more
+mapped_more : (make : ℕ → Thing) (p q : Thing → Bool) (xs : List ℕ) → ((x : ℕ) → has xs x ≡ true → p (make x) ≡ true → q (make x) ≡ true)
+    → list_any p (map make xs) ≡ true → list_any q (map make xs) ≡ true
+mapped_more make p q [] each is = is
+mapped_more make p q (x ∷ xs) each is = elim (or_cases (p (make x)) _ is) [
+  | inl one ↦ or_left (q (make x)) _ (each x (or_left (nat_eq x x) (has xs x) (eq-eqb x x refl)) one)
+  | inr more ↦ or_right (q (make x)) _ (mapped_more make p q xs (λ y there. each y (or_right (nat_eq y x) (has xs y) there)) more)
+]
+
+-- what is hit of hops is a device to which one leads, or a link of them; what is not kept is not hit
+hops_hit : (down : Thing → Bool) (keep : ℕ → Bool) (hs : List Hop) → ((x : ℕ) → keep x ≡ false → down (thing.Device x) ≡ false)
+    → list_any down (things_of hs) ≡ true
+    → (list_any down (map thing.Device (filter keep (map (λ hop. hop.parent) hs))) ≡ true) ⊎ (list_any down (map thing.Link (links_of hs)) ≡ true)
+hops_hit down keep [] spared is = cc
+hops_hit down keep (h ∷ hs) spared is = elim (or_cases (down (thing.Link h.link)) _ is) [
+  | inl link ↦ inr (or_left (down (thing.Link h.link)) _ link)
+  | inr more ↦ elim (or_cases (down (thing.Device h.parent)) _ more) [
+    | inl device ↦ inl (here (keep h.parent) refl device)
+    | inr behind ↦ elim (hops_hit down keep hs spared behind) [
+      | inl device ↦ inl (beside (keep h.parent) device)
+      | inr link ↦ inr (or_right (down (thing.Link h.link)) _ link)
+    ]
+  ]
+]
+  where
+    here : (b : Bool) → keep h.parent ≡ b → down (thing.Device h.parent) ≡ true
+        → list_any down (map thing.Device (if b then h.parent ∷ filter keep (map (λ hop. hop.parent) hs)
+            else filter keep (map (λ hop. hop.parent) hs))) ≡ true
+    here true is_kept device = or_left (down (thing.Device h.parent)) _ device
+    here false is_kept device = absurd (both_ways (down (thing.Device h.parent)) (spared h.parent is_kept) device)
+
+    beside : (b : Bool) → list_any down (map thing.Device (filter keep (map (λ hop. hop.parent) hs))) ≡ true → list_any down (map thing.Device (if b then h.parent ∷ filter keep (map (λ hop. hop.parent) hs)
+            else filter keep (map (λ hop. hop.parent) hs))) ≡ true
+    beside true device = or_right (down (thing.Device h.parent)) _ device
+    beside false device = device
+
+module _ (net : Network) (plan : Plan) (fits : Fits net plan) (structured : structure_breach net plan ≡ None) (f : DomainId) where
+  abbrev less : Thing → Bool
+  less = holds_besides net f (plan.root ∷ [])
+
   abbrev down : Thing → Bool
   down = holds_besides net f (both_roots plan)
 
@@ -91,128 +140,96 @@ module _ (net : Network) (plan : Plan) (fits : Fits net plan) (structured : stru
       (or_from (nat_eq d plan.backup_root) false (turned plan.backup_root d ordinary) refl) in
       and_from (holds_device net f d) (not (has (both_roots plan) d)) held (ap not none)
 
-  -- what the checker shows
-  taken : (hits net f (path net plan plan.backup_root) ≡ true) × (fallback_breach net plan f ≡ Some x)
-  taken = by (hits net f (path net plan plan.backup_root)) refl
-      (ap (λ (b : Bool). if b then Some (thing.Device plan.backup_root)
-      else if hits net f (path net plan plan.backup_root) then fallback_breach net plan f else None) (sym apart) ∙ shown)
-    where
-      by : (b : Bool) → hits net f (path net plan plan.backup_root) ≡ b → (if b then fallback_breach net plan f else None) ≡ Some x
-          → (hits net f (path net plan plan.backup_root) ≡ true) × (fallback_breach net plan f ≡ Some x)
-      by true is shown' = (is, shown')
-      by false is shown' = cc
-
   -- the backup root is not on its own path
-  not_on_path : has (map (λ hop. hop.parent) (walk net plan plan.backup_root)) plan.backup_root ≡ false
+  pub not_on_path : has (map (λ hop. hop.parent) (walk net plan plan.backup_root)) plan.backup_root ≡ false
   not_on_path =
       let (hop, primary) = forest.hop plan.backup_root fits.backup_root two.backup_root two.apart in
       let step : IsStep net plan plan.backup_root hop = forest.up plan.backup_root hop fits.backup_root primary in
       ap (λ (hs : List Hop). has (map (λ h. h.parent) hs) plan.backup_root) step.walk ∙ not_above net plan forest plan.backup_root hop step
 
-  -- nor on that of its backup parent
-  no_ancestor : (hop : Hop) → backup_of plan plan.backup_root ≡ Some hop → on_walk net plan hop.parent plan.backup_root ≡ false
-  no_ancestor hop backup =
-      let right : is_no_ancestor net plan plan.backup_root ≡ true =
-      not-false (is_no_ancestor net plan plan.backup_root)
-      (none_found (λ d. not (is_no_ancestor net plan d)) (length net.devices) plan.backup_root above fits.backup_root) in
-      not-true (on_walk net plan hop.parent plan.backup_root)
-      (by (is_backup_root plan plan.backup_root) (eq-eqb plan.backup_root plan.backup_root refl) _
-      (sym (ap (λ (o : Option Hop). of_some o true (λ h.
-      if is_backup_root plan plan.backup_root then not (on_walk net plan h.parent plan.backup_root)
-      else not (has (devices_of h.parent (short_walk net plan h.parent)) plan.backup_root))) backup) ∙ right))
+  -- what is hit without the root, and is not the backup root, is hit without both
+  less_down : (d : ℕ) → is_backup_root plan d ≡ false → less (thing.Device d) ≡ true → down (thing.Device d) ≡ true
+  less_down d ordinary is =
+      let (held, spared) = and_parts (holds_device net f d) (not (has (plan.root ∷ []) d)) is in
+      down_device d held (turned d plan.root (or_parts (nat_eq d plan.root) false (not-true (has (plan.root ∷ []) d) spared)).0) ordinary
+
+  pub path_taken : list_any less (path net plan plan.backup_root) ≡ true → list_any down (path net plan plan.backup_root) ≡ true
+  path_taken hit = hit_besides less down plan.backup_root (walk net plan plan.backup_root) not_on_path (λ l is. is) less_down hit
+
+  -- the root does not fail
+  root_spared : (d : ℕ) → not (is_root plan d) ≡ false → down (thing.Device d) ≡ false
+  root_spared d is =
+      let same : d ≡ plan.root = sym (eqb-true plan.root d (not-false (is_root plan d) is)) in
+      and_right (holds_device net f d) (not (has (both_roots plan) d))
+      (ap not (or_left (nat_eq d plan.root) (nat_eq d plan.backup_root || false) (eq-eqb d plan.root same)))
+
+  -- a walk that comes through the backup root is hit where its path is
+  abbrev Through : ℕ → Type 0
+  Through d = on_walk net plan d plan.backup_root ≡ true → list_any down (path net plan d) ≡ true
+
+  through : list_any down (path net plan plan.backup_root) ≡ true → (d : ℕ) → d < length net.devices → Through d
+  through hit =
+      climb net plan forest Through
+      (λ d within none on. itself d (sym (on_top net plan d plan.backup_root (forest.top d none)) ∙ on))
+      (λ d hop within is step more on. elim (or_cases (nat_eq plan.backup_root d) (on_walk net plan hop.parent plan.backup_root)
+      (sym (on_up net plan d plan.backup_root hop step.walk) ∙ on)) [
+        | inl same ↦ itself d same
+        | inr above ↦ (ap (λ (hs : List Hop). list_any down (things_of hs)) step.walk
+            ∙ or_right (down (thing.Link hop.link)) _ (or_right (down (thing.Device hop.parent)) _ (more above)))
+      ])
     where
-      by : (b : Bool) → b ≡ true → (other : Bool) → (if b then not (on_walk net plan hop.parent plan.backup_root) else other) ≡ true
-          → not (on_walk net plan hop.parent plan.backup_root) ≡ true
-      by true is other right = right
-      by false is other right = cc
+      itself : (d : ℕ) → nat_eq plan.backup_root d ≡ true → list_any down (path net plan d) ≡ true
+      itself d same = subst (λ (y : ℕ). list_any down (path net plan y) ≡ true) (eqb-true plan.backup_root d same) hit
 
-  -- a device of the fallback is neither root
-  of_fallback : (d : ℕ) → (o : Option Hop) → backup_of plan plan.backup_root ≡ o
-      → has (of_some o [] (λ hop. filter (λ y. not (is_root plan y)) (devices_of hop.parent (walk net plan hop.parent)))) d ≡ true
-      → (is_root plan d ≡ false) × (is_backup_root plan d ≡ false)
-  of_fallback d None backup there = cc
-  of_fallback d (Some hop) backup there =
-      let it = kept_has (λ y. not (is_root plan y)) (devices_of hop.parent (walk net plan hop.parent)) d there in (
-        not-true (is_root plan d) it.1,
-        false_from_ne_true (is_backup_root plan d) (λ same.
-        both_ways (on_walk net plan hop.parent plan.backup_root) (no_ancestor hop backup)
-        (subst (λ (y : ℕ). on_walk net plan hop.parent y ≡ true) (sym (eqb-true plan.backup_root d same)) it.0)),
-      )
+  -- the devices of the walk from a backup parent, without the root
+  abbrev kept : Hop → List ℕ
+  kept hop = filter (λ y. not (is_root plan y)) (devices_of hop.parent (walk net plan hop.parent))
 
-  takes_fallback : list_any down (fallback net plan) ≡ true
-  takes_fallback =
-      list_any-append down (map thing.Device (fallback_devices net plan)) (map thing.Link (fallback_links net plan))
-      ∙ by (find (λ d. holds_device net f d && has (fallback_devices net plan) d) (device_numbers net))
-        (find (λ l. holds_link net f l && has (fallback_links net plan) l) (link_numbers net)) refl refl taken.1
+  abbrev fallen : Option Hop → List Thing
+  fallen o = map thing.Device (of_some o [] kept) ++ map thing.Link (of_some o [] (λ hop. hop.link ∷ links_of (walk net plan hop.parent)))
+
+  pub fallback_taken : list_any down (path net plan plan.backup_root) ≡ true → list_any less (fallback net plan) ≡ true
+      → list_any down (fallback net plan) ≡ true
+  fallback_taken hit taken = by (backup_of plan plan.backup_root) taken
     where
-      by : (one other : Option ℕ) → find (λ d. holds_device net f d && has (fallback_devices net plan) d) (device_numbers net) ≡ one
-          → find (λ l. holds_link net f l && has (fallback_links net plan) l) (link_numbers net) ≡ other
-          → option_or (option_map thing.Device one) (option_map thing.Link other) ≡ Some x
-          → (list_any down (map thing.Device (fallback_devices net plan)) || list_any down (map thing.Link (fallback_links net plan))) ≡ true
-      by (Some d) other is_one is_other shown' =
-          let it = found_passes (λ y. holds_device net f y && has (fallback_devices net plan) y) (length net.devices) d is_one in
-          let (held, there) = and_parts (holds_device net f d) (has (fallback_devices net plan) d) it.1 in
-          let neither = of_fallback d (backup_of plan plan.backup_root) refl there in
-          or_left (list_any down (map thing.Device (fallback_devices net plan))) _
-          (mapped_hit thing.Device down (fallback_devices net plan) d there (down_device d held neither.0 neither.1))
-      by None (Some l) is_one is_other shown' =
-          let it = found_passes (λ y. holds_link net f y && has (fallback_links net plan) y) (length net.links) l is_other in
-          let (held, there) = and_parts (holds_link net f l) (has (fallback_links net plan) l) it.1 in
-          or_right (list_any down (map thing.Device (fallback_devices net plan))) _ (mapped_hit thing.Link down (fallback_links net plan) l there held)
-      by None None is_one is_other shown' = cc
+      -- the walk from the backup parent comes through the backup root
+      on : (hop : Hop) → on_walk net plan hop.parent plan.backup_root ≡ true → list_any down (fallen (Some hop)) ≡ true
+      on hop is =
+          let whole = through hit hop.parent (on_inside net plan forest hop.parent plan.backup_root fits.backup_root is) is in
+          list_any-append down (map thing.Device (kept hop)) (map thing.Link (hop.link ∷ links_of (walk net plan hop.parent)))
+          ∙ elim (hops_hit down (λ y. not (is_root plan y)) (walk net plan hop.parent) root_spared whole) [
+            | inl device ↦ or_left (list_any down (map thing.Device (kept hop))) _ (first_too (not (is_root plan hop.parent)) device)
+            | inr link ↦ or_right (list_any down (map thing.Device (kept hop))) _ (or_right (down (thing.Link hop.link)) _ link)
+          ]
+        where
+          first_too : (b : Bool) → list_any down (map thing.Device (filter (λ y. not (is_root plan y)) (map (λ h. h.parent) (walk net plan hop.parent)))) ≡ true
+              → list_any down (map thing.Device (if b then hop.parent ∷ filter (λ y. not (is_root plan y)) (map (λ h. h.parent) (walk net plan hop.parent))
+              else filter (λ y. not (is_root plan y)) (map (λ h. h.parent) (walk net plan hop.parent)))) ≡ true
+          first_too true device = or_right (down (thing.Device hop.parent)) _ device
+          first_too false device = device
 
-  pub takes_both : list_any (holds_besides net f (plan.root ∷ [])) (path net plan plan.backup_root) ≡ true → TakesBoth net plan f
-  takes_both hit =
-      record {
-        path = hit_besides (holds_besides net f (plan.root ∷ [])) down plan.backup_root (walk net plan plan.backup_root) not_on_path (λ l is. is)
-            (λ d ordinary is. (let (held, spared) = and_parts (holds_device net f d) (not (has (plan.root ∷ []) d)) is in
-            down_device d held (turned d plan.root (or_parts (nat_eq d plan.root) false (not-true (has (plan.root ∷ []) d) spared)).0) ordinary)) hit;
-        fallback = takes_fallback;
-      }
+      -- or not
+      off : (hop : Hop) → on_walk net plan hop.parent plan.backup_root ≡ false → list_any less (fallen (Some hop)) ≡ true
+          → list_any down (fallen (Some hop)) ≡ true
+      off hop is some =
+          list_any-append down (map thing.Device (kept hop)) (map thing.Link (hop.link ∷ links_of (walk net plan hop.parent)))
+          ∙ elim (or_cases (list_any less (map thing.Device (kept hop))) _
+            (sym (list_any-append less (map thing.Device (kept hop)) (map thing.Link (hop.link ∷ links_of (walk net plan hop.parent)))) ∙ some)) [
+              | inl device ↦ or_left (list_any down (map thing.Device (kept hop))) _
+                  (mapped_more thing.Device less down (kept hop) (λ x there. less_down x (ordinary x there)) device)
+              | inr link ↦ or_right (list_any down (map thing.Device (kept hop))) _
+                  (mapped_more thing.Link less down (hop.link ∷ links_of (walk net plan hop.parent)) (λ l there held. held) link)
+            ]
+        where
+          ordinary : (x : ℕ) → has (kept hop) x ≡ true → is_backup_root plan x ≡ false
+          ordinary x there =
+              false_from_ne_true (is_backup_root plan x) (λ same. both_ways (on_walk net plan hop.parent plan.backup_root) is
+              (subst (λ (y : ℕ). on_walk net plan hop.parent y ≡ true) (sym (eqb-true plan.backup_root x same))
+              (kept_has (λ y. not (is_root plan y)) (devices_of hop.parent (walk net plan hop.parent)) x there).0))
 
-  -- where the domain has not the root, what it hits it hits without it
-  pub hit_without : holds_device net f plan.root ≡ false → list_any (holds_besides net f (plan.root ∷ [])) (path net plan plan.backup_root) ≡ true
-  hit_without none =
-      hit_besides (holds net f) (holds_besides net f (plan.root ∷ [])) plan.backup_root (walk net plan plan.backup_root) not_on_path (λ l is. is)
-      (λ d ordinary held. and_from (holds_device net f d) (not (has (plan.root ∷ []) d)) held
-      (ap not (false_from_ne_true (has (plan.root ∷ []) d) (λ there.
-      elim (or_cases (nat_eq d plan.root) false there) [
-        | inl same ↦ both_ways (holds_device net f d) (subst (λ (y : ℕ). holds_device net f y ≡ false) (sym (eqb-true d plan.root same)) none) held
-        | inr never ↦ cc
-      ])))) taken.0
-
-pub root_refusal_is_right : (net : Network) (plan : Plan) → RootRefusalIsRight net plan
-root_refusal_is_right net plan law fits bound f x broken not_both hit =
-    root_is_needed net plan law fits (broken.before condition.structure refl) (broken.before condition.timing refl) bound f
-    (domain_is net (broken.shows.0.0) f broken.shows.0.1)
-    (takes_both net plan fits (broken.before condition.structure refl) (broken.before condition.ancestor refl) f x broken.shows.1
-    (not-true (holds_device net f plan.root && holds_device net f plan.backup_root) not_both) hit)
-
-pub refusal_besides_root_is_right : (net : Network) (plan : Plan) → RefusalBesidesRootIsRight net plan
-refusal_besides_root_is_right net plan law fits bound f x broken not_root =
-    let none : holds_device net f plan.root ≡ false = not-true (holds_device net f plan.root) not_root in
-    let apart : (holds_device net f plan.root && holds_device net f plan.backup_root) ≡ false = rw none refl in
-    root_refusal_is_right net plan law fits bound f x broken (ap not apart)
-    (hit_without net plan fits (broken.before condition.structure refl) (broken.before condition.ancestor refl) f x broken.shows.1 apart none)
-
--- Two that differ are at least two
-
-some_one : (xs : List ℕ) (a : ℕ) → has xs a ≡ true → 1 ≤ length xs
-some_one [] a there = cc
-some_one (x ∷ xs) a there = omega arith
-
-at_least_two : (xs : List ℕ) (a b : ℕ) → nat_eq a b ≡ false → has xs a ≡ true → has xs b ≡ true → 2 ≤ length xs
-at_least_two [] a b apart one other = cc
-at_least_two (x ∷ xs) a b apart one other =
-    elim (or_cases (nat_eq a x) (has xs a) one) [
-      | inl here ↦ elim (or_cases (nat_eq b x) (has xs b) other) [
-        | inl same ↦ absurd (both_ways (nat_eq a b) apart (eq-eqb a b (eqb-true a x here ∙ sym (eqb-true b x same))))
-        | inr more ↦ (let rest = some_one xs b more in omega (arith, rest))
+      by : (o : Option Hop) → list_any less (fallen o) ≡ true → list_any down (fallen o) ≡ true
+      by None some = cc
+      by (Some hop) some = elim (cases_Bool (on_walk net plan hop.parent plan.backup_root)) [
+        | inl is ↦ on hop is
+        | inr is ↦ off hop is some
       ]
-      | inr more ↦ (let rest = some_one xs a more in omega (arith, rest))
-    ]
-
-pub two_roots_are_seen : (net : Network) (plan : Plan) → TwoRootsAreSeen net plan
-two_roots_are_seen net plan structured f makes =
-    at_least_two (roots (alone net plan) (chronicle (alone net plan) makes.history)) plan.root plan.backup_root (has_roots net plan structured).apart makes.root
-    makes.backup_root

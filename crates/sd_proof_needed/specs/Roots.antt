@@ -1,9 +1,9 @@
--- The root condition is needed, as far as it forbids two acting roots. Where things of a domain other than both roots hit the path of the backup root, and
--- also take something of what it falls back on, there is a history that breaks no premise, in which only such things fail, and at whose end root and backup
--- root both act.
+-- The root condition is needed, as far as it forbids two acting roots. Where a domain without the root hits the path of the backup root, and also takes
+-- something of what it falls back on, there is a history that breaks no premise, in which only things of the domain other than both roots fail, and at whose
+-- end root and backup root both act.
 --
--- The hypotheses beside structure and timing are that a history may have so many events as this one (events_until). It lasts as long as the backup root's
--- waits, and each device ticks there once a tick.
+-- The one hypothesis beside structure and timing is that a history may have so many events as this one (events_until). It lasts as long as both waits of
+-- the backup root, and each device ticks there once a tick.
 use Rattle.std.specs.Prelude.{ℕ, ◌+◌, ◌^◌, ◌≤◌, ◌&&◌, not, List, [], ◌∷◌, ◌++◌, map, length, IsTrue}
 use Rattle.std.specs.List.{list_any}
 use Rattle.sd_checker.specs.Num.Lists.{has}
@@ -35,10 +35,10 @@ both_roots plan = plan.root ∷ plan.backup_root ∷ []
 abbrev pub fallback : Network → Plan → List Thing
 fallback net plan = map thing.Device (fallback_devices net plan) ++ map thing.Link (fallback_links net plan)
 
--- things of the domain other than both roots are on the path of the backup root, and such things are of its fallback
+-- the domain without the root hits the path of the backup root, and takes something of its fallback
 pub record TakesBoth (net : Network) (plan : Plan) (f : DomainId) : Type 0 where
-  pub path : IsTrue (list_any (holds_besides net f (both_roots plan)) (path net plan plan.backup_root))
-  pub fallback : IsTrue (list_any (holds_besides net f (both_roots plan)) (fallback net plan))
+  pub path : IsTrue (list_any (holds_besides net f (plan.root ∷ [])) (path net plan plan.backup_root))
+  pub fallback : IsTrue (list_any (holds_besides net f (plan.root ∷ [])) (fallback net plan))
 
 -- a clean history in which nothing fails but things of the domain other than both roots, and at whose end both are up and act as root
 pub record MakesTwoRoots (net : Network) (plan : Plan) (f : DomainId) : Type 0 where
@@ -58,8 +58,8 @@ RootIsNeeded net plan =
     → events_until net plan (ticks_of_takeover net plan) ≤ 2 ^ 26
     → (f : DomainId) → IsDomain net f → TakesBoth net plan f → MakesTwoRoots net plan f
 
--- So each plan that the checker refuses for its roots makes two acting ones, where the domain that is shown has not both roots and what it has besides the
--- root is on the path of the backup root too.
+-- So each plan that the checker refuses for its roots makes two acting ones, where the domain that is shown has not both roots and hits the path of the
+-- backup root without the root too.
 abbrev pub RootRefusalIsRight : Network → Plan → Type 0
 RootRefusalIsRight net plan =
     IsNetwork net → Fits net plan → events_until net plan (ticks_of_takeover net plan) ≤ 2 ^ 26

@@ -1,0 +1,132 @@
+-- What the checker shows of a plan that it refuses for its roots: a domain that takes path and fallback of the backup root.
+use Rattle.std.specs.Prelude.{◌≡◌, ℕ, ◌+◌, ◌<◌, ◌≤◌, Bool, true, false, ◌&&◌, ◌||◌, not, List, [], ◌∷◌, ◌++◌, ◌⊎◌, length, filter, find, map, nat_eq, Option, Some, None, option_map, refl, if◌then◌else◌}
+use Rattle.std.specs.List.{list_any}
+use Rattle.std.specs.Option.{option_or}
+use Rattle.std.proofs.Common.{sym, ap, ◌∙◌, subst, arith, inl, inr}
+use Rattle.std.proofs.lemmas.Bool.{and_parts, and_from, or_cases, or_parts, or_from, or_left, or_right, eqb-true, eq-eqb, cases_Bool, both_ways, not-true, not-false, false_from_ne_true}
+use Rattle.std.proofs.lemmas.List.Folds.{list_any-append}
+use Rattle.sd_checker.specs.Num.Lists.{has, of_some}
+use Rattle.sd_checker.specs.Topo.Network.{Network, device_numbers, link_numbers}
+use Rattle.sd_checker.specs.Topo.Limits.{IsNetwork}
+use Rattle.sd_checker.specs.Topo.declared.Thing.{Thing}
+use Rattle.sd_checker.specs.Topo.declared.Thing.TheVariants as thing
+use Rattle.sd_checker.specs.Domain.Domains.{holds, holds_device, holds_link, hits}
+use Rattle.sd_checker.specs.Domain.declared.DomainId.{DomainId}
+use Rattle.sd_checker.specs.Plan.declared.Hop.{Hop}
+use Rattle.sd_checker.specs.Plan.declared.Plan.{Plan}
+use Rattle.sd_checker.specs.Plan.Plans.{Fits, is_root, is_backup_root, backup_of}
+use Rattle.sd_checker.specs.Plan.Walks.{walk, short_walk, path, things_of, devices_of, on_walk}
+use Rattle.sd_checker.specs.Plan.Structure.{structure_breach}
+use Rattle.sd_checker.specs.CheckRoot.Roots.{fallback_devices, fallback_links, fallback_breach, root_breach}
+use Rattle.sd_checker.specs.Conditions as condition
+use Rattle.sd_checker.specs.Verdicts.{IsBreach}
+use Rattle.sd_checker.specs.declared.Breach.TheVariants as breach
+use Rattle.sd_checker.proofs.Plan.Numbered.{found_passes}
+use Rattle.sd_checker.proofs.Plan.Forest.{IsForest, IsStep, forest_of, not_above}
+use Rattle.sd_history.specs.Chronicle.{chronicle}
+use Rattle.sd_history.specs.Lines.{roots}
+use Rattle.sd_proof_needed.specs.Alone.{alone, holds_besides}
+use Rattle.sd_proof_needed.specs.Roots.{both_roots, fallback, TakesBoth, MakesTwoRoots, RootRefusalIsRight, RefusalBesidesRootIsRight, TwoRootsAreSeen}
+use Rattle.sd_proof_needed.proofs.Rings.{domain_is}
+use Rattle.sd_proof_needed.proofs.Taken.{HasRoots, has_roots, kept_has, mapped_hit, hit_besides, turned, not_on_path}
+use Rattle.sd_proof_needed.proofs.Roots.{root_is_needed}
+
+module _ (net : Network) (plan : Plan) (f : DomainId) (x : Thing) (shown : root_breach net plan f ≡ Some x)
+    (apart : (holds_device net f plan.root && holds_device net f plan.backup_root) ≡ false) where
+  abbrev less : Thing → Bool
+  less = holds_besides net f (plan.root ∷ [])
+
+  less_device : (d : ℕ) → holds_device net f d ≡ true → is_root plan d ≡ false → less (thing.Device d) ≡ true
+  less_device d held other =
+      and_from (holds_device net f d) (not (has (plan.root ∷ []) d)) held (ap not (or_from (nat_eq d plan.root) false (turned plan.root d other) refl))
+
+  -- what the checker shows
+  taken : (hits net f (path net plan plan.backup_root) ≡ true) × (fallback_breach net plan f ≡ Some x)
+  taken = by (hits net f (path net plan plan.backup_root)) refl
+      (ap (λ (b : Bool). if b then Some (thing.Device plan.backup_root)
+      else if hits net f (path net plan plan.backup_root) then fallback_breach net plan f else None) (sym apart) ∙ shown)
+    where
+      by : (b : Bool) → hits net f (path net plan plan.backup_root) ≡ b → (if b then fallback_breach net plan f else None) ≡ Some x
+          → (hits net f (path net plan plan.backup_root) ≡ true) × (fallback_breach net plan f ≡ Some x)
+      by true is shown' = (is, shown')
+      by false is shown' = cc
+
+  -- the root is not of the fallback
+  not_root_of : (d : ℕ) → (o : Option Hop) → backup_of plan plan.backup_root ≡ o
+      → has (of_some o [] (λ hop. filter (λ y. not (is_root plan y)) (devices_of hop.parent (walk net plan hop.parent)))) d ≡ true → is_root plan d ≡ false
+  not_root_of d None backup there = cc
+  not_root_of d (Some hop) backup there =
+      not-true (is_root plan d) (kept_has (λ y. not (is_root plan y)) (devices_of hop.parent (walk net plan hop.parent)) d there).1
+
+  takes_fallback : list_any less (fallback net plan) ≡ true
+  takes_fallback =
+      list_any-append less (map thing.Device (fallback_devices net plan)) (map thing.Link (fallback_links net plan))
+      ∙ by (find (λ d. holds_device net f d && has (fallback_devices net plan) d) (device_numbers net))
+        (find (λ l. holds_link net f l && has (fallback_links net plan) l) (link_numbers net)) refl refl taken.1
+    where
+      by : (one other : Option ℕ) → find (λ d. holds_device net f d && has (fallback_devices net plan) d) (device_numbers net) ≡ one
+          → find (λ l. holds_link net f l && has (fallback_links net plan) l) (link_numbers net) ≡ other
+          → option_or (option_map thing.Device one) (option_map thing.Link other) ≡ Some x
+          → (list_any less (map thing.Device (fallback_devices net plan)) || list_any less (map thing.Link (fallback_links net plan))) ≡ true
+      by (Some d) other is_one is_other shown' =
+          let it = found_passes (λ y. holds_device net f y && has (fallback_devices net plan) y) (length net.devices) d is_one in
+          let (held, there) = and_parts (holds_device net f d) (has (fallback_devices net plan) d) it.1 in
+          let other = not_root_of d (backup_of plan plan.backup_root) refl there in
+          or_left (list_any less (map thing.Device (fallback_devices net plan))) _
+          (mapped_hit thing.Device less (fallback_devices net plan) d there (less_device d held other))
+      by None (Some l) is_one is_other shown' =
+          let it = found_passes (λ y. holds_link net f y && has (fallback_links net plan) y) (length net.links) l is_other in
+          let (held, there) = and_parts (holds_link net f l) (has (fallback_links net plan) l) it.1 in
+          or_right (list_any less (map thing.Device (fallback_devices net plan))) _ (mapped_hit thing.Link less (fallback_links net plan) l there held)
+      by None None is_one is_other shown' = cc
+
+  pub takes_both : list_any less (path net plan plan.backup_root) ≡ true → TakesBoth net plan f
+  takes_both hit = record { path = hit; fallback = takes_fallback }
+
+  -- where the domain has not the root, what it hits it hits without it
+  pub hit_without : Fits net plan → structure_breach net plan ≡ None → holds_device net f plan.root ≡ false → list_any (holds_besides net f (plan.root ∷ [])) (path net plan plan.backup_root) ≡ true
+  hit_without fits structured none =
+      hit_besides (holds net f) (holds_besides net f (plan.root ∷ [])) plan.backup_root (walk net plan plan.backup_root)
+      (not_on_path net plan fits structured f) (λ l is. is)
+      (λ d ordinary held. and_from (holds_device net f d) (not (has (plan.root ∷ []) d)) held
+      (ap not (false_from_ne_true (has (plan.root ∷ []) d) (λ there.
+      elim (or_cases (nat_eq d plan.root) false there) [
+        | inl same ↦ both_ways (holds_device net f d) (subst (λ (y : ℕ). holds_device net f y ≡ false) (sym (eqb-true d plan.root same)) none) held
+        | inr never ↦ cc
+      ])))) taken.0
+
+pub root_refusal_is_right : (net : Network) (plan : Plan) → RootRefusalIsRight net plan
+root_refusal_is_right net plan law fits bound f x broken not_both hit =
+    root_is_needed net plan law fits (broken.before condition.structure refl) (broken.before condition.timing refl) bound f
+    (domain_is net (broken.shows.0.0) f broken.shows.0.1)
+    (takes_both net plan f x broken.shows.1
+    (not-true (holds_device net f plan.root && holds_device net f plan.backup_root) not_both) hit)
+
+pub refusal_besides_root_is_right : (net : Network) (plan : Plan) → RefusalBesidesRootIsRight net plan
+refusal_besides_root_is_right net plan law fits bound f x broken not_root =
+    let none : holds_device net f plan.root ≡ false = not-true (holds_device net f plan.root) not_root in
+    let apart : (holds_device net f plan.root && holds_device net f plan.backup_root) ≡ false = rw none refl in
+    root_refusal_is_right net plan law fits bound f x broken (ap not apart)
+    (hit_without net plan f x broken.shows.1 apart fits (broken.before condition.structure refl) none)
+
+-- Two that differ are at least two
+
+some_one : (xs : List ℕ) (a : ℕ) → has xs a ≡ true → 1 ≤ length xs
+some_one [] a there = cc
+some_one (x ∷ xs) a there = omega arith
+
+at_least_two : (xs : List ℕ) (a b : ℕ) → nat_eq a b ≡ false → has xs a ≡ true → has xs b ≡ true → 2 ≤ length xs
+at_least_two [] a b apart one other = cc
+at_least_two (x ∷ xs) a b apart one other =
+    elim (or_cases (nat_eq a x) (has xs a) one) [
+      | inl here ↦ elim (or_cases (nat_eq b x) (has xs b) other) [
+        | inl same ↦ absurd (both_ways (nat_eq a b) apart (eq-eqb a b (eqb-true a x here ∙ sym (eqb-true b x same))))
+        | inr more ↦ (let rest = some_one xs b more in omega (arith, rest))
+      ]
+      | inr more ↦ (let rest = some_one xs a more in omega (arith, rest))
+    ]
+
+pub two_roots_are_seen : (net : Network) (plan : Plan) → TwoRootsAreSeen net plan
+two_roots_are_seen net plan structured f makes =
+    at_least_two (roots (alone net plan) (chronicle (alone net plan) makes.history)) plan.root plan.backup_root (has_roots net plan structured).apart makes.root
+    makes.backup_root
