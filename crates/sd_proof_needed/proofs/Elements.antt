@@ -1,9 +1,9 @@
 -- Elements of lists.
-use Rattle.std.specs.Prelude.{Option, None, option_map, ◌≡◌, ℕ, zero, suc, ◌<◌, Bool, true, false, List, [], ◌∷◌, ◌++◌, filter, find, map, Some, is_some, refl, if◌then◌else◌}
+use Rattle.std.specs.Prelude.{Option, None, option_map, ◌||◌, nat_eq, ◌≡◌, ℕ, zero, suc, ◌<◌, Bool, true, false, List, [], ◌∷◌, ◌++◌, filter, find, map, Some, is_some, refl, if◌then◌else◌}
 use Rattle.std.specs.List.{list_any}
-use Rattle.std.proofs.Common.{subst, arith, inl, inr}
-use Rattle.std.proofs.lemmas.Bool.{or_left, or_right, cases_eq}
-use Rattle.sd_checker.specs.Num.Lists.{below}
+use Rattle.std.proofs.Common.{sym, subst, arith, inl, inr}
+use Rattle.std.proofs.lemmas.Bool.{or_left, or_right, or_cases, eqb-true, cases_eq}
+use Rattle.sd_checker.specs.Num.Lists.{below, has}
 use Rattle.sd_checker.specs.Topo.Network.{Each}
 use Rattle.sd_history.proofs.Among.{Among, first, later, on_right, either_side}
 
@@ -89,3 +89,16 @@ passing_head p y x ys is rest (later a) = by (p y) (rest a)
 pub among_kept : {A : Type 0} (p : A → Bool) (xs : List A) (x : A) → p x ≡ true → Among x xs → Among x (filter p xs)
 among_kept p [] x is a = elim a [ ]
 among_kept p (y ∷ ys) x is a = passing_head p y x ys is (among_kept p ys x is) a
+
+-- what is kept is among the numbers, and passes
+pub kept_has : (keep : ℕ → Bool) (xs : List ℕ) (d : ℕ) → has (filter keep xs) d ≡ true → (has xs d ≡ true) × (keep d ≡ true)
+kept_has keep [] d there = cc
+kept_has keep (x ∷ xs) d there = by (keep x) refl there (kept_has keep xs d)
+  where
+    by : (b : Bool) → keep x ≡ b → has (if b then x ∷ filter keep xs else filter keep xs) d ≡ true
+        → (has (filter keep xs) d ≡ true → (has xs d ≡ true) × (keep d ≡ true)) → ((nat_eq d x || has xs d) ≡ true) × (keep d ≡ true)
+    by true is there' rest = elim (or_cases (nat_eq d x) (has (filter keep xs) d) there') [
+      | inl here ↦ (or_left (nat_eq d x) (has xs d) here, subst (λ (y : ℕ). keep y ≡ true) (sym (eqb-true d x here)) is)
+      | inr more ↦ (let it = rest more in (or_right (nat_eq d x) (has xs d) it.0, it.1))
+    ]
+    by false is there' rest = let it = rest there' in (or_right (nat_eq d x) (has xs d) it.0, it.1)

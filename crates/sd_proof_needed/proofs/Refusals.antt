@@ -27,17 +27,19 @@ use Rattle.sd_history.specs.Chronicle.{chronicle}
 use Rattle.sd_history.specs.Lines.{roots}
 use Rattle.sd_proof_needed.specs.Alone.{alone, holds_besides}
 use Rattle.sd_proof_needed.specs.Roots.{both_roots, fallback, TakesBoth, MakesTwoRoots, RootRefusalIsRight, RefusalBesidesRootIsRight, TwoRootsAreSeen}
+use Rattle.sd_proof_needed.proofs.Elements.{kept_has}
 use Rattle.sd_proof_needed.proofs.Rings.{domain_is}
-use Rattle.sd_proof_needed.proofs.Taken.{HasRoots, has_roots, kept_has, mapped_hit, hit_besides, turned, not_on_path}
+use Rattle.sd_proof_needed.proofs.Taken.{has_roots, mapped_hit, hit_besides, turned, not_on_path}
 use Rattle.sd_proof_needed.proofs.Roots.{root_is_needed}
 
 module _ (net : Network) (plan : Plan) (f : DomainId) (x : Thing) (shown : root_breach net plan f ≡ Some x)
     (apart : (holds_device net f plan.root && holds_device net f plan.backup_root) ≡ false) where
-  abbrev less : Thing → Bool
-  less = holds_besides net f (plan.root ∷ [])
+  -- the domain without the root
+  abbrev rootless : Thing → Bool
+  rootless = holds_besides net f (plan.root ∷ [])
 
-  less_device : (d : ℕ) → holds_device net f d ≡ true → is_root plan d ≡ false → less (thing.Device d) ≡ true
-  less_device d held other =
+  rootless_device : (d : ℕ) → holds_device net f d ≡ true → is_root plan d ≡ false → rootless (thing.Device d) ≡ true
+  rootless_device d held other =
       and_from (holds_device net f d) (not (has (plan.root ∷ []) d)) held (ap not (or_from (nat_eq d plan.root) false (turned plan.root d other) refl))
 
   -- what the checker shows
@@ -58,35 +60,36 @@ module _ (net : Network) (plan : Plan) (f : DomainId) (x : Thing) (shown : root_
   not_root_of d (Some hop) backup there =
       not-true (is_root plan d) (kept_has (λ y. not (is_root plan y)) (devices_of hop.parent (walk net plan hop.parent)) d there).1
 
-  takes_fallback : list_any less (fallback net plan) ≡ true
+  takes_fallback : list_any rootless (fallback net plan) ≡ true
   takes_fallback =
-      list_any-append less (map thing.Device (fallback_devices net plan)) (map thing.Link (fallback_links net plan))
+      list_any-append rootless (map thing.Device (fallback_devices net plan)) (map thing.Link (fallback_links net plan))
       ∙ by (find (λ d. holds_device net f d && has (fallback_devices net plan) d) (device_numbers net))
         (find (λ l. holds_link net f l && has (fallback_links net plan) l) (link_numbers net)) refl refl taken.1
     where
       by : (one other : Option ℕ) → find (λ d. holds_device net f d && has (fallback_devices net plan) d) (device_numbers net) ≡ one
           → find (λ l. holds_link net f l && has (fallback_links net plan) l) (link_numbers net) ≡ other
           → option_or (option_map thing.Device one) (option_map thing.Link other) ≡ Some x
-          → (list_any less (map thing.Device (fallback_devices net plan)) || list_any less (map thing.Link (fallback_links net plan))) ≡ true
+          → (list_any rootless (map thing.Device (fallback_devices net plan)) || list_any rootless (map thing.Link (fallback_links net plan))) ≡ true
       by (Some d) other is_one is_other shown' =
           let it = found_passes (λ y. holds_device net f y && has (fallback_devices net plan) y) (length net.devices) d is_one in
           let (held, there) = and_parts (holds_device net f d) (has (fallback_devices net plan) d) it.1 in
           let other = not_root_of d (backup_of plan plan.backup_root) refl there in
-          or_left (list_any less (map thing.Device (fallback_devices net plan))) _
-          (mapped_hit thing.Device less (fallback_devices net plan) d there (less_device d held other))
+          or_left (list_any rootless (map thing.Device (fallback_devices net plan))) _
+          (mapped_hit thing.Device rootless (fallback_devices net plan) d there (rootless_device d held other))
       by None (Some l) is_one is_other shown' =
           let it = found_passes (λ y. holds_link net f y && has (fallback_links net plan) y) (length net.links) l is_other in
           let (held, there) = and_parts (holds_link net f l) (has (fallback_links net plan) l) it.1 in
-          or_right (list_any less (map thing.Device (fallback_devices net plan))) _ (mapped_hit thing.Link less (fallback_links net plan) l there held)
+          or_right (list_any rootless (map thing.Device (fallback_devices net plan))) _ (mapped_hit thing.Link rootless (fallback_links net plan) l there held)
       by None None is_one is_other shown' = cc
 
-  pub takes_both : list_any less (path net plan plan.backup_root) ≡ true → TakesBoth net plan f
+  pub takes_both : list_any rootless (path net plan plan.backup_root) ≡ true → TakesBoth net plan f
   takes_both hit = record { path = hit; fallback = takes_fallback }
 
   -- where the domain has not the root, what it hits it hits without it
-  pub hit_without : Fits net plan → structure_breach net plan ≡ None → holds_device net f plan.root ≡ false → list_any (holds_besides net f (plan.root ∷ [])) (path net plan plan.backup_root) ≡ true
+  pub hit_without : Fits net plan → structure_breach net plan ≡ None → holds_device net f plan.root ≡ false
+      → list_any rootless (path net plan plan.backup_root) ≡ true
   hit_without fits structured none =
-      hit_besides (holds net f) (holds_besides net f (plan.root ∷ [])) plan.backup_root (walk net plan plan.backup_root)
+      hit_besides (holds net f) rootless plan.backup_root (walk net plan plan.backup_root)
       (not_on_path net plan fits structured f) (λ l is. is)
       (λ d ordinary held. and_from (holds_device net f d) (not (has (plan.root ∷ []) d)) held
       (ap not (false_from_ne_true (has (plan.root ∷ []) d) (λ there.

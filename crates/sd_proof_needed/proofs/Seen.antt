@@ -1,7 +1,7 @@
 -- A ring of parents is a loop that is seen: following parents comes back within as many steps as there are devices.
 use Rattle.std.specs.Prelude.{◌≡◌, ◌≢◌, ℕ, zero, suc, ◌+◌, ◌<◌, ◌≤◌, Bool, true, false, not, List, [], ◌∷◌, ◌++◌, length, filter, nat_eq, Option, Some, None, option_and_then, refl, if◌then◌else◌}
 use Rattle.std.proofs.Common.{sym, ap, ◌∙◌, subst, arith, inl, inr}
-use Rattle.std.proofs.lemmas.Bool.{and_parts, or_cases, or_left, or_right, or_parts, eqb-true, eq-eqb, both_ways, not-true, false_from_ne_true}
+use Rattle.std.proofs.lemmas.Bool.{and_parts, or_cases, or_left, or_right, or_parts, eqb-true, eqb-false, eq-eqb, both_ways, not-true, false_from_ne_true}
 use Rattle.sd_checker.specs.Num.Lists.{has, same_number}
 use Rattle.sd_checker.specs.Topo.Network.{Network, device_numbers}
 use Rattle.sd_checker.specs.Plan.declared.Plan.{Plan}
@@ -13,28 +13,13 @@ use Rattle.sd_history.specs.Lines.{counted_parent, follow, is_on_loop}
 use Rattle.sd_history.proofs.Known.{up_is_known}
 use Rattle.sd_proof_needed.specs.Alone.{alone}
 use Rattle.sd_proof_needed.specs.Loops.{LoopIsSeen}
-use Rattle.sd_proof_needed.proofs.Elements.{found_some, any_of, below_among}
+use Rattle.sd_proof_needed.proofs.Elements.{found_some, any_of, below_among, kept_has}
 use Rattle.sd_proof_needed.proofs.Rings.{next_in, leads_next}
 
 -- Different numbers below n are no more than n
 
 abbrev other_than : ℕ → ℕ → Bool
 other_than k x = not (nat_eq k x)
-
-kept_has : (k : ℕ) (xs : List ℕ) (x : ℕ) → has (filter (other_than k) xs) x ≡ true → (has xs x ≡ true) × (k ≢ x)
-kept_has k [] x there = cc
-kept_has k (y ∷ ys) x there = by (nat_eq k y) refl there (kept_has k ys x)
-  where
-    by : (b : Bool) → nat_eq k y ≡ b → has (if not b then y ∷ filter (other_than k) ys else filter (other_than k) ys) x ≡ true
-        → (has (filter (other_than k) ys) x ≡ true → (has ys x ≡ true) × (k ≢ x)) → (has (y ∷ ys) x ≡ true) × (k ≢ x)
-    by true same more rest = let it = rest more in (or_right (nat_eq x y) (has ys x) it.0, it.1)
-    by false other more rest = elim (or_cases (nat_eq x y) (has (filter (other_than k) ys) x) more) [
-      | inl here ↦ (
-        or_left (nat_eq x y) (has ys x) here,
-        λ equal. both_ways (nat_eq k y) other (eq-eqb k y (equal ∙ eqb-true x y here)),
-      )
-      | inr later_ ↦ (let it = rest later_ in (or_right (nat_eq x y) (has ys x) it.0, it.1))
-    ]
 
 kept_different : (k : ℕ) (xs : List ℕ) → AreDifferent xs → AreDifferent (filter (other_than k) xs)
 kept_different k [] different = tt
@@ -44,7 +29,7 @@ kept_different k (y ∷ ys) different = by (nat_eq k y) (kept_different k ys dif
     by true rest = rest
     by false rest = (
       ap not (false_from_ne_true (has (filter (other_than k) ys) y)
-          (λ there. both_ways (has ys y) (not-true (has ys y) different.0) (kept_has k ys y there).0)),
+          (λ there. both_ways (has ys y) (not-true (has ys y) different.0) (kept_has (other_than k) ys y there).0)),
       rest,
     )
 
@@ -71,7 +56,10 @@ different_few zero [] different within = omega arith
 different_few zero (x ∷ xs) different within = let less = within x (or_left (nat_eq x x) (has xs x) (eq-eqb x x refl)) in absurd (omega (arith, less))
 different_few (suc n) xs different within =
     let rest = different_few n (filter (other_than n) xs) (kept_different n xs different)
-    (λ x there. (let it = kept_has n xs x there in let less = within x it.0 in let apart = it.1 in omega (arith, less, apart))) in
+    (λ x there. (let it = kept_has (other_than n) xs x there in
+    let less = within x it.0 in
+    let apart = eqb-false n x (not-true (nat_eq n x) it.1) in
+    omega (arith, less, apart))) in
     let most = kept_but_one n xs different in
     omega (arith, rest, most)
 

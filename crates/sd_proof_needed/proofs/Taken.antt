@@ -22,7 +22,7 @@ use Rattle.sd_checker.proofs.Plan.Numbered.{both_none}
 use Rattle.sd_checker.proofs.Plan.Forest.{IsForest, IsStep, forest_of, not_above, climb, on_top, on_up, on_inside}
 use Rattle.sd_proof_needed.specs.Alone.{holds_besides}
 use Rattle.sd_proof_needed.specs.Roots.{both_roots, fallback}
-use Rattle.sd_proof_needed.proofs.Elements.{none_mapped}
+use Rattle.sd_proof_needed.proofs.Elements.{none_mapped, kept_has}
 
 -- rule 1
 pub record HasRoots (plan : Plan) : Type 0 where
@@ -50,19 +50,6 @@ mapped_hit make q (x ∷ xs) d there is = elim (or_cases (nat_eq d x) (has xs d)
   | inl here ↦ or_left (q (make x)) _ (subst (λ (y : ℕ). q (make y) ≡ true) (eqb-true d x here) is)
   | inr more ↦ or_right (q (make x)) _ (mapped_hit make q xs d more is)
 ]
-
--- what is kept is among the numbers, and passes
-pub kept_has : (keep : ℕ → Bool) (xs : List ℕ) (d : ℕ) → has (filter keep xs) d ≡ true → (has xs d ≡ true) × (keep d ≡ true)
-kept_has keep [] d there = cc
-kept_has keep (x ∷ xs) d there = by (keep x) refl there (kept_has keep xs d)
-  where
-    by : (b : Bool) → keep x ≡ b → has (if b then x ∷ filter keep xs else filter keep xs) d ≡ true
-        → (has (filter keep xs) d ≡ true → (has xs d ≡ true) × (keep d ≡ true)) → ((nat_eq d x || has xs d) ≡ true) × (keep d ≡ true)
-    by true is there' rest = elim (or_cases (nat_eq d x) (has (filter keep xs) d) there') [
-      | inl here ↦ (or_left (nat_eq d x) (has xs d) here, subst (λ (y : ℕ). keep y ≡ true) (sym (eqb-true d x here)) is)
-      | inr more ↦ (let it = rest more in (or_right (nat_eq d x) (has xs d) it.0, it.1))
-    ]
-    by false is there' rest = let it = rest there' in (or_right (nat_eq d x) (has xs d) it.0, it.1)
 
 -- hops that do not lead to a device are hit by other things
 pub hit_besides : (p q : Thing → Bool) (d : ℕ) (hs : List Hop) → has (map (λ hop. hop.parent) hs) d ≡ false
@@ -120,8 +107,9 @@ hops_hit down keep (h ∷ hs) spared is = elim (or_cases (down (thing.Link h.lin
     beside false device = device
 
 module _ (net : Network) (plan : Plan) (fits : Fits net plan) (structured : structure_breach net plan ≡ None) (f : DomainId) where
-  abbrev less : Thing → Bool
-  less = holds_besides net f (plan.root ∷ [])
+  -- the domain without the root, and without both
+  abbrev rootless : Thing → Bool
+  rootless = holds_besides net f (plan.root ∷ [])
 
   abbrev down : Thing → Bool
   down = holds_besides net f (both_roots plan)
@@ -148,13 +136,13 @@ module _ (net : Network) (plan : Plan) (fits : Fits net plan) (structured : stru
       ap (λ (hs : List Hop). has (map (λ h. h.parent) hs) plan.backup_root) step.walk ∙ not_above net plan forest plan.backup_root hop step
 
   -- what is hit without the root, and is not the backup root, is hit without both
-  less_down : (d : ℕ) → is_backup_root plan d ≡ false → less (thing.Device d) ≡ true → down (thing.Device d) ≡ true
-  less_down d ordinary is =
+  rootless_down : (d : ℕ) → is_backup_root plan d ≡ false → rootless (thing.Device d) ≡ true → down (thing.Device d) ≡ true
+  rootless_down d ordinary is =
       let (held, spared) = and_parts (holds_device net f d) (not (has (plan.root ∷ []) d)) is in
       down_device d held (turned d plan.root (or_parts (nat_eq d plan.root) false (not-true (has (plan.root ∷ []) d) spared)).0) ordinary
 
-  pub path_taken : list_any less (path net plan plan.backup_root) ≡ true → list_any down (path net plan plan.backup_root) ≡ true
-  path_taken hit = hit_besides less down plan.backup_root (walk net plan plan.backup_root) not_on_path (λ l is. is) less_down hit
+  pub path_taken : list_any rootless (path net plan plan.backup_root) ≡ true → list_any down (path net plan plan.backup_root) ≡ true
+  path_taken hit = hit_besides rootless down plan.backup_root (walk net plan plan.backup_root) not_on_path (λ l is. is) rootless_down hit
 
   -- the root does not fail
   root_spared : (d : ℕ) → not (is_root plan d) ≡ false → down (thing.Device d) ≡ false
@@ -188,7 +176,7 @@ module _ (net : Network) (plan : Plan) (fits : Fits net plan) (structured : stru
   abbrev fallen : Option Hop → List Thing
   fallen o = map thing.Device (of_some o [] kept) ++ map thing.Link (of_some o [] (λ hop. hop.link ∷ links_of (walk net plan hop.parent)))
 
-  pub fallback_taken : list_any down (path net plan plan.backup_root) ≡ true → list_any less (fallback net plan) ≡ true
+  pub fallback_taken : list_any down (path net plan plan.backup_root) ≡ true → list_any rootless (fallback net plan) ≡ true
       → list_any down (fallback net plan) ≡ true
   fallback_taken hit taken = by (backup_of plan plan.backup_root) taken
     where
@@ -209,16 +197,16 @@ module _ (net : Network) (plan : Plan) (fits : Fits net plan) (structured : stru
           first_too false device = device
 
       -- or not
-      off : (hop : Hop) → on_walk net plan hop.parent plan.backup_root ≡ false → list_any less (fallen (Some hop)) ≡ true
+      off : (hop : Hop) → on_walk net plan hop.parent plan.backup_root ≡ false → list_any rootless (fallen (Some hop)) ≡ true
           → list_any down (fallen (Some hop)) ≡ true
       off hop is some =
           list_any-append down (map thing.Device (kept hop)) (map thing.Link (hop.link ∷ links_of (walk net plan hop.parent)))
-          ∙ elim (or_cases (list_any less (map thing.Device (kept hop))) _
-            (sym (list_any-append less (map thing.Device (kept hop)) (map thing.Link (hop.link ∷ links_of (walk net plan hop.parent)))) ∙ some)) [
+          ∙ elim (or_cases (list_any rootless (map thing.Device (kept hop))) _
+            (sym (list_any-append rootless (map thing.Device (kept hop)) (map thing.Link (hop.link ∷ links_of (walk net plan hop.parent)))) ∙ some)) [
               | inl device ↦ or_left (list_any down (map thing.Device (kept hop))) _
-                  (mapped_more thing.Device less down (kept hop) (λ x there. less_down x (ordinary x there)) device)
+                  (mapped_more thing.Device rootless down (kept hop) (λ x there. rootless_down x (ordinary x there)) device)
               | inr link ↦ or_right (list_any down (map thing.Device (kept hop))) _
-                  (mapped_more thing.Link less down (hop.link ∷ links_of (walk net plan hop.parent)) (λ l there held. held) link)
+                  (mapped_more thing.Link rootless down (hop.link ∷ links_of (walk net plan hop.parent)) (λ l there held. held) link)
             ]
         where
           ordinary : (x : ℕ) → has (kept hop) x ≡ true → is_backup_root plan x ≡ false
@@ -227,7 +215,7 @@ module _ (net : Network) (plan : Plan) (fits : Fits net plan) (structured : stru
               (subst (λ (y : ℕ). on_walk net plan hop.parent y ≡ true) (sym (eqb-true plan.backup_root x same))
               (kept_has (λ y. not (is_root plan y)) (devices_of hop.parent (walk net plan hop.parent)) x there).0))
 
-      by : (o : Option Hop) → list_any less (fallen o) ≡ true → list_any down (fallen o) ≡ true
+      by : (o : Option Hop) → list_any rootless (fallen o) ≡ true → list_any down (fallen o) ≡ true
       by None some = cc
       by (Some hop) some = elim (cases_Bool (on_walk net plan hop.parent plan.backup_root)) [
         | inl is ↦ on hop is

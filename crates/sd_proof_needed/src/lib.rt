@@ -13,15 +13,23 @@
 //! | `loop_is_seen` | an onlooker finds that loop: it is an alarm | `Loops`, `Seen` |
 //! | `reach_is_needed` | a device that a domain starves can stay deaf for good | `Reaches` |
 //! | `reach_refusal_is_right` | so can the first device of the chain that is shown | `Reaches` |
+//! | `root_is_needed` | what takes the backup root's two ways can make two acting roots | `Roots` |
+//! | `root_refusal_is_right` | so where the checker shows such a domain, it can | `Refusals` |
+//! | `refusal_besides_root_is_right` | so wherever that domain has not the root | `Refusals` |
+//! | `two_roots_are_seen` | an onlooker counts two acting roots: it is an alarm | `Refusals` |
 //!
 //! Each has its statement in specs/ and its proof in proofs/. Of two files the first has the
 //! statement, the second the proof.
 //!
 //! 'Can' means: there is a history of the plan alone that breaks none of the seven premises, in
-//! which only things of the one domain fail. For loop, none of the ring is among them. Timing, root
-//! and ancestor are not used, so these plans may break them too. One hypothesis stands beside
-//! structure: `event_bound`, a number that the topology and the plan give, is at most 2 ^ 26. A
-//! schedule has no more events than that.
+//! which only things of the one domain fail. For loop, none of the ring is among them, and for root
+//! neither root. Ancestor is not used, and timing for root alone, so plans may break them too. One
+//! hypothesis stands beside these: `event_bound`, a number that the topology and the plan give, is
+//! at most 2 ^ 26. A schedule has no more events than that. For root it is `events_until`, with the
+//! ticks of both waits of the backup root.
+//!
+//! Root is needed for such domains only. Where a domain hits the path of the backup root with the
+//! root alone, or has both roots, nothing is proved.
 //!
 //! # The history
 //!
@@ -30,6 +38,10 @@
 //!    it is due, the first that is due first (`Running`). So no premise breaks.
 //! 3. At the first multiple at which `wait` is over, the devices that are to move tick, and the
 //!    others of the zone have not ticked yet (`Ready`, `Moving`). The history ends there.
+//!
+//! For root the end is another one. The backup root moves at the first multiple at which
+//! `wait_first` is over. At the first one at which `wait_second` is over since, it ticks before all
+//! others and takes over (`Takeovers`). By timing no other wait is over before that (`Times`).
 //!
 //! # Why it is so
 //!
@@ -44,6 +56,10 @@
 //! next hop, and what is there failed, or is such a device as well (`Unfed`). From then on no event
 //! but a stage or a failure changes this (`Deaf`, `Continuing`).
 //!
+//! For root the zone is all live devices but the root whose walk to the root is hit (`CutOff`). The
+//! backup root is of it. Its backup link is as silent as its primary one: what it falls back on is
+//! hit too, also where things of the domain other than both roots fail alone (`Taken`).
+//!
 //! # Why the history ends
 //!
 //! Messages could go round without end. They do not: a device sends only with a newer stamp,
@@ -53,10 +69,11 @@
 //! # The words, in reading order
 //!
 //! - specs: `Alone`, histories of one plan in which things fail; `Consequences`, `Loops`,
-//!   `Reaches`.
+//!   `Reaches`, `Roots`.
 //! - proofs, a calm time: `Worlds` what is seen of it, `Allowed` what may come, `Air` what is on
 //!   its way, `Going` one event more.
 //! - proofs, devices: `Pasts`, `Still`, `Turns` and `Deaf` by their words; `Hush` in a history.
 //! - proofs, the rest: `Beginning`, `Budget`, `Running`, `Ready`, `Moving`; `Zones`, `Rings`,
-//!   `Loops`; `Unfed`, `Continuing`, `Reaches`; `Paths` and `Elements` for all.
+//!   `Loops`; `Unfed`, `Continuing`, `Reaches`; `Times`, `Takeovers`, `Taken`, `CutOff`, `Roots`,
+//!   `Refusals`; `Paths` and `Elements` for all.
 #![tactic(auto)]
