@@ -1,11 +1,10 @@
 -- The history up to a multiple of the tick: all but the devices of the zone go on as ever, and these have sent nothing.
-use Rattle.std.specs.Prelude.{◌≡◌, ℕ, zero, suc, ◌+◌, ◌-◌, ◌*◌, ◌/◌, ◌^◌, ◌<◌, ◌≤◌, Bool, true, false, ◌&&◌, not, List, [], ◌∷◌, length, filter, sum_by, nat_le, Some, None, is_some, refl, if◌then◌else◌}
+use Rattle.std.specs.Prelude.{◌≡◌, ℕ, zero, suc, ◌+◌, ◌-◌, ◌*◌, ◌/◌, ◌^◌, ◌<◌, ◌≤◌, Bool, true, false, ◌&&◌, not, List, [], ◌∷◌, length, filter, sum_by, Some, refl}
 use Rattle.std.proofs.Common.{sym, ap, ◌∙◌, subst, arith}
 use Rattle.std.proofs.Math.Nat.{mul-add, mul_comm, div-mul-le_self, lt-div-mul-add}
 use Rattle.std.proofs.lemmas.Nat.{mul-le}
-use Rattle.std.proofs.lemmas.Bool.{lt-leb}
 use Rattle.std.proofs.lemmas.List.Sums.{sum_by-append, sum_by-cons}
-use Rattle.sd_checker.specs.Num.Lists.{of_some, below}
+use Rattle.sd_checker.specs.Num.Lists.{below}
 use Rattle.sd_checker.specs.Topo.Network.{Network}
 use Rattle.sd_checker.specs.Topo.Limits.{IsNetwork}
 use Rattle.sd_checker.specs.Topo.declared.Thing.{Thing}
@@ -133,10 +132,10 @@ module _ (net : Network) (plan : Plan) (dom : DomainId) (down : Thing → Bool) 
   hush_first of none =
       record {
         still = λ z in_. record {
-            past = fresh net plan z;
-            is = past_there z (shut.live z in_);
-            still = subst (λ (i : ℕ). state i z (fresh net plan z)) (sym (none z in_)) (begins z in_);
-          };
+          past = fresh net plan z;
+          is = past_there z (shut.live z in_);
+          still = subst (λ (i : ℕ). state i z (fresh net plan z)) (sym (none z in_)) (begins z in_);
+        };
         silent = λ f a reaches mutes. none_sent f a;
       }
 

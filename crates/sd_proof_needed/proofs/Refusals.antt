@@ -1,32 +1,28 @@
 -- What the checker shows of a plan that it refuses for its roots: a domain that takes path and fallback of the backup root.
-use Rattle.std.specs.Prelude.{◌≡◌, ℕ, ◌+◌, ◌<◌, ◌≤◌, Bool, true, false, ◌&&◌, ◌||◌, not, List, [], ◌∷◌, ◌++◌, ◌⊎◌, length, filter, find, map, nat_eq, Option, Some, None, option_map, refl, if◌then◌else◌}
+use Rattle.std.specs.Prelude.{◌≡◌, ℕ, ◌≤◌, Bool, true, false, ◌&&◌, ◌||◌, not, List, [], ◌∷◌, length, filter, find, map, nat_eq, Option, Some, None, option_map, refl, if◌then◌else◌}
 use Rattle.std.specs.List.{list_any}
 use Rattle.std.specs.Option.{option_or}
 use Rattle.std.proofs.Common.{sym, ap, ◌∙◌, subst, arith, inl, inr}
-use Rattle.std.proofs.lemmas.Bool.{and_parts, and_from, or_cases, or_parts, or_from, or_left, or_right, eqb-true, eq-eqb, cases_Bool, both_ways, not-true, not-false, false_from_ne_true}
+use Rattle.std.proofs.lemmas.Bool.{and_parts, and_from, or_cases, or_from, or_left, or_right, eqb-true, eq-eqb, both_ways, not-true, false_from_ne_true}
 use Rattle.std.proofs.lemmas.List.Folds.{list_any-append}
 use Rattle.sd_checker.specs.Num.Lists.{has, of_some}
 use Rattle.sd_checker.specs.Topo.Network.{Network, device_numbers, link_numbers}
-use Rattle.sd_checker.specs.Topo.Limits.{IsNetwork}
 use Rattle.sd_checker.specs.Topo.declared.Thing.{Thing}
 use Rattle.sd_checker.specs.Topo.declared.Thing.TheVariants as thing
 use Rattle.sd_checker.specs.Domain.Domains.{holds, holds_device, holds_link, hits}
 use Rattle.sd_checker.specs.Domain.declared.DomainId.{DomainId}
 use Rattle.sd_checker.specs.Plan.declared.Hop.{Hop}
 use Rattle.sd_checker.specs.Plan.declared.Plan.{Plan}
-use Rattle.sd_checker.specs.Plan.Plans.{Fits, is_root, is_backup_root, backup_of}
-use Rattle.sd_checker.specs.Plan.Walks.{walk, short_walk, path, things_of, devices_of, on_walk}
+use Rattle.sd_checker.specs.Plan.Plans.{Fits, is_root, backup_of}
+use Rattle.sd_checker.specs.Plan.Walks.{walk, path, devices_of}
 use Rattle.sd_checker.specs.Plan.Structure.{structure_breach}
 use Rattle.sd_checker.specs.CheckRoot.Roots.{fallback_devices, fallback_links, fallback_breach, root_breach}
 use Rattle.sd_checker.specs.Conditions as condition
-use Rattle.sd_checker.specs.Verdicts.{IsBreach}
-use Rattle.sd_checker.specs.declared.Breach.TheVariants as breach
 use Rattle.sd_checker.proofs.Plan.Numbered.{found_passes}
-use Rattle.sd_checker.proofs.Plan.Forest.{IsForest, IsStep, forest_of, not_above}
 use Rattle.sd_history.specs.Chronicle.{chronicle}
 use Rattle.sd_history.specs.Lines.{roots}
 use Rattle.sd_proof_needed.specs.Alone.{alone, holds_besides}
-use Rattle.sd_proof_needed.specs.Roots.{both_roots, fallback, TakesBoth, MakesTwoRoots, RootRefusalIsRight, RefusalBesidesRootIsRight, TwoRootsAreSeen}
+use Rattle.sd_proof_needed.specs.Roots.{fallback, TakesBoth, RootRefusalIsRight, RefusalBesidesRootIsRight, TwoRootsAreSeen}
 use Rattle.sd_proof_needed.proofs.Elements.{kept_has}
 use Rattle.sd_proof_needed.proofs.Rings.{domain_is}
 use Rattle.sd_proof_needed.proofs.Taken.{has_roots, mapped_hit, hit_besides, turned, not_on_path}
@@ -64,7 +60,7 @@ module _ (net : Network) (plan : Plan) (f : DomainId) (x : Thing) (shown : root_
   takes_fallback =
       list_any-append rootless (map thing.Device (fallback_devices net plan)) (map thing.Link (fallback_links net plan))
       ∙ by (find (λ d. holds_device net f d && has (fallback_devices net plan) d) (device_numbers net))
-        (find (λ l. holds_link net f l && has (fallback_links net plan) l) (link_numbers net)) refl refl taken.1
+      (find (λ l. holds_link net f l && has (fallback_links net plan) l) (link_numbers net)) refl refl taken.1
     where
       by : (one other : Option ℕ) → find (λ d. holds_device net f d && has (fallback_devices net plan) d) (device_numbers net) ≡ one
           → find (λ l. holds_link net f l && has (fallback_links net plan) l) (link_numbers net) ≡ other

@@ -1,10 +1,9 @@
 -- The root condition is needed where it forbids two acting roots: such ones come about in a history that breaks no premise.
-use Rattle.std.specs.Prelude.{◌≡◌, ℕ, zero, suc, ◌+◌, ◌-◌, ◌*◌, ◌^◌, ◌<◌, ◌≤◌, Bool, true, false, ◌&&◌, ◌||◌, not, List, [], ◌∷◌, ◌⊎◌, length, nat_eq, nat_le, nat_lt, Option, Some, None, is_some, option_map, refl, if◌then◌else◌}
+use Rattle.std.specs.Prelude.{◌≡◌, ℕ, zero, suc, ◌+◌, ◌-◌, ◌*◌, ◌^◌, ◌<◌, ◌≤◌, Bool, true, false, ◌&&◌, not, List, [], ◌∷◌, ◌⊎◌, length, nat_eq, nat_le, nat_lt, Option, Some, None, is_some, option_map, refl, if◌then◌else◌}
 use Rattle.std.specs.List.{list_any}
 use Rattle.std.proofs.Common.{sym, ap, ◌∙◌, subst, arith, inl, inr}
-use Rattle.std.proofs.Math.Nat.{mul-add}
 use Rattle.std.proofs.lemmas.Nat.{mul-le}
-use Rattle.std.proofs.lemmas.Bool.{and_parts, and_from, and_right, or_left, or_right, eq-eqb, eqb-true, ne_eqb, lt-ltb, lt-leb, le-leb, cases_eq, cases_lt, not-true, both_ways}
+use Rattle.std.proofs.lemmas.Bool.{and_parts, and_from, and_right, or_left, or_right, eq-eqb, ne_eqb, lt-ltb, lt-leb, le-leb, cases_eq, cases_lt, both_ways}
 use Rattle.sd_checker.specs.Num.Lists.{has, of_some}
 use Rattle.sd_checker.specs.Topo.Network.{Network, device_numbers}
 use Rattle.sd_checker.specs.Topo.Limits.{IsNetwork}
@@ -18,14 +17,13 @@ use Rattle.sd_checker.specs.Plan.declared.Edge.{Edge}
 use Rattle.sd_checker.specs.Plan.declared.Plan.{Plan}
 use Rattle.sd_checker.specs.Plan.declared.Role.{Role}
 use Rattle.sd_checker.specs.Plan.declared.Role.TheVariants.{Root, BackupRoot, Ordinary}
-use Rattle.sd_checker.specs.Plan.Plans.{Fits, is_member, is_root, is_backup_root, primary_of, backup_of}
+use Rattle.sd_checker.specs.Plan.Plans.{Fits, is_member, is_root, is_backup_root, backup_of}
 use Rattle.sd_checker.specs.Plan.Walks.{path}
 use Rattle.sd_checker.specs.Plan.Duties.{duty_of, edge_of, role_of}
-use Rattle.sd_checker.specs.Plan.Structure.{structure_breach, roots_breach}
-use Rattle.sd_checker.proofs.Plan.Numbered.{both_none}
+use Rattle.sd_checker.specs.Plan.Structure.{structure_breach}
 use Rattle.sd_history.specs.Msg.declared.Message.{Message}
 use Rattle.sd_history.specs.Core.Calls.{Started, Past, Tick, Receive, Nothing, Moved}
-use Rattle.sd_history.specs.Core.Words.{starts_as_root, is_acting, after, transition_of, takes_over_at}
+use Rattle.sd_history.specs.Core.Words.{starts_as_root, is_acting, after, transition_of}
 use Rattle.sd_history.specs.Sched.declared.Event.{Event}
 use Rattle.sd_history.specs.Sched.declared.Event.TheVariants as event
 use Rattle.sd_history.specs.World.{Setting, is_up, is_counted}
@@ -37,13 +35,13 @@ use Rattle.sd_history.proofs.Given.{some_is}
 use Rattle.sd_proof_needed.specs.Alone.{alone, holds_besides}
 use Rattle.sd_proof_needed.specs.Loops.{ticks_until, events_until}
 use Rattle.sd_proof_needed.specs.Roots.{both_roots, fallback, TakesBoth, MakesTwoRoots, ticks_of_takeover, RootIsNeeded}
-use Rattle.sd_proof_needed.proofs.Elements.{none_mapped, any_of, among_kept, below_among}
+use Rattle.sd_proof_needed.proofs.Elements.{any_of, among_kept, below_among}
 use Rattle.sd_proof_needed.proofs.Worlds.{is_live}
 use Rattle.sd_proof_needed.proofs.Allowed.{live_parts}
 use Rattle.sd_proof_needed.proofs.Going.{Good, tick_goes, premises_held}
 use Rattle.sd_proof_needed.proofs.Pasts.{Plain}
 use Rattle.sd_proof_needed.proofs.Turns.{acting_words}
-use Rattle.sd_proof_needed.proofs.Still.{Still, ordinary_starts, tick_stays, tick_moves, sends_nothing, HasJustMoved, just_moved}
+use Rattle.sd_proof_needed.proofs.Still.{Still, tick_stays, tick_moves, sends_nothing, HasJustMoved, just_moved}
 use Rattle.sd_proof_needed.proofs.Deaf.{receipt_rests, tick_rests}
 use Rattle.sd_proof_needed.proofs.Hush.{Idles, Silent, Stands, is_over, stays_silent, hears_nothing}
 use Rattle.sd_proof_needed.proofs.Rings as rings
@@ -139,9 +137,17 @@ module _ (net : Network) (plan : Plan) (law : IsNetwork net) (fits : Fits net pl
   starts : (z : ℕ) → is_root plan z ≡ false → starts_as_root (Started (duty_of net plan 1 z) 0 0 0) ≡ false
   starts z other = by (is_backup_root plan z)
     where
-      by : (c : Bool) → starts_as_root (Started (record { epoch = 1; role = if is_root plan z then Root else if c then BackupRoot else Ordinary;
-          primary = (duty_of net plan 1 z).primary; backup = (duty_of net plan 1 z).backup; period = net.params.period; wait_first = plan.wait_first;
-          wait_second = plan.wait_second; wait = plan.wait; rates = (duty_of net plan 1 z).rates }) 0 0 0) ≡ false
+      by : (c : Bool) → starts_as_root (Started (record {
+        epoch = 1;
+        role = if is_root plan z then Root else if c then BackupRoot else Ordinary;
+        primary = (duty_of net plan 1 z).primary;
+        backup = (duty_of net plan 1 z).backup;
+        period = net.params.period;
+        wait_first = plan.wait_first;
+        wait_second = plan.wait_second;
+        wait = plan.wait;
+        rates = (duty_of net plan 1 z).rates;
+      }) 0 0 0) ≡ false
       by true = rw other refl
       by false = rw other refl
 
@@ -165,8 +171,12 @@ module _ (net : Network) (plan : Plan) (law : IsNetwork net) (fits : Fits net pl
   b_over i = by (role_of plan b) b_role
     where
       by : (role : Role) → role ≡ BackupRoot
-          → of_some (elim role [ Root ↦ None | BackupRoot ↦ Some plan.wait_first | Ordinary ↦
-              if is_some (duty_of net plan 1 b).backup then Some plan.wait else None ]) false
+          → of_some (elim role [
+            | Root ↦ None
+            | BackupRoot ↦ Some plan.wait_first
+            | Ordinary ↦
+                if is_some (duty_of net plan 1 b).backup then Some plan.wait else None
+          ]) false
           (λ wait. nat_le wait (i * tick)) ≡ nat_le plan.wait_first (i * tick)
       by role is = rw is refl
 

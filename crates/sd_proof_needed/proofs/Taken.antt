@@ -1,23 +1,20 @@
 -- What a domain takes of path and fallback of the backup root without the root, it takes without both roots too.
-use Rattle.std.specs.Prelude.{◌≡◌, ℕ, ◌+◌, ◌<◌, ◌≤◌, Bool, true, false, ◌&&◌, ◌||◌, not, List, [], ◌∷◌, ◌++◌, ◌⊎◌, length, filter, find, map, nat_eq, Option, Some, None, option_map, refl, if◌then◌else◌}
+use Rattle.std.specs.Prelude.{◌≡◌, ℕ, ◌<◌, Bool, true, false, ◌||◌, not, List, [], ◌∷◌, ◌++◌, ◌⊎◌, length, filter, map, nat_eq, Option, Some, None, option_map, refl, if◌then◌else◌}
 use Rattle.std.specs.List.{list_any}
-use Rattle.std.specs.Option.{option_or}
-use Rattle.std.proofs.Common.{sym, ap, ◌∙◌, subst, arith, inl, inr}
+use Rattle.std.proofs.Common.{sym, ap, ◌∙◌, subst, inl, inr}
 use Rattle.std.proofs.lemmas.Bool.{and_parts, and_from, and_right, or_cases, or_parts, or_from, or_left, or_right, eqb-true, eq-eqb, cases_Bool, both_ways, not-true, not-false, false_from_ne_true}
 use Rattle.std.proofs.lemmas.List.Folds.{list_any-append}
 use Rattle.sd_checker.specs.Num.Lists.{has, of_some}
-use Rattle.sd_checker.specs.Topo.Network.{Network, device_numbers, link_numbers}
-use Rattle.sd_checker.specs.Topo.Limits.{IsNetwork}
+use Rattle.sd_checker.specs.Topo.Network.{Network}
 use Rattle.sd_checker.specs.Topo.declared.Thing.{Thing}
 use Rattle.sd_checker.specs.Topo.declared.Thing.TheVariants as thing
-use Rattle.sd_checker.specs.Domain.Domains.{holds, holds_device, holds_link, hits}
+use Rattle.sd_checker.specs.Domain.Domains.{holds_device}
 use Rattle.sd_checker.specs.Domain.declared.DomainId.{DomainId}
 use Rattle.sd_checker.specs.Plan.declared.Hop.{Hop}
 use Rattle.sd_checker.specs.Plan.declared.Plan.{Plan}
-use Rattle.sd_checker.specs.Plan.Plans.{Fits, is_member, primary_of, is_root, is_backup_root, backup_of}
-use Rattle.sd_checker.specs.Plan.Walks.{walk, short_walk, path, things_of, devices_of, links_of, on_walk}
+use Rattle.sd_checker.specs.Plan.Plans.{Fits, is_member, is_root, is_backup_root, backup_of}
+use Rattle.sd_checker.specs.Plan.Walks.{walk, path, things_of, devices_of, links_of, on_walk}
 use Rattle.sd_checker.specs.Plan.Structure.{structure_breach, roots_breach}
-use Rattle.sd_checker.specs.CheckRoot.Roots.{fallback_devices, fallback_links, fallback_breach, root_breach}
 use Rattle.sd_checker.proofs.Plan.Numbered.{both_none}
 use Rattle.sd_checker.proofs.Plan.Forest.{IsForest, IsStep, forest_of, not_above, climb, on_top, on_up, on_inside}
 use Rattle.sd_proof_needed.specs.Alone.{holds_besides}
@@ -97,12 +94,12 @@ hops_hit down keep (h ∷ hs) spared is = elim (or_cases (down (thing.Link h.lin
   where
     here : (b : Bool) → keep h.parent ≡ b → down (thing.Device h.parent) ≡ true
         → list_any down (map thing.Device (if b then h.parent ∷ filter keep (map (λ hop. hop.parent) hs)
-            else filter keep (map (λ hop. hop.parent) hs))) ≡ true
+        else filter keep (map (λ hop. hop.parent) hs))) ≡ true
     here true is_kept device = or_left (down (thing.Device h.parent)) _ device
     here false is_kept device = absurd (both_ways (down (thing.Device h.parent)) (spared h.parent is_kept) device)
 
     beside : (b : Bool) → list_any down (map thing.Device (filter keep (map (λ hop. hop.parent) hs))) ≡ true → list_any down (map thing.Device (if b then h.parent ∷ filter keep (map (λ hop. hop.parent) hs)
-            else filter keep (map (λ hop. hop.parent) hs))) ≡ true
+        else filter keep (map (λ hop. hop.parent) hs))) ≡ true
     beside true device = or_right (down (thing.Device h.parent)) _ device
     beside false device = device
 
@@ -202,12 +199,12 @@ module _ (net : Network) (plan : Plan) (fits : Fits net plan) (structured : stru
       off hop is some =
           list_any-append down (map thing.Device (kept hop)) (map thing.Link (hop.link ∷ links_of (walk net plan hop.parent)))
           ∙ elim (or_cases (list_any rootless (map thing.Device (kept hop))) _
-            (sym (list_any-append rootless (map thing.Device (kept hop)) (map thing.Link (hop.link ∷ links_of (walk net plan hop.parent)))) ∙ some)) [
-              | inl device ↦ or_left (list_any down (map thing.Device (kept hop))) _
-                  (mapped_more thing.Device rootless down (kept hop) (λ x there. rootless_down x (ordinary x there)) device)
-              | inr link ↦ or_right (list_any down (map thing.Device (kept hop))) _
-                  (mapped_more thing.Link rootless down (hop.link ∷ links_of (walk net plan hop.parent)) (λ l there held. held) link)
-            ]
+          (sym (list_any-append rootless (map thing.Device (kept hop)) (map thing.Link (hop.link ∷ links_of (walk net plan hop.parent)))) ∙ some)) [
+            | inl device ↦ or_left (list_any down (map thing.Device (kept hop))) _
+                (mapped_more thing.Device rootless down (kept hop) (λ x there. rootless_down x (ordinary x there)) device)
+            | inr link ↦ or_right (list_any down (map thing.Device (kept hop))) _
+                (mapped_more thing.Link rootless down (hop.link ∷ links_of (walk net plan hop.parent)) (λ l there held. held) link)
+          ]
         where
           ordinary : (x : ℕ) → has (kept hop) x ≡ true → is_backup_root plan x ≡ false
           ordinary x there =

@@ -1,13 +1,12 @@
 -- A backup root that has moved and has heard nothing: it rests until its second wait is over since the move, and then takes over.
-use Rattle.std.specs.Prelude.{◌≡◌, ℕ, ◌-◌, Bool, true, false, ◌&&◌, ◌||◌, not, max, nat_le, Option, Some, None, is_some, option_and_then, refl, if◌then◌else◌}
-use Rattle.std.proofs.Common.{sym, ap, ◌∙◌, arith}
+use Rattle.std.specs.Prelude.{◌≡◌, ℕ, ◌-◌, true, false, ◌||◌, max, nat_le, None, is_some, option_and_then, refl}
+use Rattle.std.proofs.Common.{ap, ◌∙◌, arith}
 use Rattle.std.proofs.lemmas.Bool.{not-true}
 use Rattle.sd_checker.specs.Plan.declared.Duty.{Duty}
-use Rattle.sd_checker.specs.Plan.declared.Edge.{Edge}
 use Rattle.sd_checker.specs.Plan.declared.Role.TheVariants.{BackupRoot}
 use Rattle.sd_history.specs.Core.Calls.{Started, Call, Tick, Past, Transition, Nothing, Moved, TookOver}
 use Rattle.sd_history.specs.Core.Words.{accepted_over, counter_of, starts_as_root, is_takeover, duty_given, heard, has_moved, moved_at, is_acting, emits_at, takes_over_at, transition_of, after}
-use Rattle.sd_proof_needed.proofs.Pasts.{latest_none, none_is, is_plain, duty_is}
+use Rattle.sd_proof_needed.proofs.Pasts.{latest_none, none_is, duty_is}
 use Rattle.sd_proof_needed.proofs.Turns.{acting_after}
 use Rattle.sd_proof_needed.proofs.Still.{Still}
 use Rattle.sd_proof_needed.proofs.Deaf.{heard_nothing, Settled, moved_as_before, settled_on, moved_settled}

@@ -1,6 +1,6 @@
 -- What the rules of timing say of the waits themselves.
-use Rattle.std.specs.Prelude.{◌≡◌, ℕ, ◌+◌, ◌*◌, ◌≤◌, Bool, true, false, List, [], ◌∷◌, length, map, find, Some, None, is_some, refl}
-use Rattle.std.proofs.Common.{sym, ap, ◌∙◌, arith}
+use Rattle.std.specs.Prelude.{◌≡◌, ℕ, ◌+◌, ◌*◌, ◌≤◌, Bool, false, List, [], ◌∷◌, length, map, find, None, is_some}
+use Rattle.std.proofs.Common.{ap, arith}
 use Rattle.std.proofs.lemmas.Bool.{ltb-false, false_from_ne_true, both_ways}
 use Rattle.sd_checker.specs.Num.Lists.{least, greatest}
 use Rattle.sd_checker.specs.Num.Numbers.{low, up}
