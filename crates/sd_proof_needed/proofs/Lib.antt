@@ -29,6 +29,7 @@ mod CutOff
 mod Taken
 pub mod Roots
 pub mod Refusals
+pub mod Alarms
 -- Handed on: what crates above name of those below.
 pub use Rattle.sd_checker.proofs as Checker
 pub use Rattle.sd_history.proofs as History

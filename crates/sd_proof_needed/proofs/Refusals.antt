@@ -1,9 +1,9 @@
 -- What the checker shows of a plan that it refuses for its roots: a domain that takes path and fallback of the backup root.
-use Rattle.std.specs.Prelude.{◌≡◌, ℕ, ◌≤◌, Bool, true, false, ◌&&◌, ◌||◌, not, List, [], ◌∷◌, length, filter, find, map, nat_eq, Option, Some, None, option_map, refl, if◌then◌else◌}
+use Rattle.std.specs.Prelude.{◌≡◌, ℕ, Bool, true, false, ◌&&◌, ◌||◌, not, [], ◌∷◌, length, filter, find, map, nat_eq, Option, Some, None, option_map, refl, if◌then◌else◌}
 use Rattle.std.specs.List.{list_any}
 use Rattle.std.specs.Option.{option_or}
-use Rattle.std.proofs.Common.{sym, ap, ◌∙◌, subst, arith, inl, inr}
-use Rattle.std.proofs.lemmas.Bool.{and_parts, and_from, or_cases, or_from, or_left, or_right, eqb-true, eq-eqb, both_ways, not-true, false_from_ne_true}
+use Rattle.std.proofs.Common.{sym, ap, ◌∙◌, subst, inl, inr}
+use Rattle.std.proofs.lemmas.Bool.{and_parts, and_from, or_cases, or_from, or_left, or_right, eqb-true, both_ways, not-true, false_from_ne_true}
 use Rattle.std.proofs.lemmas.List.Folds.{list_any-append}
 use Rattle.sd_checker.specs.Num.Lists.{has, of_some}
 use Rattle.sd_checker.specs.Topo.Network.{Network, device_numbers, link_numbers}
@@ -19,13 +19,11 @@ use Rattle.sd_checker.specs.Plan.Structure.{structure_breach}
 use Rattle.sd_checker.specs.CheckRoot.Roots.{fallback_devices, fallback_links, fallback_breach, root_breach}
 use Rattle.sd_checker.specs.Conditions as condition
 use Rattle.sd_checker.proofs.Plan.Numbered.{found_passes}
-use Rattle.sd_history.specs.Chronicle.{chronicle}
-use Rattle.sd_history.specs.Lines.{roots}
-use Rattle.sd_proof_needed.specs.Alone.{alone, holds_besides}
-use Rattle.sd_proof_needed.specs.Roots.{fallback, TakesBoth, RootRefusalIsRight, RefusalBesidesRootIsRight, TwoRootsAreSeen}
+use Rattle.sd_proof_needed.specs.Alone.{holds_besides}
+use Rattle.sd_proof_needed.specs.Roots.{fallback, TakesBoth, RootRefusalIsRight, RefusalBesidesRootIsRight}
 use Rattle.sd_proof_needed.proofs.Elements.{kept_has}
 use Rattle.sd_proof_needed.proofs.Rings.{domain_is}
-use Rattle.sd_proof_needed.proofs.Taken.{has_roots, mapped_hit, hit_besides, turned, not_on_path}
+use Rattle.sd_proof_needed.proofs.Taken.{mapped_hit, hit_besides, turned, not_on_path}
 use Rattle.sd_proof_needed.proofs.Roots.{root_is_needed}
 
 module _ (net : Network) (plan : Plan) (f : DomainId) (x : Thing) (shown : root_breach net plan f ≡ Some x)
@@ -107,25 +105,3 @@ refusal_besides_root_is_right net plan law fits bound f x broken not_root =
     let apart : (holds_device net f plan.root && holds_device net f plan.backup_root) ≡ false = rw none refl in
     root_refusal_is_right net plan law fits bound f x broken (ap not apart)
     (hit_without net plan f x broken.shows.1 apart fits (broken.before condition.structure refl) none)
-
--- Two that differ are at least two
-
-some_one : (xs : List ℕ) (a : ℕ) → has xs a ≡ true → 1 ≤ length xs
-some_one [] a there = cc
-some_one (x ∷ xs) a there = omega arith
-
-at_least_two : (xs : List ℕ) (a b : ℕ) → nat_eq a b ≡ false → has xs a ≡ true → has xs b ≡ true → 2 ≤ length xs
-at_least_two [] a b apart one other = cc
-at_least_two (x ∷ xs) a b apart one other =
-    elim (or_cases (nat_eq a x) (has xs a) one) [
-      | inl here ↦ elim (or_cases (nat_eq b x) (has xs b) other) [
-        | inl same ↦ absurd (both_ways (nat_eq a b) apart (eq-eqb a b (eqb-true a x here ∙ sym (eqb-true b x same))))
-        | inr more ↦ (let rest = some_one xs b more in omega (arith, rest))
-      ]
-      | inr more ↦ (let rest = some_one xs a more in omega (arith, rest))
-    ]
-
-pub two_roots_are_seen : (net : Network) (plan : Plan) → TwoRootsAreSeen net plan
-two_roots_are_seen net plan structured f makes =
-    at_least_two (roots (alone net plan) (chronicle (alone net plan) makes.history)) plan.root plan.backup_root (has_roots net plan structured).apart makes.root
-    makes.backup_root

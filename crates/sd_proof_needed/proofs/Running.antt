@@ -349,7 +349,8 @@ module _ (net : Network) (plan : Plan) (dom : DomainId) (down : Thing → Bool) 
       by false dead now = passed_by k c (c + left) dead now
 
   -- j multiples of the tick
-  pub ticks_on : (j k left : ℕ) → 1 ≤ k → k + j ≤ last → Running k (length net.devices) (j * length net.devices + left) → Running (k + j) (length net.devices) left
+  pub ticks_on : (j k left : ℕ) → 1 ≤ k → k + j ≤ last → Running k (length net.devices) (j * length net.devices + left)
+      → Running (k + j) (length net.devices) left
   ticks_on zero k left some less run =
       let same : k + 0 ≡ k = omega arith in
       subst (λ (i : ℕ). Running i (length net.devices) left) (sym same)

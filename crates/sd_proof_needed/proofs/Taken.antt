@@ -98,7 +98,8 @@ hops_hit down keep (h ∷ hs) spared is = elim (or_cases (down (thing.Link h.lin
     here true is_kept device = or_left (down (thing.Device h.parent)) _ device
     here false is_kept device = absurd (both_ways (down (thing.Device h.parent)) (spared h.parent is_kept) device)
 
-    beside : (b : Bool) → list_any down (map thing.Device (filter keep (map (λ hop. hop.parent) hs))) ≡ true → list_any down (map thing.Device (if b then h.parent ∷ filter keep (map (λ hop. hop.parent) hs)
+    beside : (b : Bool) → list_any down (map thing.Device (filter keep (map (λ hop. hop.parent) hs))) ≡ true
+        → list_any down (map thing.Device (if b then h.parent ∷ filter keep (map (λ hop. hop.parent) hs)
         else filter keep (map (λ hop. hop.parent) hs))) ≡ true
     beside true device = or_right (down (thing.Device h.parent)) _ device
     beside false device = device

@@ -4,7 +4,7 @@
 --
 -- The one hypothesis beside structure and timing is that a history may have so many events as this one (events_until). It lasts as long as both waits of
 -- the backup root, and each device ticks there once a tick.
-use Rattle.std.specs.Prelude.{ℕ, ◌+◌, ◌^◌, ◌≤◌, ◌&&◌, not, List, [], ◌∷◌, ◌++◌, map, length, IsTrue}
+use Rattle.std.specs.Prelude.{◌≡◌, ℕ, Bool, true, false, ◌+◌, ◌^◌, ◌≤◌, ◌&&◌, not, List, [], ◌∷◌, ◌++◌, map, IsTrue}
 use Rattle.std.specs.List.{list_any}
 use Rattle.sd_checker.specs.Num.Lists.{has}
 use Rattle.sd_checker.specs.Topo.Network.{Network}
@@ -24,7 +24,7 @@ use Rattle.sd_checker.specs.Verdicts.{IsBreach}
 use Rattle.sd_checker.specs.declared.Breach.TheVariants as breach
 use Rattle.sd_history.specs.Sched.declared.Event.{Event}
 use Rattle.sd_history.specs.Chronicle.{chronicle}
-use Rattle.sd_history.specs.Lines.{roots}
+use Rattle.sd_history.specs.Lines.{Line, RootsAlarm, roots, lines_of}
 use Rattle.sd_proof_needed.specs.Alone.{alone, holds_besides, IsClean}
 use Rattle.sd_proof_needed.specs.Loops.{ticks_until, events_until}
 
@@ -73,8 +73,19 @@ RefusalBesidesRootIsRight net plan =
     IsNetwork net → Fits net plan → events_until net plan (ticks_of_takeover net plan) ≤ 2 ^ 26
     → (f : DomainId) (x : Thing) → IsBreach net plan (breach.Root f x) → IsTrue (not (holds_device net f plan.root)) → MakesTwoRoots net plan f
 
--- at the end of such a history an onlooker counts two acting roots, which is an alarm of the lines of a history
+-- the line is the alarm of two roots
+abbrev pub is_roots_alarm : Line → Bool
+is_roots_alarm (RootsAlarm one other) = true
+is_roots_alarm _ = false
+
+-- after some event of the history, its latest ones left out, this alarm is printed
+pub record IsAlarmed (net : Network) (plan : Plan) (history : List Event) : Type 0 where
+  pub latest : List Event
+  pub until : List Event
+  pub whole : latest ++ until ≡ history
+  pub alarm : IsTrue (list_any is_roots_alarm (lines_of (alone net plan) (chronicle (alone net plan) until)))
+
+-- in such a history an onlooker counts two acting roots: the alarm is printed
 abbrev pub TwoRootsAreSeen : Network → Plan → Type 0
 TwoRootsAreSeen net plan =
-    Holds net plan condition.structure → (f : DomainId) → (makes : MakesTwoRoots net plan f)
-    → 2 ≤ length (roots (alone net plan) (chronicle (alone net plan) makes.history))
+    Holds net plan condition.structure → (f : DomainId) → (makes : MakesTwoRoots net plan f) → IsAlarmed net plan makes.history

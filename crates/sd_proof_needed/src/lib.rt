@@ -16,7 +16,7 @@
 //! | `root_is_needed` | what takes the backup root's two ways can make two acting roots | `Roots` |
 //! | `root_refusal_is_right` | so where the checker shows such a domain, it can | `Refusals` |
 //! | `refusal_besides_root_is_right` | so wherever that domain has not the root | `Refusals` |
-//! | `two_roots_are_seen` | an onlooker counts two acting roots: it is an alarm | `Refusals` |
+//! | `two_roots_are_seen` | an onlooker counts two acting roots: the alarm comes | `Alarms` |
 //!
 //! Each has its statement in specs/ and its proof in proofs/. Of two files the first has the
 //! statement, the second the proof.
@@ -75,5 +75,5 @@
 //! - proofs, devices: `Pasts`, `Still`, `Turns` and `Deaf` by their words; `Hush` in a history.
 //! - proofs, the rest: `Beginning`, `Budget`, `Running`, `Ready`, `Moving`; `Zones`, `Rings`,
 //!   `Loops`; `Unfed`, `Continuing`, `Reaches`; `Times`, `Takeovers`, `Taken`, `CutOff`, `Roots`,
-//!   `Refusals`; `Paths` and `Elements` for all.
+//!   `Refusals`, `Alarms`; `Paths` and `Elements` for all.
 #![tactic(auto)]
