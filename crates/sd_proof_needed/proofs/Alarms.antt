@@ -58,7 +58,8 @@ no_roots : (setting : Setting) → roots setting [] ≡ []
 no_roots setting = none_kept (λ d. is_counted setting (seen_of []) d && acts_in [] d) (device_numbers setting.net) (λ d. refl)
 
 -- the line is printed
-printed : (setting : Setting) (s : Step) (earlier : List Step) → list_any is_roots_alarm (root_lines (roots setting earlier) (roots setting (s ∷ earlier))) ≡ true
+printed : (setting : Setting) (s : Step) (earlier : List Step)
+    → list_any is_roots_alarm (root_lines (roots setting earlier) (roots setting (s ∷ earlier))) ≡ true
     → list_any is_roots_alarm (lines_of setting (s ∷ earlier)) ≡ true
 printed setting s earlier comes =
     any_before is_roots_alarm
