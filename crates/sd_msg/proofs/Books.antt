@@ -1,61 +1,48 @@
 -- What holds of the flights that a book keeps goes on holding, and what is seen of them.
-use Rattle.std.proofs.Common.{◌≡◌, ℕ, zero, suc, ◌+◌, ◌<◌, ◌≤◌, Bool, true, false, ◌&&◌, not, cond, nat_le, nat_lt, List, [], ◌∷◌, ◌++◌, length, get_or, drop, set, refl, sym, ◌∙◌, ap, subst, arith}
+use Rattle.std.proofs.Common.{◌≡◌, ℕ, zero, suc, ◌+◌, ◌<◌, ◌≤◌, Bool, true, false, ◌&&◌, not, cond, nat_le, nat_lt, List, [], ◌∷◌, ◌++◌, length, get_or, drop, set, refl, sym, ◌∙◌, ap, subst, arith, inl, inr}
 use Rattle.std.specs.List.{filter, All}
-use Rattle.std.proofs.lemmas.Bool.{and_from, eq-eqb, le-leb, lt-ltb}
-use Rattle.std.proofs.lemmas.List.Elements.{All-filter, All-push, All-set, All-get_or, All-head, All-tail, filter_agree}
+use Rattle.std.proofs.lemmas.Bool.{and_from, and_parts, cases_lt, eq-eqb, le-leb, lt-ltb}
+use Rattle.std.proofs.lemmas.List.{length-append, length-set, get_or-set_same, get_or-set_other}
+use Rattle.std.proofs.lemmas.List.Elements.{All-push, All-set, All-get_or, All-head, All-tail, filter_agree}
 use Rattle.sd_topo.specs.declared.Thing.{Thing}
 use Rattle.sd_msg.specs.declared.Flight.{Flight}
 use Rattle.sd_msg.specs.declared.spent.Spent.{Spent}
 use Rattle.sd_msg.specs.Books.{AreNumbered, has_number, without, with_sent, is_swept, is_current}
 use Rattle.sd_msg.specs.Marks.{mark_of}
-use Rattle.sd_msg.specs.Spent.{is_spared, is_left, is_known, AreKept}
-use Rattle.sd_msg.proofs.Numbered.{floor_low, lower, numbered_more, numbered_push, numbered_filter}
+use Rattle.sd_msg.specs.Spent.{is_spared, is_left, is_known, as_spent, AreKept}
+use Rattle.sd_msg.proofs.Numbered.{floor_low, numbered_filter}
+use Rattle.sd_msg.proofs.Rows.{row_numbered, row_push, row_spent}
 use Rattle.sd_msg.proofs.Finding.{beyond, first_is_other, without_none}
-use Rattle.sd_msg.proofs.Filters.{passing_last, both}
+use Rattle.sd_msg.proofs.Filters.{passing_last, failing_last, both}
 
 abbrev IsKnown : Spent → Flight → Type 0
 IsKnown spent f = is_known spent f ≡ true
 
--- only those stay that pass a test
-pub kept : (test : Flight → Bool) (last : ℕ) (spent : Spent) (fs : List Flight) → AreKept last spent fs → AreKept last spent (filter test fs)
-kept test last spent fs h =
-    record {
-      numbered = numbered_filter 0 last test fs h.numbered;
-      known = All-filter test (IsKnown spent) fs h.known;
-      links = h.links;
-      receivers = h.receivers;
-    }
+-- they ascend by number
+pub numbered : (last : ℕ) (spent : Spent) (fs : List Flight) → AreKept last spent fs → AreNumbered 0 last fs
+numbered last spent fs h = row_numbered 0 last fs h.row (omega (arith, h.count))
 
--- what is seen of them is numbered too
+-- and so does what is seen of them
 pub seen_numbered : (test : Flight → Bool) (last : ℕ) (spent : Spent) (fs : List Flight) → AreKept last spent fs → AreNumbered 0 last (filter test fs)
-seen_numbered test last spent fs h = numbered_filter 0 last test fs h.numbered
+seen_numbered test last spent fs h = numbered_filter 0 last test fs (numbered last spent fs h)
 
 one_more : (m last : ℕ) → m ≤ last → m ≤ last + 1
 one_more m last low = omega (arith, low)
 
--- a number is given to a flight that does not reach
-pub skipped : (last : ℕ) (spent : Spent) (fs : List Flight) → AreKept last spent fs → AreKept (last + 1) spent fs
-skipped last spent fs h =
+-- a flight is added
+pub pushed : (last : ℕ) (spent : Spent) (fs : List Flight) (f : Flight) → AreKept last spent fs → f.number ≡ last + 1 → is_known spent f ≡ true
+    → AreKept (last + 1) spent (fs ++ f ∷ [])
+pushed last spent fs f h next known =
+    let long : length (fs ++ f ∷ []) ≡ length fs + 1 = length-append fs (f ∷ []) in
     record {
-      numbered = numbered_more 0 last fs h.numbered;
-      known = h.known;
+      count = omega (arith, h.count, long);
+      row = row_push last fs f next h.row;
+      known = All-push (IsKnown spent) fs f h.known known;
       links = λ k. one_more (mark_of spent.links k) last (h.links k);
       receivers = λ k. one_more (mark_of spent.receivers k) last (h.receivers k);
     }
 
--- a flight that reaches is added
-pub pushed : (last : ℕ) (spent : Spent) (fs : List Flight) (f : Flight) → AreKept last spent fs → f.number ≡ last + 1 → is_known spent f ≡ true
-    → AreKept (last + 1) spent (fs ++ f ∷ [])
-pushed last spent fs f h next known =
-    let more = skipped last spent fs h in
-    record {
-      numbered = numbered_push 0 last fs f next h.numbered;
-      known = All-push (IsKnown spent) fs f h.known known;
-      links = more.links;
-      receivers = more.receivers;
-    }
-
--- and is left
+-- it is left where it reaches
 new_left : (last : ℕ) (spent : Spent) (fs : List Flight) (f : Flight) → f.reaches ≡ true → AreKept last spent fs → f.number ≡ last + 1
     → spent.reference ≤ f.last → is_left spent f ≡ true
 new_left last spent fs f reaches h next late =
@@ -68,15 +55,20 @@ new_left last spent fs f reaches h next late =
     (and_from (nat_le spent.reference f.last && nat_lt (mark_of spent.links f.link) f.number) (nat_lt (mark_of spent.receivers f.receiver) f.number)
     (and_from (nat_le spent.reference f.last) (nat_lt (mark_of spent.links f.link) f.number) (le-leb spent.reference f.last late) link_passes) receiver_passes)
 
--- so it is seen last
-pub seen_pushed : (last : ℕ) (old mid new : Spent) (before fs : List Flight) (f : Flight) → f.reaches ≡ true → AreKept last new fs → f.number ≡ last + 1
+-- and seen last then
+pub seen_pushed : (last : ℕ) (old mid new : Spent) (before fs : List Flight) (f : Flight) → AreKept last new fs → f.number ≡ last + 1
     → new.reference ≡ mid.reference → mid.reference ≤ f.last
     → filter (is_left mid) fs ≡ filter (is_left old) before → ((g : Flight) → is_left new g ≡ is_left mid g)
     → filter (is_left new) (fs ++ f ∷ []) ≡ with_sent (filter (is_left old) before) f
-seen_pushed last old mid new before fs f reaches h next reference late seen left =
-    passing_last (is_left new) fs f (new_left last new fs f reaches h next (omega (arith, reference, late)))
-    ∙ ap (λ gs. gs ++ f ∷ []) (filter_agree (is_left new) (is_left mid) left fs ∙ seen)
-    ∙ sym (ap (λ b. cond b (filter (is_left old) before ++ f ∷ []) (filter (is_left old) before)) reaches)
+seen_pushed last old mid new before fs f h next reference late seen left = by f.reaches refl
+  where
+    seen_too : filter (is_left new) fs ≡ filter (is_left old) before
+    seen_too = filter_agree (is_left new) (is_left mid) left fs ∙ seen
+
+    by : (b : Bool) → f.reaches ≡ b
+        → filter (is_left new) (fs ++ f ∷ []) ≡ cond b (filter (is_left old) before ++ f ∷ []) (filter (is_left old) before)
+    by true reaches = passing_last (is_left new) fs f (new_left last new fs f reaches h next (omega (arith, reference, late))) ∙ ap (λ gs. gs ++ f ∷ []) seen_too
+    by false reaches = failing_last (is_left new) fs f (ap (λ b. b && is_spared new f) reaches) ∙ seen_too
 
 -- Without the first
 
@@ -84,7 +76,8 @@ pub kept_rest : (last : ℕ) (spent : Spent) (fs : List Flight) → AreKept last
 kept_rest last spent [] h = h
 kept_rest last spent (f ∷ fs) h =
     record {
-      numbered = lower 0 f.number last fs (omega arith) h.numbered.1;
+      count = omega (arith, h.count);
+      row = h.row.1;
       known = All-tail (IsKnown spent) f fs h.known;
       links = h.links;
       receivers = h.receivers;
@@ -112,25 +105,17 @@ module _ (last : ℕ) (old new : Spent) (thing : Thing) (left : (f : Flight) →
       ∙ ap (λ gs. cond (is_left old f && not (is_swept thing f)) (f ∷ gs) gs) (each_left f.number fs h.1 (All-tail (IsKnown old) f fs known))
 
   pub seen_swept : (fs : List Flight) → AreKept last old fs → filter (is_left new) fs ≡ filter (λ f. not (is_swept thing f)) (filter (is_left old) fs)
-  seen_swept fs h = each_left 0 fs h.numbered h.known ∙ both (is_left old) (λ f. not (is_swept thing f)) fs
+  seen_swept fs h = each_left 0 fs (numbered last old fs h) h.known ∙ both (is_left old) (λ f. not (is_swept thing f)) fs
 
 -- A flight that is spent in its place
 
--- it keeps its number, its link and its receiver, and does not reach
-abbrev pub as_spent : Flight → Flight
-as_spent f = record f { reaches = false }
-
-spent_numbered : (floor last : ℕ) (fs : List Flight) (i : ℕ) (f : Flight) → AreNumbered floor last fs → i < length fs → ((d : Flight) → f ≡ get_or fs i d)
-    → AreNumbered floor last (set fs i (as_spent f))
-spent_numbered floor last [] i f h within is = h
-spent_numbered floor last (g ∷ fs) zero f h within is = rw (is f) h
-spent_numbered floor last (g ∷ fs) (suc i) f h within is = (h.0, spent_numbered g.number last fs i f h.1 (omega arith) is)
-
+-- it keeps its number, its link and its receiver
 pub kept_spent : (last : ℕ) (spent : Spent) (fs : List Flight) (i : ℕ) (f : Flight) → AreKept last spent fs → i < length fs → ((d : Flight) → f ≡ get_or fs i d)
     → AreKept last spent (set fs i (as_spent f))
 kept_spent last spent fs i f h within is =
     record {
-      numbered = spent_numbered 0 last fs i f h.numbered within is;
+      count = subst (λ n. n ≤ last) (sym (length-set fs i (as_spent f))) h.count;
+      row = row_spent last fs i f h.row within is;
       known = All-set (IsKnown spent) fs i (as_spent f) (subst (IsKnown spent) (sym (is f)) (All-get_or (IsKnown spent) fs i f within h.known)) h.known;
       links = h.links;
       receivers = h.receivers;
@@ -165,4 +150,50 @@ spent_seen floor last spent (g ∷ fs) (suc i) f h within is = by (is_left spent
 
 pub seen_spent : (last : ℕ) (spent : Spent) (fs : List Flight) (i : ℕ) (f : Flight) → AreKept last spent fs → i < length fs → ((d : Flight) → f ≡ get_or fs i d)
     → filter (is_left spent) (set fs i (as_spent f)) ≡ without f.number (filter (is_left spent) fs)
-seen_spent last spent fs i f h within is = spent_seen 0 last spent fs i f h.numbered within is
+seen_spent last spent fs i f h within is = spent_seen 0 last spent fs i f (numbered last spent fs h) within is
+
+-- Where each that is not left is spent in its place
+
+-- what is seen stays
+pub settled_seen : (spent : Spent) (fs : List Flight) (i : ℕ) (f : Flight) → i < length fs → ((d : Flight) → f ≡ get_or fs i d) → is_left spent f ≡ false
+    → filter (is_left spent) (set fs i (as_spent f)) ≡ filter (is_left spent) fs
+settled_seen spent [] i f within is gone = refl
+settled_seen spent (g ∷ fs) zero f within is gone = rw (subst (λ x. is_left spent x ≡ false) (is f) gone) refl
+settled_seen spent (g ∷ fs) (suc i) f within is gone =
+    ap (λ gs. cond (is_left spent g) (g ∷ gs) gs) (settled_seen spent fs i f (omega arith) is gone)
+
+-- each flight below the place reaches only where it is left
+abbrev pub AreSettled : Spent → List Flight → ℕ → Type 0
+AreSettled spent fs i = (k : ℕ) (d : Flight) → k < i → k < length fs → (get_or fs k d).reaches ≡ is_left spent (get_or fs k d)
+
+pub settled_more : (spent : Spent) (fs : List Flight) (i : ℕ) (f : Flight) → i < length fs → ((d : Flight) → f ≡ get_or fs i d) → AreSettled spent fs i
+    → f.reaches ≡ is_left spent f → AreSettled spent fs (i + 1)
+settled_more spent fs i f inside is settled here k d within short =
+    elim (cases_lt k i) [
+      | inl early ↦ settled k d early short
+      | inr late ↦ (let same : k ≡ i = omega (arith, late, within) in
+          rw same (subst (λ (g : Flight). g.reaches ≡ is_left spent g) (is d) here))
+    ]
+
+pub settled_set : (spent : Spent) (fs : List Flight) (i : ℕ) (f : Flight) → i < length fs → AreSettled spent fs i → AreSettled spent (set fs i (as_spent f)) (i + 1)
+settled_set spent fs i f inside settled k d within short =
+    elim (cases_lt k i) [
+      | inl early ↦ (let same : get_or (set fs i (as_spent f)) k d ≡ get_or fs k d = get_or-set_other fs i k (as_spent f) d (λ e. omega (arith, early, e)) in
+          rw same (settled k d early (subst (λ n. k < n) (length-set fs i (as_spent f)) short)))
+      | inr late ↦ (let here : k ≡ i = omega (arith, late, within) in
+          rw here (rw (get_or-set_same fs i (as_spent f) d inside) refl))
+    ]
+
+-- one that is left reaches
+pub left_reaches : (spent : Spent) (f : Flight) → is_left spent f ≡ true → f.reaches ≡ is_left spent f
+left_reaches spent f left = (and_parts f.reaches (is_spared spent f) left).0 ∙ sym left
+
+-- so an earlier reference brings none back
+pub same_left : (old new : Spent) (f : Flight) → f.reaches ≡ is_left old f → (is_left old f ≡ true → is_left new f ≡ true) → is_left new f ≡ is_left old f
+same_left old new f settled stays = by f.reaches refl
+  where
+    by : (b : Bool) → f.reaches ≡ b → is_left new f ≡ is_left old f
+    by true reaches =
+        let left : is_left old f ≡ true = sym settled ∙ reaches in
+        stays left ∙ sym left
+    by false reaches = ap (λ b. b && is_spared new f) reaches ∙ sym (ap (λ b. b && is_spared old f) reaches)

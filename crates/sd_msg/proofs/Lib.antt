@@ -1,4 +1,5 @@
 pub mod Numbered
+pub mod Rows
 pub mod Finding
 pub mod Places
 pub mod Filters

@@ -15,16 +15,6 @@ above floor top (f ∷ fs) h (suc k) d within =
     let rest : f.number < number_at fs k d = above f.number top fs h.1 k d (omega arith) in
     omega (arith, h.0)
 
--- the numbers rise
-pub rises : (floor top : ℕ) (fs : List Flight) → AreNumbered floor top fs → (i j : ℕ) (d : Flight) → i ≤ j → j < length fs → number_at fs i d ≤ number_at fs j d
-rises floor top [] h i j d order within = absurd (omega arith)
-rises floor top (f ∷ fs) h zero zero d order within = omega arith
-rises floor top (f ∷ fs) h zero (suc j) d order within =
-    let rest : f.number < number_at fs j d = above f.number top fs h.1 j d (omega arith) in
-    omega arith
-rises floor top (f ∷ fs) h (suc i) zero d order within = absurd (omega arith)
-rises floor top (f ∷ fs) h (suc i) (suc j) d order within = rises f.number top fs h.1 i j d (omega arith) (omega arith)
-
 -- the floor is no higher than the top
 pub floor_low : (floor top : ℕ) (fs : List Flight) → AreNumbered floor top fs → floor ≤ top
 floor_low floor top [] h = h
@@ -36,16 +26,6 @@ floor_low floor top (f ∷ fs) h =
 pub lower : (low floor top : ℕ) (fs : List Flight) → low ≤ floor → AreNumbered floor top fs → AreNumbered low top fs
 lower low floor top [] order h = omega (arith, h)
 lower low floor top (f ∷ fs) order h = (omega (arith, h.0), h.1)
-
--- one number more
-pub numbered_more : (floor top : ℕ) (fs : List Flight) → AreNumbered floor top fs → AreNumbered floor (top + 1) fs
-numbered_more floor top [] h = omega (arith, h)
-numbered_more floor top (f ∷ fs) h = (h.0, numbered_more f.number top fs h.1)
-
--- a flight with the next number
-pub numbered_push : (floor top : ℕ) (fs : List Flight) (f : Flight) → f.number ≡ top + 1 → AreNumbered floor top fs → AreNumbered floor (top + 1) (fs ++ f ∷ [])
-numbered_push floor top [] f next h = (omega (arith, h, next), omega (arith, next))
-numbered_push floor top (g ∷ fs) f next h = (h.0, numbered_push g.number top fs f next h.1)
 
 -- some of them
 pub numbered_filter : (floor top : ℕ) (test : Flight → Bool) (fs : List Flight) → AreNumbered floor top fs → AreNumbered floor top (filter test fs)

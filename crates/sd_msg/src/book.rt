@@ -1,8 +1,9 @@
 //! The book of the flights that are on their way.
-ghost use Rattle.std.specs.Prelude.{◌≡◌, ◌≤◌, ◌<◌, ◌+◌, ◌-◌, ◌^◌, [], filter, not, is_ok, Ok, Err, IfOk, IfErr, OnOk, if◌then◌else◌};
+ghost use Rattle.std.specs.Prelude.{◌≡◌, ◌≤◌, ◌<◌, ◌+◌, ◌-◌, ◌^◌, [], filter, not, is_ok, is_some, Ok, Err, IfOk, IfErr, OnOk, if◌then◌else◌};
+ghost use Rattle.std.specs.Result.{result_ok};
 ghost use Rattle.sd_msg.specs.Books.{AreGiven, found, for_device, dismissed, without, with_sent, is_swept, is_current};
 
-use crate::flights::{drop_first, flight_left, keep_left, reopen, room, spend};
+use crate::flights::{drop_first, flight_for, flight_left, reopen, room, spend};
 use crate::spent::Spent;
 use crate::{Flight, TakeFault};
 use sd_num::NoMemory;
@@ -15,13 +16,18 @@ use std::marker::Model;
 /// sent, from 1 on; a flight is spent when it is taken, lost, swept or purged, or at once where it
 /// does not reach. Only `ready` takes memory.
 ///
-/// A flight that is taken or lost is spent in its place, and a sweep and a purge only note what they
-/// spend. What is spent goes when it comes to the front, and all of it when there is no more room:
-/// so no call goes over flights that are not its own, but for `ready`, which does so once in as many
-/// flights as there are.
+/// Each number has a place behind the one before, also that of a flight which does not reach: so the
+/// place of a number is told by how many were given after it. A flight that is taken or lost is spent
+/// in its place, and a sweep and a purge only note what they spend. Where there is no more room,
+/// `ready` gives up the places in front of the first flight that is not spent, and takes memory for as
+/// many again as are left if that is too little. So no call goes over flights that are not its own,
+/// but for `ready`, which gives up each place once, and `send` of a flight that has ended before.
+///
+/// A flight that is not spent keeps the places of all that were sent after it. So there are at most
+/// some two places for each number that is given while one flight is on its way, and a purge ends it.
 #[derive(Drop)]
 pub struct FlightBook {
-    /// Those that are not spent, ascending by number, and among them some that are.
+    /// Those with the latest numbers, one after the other: all that are not spent, and others.
     flights: VecDeque<Flight>,
     /// The last number given.
     last: u64,
@@ -66,8 +72,11 @@ impl FlightBook {
         if count <= room(&self.flights) {
             return Ok(());
         }
-        keep_left(&mut self.flights, &self.spent);
-        // as much again as there are, so that as many are sent before all are looked at again
+        drop_first(&mut self.flights, &self.spent);
+        if count <= room(&self.flights) {
+            return Ok(());
+        }
+        // as many again as there are, so that they are moved only now and then
         let more = count.saturating_add(self.flights.len());
         match self.flights.reserve(more) {
             Ok(()) => Ok(()),
@@ -76,6 +85,7 @@ impl FlightBook {
     }
 
     /// Gives a flight the next number, in place of its own, and keeps it where it reaches.
+    #[inline(always)]
     pub fn send(&mut self, flight: Flight) -> u64
         requires room { 1 ≤ self.old.room }
         requires numbers { self.old.last < 2 ^ 64 - 1 }
@@ -86,17 +96,16 @@ impl FlightBook {
         ensures last { self.new.last ≡ result }
         ensures room { self.old.room ≤ self.new.room + 1 }
     {
+        reopen(&mut self.flights, self.last, &mut self.spent, flight.last);
+        self.spent.enter(&flight);
         let number = self.last + 1;
         self.last = number;
-        if flight.reaches {
-            reopen(&mut self.flights, &mut self.spent, flight.last);
-            self.spent.enter(&flight);
-            self.flights.push_back_reserved(Flight { number, ..flight });
-        }
+        self.flights.push_back_reserved(Flight { number, ..flight });
         number
     }
 
     /// The flight of a number, lent, or why there is none: `Unknown` or `Spent`.
+    #[inline]
     pub fn find(&self, number: u64) -> Result<&Flight, TakeFault>
         ensures given { AreGiven self.now }
         ensures flight { IfOk result (λ f. found self.now.last self.now.flights number ≡ Ok f.now) }
@@ -107,6 +116,7 @@ impl FlightBook {
     }
 
     /// The flight of a number, or why there is none: `Unknown` or `Spent`.
+    #[inline(always)]
     pub fn look(&self, number: u64) -> Result<Flight, TakeFault>
         ensures given { AreGiven self.now }
         ensures flight { result ≡ found self.now.last self.now.flights number }
@@ -125,13 +135,31 @@ impl FlightBook {
         ensures last { self.new.last ≡ self.old.last }
         ensures room { self.old.room ≤ self.new.room }
     {
-        let (place, flight) = flight_left(&self.flights, self.last, &self.spent, number)?;
-        if flight.receiver != device {
-            return Err(TakeFault::WrongDevice);
-        }
+        let (place, flight) = flight_for(&self.flights, self.last, &self.spent, number, device)?;
         let taken = *flight;
         spend(&mut self.flights, self.last, &self.spent, place);
         Ok(taken)
+    }
+
+    /// The same, written where the caller wants it. A fault is `None`.
+    // A flight is large: it is moved once.
+    #[inline(always)]
+    pub fn take_into(&mut self, number: u64, device: u32, taken: &mut Option<Flight>)
+        ensures given { AreGiven self.new }
+        ensures flight { taken.new
+            ≡ result_ok (for_device device (found self.old.last self.old.flights number)) }
+        ensures flights { self.new.flights
+            ≡ (if is_some taken.new then without number self.old.flights else self.old.flights) }
+        ensures last { self.new.last ≡ self.old.last }
+        ensures room { self.old.room ≤ self.new.room }
+    {
+        match flight_for(&self.flights, self.last, &self.spent, number, device) {
+            Ok((place, flight)) => {
+                *taken = Some(*flight);
+                spend(&mut self.flights, self.last, &self.spent, place);
+            }
+            Err(_) => *taken = None,
+        }
     }
 
     /// Loses the flight of a number: it is spent then. A fault changes nothing.
@@ -166,6 +194,5 @@ impl FlightBook {
         ensures room { self.old.room ≤ self.new.room }
     {
         self.spent.purge(reference);
-        drop_first(&mut self.flights, &self.spent);
     }
 }

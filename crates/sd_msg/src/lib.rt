@@ -41,13 +41,14 @@ pub struct Flight {
     pub link: u32,
     pub sender: u32,
     pub receiver: u32,
+    /// Whether it can come at all.
+    // Fields lie in this order: here it fills a gap.
+    pub reaches: bool,
     pub sent_at: u64,
     /// By when it comes over a link that keeps its delay bounds.
     pub due: u64,
     /// After this it is no longer kept.
     pub last: u64,
-    /// Whether it can come at all.
-    pub reaches: bool,
     pub message: Message,
 }
 

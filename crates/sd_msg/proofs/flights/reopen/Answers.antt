@@ -1,19 +1,14 @@
-use Rattle.std.proofs.Common.{◌∙◌, ap, subst, sym}
-use Rattle.std.specs.List.{filter}
-use Rattle.sd_msg.specs.Spent.{is_left, AreKept}
-use Rattle.sd_msg.proofs.Filters.{passing_too}
-use Rattle.sd_msg.proofs.Books.{kept}
+use Rattle.std.proofs.Common.{◌∙◌, get_or}
+use Rattle.sd_msg.specs.Spent.{is_left}
+use Rattle.sd_msg.proofs.Books.{same_left}
+use Rattle.sd_msg.proofs.Filters.{agree_each}
 use Rattle.sd_msg.proofs.flights.reopen.Goals as goal
 
 pub returns-clause-left : goal.returns-clause-left
 returns-clause-left c =
     let before = c.args.spent.now in
-    let flights = c.args.flights.now.items in
-    ap (filter (is_left c.reopen.new.self)) c.keep_left.ensures.items
-    ∙ passing_too (is_left before) (is_left c.reopen.new.self) flights c.reopen.ensures.left
-
-pub returns-clause-kept : goal.returns-clause-kept
-returns-clause-kept c = λ number h.
-    let before = c.args.spent.now in
-    c.reopen.ensures.kept number c.keep_left.new.flights.items
-    (subst (AreKept number before) (sym c.keep_left.ensures.items) (kept (is_left before) number before c.args.flights.now.items h))
+    let after = c.reopen.new.self in
+    let flights = c.settle.new.flights.items in
+    agree_each (is_left after) (is_left before) flights
+    (λ k d within. same_left before after (get_or flights k d) (c.settle.ensures.settled k d within) (c.reopen.ensures.left (get_or flights k d)))
+    ∙ c.settle.ensures.left

@@ -8,12 +8,10 @@ use Rattle.sd_msg.proofs.book.FlightBook.purge.Goals as goal
 pub returns-clause-given : goal.returns-clause-given
 returns-clause-given c =
     let b = c.self.inside in
-    seen_numbered (is_left c.purge.new.self) b.last c.purge.new.self c.drop_first.new.flights.items
-    (c.drop_first.ensures.kept b.last (c.purge.ensures.kept b.last b.flights.items c.self.invariant))
+    seen_numbered (is_left c.purge.new.self) b.last c.purge.new.self b.flights.items (c.purge.ensures.kept b.last b.flights.items c.self.invariant)
 
 pub returns-clause-flights : goal.returns-clause-flights
 returns-clause-flights c =
     let b = c.self.inside in
-    c.drop_first.ensures.left
-    ∙ seen_purged b.spent c.purge.new.self c.args.reference b.flights.items c.purge.ensures.left
+    seen_purged b.spent c.purge.new.self c.args.reference b.flights.items c.purge.ensures.left
     ∙ ap (λ (k : Book). filter (is_current c.args.reference) k.flights) c.self.view_is

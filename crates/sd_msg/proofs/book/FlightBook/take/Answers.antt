@@ -9,11 +9,6 @@ returns-in_err-place-clause-given c =
     let b = c.self.inside in
     subst AreGiven c.self.view_is (seen_numbered (is_left b.spent) b.last b.spent b.flights.items c.self.invariant)
 
-pub returns-then-flight-device-clause-given : goal.returns-then-flight-device-clause-given
-returns-then-flight-device-clause-given c =
-    let b = c.self.inside in
-    subst AreGiven c.self.view_is (seen_numbered (is_left b.spent) b.last b.spent b.flights.items c.self.invariant)
-
 pub returns-clause-given : goal.returns-clause-given
 returns-clause-given c =
     let b = c.self.inside in

@@ -1,0 +1,15 @@
+use Rattle.std.proofs.Common.{subst}
+use Rattle.sd_msg.specs.Books.{AreGiven}
+use Rattle.sd_msg.specs.Spent.{is_left}
+use Rattle.sd_msg.proofs.Books.{seen_numbered}
+use Rattle.sd_msg.proofs.book.FlightBook.take_into.Goals as goal
+
+pub returns-in-Ok-clause-given : goal.returns-in-Ok-clause-given
+returns-in-Ok-clause-given c =
+    let b = c.self.inside in
+    seen_numbered (is_left b.spent) b.last b.spent c.spend.new.flights.items c.spend.ensures.kept
+
+pub returns-in-Err-clause-given : goal.returns-in-Err-clause-given
+returns-in-Err-clause-given c =
+    let b = c.self.inside in
+    subst AreGiven c.self.view_is (seen_numbered (is_left b.spent) b.last b.spent b.flights.items c.self.invariant)
