@@ -20,7 +20,7 @@ weighs : WeighsDigits value
 weighs = search rules
 
 -- so these are the digits and the values of the library
-own : IsNumeralModel AllDigits value
+pub own : IsNumeralModel AllDigits value
 own = numerals_by_weight AllDigits tells_digits value weighs
 
 -- the digits go on to the end

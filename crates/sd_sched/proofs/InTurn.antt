@@ -7,8 +7,8 @@ use Rattle.sd_sched.specs.Reading.{Begins, BeginsThree, ◌then◌, fields_behin
 use Rattle.sd_sched.specs.declared.LineFault.{LineFault}
 use Rattle.sd_sched.specs.declared.words.Field.{Field}
 use Rattle.sd_sched.specs.declared.words.Field.TheVariants.{Amount, Which}
-use Rattle.sd_sched.specs.declared.words.Word.TheVariants.{Tick, Recv}
-use Rattle.sd_sched.specs.declared.Event.TheVariants.{Tick as TickEvent, Recv as RecvEvent}
+use Rattle.sd_sched.specs.declared.words.Word.TheVariants.{Tick, Recv, Ask}
+use Rattle.sd_sched.specs.declared.Event.TheVariants.{Tick as TickEvent, Recv as RecvEvent, Ask as AskEvent}
 use Rattle.sd_sched.proofs.ByLine.{word_first}
 use Rattle.sd_sched.proofs.Cuts.{fields_step}
 
@@ -49,6 +49,13 @@ pub tick_line : (line bytes left : List ℕ) (reference device counter : ℕ) �
     → event_of_line line ≡ Ok (TickEvent reference device counter)
 tick_line line bytes left reference device counter is read none =
     rw is (word_first (codes "tick " ++ bytes) Tick (Ok (reference ∷ device ∷ counter ∷ [])) refl (read [] ∙ rw (no_bytes left none) refl))
+
+-- an ask with its three
+pub ask_line : (line bytes left : List ℕ) (reference device counter : ℕ) → line ≡ codes "ask " ++ bytes
+    → BeginsThree (fields bytes) reference device counter (fields_behind left) → nat_eq (length left) 0 ≡ true
+    → event_of_line line ≡ Ok (AskEvent reference device counter)
+ask_line line bytes left reference device counter is read none =
+    rw is (word_first (codes "ask " ++ bytes) Ask (Ok (reference ∷ device ∷ counter ∷ [])) refl (read [] ∙ rw (no_bytes left none) refl))
 
 -- a receipt with its four
 pub recv_line : (line bytes left : List ℕ) (reference device counter message : ℕ) → line ≡ codes "recv " ++ bytes

@@ -12,14 +12,14 @@ abbrev pub has_no_space : List ℕ → Bool
 has_no_space bytes = list_all (λ byte. not (eqb byte 32)) bytes
 
 -- a field without spaces is the only one
-fields_one : (field : List ℕ) → has_no_space field ≡ true → fields field ≡ field ∷ []
+pub fields_one : (field : List ℕ) → has_no_space field ≡ true → fields field ≡ field ∷ []
 fields_one [] clean = refl
 fields_one (byte ∷ field) clean =
     let parts = and_parts (not (eqb byte 32)) (has_no_space field) clean in
     rw (not-true (eqb byte 32) parts.0, fields_one field parts.1) refl
 
 -- a space ends it
-fields_more : (field rest : List ℕ) → has_no_space field ≡ true → fields (field ++ 32 ∷ rest) ≡ field ∷ fields rest
+pub fields_more : (field rest : List ℕ) → has_no_space field ≡ true → fields (field ++ 32 ∷ rest) ≡ field ∷ fields rest
 fields_more [] rest clean = refl
 fields_more (byte ∷ field) rest clean =
     let parts = and_parts (not (eqb byte 32)) (has_no_space field) clean in

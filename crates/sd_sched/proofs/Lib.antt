@@ -7,5 +7,7 @@ pub mod ByWord
 pub mod First
 pub mod Prefix
 pub mod ByLine
+pub mod InPlace
 pub mod InTurn
+pub mod Fronts
 pub mod ReadBack

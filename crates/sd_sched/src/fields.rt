@@ -13,10 +13,10 @@ use crate::words::{Field, MOST_FIELDS};
 use sd_num::{leading_number, read_u64};
 
 /// The greatest number of a field that names no device and no link.
-const MOST_AMOUNT: u64 = 1 << 60;
+pub const MOST_AMOUNT: u64 = 1 << 60;
 
 /// The greatest number of a device or a link.
-const MOST_WHICH: u64 = (1 << 32) - 1;
+pub const MOST_WHICH: u64 = (1 << 32) - 1;
 
 /// A field that was read.
 #[derive(Clone, Copy)]
@@ -130,7 +130,7 @@ fn within(number: u64, most: u64) -> Option<u64>
 }
 
 /// Whether digits are a number: there is one, and no other stands behind a leading `0`.
-fn is_plain(digits: &[u8]) -> bool
+pub fn is_plain(digits: &[u8]) -> bool
     ensures { result ≡ (nat_lt 0 (length digits.now) && not (leads_with_zero digits.now)) }
 {
     !matches!(digits, [] | [b'0', _, ..])

@@ -17,6 +17,7 @@
 mod events;
 mod fields;
 mod making;
+mod numbers;
 mod printing;
 mod reading;
 mod usual;
@@ -25,6 +26,7 @@ mod words;
 pub use fields::{Found, behind_space, first_field, read_number};
 pub use printing::line_text;
 pub use reading::read_line;
+pub use usual::{Front, read_front};
 
 /// One line of a schedule: an atomic action of one device or of the world.
 ///

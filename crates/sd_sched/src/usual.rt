@@ -1,111 +1,141 @@
-//! The two kinds of line that nearly all are, a tick and a receipt, each read in one go.
-ghost use Rattle.std.specs.Prelude.{◌≡◌, ◌≤◌, ◌++◌, [], ◌∷◌, Ok, IfSome, IsTrue};
-ghost use Rattle.sd_sched.specs.Lines.{event_of_line, fields as fields_of, limit};
+//! The kinds of line that nearly all are, a tick, a receipt and an ask, each read in one go where
+//! it stands.
+ghost use Rattle.std.specs.Prelude.{◌≡◌, ◌≤◌, ◌++◌, [], ◌∷◌, length, take, position, nat_eq, Ok, Some, IfSome, IsTrue};
+ghost use Rattle.sd_sched.specs.Lines.{event_of_line, limit};
 ghost use Rattle.sd_sched.specs.Spelled.{is_within};
-ghost use Rattle.sd_sched.specs.Reading.{Begins, BeginsThree, fields_behind, row_of};
+ghost use Rattle.sd_sched.specs.Reading.{row_of};
+ghost use Rattle.sd_sched.specs.InPlace.{HasLine, HasNumber, HasNumberBehind};
 ghost use Rattle.sd_sched.specs.declared.words.Field.TheVariants.{Amount, Which};
 
 use crate::Event;
-use crate::fields::{behind_space, read_field};
-use crate::words::{Field, Word};
+use crate::fields::{MOST_AMOUNT, MOST_WHICH};
+use crate::numbers::{Placed, has_at, number_at, number_behind};
+use crate::words::Word;
 
-/// A number that was read, and what is left of the line behind its field.
+/// A line at the front of bytes.
 #[derive(Clone, Copy)]
-struct Numbered<'a> {
-    number: u64,
-    left: &'a [u8],
+pub struct Front {
+    /// Its event.
+    pub event: Event,
+    /// How many bytes it has, its newline not counted.
+    pub len: usize,
 }
 
-/// The numbers that a tick and a receipt begin with, and what is left of the line behind them.
+/// The numbers that each of these lines begins with.
 #[derive(Clone, Copy)]
-struct Head<'a> {
-    reference: u64,
-    device: u64,
-    counter: u64,
-    left: &'a [u8],
+struct Head {
+    reference: Placed,
+    device: Placed,
+    counter: Placed,
 }
 
-/// The event of a line that is a tick or a receipt. What has a fault is left to the reader that
+/// The event of a line that is of one of these kinds. What has a fault is left to the reader that
 /// says which.
 pub fn read_usual(bytes: &[u8]) -> Option<Event>
     ensures event { IfSome result (λ e. event_of_line bytes.now ≡ Ok e) }
     ensures within { IfSome result (λ e. IsTrue (is_within e)) }
 {
-    let (word, fields) = usual_word(bytes)?;
-    let head = read_head(fields)?;
-    match word {
-        Word::Tick if head.left.is_empty() => Some(Event::Tick {
-            reference: head.reference,
-            device: head.device as u32,
-            counter: head.counter,
-        }),
-        Word::Recv => Some(Event::Recv {
-            reference: head.reference,
-            device: head.device as u32,
-            counter: head.counter,
-            message: read_last(head.left)?,
-        }),
-        _ => None,
-    }
-}
-
-/// The word of a line that is a tick or a receipt, and the fields behind it.
-#[inline(always)]
-fn usual_word(bytes: &[u8]) -> Option<(Word, &[u8])>
-    ensures { IfSome result (λ found. bytes.now ≡ (row_of found.0).spelled ++ 32 ∷ found.1.now) }
-{
-    match bytes {
-        [b't', b'i', b'c', b'k', b' ', fields @ ..] => Some((Word::Tick, fields)),
-        [b'r', b'e', b'c', b'v', b' ', fields @ ..] => Some((Word::Recv, fields)),
-        _ => None,
-    }
-}
-
-/// Reads the reference time, the device and its counter.
-#[inline(always)]
-fn read_head(fields: &[u8]) -> Option<Head<'_>>
-    ensures read { IfSome result
-        (λ head. BeginsThree (fields_of fields.now) head.reference head.device head.counter
-        (fields_behind head.left.now)) }
-    ensures reference { IfSome result (λ head. head.reference ≤ limit Amount) }
-    ensures device { IfSome result (λ head. head.device ≤ limit Which) }
-    ensures counter { IfSome result (λ head. head.counter ≤ limit Amount) }
-{
-    let reference = read_one(Field::Amount, fields)?;
-    let device = read_one(Field::Which, behind_space(reference.left)?)?;
-    let counter = read_one(Field::Amount, behind_space(device.left)?)?;
-    Some(Head {
-        reference: reference.number,
-        device: device.number,
-        counter: counter.number,
-        left: counter.left,
-    })
-}
-
-/// Reads the number of a message that is to be the last field.
-#[inline(always)]
-fn read_last(left: &[u8]) -> Option<u64>
-    ensures read { IfSome result (λ n. Begins Amount (fields_behind left.now) n []) }
-    ensures within { IfSome result (λ n. n ≤ limit Amount) }
-{
-    let last = read_one(Field::Amount, behind_space(left)?)?;
-    if last.left.is_empty() {
-        Some(last.number)
+    let front = usual_front(bytes)?;
+    if front.len == bytes.len() {
+        Some(front.event)
     } else {
         None
     }
 }
 
-/// Reads the field at the front of the bytes, which is to have a number.
-#[inline(always)]
-fn read_one(field: Field, bytes: &[u8]) -> Option<Numbered<'_>>
-    ensures read { IfSome result
-        (λ one. Begins field (fields_of bytes.now) one.number (fields_behind one.left.now)) }
-    ensures within { IfSome result (λ one. one.number ≤ limit field) }
+/// The first line of a text, if it is of one of these kinds and ends with a newline. Any other may
+/// be one all the same: `read_line` says.
+pub fn read_front(text: &[u8]) -> Option<Front>
+    ensures newline { IfSome result
+        (λ front. position (λ byte. nat_eq byte 10) text.now ≡ Some front.len) }
+    ensures short { IfSome result (λ front. front.len ≤ 4096) }
+    ensures event { IfSome result
+        (λ front. event_of_line (take front.len text.now) ≡ Ok front.event) }
+    ensures within { IfSome result (λ front. IsTrue (is_within front.event)) }
 {
-    let found = read_field(field, bytes);
-    Some(Numbered {
-        number: found.number?,
-        left: found.left,
+    let front = usual_front(text)?;
+    if has_at(text, front.len, b'\n') {
+        Some(front)
+    } else {
+        None
+    }
+}
+
+/// The longest line of one of these kinds at the front of bytes.
+#[inline(always)]
+fn usual_front(bytes: &[u8]) -> Option<Front>
+    ensures { IfSome result (λ front. HasLine bytes.now front.event front.len) }
+{
+    let (word, from) = usual_word(bytes)?;
+    let head = read_head(bytes, from)?;
+    let reference = head.reference.number;
+    let device = head.device.number as u32;
+    let counter = head.counter.number;
+    match word {
+        Word::Tick => Some(Front {
+            event: Event::Tick {
+                reference,
+                device,
+                counter,
+            },
+            len: head.counter.end,
+        }),
+        Word::Ask => Some(Front {
+            event: Event::Ask {
+                reference,
+                device,
+                counter,
+            },
+            len: head.counter.end,
+        }),
+        Word::Recv => {
+            let message = number_behind(bytes, head.counter.end, MOST_AMOUNT)?;
+            Some(Front {
+                event: Event::Recv {
+                    reference,
+                    device,
+                    counter,
+                    message: message.number,
+                },
+                len: message.end,
+            })
+        }
+        _ => None,
+    }
+}
+
+/// Which of these words the bytes begin with, and where its fields begin.
+#[inline(always)]
+fn usual_word(bytes: &[u8]) -> Option<(Word, usize)>
+    ensures spelled { IfSome result
+        (λ found. take found.1 bytes.now ≡ (row_of found.0).spelled ++ 32 ∷ []) }
+    ensures inside { IfSome result (λ found. found.1 ≤ length bytes.now) }
+{
+    match bytes {
+        [b't', b'i', b'c', b'k', b' ', ..] => Some((Word::Tick, 5)),
+        [b'r', b'e', b'c', b'v', b' ', ..] => Some((Word::Recv, 5)),
+        [b'a', b's', b'k', b' ', ..] => Some((Word::Ask, 4)),
+        _ => None,
+    }
+}
+
+/// Reads the reference time, the device and its counter, which begin at a place.
+#[inline(always)]
+fn read_head(bytes: &[u8], from: usize) -> Option<Head>
+    requires { from ≤ length bytes.now }
+    ensures reference { IfSome result (λ head.
+        HasNumber (limit Amount) bytes.now from head.reference.end head.reference.number) }
+    ensures device { IfSome result (λ head. HasNumberBehind (limit Which) bytes.now
+        head.reference.end head.device.end head.device.number) }
+    ensures counter { IfSome result (λ head. HasNumberBehind (limit Amount) bytes.now
+        head.device.end head.counter.end head.counter.number) }
+{
+    let reference = number_at(bytes, from, MOST_AMOUNT)?;
+    let device = number_behind(bytes, reference.end, MOST_WHICH)?;
+    let counter = number_behind(bytes, device.end, MOST_AMOUNT)?;
+    Some(Head {
+        reference,
+        device,
+        counter,
     })
 }
