@@ -94,5 +94,6 @@ module _ (net : Network) where
       subst (λ (ps : List Plan). IsTallied (case_tally (setting_over net ps) number) bytes status) both.are written in
       goes_on 1 0 first_absent (λ first. AfterGreedy net 2 1 second_absent (λ second. IsTallied (case_tally (setting_over net (first ∷ second ∷ [])) number)))
       both.first bytes status both.first_made
-      (goes_on 2 1 second_absent (λ second. IsTallied (case_tally (setting_over net (both.first ∷ second ∷ [])) number)) both.second bytes status both.second_made
+      (goes_on 2 1 second_absent
+      (λ second. IsTallied (case_tally (setting_over net (both.first ∷ second ∷ [])) number)) both.second bytes status both.second_made
       of_both))

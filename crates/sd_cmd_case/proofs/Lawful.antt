@@ -46,7 +46,8 @@ greedy_one net place root absent Then one bytes other status also (plan, greedy,
 pub one_case : HasOneCase
 one_case number leaves spines =
     let net = fabric leaves spines in
-    greedy_one net 1 0 first_absent (λ first. AfterGreedy net 2 1 second_absent (λ second. IsTallied (case_tally (setting_over net (first ∷ second ∷ [])) number)))
+    greedy_one net 1 0 first_absent
+    (λ first. AfterGreedy net 2 1 second_absent (λ second. IsTallied (case_tally (setting_over net (first ∷ second ∷ [])) number)))
     (λ first.
     greedy_one net 2 1 second_absent (λ second. IsTallied (case_tally (setting_over net (first ∷ second ∷ [])) number))
     (λ second b o s a (printed, answered) (printed', answered'). (answered ∙ sym answered', printed ∙ sym printed')))
@@ -75,7 +76,8 @@ pub case_completes : CaseCompletes
 case_completes number leaves spines right bytes status written =
     let net = fabric leaves spines in
     let behind =
-    greedy_passed net 1 0 first_absent (λ first. AfterGreedy net 2 1 second_absent (λ second. IsTallied (case_tally (setting_over net (first ∷ second ∷ [])) number)))
+    greedy_passed net 1 0 first_absent
+    (λ first. AfterGreedy net 2 1 second_absent (λ second. IsTallied (case_tally (setting_over net (first ∷ second ∷ [])) number)))
     right.first bytes status right.first_greedy right.first_accepted written in
     let tally = case_tally (setting_over net (right.first ∷ right.second ∷ [])) number in
     let told =

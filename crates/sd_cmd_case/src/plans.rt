@@ -94,7 +94,8 @@ fn second_plan(alloc: Global, topo: &Topology) -> Result<Plan, SetupError>
 pub(crate) fn greedy_plans(alloc: Global, topo: &Topology) -> Result<PlanList, SetupError>
     requires { 2 ≤ length (network topo.now).devices }
     ensures made { IfOk result (AreMade (network topo.now)) }
-    ensures makes { IfErr result (λ early. Makes (AfterBoth (network topo.now) Nothing) (made_of early)) }
+    ensures makes { IfErr result
+        (λ early. Makes (AfterBoth (network topo.now) Nothing) (made_of early)) }
     ensures early { IfErr result IsSetupError }
 {
     let mut plans = PlanList::new(alloc);

@@ -71,7 +71,8 @@ pub(crate) fn replay_case(
     number: u64,
 ) -> Result<Answer, CommandError>
     requires { AreMade (network topo) plans }
-    ensures makes { Makes (IsTallied (case_tally (setting_over (network topo) plans) number)) result }
+    ensures makes { Makes
+        (IsTallied (case_tally (setting_over (network topo) plans) number)) result }
     ensures only { IfErr result (λ why. why ≡ CommandError.Memory) }
     ensures gives { IfOk result
         (λ answer. IsTrue (is_among (Status.Done ∷ Status.Broken ∷ []) answer.status)) }

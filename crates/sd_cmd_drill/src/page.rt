@@ -109,8 +109,10 @@ impl Page {
         ensures text { OnOk result (self.new.text.items ≡ self.old.text.items
             ++ line_behind (printed self.old.bound_front)
             (printed self.old.nobound_front) device.now bound) }
-        ensures bound_front { OnOk result (printed self.new.bound_front ≡ printed self.old.bound_front) }
-        ensures nobound_front { OnOk result (printed self.new.nobound_front ≡ printed self.old.nobound_front) }
+        ensures bound_front { OnOk result
+            (printed self.new.bound_front ≡ printed self.old.bound_front) }
+        ensures nobound_front { OnOk result
+            (printed self.new.nobound_front ≡ printed self.old.nobound_front) }
     {
         match bound {
             Some(bound) => {

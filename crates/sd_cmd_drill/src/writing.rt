@@ -39,7 +39,8 @@ impl Room {
     /// Room for a drill of a plan.
     fn new(alloc: Global, planned: Indexed<'_>, budget: Budget) -> Result<Room, NoMemory>
         requires { IsBudget budget }
-        ensures room { IfOk result (IsRoomFor (network planned.entry.topo.now) planned.entry.plan.now) }
+        ensures room { IfOk result
+            (IsRoomFor (network planned.entry.topo.now) planned.entry.plan.now) }
         ensures budget { IfOk result (λ room. budget_of room ≡ budget) }
     {
         let drill = Drill::new(alloc, planned, budget)?;
@@ -119,8 +120,8 @@ fn write_domain<O: Sink>(
     requires accepted { IsAccepted (network planned.topo.now) planned.plan.now }
     requires domain { IsDomain (network planned.topo.now) domain }
     requires room { IsRoomFor (network planned.topo.now) planned.plan.now room.old }
-    ensures adds { AddsLines (network planned.entry.topo.now) planned.entry.plan.now (budget_of room.old)
-        (domain ∷ []) (O.written out.old) (O.written out.new) result }
+    ensures adds { AddsLines (network planned.entry.topo.now) planned.entry.plan.now
+        (budget_of room.old) (domain ∷ []) (O.written out.old) (O.written out.new) result }
     ensures room { IsRoomFor (network planned.entry.topo.now) planned.entry.plan.now room.new }
     ensures budget { budget_of room.new ≡ budget_of room.old }
     ensures sink { RisesFor (result ≡ Err IoError.Sink) (O.faults out.old) (O.faults out.new) }
@@ -141,8 +142,8 @@ fn write_kind<O: Sink>(
 ) -> Result<(), IoError>
     requires accepted { IsAccepted (network planned.topo.now) planned.plan.now }
     requires room { IsRoomFor (network planned.topo.now) planned.plan.now room.old }
-    ensures adds { AddsLines (network planned.entry.topo.now) planned.entry.plan.now (budget_of room.old)
-        (all_of (network planned.entry.topo.now) kind) (O.written out.old)
+    ensures adds { AddsLines (network planned.entry.topo.now) planned.entry.plan.now
+        (budget_of room.old) (all_of (network planned.entry.topo.now) kind) (O.written out.old)
         (O.written out.new) result }
     ensures room { IsRoomFor (network planned.entry.topo.now) planned.entry.plan.now room.new }
     ensures budget { budget_of room.new ≡ budget_of room.old }
@@ -163,7 +164,8 @@ fn write_domains<O: Sink>(
 ) -> Result<(), IoError>
     requires accepted { IsAccepted (network planned.topo.now) planned.plan.now }
     requires room { IsRoomFor (network planned.topo.now) planned.plan.now room.old }
-    ensures adds { AddsLines (network planned.entry.topo.now) planned.entry.plan.now (budget_of room.old)
+    ensures adds { AddsLines (network planned.entry.topo.now) planned.entry.plan.now
+        (budget_of room.old)
         (domains (network planned.entry.topo.now)) (O.written out.old) (O.written out.new) result }
     ensures room { IsRoomFor (network planned.entry.topo.now) planned.entry.plan.now room.new }
     ensures budget { budget_of room.new ≡ budget_of room.old }
@@ -181,7 +183,8 @@ fn write_done<O: Sink>(
     out: &mut O,
 ) -> Result<Status, IoError>
     requires { IsRoomFor (network planned.topo.now) planned.plan.now room.old }
-    ensures writes { Adds (piece_of (done_line (network planned.entry.topo.now) planned.entry.plan.now))
+    ensures writes { Adds
+        (piece_of (done_line (network planned.entry.topo.now) planned.entry.plan.now))
         (O.written out.old) (O.written out.new) result }
     ensures status { IfOk result (λ status. status ≡ Status.Done) }
     ensures only { IfErr result (λ why. why ≡ IoError.Sink) }
@@ -206,8 +209,8 @@ fn write_whole<O: Sink>(
 ) -> Result<Status, IoError>
     requires accepted { IsAccepted (network planned.topo.now) planned.plan.now }
     requires room { IsRoomFor (network planned.topo.now) planned.plan.now room.old }
-    ensures drills { Drills (network planned.entry.topo.now) planned.entry.plan.now (budget_of room.old)
-        (O.written out.old) (O.written out.new) result }
+    ensures drills { Drills (network planned.entry.topo.now) planned.entry.plan.now
+        (budget_of room.old) (O.written out.old) (O.written out.new) result }
     ensures sink { RisesFor (result ≡ Err IoError.Sink) (O.faults out.old) (O.faults out.new) }
 {
     write_domains(alloc, planned, room, out)?;
@@ -223,8 +226,8 @@ fn drill_indexed<O: Sink>(
 ) -> Result<Status, IoError>
     requires accepted { IsAccepted (network planned.topo.now) planned.plan.now }
     requires budget { IsBudget budget }
-    ensures drills { Drills (network planned.entry.topo.now) planned.entry.plan.now budget (O.written out.old)
-        (O.written out.new) result }
+    ensures drills { Drills (network planned.entry.topo.now) planned.entry.plan.now budget
+        (O.written out.old) (O.written out.new) result }
     ensures sink { RisesFor (result ≡ Err IoError.Sink) (O.faults out.old) (O.faults out.new) }
 {
     match Room::new(alloc, planned, budget) {
@@ -247,7 +250,8 @@ pub fn write_drill<O: Sink>(
     requires fits { Fits (network topo.now) plan.now }
     requires accepted { IsAccepted (network topo.now) plan.now }
     requires budget { IsBudget budget }
-    ensures drills { Drills (network topo.now) plan.now budget (O.written out.old) (O.written out.new) result }
+    ensures drills { Drills (network topo.now) plan.now budget (O.written out.old)
+        (O.written out.new) result }
     ensures sink { RisesFor (result ≡ Err IoError.Sink) (O.faults out.old) (O.faults out.new) }
 {
     match WalkIndex::new(alloc, topo, plan) {

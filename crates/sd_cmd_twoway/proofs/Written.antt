@@ -59,7 +59,8 @@ module _ (net : Network) (joints : Joints) (k : ℕ) where
       → AddsPieces first after (lines_of net joints (k + 1))
   added_more joint line first before after has is written more =
       let whole : lines_of net joints (k + 1) ≡ lines_of net joints k ++ piece_of line =
-      ap (lines_of net joints) one_more ∙ lines_more net joints k ∙ ap (λ (j : Option (Span × ℕ)). lines_of net joints k ++ piece_of (of_some j [] (link_line net k))) has
+      ap (lines_of net joints) one_more ∙ lines_more net joints k
+      ∙ ap (λ (j : Option (Span × ℕ)). lines_of net joints k ++ piece_of (of_some j [] (link_line net k))) has
       ∙ ap (λ (text : List ℕ). lines_of net joints k ++ piece_of text) is in
       subst (AddsPieces first after) (sym whole) (adds_both first before after (lines_of net joints k) (piece_of line) written more)
 
@@ -67,7 +68,8 @@ module _ (net : Network) (joints : Joints) (k : ℕ) where
       → AddsPieces first after (lines_of net joints (k + 1))
   added_none first after none written =
       let same : lines_of net joints (k + 1) ≡ lines_of net joints k =
-      ap (lines_of net joints) one_more ∙ lines_more net joints k ∙ ap (λ (j : Option (Span × ℕ)). lines_of net joints k ++ piece_of (of_some j [] (link_line net k))) none
+      ap (lines_of net joints) one_more ∙ lines_more net joints k
+      ∙ ap (λ (j : Option (Span × ℕ)). lines_of net joints k ++ piece_of (of_some j [] (link_line net k))) none
       ∙ append-nil (lines_of net joints k) in
       subst (AddsPieces first after) (sym same) written
 

@@ -60,7 +60,8 @@ fn push_field(out: &mut LineBuffer, number: u64)
 
 /// The end of a link's line.
 fn where_it_lies(inside: bool) -> &'static [u8]
-    ensures word { result.now ≡ 32 ∷ ((if inside then codes "inside" else codes "outside") ++ 10 ∷ []) }
+    ensures word { result.now
+        ≡ 32 ∷ ((if inside then codes "inside" else codes "outside") ++ 10 ∷ []) }
     ensures short { length result.now ≤ 9 }
 {
     if inside { b" inside\n" } else { b" outside\n" }

@@ -38,7 +38,8 @@ fn write_links<O: Sink>(
     out: &mut O,
 ) -> Result<u32, IoError>
     requires { Fits (network topo.now) tally.now }
-    ensures writes { Adds (lines_of (network topo.now) tally.now.spans (length (network topo.now).links))
+    ensures writes { Adds
+        (lines_of (network topo.now) tally.now.spans (length (network topo.now).links))
         (O.written out.old) (O.written out.new) result }
     ensures count { IfOk result
         (λ links. links ≡ count_of tally.now.spans (length (network topo.now).links)) }

@@ -114,8 +114,10 @@ pub trait Node: Drop {
         ensures step { steps self.old (Receive link message counter) result self.new }
         ensures given { (given self.new ≡ given self.old) ⊎ (given self.new ≡ None) }
         ensures floor { floor self.new ≤ counter }
-        ensures ceiling { ceiling self.new ≤ max (max (ceiling self.old) message.clock) message.eps + 2 ^ 41 }
-        ensures height { height self.new ≤ max (max (height self.old) message.stamp.term) message.stamp.round }
+        ensures ceiling { ceiling self.new
+            ≤ max (max (ceiling self.old) message.clock) message.eps + 2 ^ 41 }
+        ensures height { height self.new
+            ≤ max (max (height self.old) message.stamp.term) message.stamp.round }
         ensures clock { IfSent result (IsUpTo (ceiling self.new)) }
         ensures stamp { IfSent result (IsAsHighAs (height self.new)) }
         ensures sent { IsTrue tells → (life : Life) → stands self.old life

@@ -150,7 +150,8 @@ fn is_setting(clock: u64, eps: u64) -> bool
 pub(crate) fn check_commit(registers: &Registers, counter: u64) -> Result<(), Fault>
     ensures timely { OnOk result (IsTimely registers.now counter) }
     ensures height { OnOk result (height_in registers.now < 2 ^ 31) }
-    ensures root { OnOk result (option_map (λ duty. duty.role) registers.now.given ≡ Some role.Root) }
+    ensures root { OnOk result
+        (option_map (λ duty. duty.role) registers.now.given ≡ Some role.Root) }
     ensures err { IfErr result (λ fault. Owes fault registers.now (Commit counter) → ⊥) }
 {
     check_counter(registers, counter)?;

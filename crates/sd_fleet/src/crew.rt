@@ -159,7 +159,8 @@ fn made<N: Node>(making: &Making<'_>) -> N
 fn call<N: Node>(node: &mut N, call: &Call<'_>, context: &CallContext) -> Effect
     requires events { context.now.events ≤ 2 ^ 26 }
     requires numbers { IsNode N.Node context.now.events context.now.reading node.old }
-    requires can { CanCall N.Node context.now.events context.now.reading node.old (call_seen call.now) }
+    requires can { CanCall N.Node context.now.events context.now.reading node.old
+        (call_seen call.now) }
     ensures step { N.steps node.old (call_seen call.now) result node.new }
     ensures given { GivenAfter (call_seen call.now) (N.given node.old) (N.given node.new) }
     ensures numbers { IsNode N.Node (context.now.events + 1)

@@ -139,7 +139,8 @@ impl<N: Node> Fleet<N> {
         ensures accepted { IfOk result (λ outcome. (setting : Setting) (run : List (NodeStep N))
             → StandsFor N.Node self.old setting run
             → IsAccepted N.Node self.new setting run event.now outcome) }
-        ensures limited { IfOk result (λ outcome. IfSome outcome.report (λ told. IsLimited told.1)) }
+        ensures limited { IfOk result
+            (λ outcome. IfSome outcome.report (λ told. IsLimited told.1)) }
         ensures few { IfOk result
             (λ outcome. outcome.sent ≤ most_sent_in self.old.fabric event.now) }
         ensures refused { IfErr result (λ fault. (setting : Setting) (run : List (NodeStep N))

@@ -25,7 +25,8 @@ pub struct Arrival {
 #[derive(Drop)]
 pub struct Arrivals {
     heap: BinaryHeap<Reverse<Arrival>>,
-    ghost ordered: { IsHeap by_receipt (heap_items heap) } by { IsHeap-prop by_receipt (heap_items heap) },
+    ghost ordered: { IsHeap by_receipt
+        (heap_items heap) } by { IsHeap-prop by_receipt (heap_items heap) },
 }
 
 impl Arrivals {

@@ -25,7 +25,8 @@ pub fn fabric_text(alloc: Global, leaves: u32, spines: u32) -> Result<Vec<u8>, N
     requires some_spines { 3 ≤ spines }
     requires few_spines { spines ≤ 32 }
     // as `toml` writes the whole tree, though it is printed part by part
-    ensures written { IfOk result (λ text. IsDocumentText false (fabric_tree leaves spines) text.items) }
+    ensures written { IfOk result
+        (λ text. IsDocumentText false (fabric_tree leaves spines) text.items) }
     ensures tree { IfOk result (λ text. tree_of text.items ≡ Some (fabric_tree leaves spines)) }
     ensures means { IfOk result (λ text. IsFabricText leaves spines text.items) }
 {

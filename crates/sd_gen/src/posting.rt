@@ -42,7 +42,8 @@ impl<D: Driven> Driver<D> {
     fn post(&mut self, reference: u64, outcome: &Outcome) -> Result<(), NoMemory>
         requires { reference ≤ 2 ^ 40 }
         ensures leads { OnOk result (self.new.leads.items ≡ self.old.leads.items) }
-        ensures stands { OnOk result ((setting : Setting) (x : Draft) (s : Step) (earlier : List Step)
+        ensures stands { OnOk result
+            ((setting : Setting) (x : Draft) (s : Step) (earlier : List Step)
             → x.steps ≡ s ∷ earlier
             → outcome.now ≡ outcome_of s → reference ≡ reference_of s.seen.event
             → StandsTo D.Driven self.old setting x (flight_count earlier)

@@ -66,7 +66,8 @@ impl<D: Driven> Driver<D> {
     ) -> Result<(), NoMemory>
         requires { reference ≤ 2 ^ 40 }
         ensures leads { OnOk result (self.new.leads.items ≡ self.old.leads.items) }
-        ensures stands { OnOk result ((setting : Setting) (x : Draft) → d < length setting.net.devices
+        ensures stands { OnOk result
+            ((setting : Setting) (x : Draft) → d < length setting.net.devices
             → StandsFor D.Driven self.old setting x
             → StandsFor D.Driven self.new setting
             (try_if_up_in setting (event_by turn reference self.old.leads.items) d x)) }

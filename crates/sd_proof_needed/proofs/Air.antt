@@ -232,7 +232,8 @@ module _ (net : Network) (plan : Plan) (dom : DomainId) (down : Thing → Bool) 
           false_from_ne_true (is_overdue (seen_of steps) f)
           (λ late. let due = (new f a).due in let before = air.overdue f late in omega (arith, here, due, before, later_))
 
-      in_time : (f : Flight) → Among f (premise.reaching_flights (seen_of steps)) → f.due < reference_of s.seen.event → was_received (seen_of steps) f.number ≡ true
+      in_time : (f : Flight) → Among f (premise.reaching_flights (seen_of steps)) → f.due < reference_of s.seen.event
+          → was_received (seen_of steps) f.number ≡ true
       in_time f a late =
           air.used f.number (true_from_ne_false (was_used steps f.number)
           (λ unused. let before = none f (air.seen f a).0 (air.seen f a).1 unused in omega (arith, here, late, before)))

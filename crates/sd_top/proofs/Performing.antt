@@ -152,7 +152,8 @@ pub ok_rises : (words : List (List ℕ)) (status blamed : Status) (why : IoError
 ok_rises words status blamed why before now among stops same =
     record {
       later = omega (arith, same);
-      rose = λ is. let none : stop_of status ≡ None = not_stopped (command_of words) status among in let some : stop_of status ≡ Some why = ap stop_of is ∙ stops in cc;
+      rose = λ is. let none : stop_of status ≡ None = not_stopped (command_of words) status among in
+          let some : stop_of status ≡ Some why = ap stop_of is ∙ stops in cc;
       steady = λ none. same;
     }
 

@@ -28,7 +28,8 @@ pub fn check<S: Shelf>(
     requires plan { IsTrue (S.serves shelf.old plan.now) }
     ensures makes { IfSome (S.held shelf.old)
         (λ held. Makes (IsCheck (texts_of held topology.now) (texts_of held plan.now)) result) }
-    ensures gives { GivesAmong (Status.Done ∷ Status.PlanRefused ∷ Status.InputRefused ∷ []) result }
+    ensures gives { GivesAmong
+        (Status.Done ∷ Status.PlanRefused ∷ Status.InputRefused ∷ []) result }
     ensures shelf { KeepsShelf S.Shelf (result ≡ Err CommandError.Shelf) shelf.old shelf.new }
 {
     let topo = load_topology(alloc, shelf, topology)?;
@@ -49,7 +50,8 @@ fn check_over<S: Shelf>(
         (λ held. Makes
         (After (plan_in_file (network topo.now) 1 (texts_of held plan.now))
         (IsJudged (network topo.now))) result) }
-    ensures gives { GivesAmong (Status.Done ∷ Status.PlanRefused ∷ Status.InputRefused ∷ []) result }
+    ensures gives { GivesAmong
+        (Status.Done ∷ Status.PlanRefused ∷ Status.InputRefused ∷ []) result }
     ensures shelf { KeepsShelf S.Shelf (result ≡ Err CommandError.Shelf) shelf.old shelf.new }
 {
     let plan = load_plan(alloc, shelf, plan, topo, 1)?;
@@ -60,7 +62,8 @@ fn check_over<S: Shelf>(
 fn judge(alloc: Global, topo: &Topology, plan: &Plan) -> Result<Answer, CommandError>
     requires { Fits (network topo.now) plan.now }
     ensures makes { Makes (IsJudged (network topo.now) plan.now) result }
-    ensures gives { GivesAmong (Status.Done ∷ Status.PlanRefused ∷ Status.InputRefused ∷ []) result }
+    ensures gives { GivesAmong
+        (Status.Done ∷ Status.PlanRefused ∷ Status.InputRefused ∷ []) result }
     ensures only { IfErr result (λ why. why ≡ CommandError.Memory) }
 {
     let verdict = check_plan(alloc, topo, plan)?;
@@ -69,7 +72,8 @@ fn judge(alloc: Global, topo: &Topology, plan: &Plan) -> Result<Answer, CommandE
 
 /// The line of a verdict, and its status.
 fn verdict_answer(alloc: Global, topo: &Topology, verdict: &Verdict) -> Result<Answer, CommandError>
-    ensures text { IfOk result (λ answer. answer.text.items ≡ verdict_text (network topo.now) verdict.now) }
+    ensures text { IfOk result
+        (λ answer. answer.text.items ≡ verdict_text (network topo.now) verdict.now) }
     ensures status { IfOk result (λ answer. answer.status ≡ verdict_status verdict.now) }
     ensures only { IfErr result (λ why. why ≡ CommandError.Memory) }
 {

@@ -17,8 +17,10 @@ use std::alloc::Global;
 /// Makes the plan of a topology.
 pub fn plan<S: Shelf>(alloc: Global, shelf: &mut S, topology: &str) -> Result<Answer, CommandError>
     requires { IsTrue (S.serves shelf.old topology.now) }
-    ensures makes { IfSome (S.held shelf.old) (λ held. Makes (IsPlanOf (texts_of held topology.now)) result) }
-    ensures gives { GivesAmong (Status.Done ∷ Status.PlanRefused ∷ Status.InputRefused ∷ []) result }
+    ensures makes { IfSome (S.held shelf.old)
+        (λ held. Makes (IsPlanOf (texts_of held topology.now)) result) }
+    ensures gives { GivesAmong
+        (Status.Done ∷ Status.PlanRefused ∷ Status.InputRefused ∷ []) result }
     ensures shelf { KeepsShelf S.Shelf (result ≡ Err CommandError.Shelf) shelf.old shelf.new }
 {
     let topo = load_topology(alloc, shelf, topology)?;
@@ -27,8 +29,10 @@ pub fn plan<S: Shelf>(alloc: Global, shelf: &mut S, topology: &str) -> Result<An
 
 /// The greedy plan from the first candidate, with nothing absent.
 fn plan_whole(alloc: Global, topo: &Topology) -> Result<Answer, CommandError>
-    ensures makes { Makes (IsPlanning (network topo.now) (first_root (network topo.now)) nothing) result }
-    ensures gives { GivesAmong (Status.Done ∷ Status.PlanRefused ∷ Status.InputRefused ∷ []) result }
+    ensures makes { Makes
+        (IsPlanning (network topo.now) (first_root (network topo.now)) nothing) result }
+    ensures gives { GivesAmong
+        (Status.Done ∷ Status.PlanRefused ∷ Status.InputRefused ∷ []) result }
     ensures only { IfErr result (λ why. why ≡ CommandError.Memory) }
 {
     let absent = Absent {

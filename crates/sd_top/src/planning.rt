@@ -43,7 +43,8 @@ pub fn planning(
     requires root { root < length (network topo.now).devices }
     requires absent { IsAbsentOf (network topo.now) absent.now }
     ensures makes { Makes (IsPlanning (network topo.now) root absent.now) result }
-    ensures gives { GivesAmong (Status.Done ∷ Status.PlanRefused ∷ Status.InputRefused ∷ []) result }
+    ensures gives { GivesAmong
+        (Status.Done ∷ Status.PlanRefused ∷ Status.InputRefused ∷ []) result }
     ensures only { IfErr result (λ why. why ≡ CommandError.Memory) }
 {
     let planned = plan_for(alloc, topo, root, absent)?;

@@ -34,7 +34,8 @@ pub fn renew<S: Shelf>(
         (λ held. Makes
         (IsRenewal (texts_of held topology.now) (texts_of held plan.now) (texts_of held absent.now))
         result) }
-    ensures gives { GivesAmong (Status.Done ∷ Status.PlanRefused ∷ Status.InputRefused ∷ []) result }
+    ensures gives { GivesAmong
+        (Status.Done ∷ Status.PlanRefused ∷ Status.InputRefused ∷ []) result }
     ensures shelf { KeepsShelf S.Shelf (result ≡ Err CommandError.Shelf) shelf.old shelf.new }
 {
     let topo = load_topology(alloc, shelf, topology)?;
@@ -57,7 +58,8 @@ fn renew_over<S: Shelf>(
         (After (plan_in_file (network topo.now) 1 (texts_of held plan.now))
         (λ old. After (absent_in_file (network topo.now) (texts_of held absent.now))
         (λ left. IsPlanning (network topo.now) (plannings.renewed_root old left) left))) result) }
-    ensures gives { GivesAmong (Status.Done ∷ Status.PlanRefused ∷ Status.InputRefused ∷ []) result }
+    ensures gives { GivesAmong
+        (Status.Done ∷ Status.PlanRefused ∷ Status.InputRefused ∷ []) result }
     ensures shelf { KeepsShelf S.Shelf (result ≡ Err CommandError.Shelf) shelf.old shelf.new }
 {
     let old = load_plan(alloc, shelf, plan, topo, 1)?;

@@ -50,14 +50,14 @@ pub fn run<S: Shelf, O: Sink>(alloc: Global, words: &[String], shelf: &mut S, ou
         (files_of (meaning.command_of (map string_bytes words.now))) }
 
     // Over a shelf that tells its texts: what the words write and answer.
-    ensures outcome { MeetsOutcome (S.held shelf.old) (map string_bytes words.now) (O.written out.old)
-        (O.written out.new) result }
+    ensures outcome { MeetsOutcome (S.held shelf.old) (map string_bytes words.now)
+        (O.written out.old) (O.written out.new) result }
     ensures near { result ≡ Status.InputRefused
         → IsNearRefusal (S.held shelf.old) (map string_bytes words.now) (S.rest shelf.new) }
     ensures promise { KeepsPromise (S.held shelf.old) (map string_bytes words.now) }
     // no alarm before the first broken premise, in all that this run added to what was written
-    ensures headline { MeetsHeadline (S.held shelf.old) (map string_bytes words.now) (O.written out.old)
-        (O.written out.new) }
+    ensures headline { MeetsHeadline (S.held shelf.old) (map string_bytes words.now)
+        (O.written out.old) (O.written out.new) }
     // no report above the number that a drill prints for its device, in any history that meets the premises of the drill
     ensures bounds { MeetsBounds (S.held shelf.old) (map string_bytes words.now) }
 
@@ -94,8 +94,8 @@ fn perform<S: Shelf, O: Sink>(
 ) -> Result<Status, IoError>
     requires { All (λ file. IsTrue (S.serves shelf.old (name_of file)))
         (files_of (meaning.command_of (map string_bytes words.now))) }
-    ensures outcome { MeetsResult (S.held shelf.old) (map string_bytes words.now) (O.written out.old)
-        (O.written out.new) result }
+    ensures outcome { MeetsResult (S.held shelf.old) (map string_bytes words.now)
+        (O.written out.old) (O.written out.new) result }
     ensures near { result ≡ Ok Status.InputRefused
         → IsNearRefusal (S.held shelf.old) (map string_bytes words.now) (S.rest shelf.new) }
     ensures gives { IfOk result

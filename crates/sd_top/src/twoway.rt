@@ -37,7 +37,8 @@ pub fn twoway<S: Shelf, O: Sink>(
     ensures gives { IfOk result
         (λ status. IsTrue (is_among (Status.Done ∷ Status.InputRefused ∷ []) status)) }
     ensures near { result ≡ Ok Status.InputRefused → IfSome (S.held shelf.old) (λ held.
-        IfSome (refused_over (topology_of (texts_of held topology.now)) (texts_of held exchanges.now)) (λ part. IsNear (Some part) (S.rest shelf.new))) }
+        IfSome (refused_over (topology_of (texts_of held topology.now))
+        (texts_of held exchanges.now)) (λ part. IsNear (Some part) (S.rest shelf.new))) }
     ensures shelf { KeepsShelf S.Shelf (result ≡ Err IoError.Shelf) shelf.old shelf.new }
     ensures sink { RisesFor (result ≡ Err IoError.Sink) (O.faults out.old) (O.faults out.new) }
 {

@@ -81,7 +81,8 @@ module _ (plan : Plan) (y : Thing) where
   cut (suc n) x a = elim (cut_from n x (primary_of plan x) (cut n) a) [ inl in_ ↦ inl in_ | inr in_ ↦ inr (longer n plan.backup_root in_) ]
 
   cut_path : (net : Network) (x : ℕ) (r b : Bool) → b ≡ false → In (if r then [] else hops (is_root plan) plan net.params.depth x)
-      → In (if r then [] else hops (ends_walks plan) plan net.params.depth x) ⊎ In (if b then [] else hops (is_root plan) plan net.params.depth plan.backup_root)
+      → In (if r then [] else hops (ends_walks plan) plan net.params.depth x)
+      ⊎ In (if b then [] else hops (is_root plan) plan net.params.depth plan.backup_root)
   cut_path net x true b other a = elim a [ ]
   cut_path net x false true other a = cc
   cut_path net x false false other a = cut net.params.depth x a

@@ -116,7 +116,8 @@ stays_spoiled s seen f spoiled =
 
 rounds_grow : (s : Seen) (seen : List Seen) → IsWithin (spoiled_rounds seen) (spoiled_rounds (s ∷ seen))
 rounds_grow s seen r a =
-    let i : IsImage (spoils seen) (λ f. f.message.stamp) (reaching_flights seen) r = image_of (spoils seen) (λ f. f.message.stamp) (reaching_flights seen) r a in
+    let i : IsImage (spoils seen) (λ f. f.message.stamp) (reaching_flights seen) r =
+    image_of (spoils seen) (λ f. f.message.stamp) (reaching_flights seen) r a in
     subst (λ z. Among z (spoiled_rounds (s ∷ seen))) i.image
     (to_image (spoils (s ∷ seen)) (λ f. f.message.stamp) (reaching_flights (s ∷ seen)) i.one (on_right s.sent i.there) (stays_spoiled s seen i.one i.passed))
 

@@ -73,7 +73,8 @@ mapped f x xs (later {y = y} {xs = ys} a) = later (mapped f x ys a)
 -- Spoiled rounds
 
 -- a round of which a flight is spoiled is spoiled
-pub spoiled_from : (seen : List Seen) (f : Flight) (term round : ℕ) → Among f (reaching_flights seen) → is_round f.message.stamp term round ≡ true → spoils seen f ≡ true
+pub spoiled_from : (seen : List Seen) (f : Flight) (term round : ℕ) → Among f (reaching_flights seen) → is_round f.message.stamp term round ≡ true
+    → spoils seen f ≡ true
     → is_spoiled seen term round ≡ true
 spoiled_from seen f term round a is bad =
     any_from (λ other. is_round other term round) f.message.stamp (spoiled_rounds seen)
@@ -170,7 +171,8 @@ since_head x rest from n s t (inr a) before = let found = before a in
     record { moment = found.moment; is_in = behind found.is_in; after = found.after; is = found.is }
 
 since_by : (x : Step) (rest : List Step) (from : Moment) (n : ℕ) (s : Seen) (b : Bool) → IsIn from rest
-    → Among s (cond b (x.seen ∷ seen_since_sending (seen_of rest) n) []) → (Among s (seen_since_sending (seen_of rest) n) → Since rest from s) → Since (x ∷ rest) from s
+    → Among s (cond b (x.seen ∷ seen_since_sending (seen_of rest) n) []) → (Among s (seen_since_sending (seen_of rest) n) → Since rest from s)
+    → Since (x ∷ rest) from s
 since_by x rest from n s false t a before = elim a [ ]
 since_by x rest from n s true t a before = since_head x rest from n s t (head_or s x.seen (seen_since_sending (seen_of rest) n) a) before
 
@@ -291,7 +293,8 @@ record SpoiledFlight (seen : List Seen) (term round : ℕ) : Type 0 where
   bad : spoils seen flight ≡ true
   is : is_round flight.message.stamp term round ≡ true
 
-unmapped : (seen : List Seen) (term round : ℕ) (fs : List Flight) → ((f : Flight) → Among f fs → Among f (reaching_flights seen) × (spoils seen f ≡ true)) → (s : Stamp)
+unmapped : (seen : List Seen) (term round : ℕ) (fs : List Flight) → ((f : Flight) → Among f fs → Among f (reaching_flights seen) × (spoils seen f ≡ true))
+    → (s : Stamp)
     → is_round s term round ≡ true → Among s (map (λ f. f.message.stamp) fs) → SpoiledFlight seen term round
 unmapped seen term round [] each s is a = elim a [ ]
 unmapped seen term round (f ∷ fs) each s is a =
@@ -306,7 +309,8 @@ unmapped seen term round (f ∷ fs) each s is a =
 spoiled_by : (seen : List Seen) (term round : ℕ) → is_spoiled seen term round ≡ true → SpoiledFlight seen term round
 spoiled_by seen term round spoiled =
     let p = any_passing (λ other. is_round other term round) (spoiled_rounds seen) spoiled in
-    unmapped seen term round (filter (spoils seen) (reaching_flights seen)) (λ f a. unfiltered (spoils seen) f (reaching_flights seen) a) p.element p.passes p.among
+    unmapped seen term round (filter (spoils seen) (reaching_flights seen))
+    (λ f a. unfiltered (spoils seen) f (reaching_flights seen) a) p.element p.passes p.among
 
 -- so a round that is clean at an event was clean before
 pub clean_before : (older steps : List Step) (term round : ℕ) → Tail older steps → is_spoiled (seen_of steps) term round ≡ false

@@ -97,7 +97,8 @@ joined_is_staged setting (e ∷ history) is x joined_ = by s.seen.closed refl (i
 -- Where a walk ends
 
 -- a walk cut at root and backup root ends there, where the whole one ends at the root
-cut_ends : (plan : Plan) (n y : ℕ) → is_root plan (end_of y (hops (is_root plan) plan n y)) ≡ true → ends_walks plan (end_of y (hops (ends_walks plan) plan n y)) ≡ true
+cut_ends : (plan : Plan) (n y : ℕ) → is_root plan (end_of y (hops (is_root plan) plan n y)) ≡ true
+    → ends_walks plan (end_of y (hops (ends_walks plan) plan n y)) ≡ true
 cut_ends plan zero y ends = or_left (is_root plan y) (is_backup_root plan y) ends
 cut_ends plan (suc n) y ends = by (primary_of plan y) ends (cut_ends plan n)
   where
@@ -105,7 +106,8 @@ cut_ends plan (suc n) y ends = by (primary_of plan y) ends (cut_ends plan n)
         → is_root plan (end_of hop.parent (elim r as (λ (k : Bool). List Hop) [ true ↦ [] | false ↦ hops (is_root plan) plan n hop.parent ])) ≡ true
         → (is_root plan (end_of hop.parent (hops (is_root plan) plan n hop.parent)) ≡ true
         → ends_walks plan (end_of hop.parent (hops (ends_walks plan) plan n hop.parent)) ≡ true)
-        → ends_walks plan (end_of hop.parent (elim (r || b) as (λ (k : Bool). List Hop) [ true ↦ [] | false ↦ hops (ends_walks plan) plan n hop.parent ])) ≡ true
+        → ends_walks plan (end_of hop.parent (elim (r || b) as (λ (k : Bool). List Hop) [ true ↦ [] | false ↦ hops (ends_walks plan) plan n hop.parent ]))
+        ≡ true
     on hop true b root backup ends' rest = or_left (is_root plan hop.parent) (is_backup_root plan hop.parent) root
     on hop false true root backup ends' rest = or_right (is_root plan hop.parent) (is_backup_root plan hop.parent) backup
     on hop false false root backup ends' rest = rest ends'

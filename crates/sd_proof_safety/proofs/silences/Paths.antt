@@ -143,7 +143,8 @@ module _ (plan : Plan) where
 
   cut_hop : (p : Thing → Bool) (n : ℕ) (o : Option Hop)
       → list_any p
-      (things_of (elim o [ None ↦ [] | Some hop ↦ hop ∷ (elim (ends_walks plan hop.parent) [ true ↦ [] | false ↦ hops (ends_walks plan) plan n hop.parent ]) ])) ≡ true
+      (things_of (elim o [ None ↦ [] | Some hop ↦ hop ∷ (elim (ends_walks plan hop.parent) [ true ↦ [] | false ↦ hops (ends_walks plan) plan n hop.parent ]) ]))
+      ≡ true
       → ((z : ℕ) → list_any p (things_of (hops (ends_walks plan) plan n z)) ≡ true → list_any p (things_of (hops (is_root plan) plan n z)) ≡ true)
       → list_any p (things_of (elim o [ None ↦ [] | Some hop ↦ hop ∷ after n (is_root plan hop.parent) hop ])) ≡ true
   cut_hop p n None h more = h

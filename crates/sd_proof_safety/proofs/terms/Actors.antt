@@ -292,11 +292,14 @@ module _ (setting : Setting) (e : Event) (history : List Event) (fair : IsFair s
       ordinary = elim (or_cases (list_all (left_out_is_hit setting one) (device_numbers setting.net))
           (list_any (begins_with setting one) (device_numbers setting.net)) core.committed.left_out) [
             | inl all ↦
-                (let clause = passes (left_out_is_hit setting one) (among_below (length setting.net.devices) x (up_is_known setting history clean.is.0 x up)) all in
+                (let clause = passes (left_out_is_hit setting one)
+                (among_below (length setting.net.devices) x (up_is_known setting history clean.is.0 x up)) all in
                 (and_parts (hit setting one x) (is_ordinary (plan_now setting one) x)
-                (implied (has_commit (seen_of one) && is_up (seen_of one) x && is_member (plan_now setting one) x && not (is_staged_member setting (seen_of one) x))
+                (implied (has_commit (seen_of one) && is_up (seen_of one) x && is_member (plan_now setting one) x
+                && not (is_staged_member setting (seen_of one) x))
                 _ clause
-                (and_from (has_commit (seen_of one) && is_up (seen_of one) x && is_member (plan_now setting one) x) (not (is_staged_member setting (seen_of one) x))
+                (and_from (has_commit (seen_of one) && is_up (seen_of one) x && is_member (plan_now setting one) x)
+                (not (is_staged_member setting (seen_of one) x))
                 (and_from (has_commit (seen_of one) && is_up (seen_of one) x) (is_member (plan_now setting one) x)
                 (and_from (has_commit (seen_of one)) (is_up (seen_of one) x) commit up) (old_is_member setting one x (core.census.outsiders x) old))
                 (ap not left_out)))).1)

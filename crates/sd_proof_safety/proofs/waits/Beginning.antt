@@ -176,7 +176,8 @@ module _ (setting : Setting) (fair : IsFair setting) where
       → Late setting (seen_of (chronicle setting history))
   emitted_late [] t emits = cc
   emitted_late (e ∷ history) t emits =
-      elim (or_cases (emission_by (chronicle setting history) (act_by setting (chronicle setting history) e)) (has_emission (chronicle setting history)) emits) [
+      elim (or_cases (emission_by (chronicle setting history) (act_by setting (chronicle setting history) e))
+      (has_emission (chronicle setting history)) emits) [
         | inl now ↦ emitted_case e history t (act_by setting (chronicle setting history) e) refl now
         | inr rest ↦ later_too setting e history t.is (emitted_late history (before setting e history t) rest)
       ]

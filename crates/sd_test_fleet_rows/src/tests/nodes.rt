@@ -139,7 +139,8 @@ pub(super) struct Mute<N: Node> {
 impl<N: Node> Node for Mute<N> {
     ghost makes = { λ making s. N.makes making s.node };
 
-    ghost steps = { λ s call effect t. (effect ≡ Quiet) × ((sent : Effect) × N.steps s.node call sent t.node) };
+    ghost steps = { λ s call effect t. (effect ≡ Quiet)
+        × ((sent : Effect) × N.steps s.node call sent t.node) };
 
     ghost reports = { λ s counter report. N.reports s.node counter report };
 

@@ -10,8 +10,14 @@ use Rattle.sd_cmd_drill.proofs.Names.{behind_fronts, bound_is, line_is}
 use Rattle.sd_cmd_drill.proofs.writing.print_domain.Goals as goal
 
 pub loop-d-init : goal.loop-d-init
-loop-d-init c =
-    (c.domain_named.result.kind.now, c.domain_named.result.name.now, c.domain_named.ensures.is, c.begin.ensures.bound_front, c.begin.ensures.nobound_front, c.begin.ensures.text)
+loop-d-init c = (
+  c.domain_named.result.kind.now,
+  c.domain_named.result.name.now,
+  c.domain_named.ensures.is,
+  c.begin.ensures.bound_front,
+  c.begin.ensures.nobound_front,
+  c.begin.ensures.text,
+)
 
 pub loop-d-preserved : goal.loop-d-preserved
 loop-d-preserved c =

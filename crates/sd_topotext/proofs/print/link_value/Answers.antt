@@ -15,4 +15,5 @@ returns c =
     (table_view c.put_number-4.new.table)
     (table_view c.put.new.table) (table_view c.put_text.new.table) c.link_name.result.now c.link-link.result (view c.in_ok-ends.ends)
     (c.link_name.ensures ∙ told.0) (c.link-link.ensures ∙ told.1) c.in_ok-ends.ensures (ap members_view c.new-members.ensures.empty)
-    c.in_ok-put_number.ensures c.in_ok-put_number-2.ensures c.in_ok-put_number-3.ensures c.in_ok-put_number-4.ensures c.in_ok-put.ensures c.in_ok-put_text.ensures)
+    c.in_ok-put_number.ensures c.in_ok-put_number-2.ensures c.in_ok-put_number-3.ensures c.in_ok-put_number-4.ensures c.in_ok-put.ensures
+    c.in_ok-put_text.ensures)

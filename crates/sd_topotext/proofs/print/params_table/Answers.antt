@@ -11,4 +11,5 @@ returns c =
     (table_view c.put_number-4.new.table) (table_view c.put_number-5.new.table) (table_view c.put_number-6.new.table) (table_view c.put_number-7.new.table)
     c.params-params.result c.from.result c.from-2.result c.from-3.result
     c.params-params.ensures c.from.ensures c.from-2.ensures c.from-3.ensures (ap members_view c.new-members.ensures.empty)
-    c.in_ok-put_number.ensures c.in_ok-put_number-2.ensures c.in_ok-put_number-3.ensures c.in_ok-put_number-4.ensures c.in_ok-put_number-5.ensures c.in_ok-put_number-6.ensures c.in_ok-put_number-7.ensures
+    c.in_ok-put_number.ensures c.in_ok-put_number-2.ensures c.in_ok-put_number-3.ensures c.in_ok-put_number-4.ensures c.in_ok-put_number-5.ensures
+    c.in_ok-put_number-6.ensures c.in_ok-put_number-7.ensures

@@ -131,7 +131,8 @@ invariant_of-self g c =
     (act_in c.args.self.now.fabric (event.Recv c.args.reference c.args.d c.args.counter c.args.message)) reply_ c.deref_mut.ensures.value acts_ in
     record {
       crew =
-          crew_next g.N.Node c.args.self.now.fabric c.tick.new.self (event.Recv c.args.reference c.args.d c.args.counter c.args.message) c.args.self.now.nodes.items
+          crew_next g.N.Node c.args.self.now.fabric c.tick.new.self
+          (event.Recv c.args.reference c.args.d c.args.counter c.args.message) c.args.self.now.nodes.items
           c.deref_mut.result.now c.step_at-effect.new.nodes (with_items c.args.self.now.nodes c.step_at-effect.new.nodes).items
           c.context_of_call-context.result
           (act_in c.args.self.now.fabric (event.Recv c.args.reference c.args.d c.args.counter c.args.message)) reply_ c.deref_mut.ensures.value
