@@ -4,6 +4,7 @@ use Rattle.std.proofs.Common.{sym, ap, ◌∙◌, subst, inl, inr}
 use Rattle.std.proofs.lemmas.Bool.{and_parts, or_parts, eqb-true, eq-eqb, both_ways, not-true, not-false, false_from_ne_true, lt-ltb}
 use Rattle.sd_checker.specs.Num.Lists.{of_some}
 use Rattle.sd_checker.specs.Topo.Network.{Network}
+use Rattle.sd_checker.specs.Topo.declared.Thing.{Thing}
 use Rattle.sd_checker.specs.Topo.declared.Thing.TheVariants as thing
 use Rattle.sd_checker.specs.Domain.Domains.{holds, holds_device, holds_link}
 use Rattle.sd_checker.specs.Domain.declared.DomainId.{DomainId}
@@ -120,74 +121,29 @@ module _ (net : Network) (plan : Plan) (f : DomainId) (steps : List Step) (frame
   comes (event.MendLink r l) none leaves = absurd (in_order (event.MendLink r l) none (rw frame.window refl))
   comes (event.End r) none leaves = ends
 
-  -- one event more
+  -- an event that fails nothing, makes nothing and leaves the window shut
+  frame_by : (e : Event) → ((d : ℕ) → is_up (seen_of (next_step setting steps e ∷ steps)) d ≡ is_up (seen_of steps) d)
+      → ((d : ℕ) → was_made (seen_of (next_step setting steps e ∷ steps)) d ≡ was_made (seen_of steps) d)
+      → ((x : Thing) → has_failed (seen_of (next_step setting steps e ∷ steps)) x ≡ has_failed (seen_of steps) x)
+      → (next_step setting steps e).seen.closed ≡ false → is_stage e ≡ false → Frame net plan f (seen_of (next_step setting steps e ∷ steps))
+  frame_by e up made failed open_ other =
+      record {
+        up = λ d. up d ∙ frame.up d;
+        made = λ d live. made d ∙ frame.made d live;
+        fallen = λ d held. failed (thing.Device d) ∙ frame.fallen d held;
+        failed = λ l held. failed (thing.Link l) ∙ frame.failed l held;
+        window = window_on (next_step setting steps e).seen (seen_of steps) open_ other frame.window;
+        closings = closings_on (next_step setting steps e).seen (seen_of steps) open_ frame.closings;
+      }
+
+  -- so each that may come
   pub frame_on : (e : Event) → Comes steps e → Frame net plan f (seen_of (next_step setting steps e ∷ steps))
-  frame_on e ticks =
-      let s : Seen = (next_step setting steps e).seen in
-      let open_ : s.closed ≡ false = rw frame.window refl in
-      record {
-        up = frame.up;
-        made = frame.made;
-        fallen = frame.fallen;
-        failed = frame.failed;
-        window = window_on s (seen_of steps) open_ refl frame.window;
-        closings = closings_on s (seen_of steps) open_ frame.closings;
-      }
-  frame_on e receives =
-      let s : Seen = (next_step setting steps e).seen in
-      let open_ : s.closed ≡ false = rw frame.window refl in
-      record {
-        up = frame.up;
-        made = frame.made;
-        fallen = frame.fallen;
-        failed = frame.failed;
-        window = window_on s (seen_of steps) open_ refl frame.window;
-        closings = closings_on s (seen_of steps) open_ frame.closings;
-      }
-  frame_on e loses =
-      let s : Seen = (next_step setting steps e).seen in
-      let open_ : s.closed ≡ false = rw frame.window refl in
-      record {
-        up = frame.up;
-        made = frame.made;
-        fallen = frame.fallen;
-        failed = frame.failed;
-        window = window_on s (seen_of steps) open_ refl frame.window;
-        closings = closings_on s (seen_of steps) open_ frame.closings;
-      }
-  frame_on e fixes =
-      let s : Seen = (next_step setting steps e).seen in
-      let open_ : s.closed ≡ false = rw frame.window refl in
-      record {
-        up = frame.up;
-        made = frame.made;
-        fallen = frame.fallen;
-        failed = frame.failed;
-        window = window_on s (seen_of steps) open_ refl frame.window;
-        closings = closings_on s (seen_of steps) open_ frame.closings;
-      }
-  frame_on e asks =
-      let s : Seen = (next_step setting steps e).seen in
-      let open_ : s.closed ≡ false = rw frame.window refl in
-      record {
-        up = frame.up;
-        made = frame.made;
-        fallen = frame.fallen;
-        failed = frame.failed;
-        window = window_on s (seen_of steps) open_ refl frame.window;
-        closings = closings_on s (seen_of steps) open_ frame.closings;
-      }
-  frame_on e ends =
-      let s : Seen = (next_step setting steps e).seen in
-      let open_ : s.closed ≡ false = rw frame.window refl in
-      record {
-        up = frame.up;
-        made = frame.made;
-        fallen = frame.fallen;
-        failed = frame.failed;
-        window = window_on s (seen_of steps) open_ refl frame.window;
-        closings = closings_on s (seen_of steps) open_ frame.closings;
-      }
+  frame_on e ticks = frame_by e (λ d. refl) (λ d. refl) (λ x. refl) (rw frame.window refl) refl
+  frame_on e receives = frame_by e (λ d. refl) (λ d. refl) (λ x. refl) (rw frame.window refl) refl
+  frame_on e loses = frame_by e (λ d. refl) (λ d. refl) (λ x. refl) (rw frame.window refl) refl
+  frame_on e fixes = frame_by e (λ d. refl) (λ d. refl) (λ x. refl) (rw frame.window refl) refl
+  frame_on e asks = frame_by e (λ d. refl) (λ d. refl) (λ x. refl) (rw frame.window refl) refl
+  frame_on e ends = frame_by e (λ d. refl) (λ d. refl) (λ x. refl) (rw frame.window refl) refl
 
 -- a device that is settled on its next hop
 pub record IsSettled (net : Network) (plan : Plan) (steps : List Step) (x : ℕ) : Type 0 where

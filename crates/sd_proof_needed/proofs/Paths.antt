@@ -1,5 +1,5 @@
 -- The cut path of a device, one hop after another.
-use Rattle.std.specs.Prelude.{◌≡◌, ℕ, zero, suc, ◌<◌, Bool, true, false, ◌||◌, List, [], ◌∷◌, length, Option, Some, None, refl, if◌then◌else◌}
+use Rattle.std.specs.Prelude.{◌≡◌, ℕ, ◌<◌, Bool, true, false, List, [], ◌∷◌, length, Some, None, refl, if◌then◌else◌}
 use Rattle.std.proofs.Common.{sym, ap, ◌∙◌, inl, inr}
 use Rattle.std.proofs.lemmas.Bool.{or_parts, cases_Bool}
 use Rattle.sd_checker.specs.Topo.Network.{Network}
@@ -7,47 +7,23 @@ use Rattle.sd_checker.specs.Plan.declared.Hop.{Hop}
 use Rattle.sd_checker.specs.Plan.declared.Plan.{Plan}
 use Rattle.sd_checker.specs.Plan.Plans.{is_root, is_backup_root, primary_of}
 use Rattle.sd_checker.specs.Plan.Walks.{hops, walk, ends_walks, short_path, short_walk}
+use Rattle.sd_checker.proofs.Plan.CutOff.{cut_off, cut_hops}
 use Rattle.sd_checker.proofs.Plan.Forest.{IsForest, IsStep, other_walk}
 
 -- nothing at an end
 abbrev stop : Bool → List Hop → List Hop
 stop b hs = elim b [ true ↦ [] | false ↦ hs ]
 
--- hops cut at the first that leads to an end
-abbrev cut : (ℕ → Bool) → List Hop → List Hop
-cut ends [] = []
-cut ends (h ∷ hs) = h ∷ stop (ends h.parent) (cut ends hs)
-
--- a hop and those that follow it
-abbrev begin : (ℕ → Bool) → Option Hop → (ℕ → List Hop) → List Hop
-begin ends found more = elim found [ None ↦ [] | Some h ↦ h ∷ stop (ends h.parent) (more h.parent) ]
-
--- the hops to either root are those to the root, cut
-cut_hops : (plan : Plan) (n d : ℕ) → hops (ends_walks plan) plan n d ≡ cut (ends_walks plan) (hops (is_root plan) plan n d)
-cut_hops plan zero d = refl
-cut_hops plan (suc n) d = by_hop (λ p. cut_hops plan n p) (primary_of plan d)
-  where
-    by_root : ((p : ℕ) → hops (ends_walks plan) plan n p ≡ cut (ends_walks plan) (hops (is_root plan) plan n p)) → (root backup : Bool) (p : ℕ)
-        → stop (root || backup) (hops (ends_walks plan) plan n p) ≡ stop (root || backup) (cut (ends_walks plan) (stop root (hops (is_root plan) plan n p)))
-    by_root more true backup p = refl
-    by_root more false true p = refl
-    by_root more false false p = more p
-
-    by_hop : ((p : ℕ) → hops (ends_walks plan) plan n p ≡ cut (ends_walks plan) (hops (is_root plan) plan n p)) → (o : Option Hop)
-        → begin (ends_walks plan) o (hops (ends_walks plan) plan n) ≡ cut (ends_walks plan) (begin (is_root plan) o (hops (is_root plan) plan n))
-    by_hop more None = refl
-    by_hop more (Some hop) = ap (λ hs. hop ∷ hs) (by_root more (is_root plan hop.parent) (is_backup_root plan hop.parent) hop.parent)
-
 -- a device that ends no walk is not the root
 pub not_root : (plan : Plan) (d : ℕ) → ends_walks plan d ≡ false → is_root plan d ≡ false
 not_root plan d other = (or_parts (is_root plan d) (is_backup_root plan d) other).0
 
 -- the path cut is the walk, cut
-pub path_cut : (net : Network) (plan : Plan) (d : ℕ) → is_root plan d ≡ false → short_path net plan d ≡ cut (ends_walks plan) (walk net plan d)
+pub path_cut : (net : Network) (plan : Plan) (d : ℕ) → is_root plan d ≡ false → short_path net plan d ≡ cut_off plan (walk net plan d)
 path_cut net plan d other =
     ap (λ (root : Bool). if root then [] else hops (ends_walks plan) plan net.params.depth d) other
     ∙ cut_hops plan net.params.depth d
-    ∙ ap (cut (ends_walks plan)) (sym (other_walk net plan d other))
+    ∙ ap (cut_off plan) (sym (other_walk net plan d other))
 
 -- the short walk of a device that ends no walk is its cut path
 pub short_walk_is : (net : Network) (plan : Plan) (d : ℕ) → ends_walks plan d ≡ false → short_walk net plan d ≡ short_path net plan d
@@ -62,9 +38,9 @@ pub path_step : (net : Network) (plan : Plan) (d : ℕ) (hop : Hop) → IsForest
     → short_path net plan d ≡ hop ∷ short_walk net plan hop.parent
 path_step net plan d hop forest within is =
     let step : IsStep net plan d hop = forest.up d hop within is in
-    path_cut net plan d step.other ∙ ap (cut (ends_walks plan)) step.walk ∙ ap (λ hs. hop ∷ hs) (rest hop.parent (ends_walks plan hop.parent) refl)
+    path_cut net plan d step.other ∙ ap (cut_off plan) step.walk ∙ ap (λ hs. hop ∷ hs) (rest hop.parent (ends_walks plan hop.parent) refl)
   where
-    rest : (p : ℕ) (b : Bool) → ends_walks plan p ≡ b → stop b (cut (ends_walks plan) (walk net plan p)) ≡ (if b then [] else short_path net plan p)
+    rest : (p : ℕ) (b : Bool) → ends_walks plan p ≡ b → stop b (cut_off plan (walk net plan p)) ≡ (if b then [] else short_path net plan p)
     rest p true ends = refl
     rest p false ends = sym (path_cut net plan p (not_root plan p ends))
 
@@ -73,5 +49,5 @@ pub no_short_walk : (net : Network) (plan : Plan) (d : ℕ) → IsForest net pla
 no_short_walk net plan d forest none =
     elim (cases_Bool (ends_walks plan d)) [
       | inl ends ↦ short_walk_none net plan d ends
-      | inr other ↦ (short_walk_is net plan d other ∙ path_cut net plan d (not_root plan d other) ∙ ap (cut (ends_walks plan)) (forest.top d none))
+      | inr other ↦ (short_walk_is net plan d other ∙ path_cut net plan d (not_root plan d other) ∙ ap (cut_off plan) (forest.top d none))
     ]
