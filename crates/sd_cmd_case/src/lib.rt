@@ -16,8 +16,6 @@ mod network;
 mod plans;
 mod replayed;
 mod tally;
-#[cfg(test)]
-mod tests;
 
 use network::fabric_topology;
 use plans::greedy_plans;
