@@ -6,8 +6,6 @@ mod device;
 mod node;
 mod receipts;
 mod registers;
-#[cfg(test)]
-mod tests;
 mod turns;
 
 pub use device::Device;

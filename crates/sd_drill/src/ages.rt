@@ -5,9 +5,6 @@ ghost use Rattle.sd_drill.specs.ages.Ages as ages;
 ghost use Rattle.sd_drill.specs.ages.Ages.{IsOldest};
 ghost use Rattle.sd_topo.specs.Limits.{IsRates};
 
-#[cfg(test)]
-mod tests;
-
 use sd_num::Rates;
 
 /// A million parts.

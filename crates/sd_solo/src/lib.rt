@@ -7,8 +7,6 @@ ghost use Rattle.std.specs.Prelude.{◌≤◌, ◌<◌, ◌^◌};
 mod device;
 mod faults;
 mod line;
-#[cfg(test)]
-mod tests;
 
 pub use line::read_solo_line;
 use sd_clock::Estimate;

@@ -3,6 +3,7 @@ mod callers;
 mod driven;
 mod numbers;
 mod plain;
+mod registers;
 mod still;
 
 use callers::acts_after_ticks;

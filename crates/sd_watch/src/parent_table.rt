@@ -5,9 +5,6 @@
 ghost use Rattle.std.specs.Prelude.{◌≡◌, ◌<◌, ◌≤◌, ℕ, None, false, length, replicate, slice_set, IfOk, MatchOption};
 ghost use Rattle.sd_watch.specs.Watch.{parent_in, HasNoLoop, IsFirstOnLoop, acting_devices, two_least};
 
-#[cfg(test)]
-mod tests;
-
 use crate::{first_loop, loop_at, two_acting};
 use sd_num::NoMemory;
 use std::alloc::Global;

@@ -4,6 +4,7 @@ ghost use Rattle.sd_drill.specs.Checker.Verdicts.{IsAccepted};
 ghost use Rattle.sd_test_examples.specs.Plan.Plans.{Fits};
 ghost use Rattle.sd_test_examples.specs.Topo.Topologies.{network};
 
+mod ages;
 mod slow;
 
 use sd_drill::{Budget, WorstList, worst};

@@ -1,6 +1,6 @@
 //! Refusals in their order.
-use super::*;
 use sd_sched::Event;
+use sd_solo::{Solo, SoloFault};
 
 #[test]
 fn refuses_in_order(rt: HostRuntime) {

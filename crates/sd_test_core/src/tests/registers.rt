@@ -2,9 +2,9 @@
 ghost use Rattle.std.specs.Prelude.{◌≤◌, ◌<◌, ◌^◌};
 ghost use Rattle.sd_core.specs.Rules.{floor_in, ceiling_in, height_in};
 
-use super::*;
 use sd_clock::{Estimate, Report};
-use sd_msg::Stamp;
+use sd_core::{Device, Effect, Mode, Node, Registers};
+use sd_msg::{Message, Stamp};
 use sd_num::{Bounds, Rates};
 use sd_plan::{Duty, Edge, Role};
 use std::process::Abort;

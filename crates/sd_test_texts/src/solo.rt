@@ -1,0 +1,3 @@
+//! One device alone.
+#[cfg(test)]
+mod tests;
