@@ -1,6 +1,7 @@
 -- The world after an event stands for it.
-use Rattle.std.proofs.Common.{◌≡◌, ◌+◌, Bool, true, false, List, ◌∷◌, length, refl, sym, ap, subst}
+use Rattle.std.proofs.Common.{◌≡◌, ◌+◌, Bool, true, false, List, ◌∷◌, length, refl, sym, ap, ◌∙◌, subst}
 use Rattle.std.specs.Prelude.{if◌then◌else◌}
+use Rattle.sd_sched.specs.declared.Event.{Event}
 use Rattle.sd_history.specs.World.{Setting, Seen}
 use Rattle.sd_fleet_state.specs.world.Registers.{Registers, registers_after, registers_closed}
 use Rattle.sd_fleet_state.specs.world.Standing.{Stands}
@@ -8,12 +9,13 @@ use Rattle.sd_fleet_state.proofs.world.Slots.{length_devices, length_links}
 use Rattle.sd_fleet_state.proofs.world.Keeping.{stands_after, stands_closed}
 use Rattle.sd_premise.specs.Worlds.{world_after}
 
-pub world_stands : (r : Registers) (setting : Setting) (s : Seen) (earlier : List Seen) → Stands r setting earlier
-    → Stands (world_after r s) setting (s ∷ earlier)
-world_stands r setting s earlier stands = by s.closed refl
+pub world_stands : (r after : Registers) (setting : Setting) (s : Seen) (earlier : List Seen) → after ≡ world_after r s → Stands r setting earlier
+    → Stands after setting (s ∷ earlier)
+world_stands r after setting s earlier is stands =
+    subst (λ (x : Registers). Stands x setting (s ∷ earlier)) (sym is) (by s.closed refl)
   where
     same : (b : Bool) → s.closed ≡ b → record s { closed = b } ≡ s
-    same b is = ap (λ (c : Bool). record s { closed = c }) (sym is)
+    same b is' = ap (λ (c : Bool). record s { closed = c }) (sym is')
 
     by : (closed : Bool) → s.closed ≡ closed
         → Stands (if closed then registers_closed (registers_after r s.event) else registers_after r s.event) setting (s ∷ earlier)
@@ -29,6 +31,10 @@ world_closed r s closes = ap (λ (b : Bool). if b then registers_closed (registe
 
 pub world_open : (r : Registers) (s : Seen) → s.closed ≡ false → world_after r s ≡ registers_after r s.event
 world_open r s stays = ap (λ (b : Bool). if b then registers_closed (registers_after r s.event) else registers_after r s.event) stays
+
+-- by an event that is known, where the window does not close
+pub world_by : (r : Registers) (s : Seen) (e : Event) → s.event ≡ e → s.closed ≡ false → registers_after r e ≡ world_after r s
+world_by r s e is stays = ap (registers_after r) (sym is) ∙ sym (world_open r s stays)
 
 -- the devices and links stay
 pub world_devices : (r : Registers) (s : Seen) → length (world_after r s).devices ≡ length r.devices

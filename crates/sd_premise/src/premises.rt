@@ -172,7 +172,8 @@ impl Premises {
         ensures stands { (setting : Setting) (earlier : List Sight)
             → CanFollow setting earlier (sight_of seen.now)
             → StandsFor self.old setting earlier
-            → StandsFor (record self.new { broken = result }) setting (sight_of seen.now ∷ earlier) }
+            → StandsFor (record self.new { broken = result }) setting
+            (sight_of seen.now ∷ earlier) }
         ensures broken { self.new.broken ≡ self.old.broken }
         ensures room { room_of self.old ≤ room_of self.new + length seen.now.sent.now }
         ensures world { self.new.world ≡ world_after self.old.world (sight_of seen.now) }
@@ -207,13 +208,14 @@ impl Premises {
         ensures stands { (setting : Setting) (earlier : List Sight)
             → CanFollow setting earlier (sight_of seen.now)
             → StandsFor self.old setting earlier
-            → StandsFor (record self.new { broken = result }) setting (sight_of seen.now ∷ earlier) }
+            → StandsFor (record self.new { broken = result }) setting
+            (sight_of seen.now ∷ earlier) }
         ensures broken { self.new.broken ≡ self.old.broken }
         ensures room { room_of self.old ≤ room_of self.new + length seen.now.sent.now }
         ensures world { self.new.world ≡ world_after self.old.world (sight_of seen.now) }
         ensures network { net_of self.new ≡ net_of self.old }
     {
-        observe_world(&mut self.world, seen);
+        self.world.note_call(reference, device, counter);
         BrokenSet {
             drift: !self
                 .drift
@@ -241,13 +243,14 @@ impl Premises {
         ensures stands { (setting : Setting) (earlier : List Sight)
             → CanFollow setting earlier (sight_of seen.now)
             → StandsFor self.old setting earlier
-            → StandsFor (record self.new { broken = result }) setting (sight_of seen.now ∷ earlier) }
+            → StandsFor (record self.new { broken = result }) setting
+            (sight_of seen.now ∷ earlier) }
         ensures broken { self.new.broken ≡ self.old.broken }
         ensures room { room_of self.old ≤ room_of self.new + length seen.now.sent.now }
         ensures world { self.new.world ≡ world_after self.old.world (sight_of seen.now) }
         ensures network { net_of self.new ≡ net_of self.old }
     {
-        observe_world(&mut self.world, seen);
+        self.world.note_call(reference, device, counter);
         BrokenSet {
             drift: !self
                 .drift
@@ -267,7 +270,8 @@ impl Premises {
         ensures stands { (setting : Setting) (earlier : List Sight)
             → CanFollow setting earlier (sight_of seen.now)
             → StandsFor self.old setting earlier
-            → StandsFor (record self.new { broken = result }) setting (sight_of seen.now ∷ earlier) }
+            → StandsFor (record self.new { broken = result }) setting
+            (sight_of seen.now ∷ earlier) }
         ensures broken { self.new.broken ≡ self.old.broken }
         ensures room { room_of self.old ≤ room_of self.new + length seen.now.sent.now }
         ensures world { self.new.world ≡ world_after self.old.world (sight_of seen.now) }

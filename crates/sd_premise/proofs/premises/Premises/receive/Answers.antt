@@ -1,5 +1,6 @@
 use Rattle.std.proofs.Common.{◌≤◌, false, None, length, subst, refl, sym, ap, ◌∙◌}
 use Rattle.sd_topo.specs.Network.{Network}
+use Rattle.sd_sched.specs.declared.Event.TheVariants.{Recv}
 use Rattle.sd_sched.specs.Events.{reference_of}
 use Rattle.sd_sched.specs.Honesty.{clock_set}
 use Rattle.sd_history.specs.Refusals.{makes_some}
@@ -11,8 +12,15 @@ use Rattle.sd_premise_clocks.proofs.Skipping.{start_skips}
 use Rattle.sd_premise_loss.specs.rounds.Standing.{IsShown}
 use Rattle.sd_premise_renewal.proofs.Skipping.{domain_skips, renewal_skips_receipt}
 use Rattle.sd_premise.proofs.Following.{follows}
+use Rattle.sd_premise.proofs.Worlds.{world_stands, world_by}
 use Rattle.sd_premise.proofs.Judging.{receipt_answered}
 use Rattle.sd_premise.proofs.premises.Premises.receive.Goals as goal
+
+pub returns-clause-world : goal.returns-clause-world
+returns-clause-world c =
+    c.note_call.ensures.receipt c.args.message
+    ∙ world_by c.args.self.now.world (sight_of c.args.seen.now) (Recv c.args.reference c.args.device c.args.counter c.args.message)
+    c.requires.receipt.event c.requires.receipt.stays
 
 pub returns-clause-stands : goal.returns-clause-stands
 returns-clause-stands c setting earlier can stands =
@@ -39,7 +47,7 @@ returns-clause-stands c setting earlier can stands =
       sound = stands.sound;
       members = stands.members;
       links = stands.links;
-      world = c.observe_world.ensures.stands setting earlier stands.world;
+      world = world_stands c.args.self.now.world _ setting s earlier (returns-clause-world c) stands.world;
       start = start;
       drift = c.read.ensures.stands setting earlier s stands.net reading stands.drift can.allowed;
       delay = c.observe.ensures.stands setting earlier stands.net stands.delay;

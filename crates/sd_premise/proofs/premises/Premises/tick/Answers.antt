@@ -1,6 +1,7 @@
 use Rattle.std.proofs.Common.{◌≤◌, false, None, length, Option, option_map, subst, refl, sym, ap, ◌∙◌}
 use Rattle.sd_topo.specs.Network.{Network}
 use Rattle.sd_msg.specs.declared.Flight.{Flight}
+use Rattle.sd_sched.specs.declared.Event.TheVariants.{Tick}
 use Rattle.sd_sched.specs.Events.{reference_of}
 use Rattle.sd_sched.specs.Honesty.{clock_set}
 use Rattle.sd_history.specs.Refusals.{makes_some}
@@ -12,8 +13,15 @@ use Rattle.sd_premise_clocks.proofs.Skipping.{start_skips, delay_skips}
 use Rattle.sd_premise_loss.specs.rounds.Standing.{IsShown}
 use Rattle.sd_premise_renewal.proofs.Skipping.{domain_skips, renewal_skips_tick}
 use Rattle.sd_premise.proofs.Following.{follows, tick_before}
+use Rattle.sd_premise.proofs.Worlds.{world_stands, world_by}
 use Rattle.sd_premise.proofs.Judging.{tick_answered}
 use Rattle.sd_premise.proofs.premises.Premises.tick.Goals as goal
+
+pub returns-clause-world : goal.returns-clause-world
+returns-clause-world c =
+    c.note_call.ensures.tick
+    ∙ world_by c.args.self.now.world (sight_of c.args.seen.now) (Tick c.args.reference c.args.device c.args.counter)
+    c.requires.tick.event c.requires.tick.stays
 
 pub returns-clause-stands : goal.returns-clause-stands
 returns-clause-stands c setting earlier can stands =
@@ -42,7 +50,7 @@ returns-clause-stands c setting earlier can stands =
       sound = stands.sound;
       members = stands.members;
       links = stands.links;
-      world = c.observe_world.ensures.stands setting earlier stands.world;
+      world = world_stands c.args.self.now.world _ setting s earlier (returns-clause-world c) stands.world;
       start = start;
       drift = c.read.ensures.stands setting earlier s stands.net reading stands.drift can.allowed;
       delay = delay;
