@@ -8,6 +8,10 @@
 //! and domain, with nothing assumed. `BoundHolds` stands in specs/Bound, with the premises on the
 //! history. `sd_top` stands on it: it is the clause `bounds` of `run`.
 //!
+//! `hears_again` (proofs/Hearing) says how soon all hear again, by one time for all devices and all
+//! domains (`recovery`). `hears_by_age` and `hears_by_bound` say it by the age of the drill, and by
+//! its number. Their statements stand in specs/Hearing. Nothing else rests on them.
+//!
 //! # The route
 //!
 //! A report's eps is the uncertainty with which the estimate was set, and what the device's oscillator
@@ -18,10 +22,10 @@
 //!    set (`BasesHold`): the invariant of `sd_proof_safety` says where devices are.
 //! 3. `timeouts`, `traces` and `chains` say when devices hear, and `ages` how old their estimates are
 //!    (`AgesHold`).
-//! 4. `Bounded` puts both together.
+//! 4. `Bounded` puts both together. `Hearing` goes from a chain to the round that comes down it.
 //!
 //! # The words, in reading order
 //!
 //! `Bound` what is promised; `Recovering` what is given of a history, as one record; `Halves` the two
-//! statements, of the state after some events of it.
+//! statements, of the state after some events of it; `Hearing` how soon all hear again.
 #![tactic(auto)]

@@ -131,7 +131,7 @@ one_outage net plan f history whole_ t (inr (reference, at_once)) =
           (both.0, eqb-true (when q) reference both.1);
     }
 
-counted_member : (up member joined : Bool) → (up && (member || joined)) ≡ true → joined ≡ false → (up ≡ true) × (member ≡ true)
+pub counted_member : (up member joined : Bool) → (up && (member || joined)) ≡ true → joined ≡ false → (up ≡ true) × (member ≡ true)
 counted_member true true joined is none = (refl, refl)
 counted_member true false true is none = cc
 counted_member true false false is none = cc

@@ -74,7 +74,7 @@ all_inside setting f (s ∷ earlier) is each =
 
 -- Sums
 
-turned_by : (k h d p q l1 f1 l2 f2 lw up calm : ℕ) → IsTimedBy k h d p q l1 f1 l2 f2 lw
+pub turned_by : (k h d p q l1 f1 l2 f2 lw up calm : ℕ) → IsTimedBy k h d p q l1 f1 l2 f2 lw
     → (calm + (2 * (h + 1) + 1) * d + (up + q) ≤ calm + max (f1 + f2 + 2 * q + (h + 1) * d) (up + q + (2 * (h + 1) + 1) * d))
     × (calm + (2 * (h + 1) + 1) * d + (f1 + q) ≤ calm + max (f1 + f2 + 2 * q + (h + 1) * d) (up + q + (2 * (h + 1) + 1) * d))
     × (calm + (h + 1) * d + f1 + f2 + 2 * q ≤ calm + max (f1 + f2 + 2 * q + (h + 1) * d) (up + q + (2 * (h + 1) + 1) * d))

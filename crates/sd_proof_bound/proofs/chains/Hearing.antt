@@ -127,7 +127,7 @@ heard_by q d is = by q.step.act refl is
     by (Asks m counter) act h = cc
     by Passes act h = cc
 
-or_other : (a b : Bool) → (a || b) ≡ true → a ≡ false → b ≡ true
+pub or_other : (a b : Bool) → (a || b) ≡ true → a ≡ false → b ≡ true
 or_other true b is none = cc
 or_other false b is none = is
 
@@ -140,7 +140,7 @@ module _ (setting : Setting) (x : Event) (h : List Event) (e : Event) (calm : �
   chronicle_ = all_chronicle setting (x ∷ h) e calm settled
 
   -- what a device heard is of the plan
-  receipt_epoch : (p : Moment) → IsIn p (chronicle setting (x ∷ h)) → calm < when p → (y : ℕ) → IsWell setting (failed_now (chronicle setting (x ∷ h))) y
+  pub receipt_epoch : (p : Moment) → IsIn p (chronicle setting (x ∷ h)) → calm < when p → (y : ℕ) → IsWell setting (failed_now (chronicle setting (x ∷ h))) y
       → (b : HeardBy p y) → b.message.epoch ≡ 1
   receipt_epoch p here late y well b =
       let n : Following p (top_of setting (x ∷ h) e) = following p (next_step setting steps e) steps here in

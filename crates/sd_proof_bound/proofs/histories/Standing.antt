@@ -80,7 +80,7 @@ pub record Stands (net : Network) (plan : Plan) (f : DomainId) (history : List E
       → has (fallback_devices net plan) x ≡ true
       → (is_up (seen_of (steps_under net plan history)) x ≡ true) × (moved (steps_under net plan history) x ≡ false)
 
-each_one : {A : Type 0} (P : A → Type 0) (x : A) → P x → Each P (x ∷ [])
+pub each_one : {A : Type 0} (P : A → Type 0) (x : A) → P x → Each P (x ∷ [])
 each_one P x holds_ zero y is = subst P (some_is is) holds_
 each_one P x holds_ (suc i) y is = cc
 
