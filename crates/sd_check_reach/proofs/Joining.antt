@@ -328,19 +328,18 @@ module _ (net : Network) (plan : Plan) (domain : DomainId) where
           (and_from (not (holds_link net domain l)) (not (holds_device net domain e)) link.1 device.1)
 
 -- a search from a device, of which the first places are done
-pub record IsSearching (net : Network) (plan : Plan) (domain : DomainId) (from done : ℕ) (old visited : List ℕ) : Type 0 where
+pub record IsSearching (net : Network) (plan : Plan) (domain : DomainId) (from done : ℕ) (visited : List ℕ) : Type 0 where
   pub within : (x : ℕ) → has visited x ≡ true → x < length net.devices
   pub lacks : has visited (acting_end net plan domain) ≡ false
   pub back : (x : ℕ) → has visited x ≡ true → Reaches net plan domain x → Reaches net plan domain from
   pub closed : (i x : ℕ) → i < done → slice_get visited i ≡ Some x → LeadsInto net plan domain visited x
   pub begun : has visited from ≡ true
-  pub had : (x : ℕ) → has old x ≡ true → has visited x ≡ true
 
-module _ (net : Network) (plan : Plan) (domain : DomainId) (from : ℕ) (old : List ℕ) where
+module _ (net : Network) (plan : Plan) (domain : DomainId) (from : ℕ) where
   -- it begins with what earlier searches visited
-  pub search_begins : IsDry net plan domain old → from < length net.devices → (from ≡ acting_end net plan domain → ⊥)
-      → IsSearching net plan domain from (length old) old (with_number old from)
-  search_begins dry inside other =
+  pub search_begins : (old : List ℕ) → IsDry net plan domain old → from < length net.devices → (from ≡ acting_end net plan domain → ⊥)
+      → IsSearching net plan domain from (length old) (with_number old from)
+  search_begins old dry inside other =
       let grown : Grows old (with_number old from) (λ x. x ≡ from) = grows_insert old from (λ x. x ≡ from) refl in
       record {
         within = λ x there. elim (grown.added x there) [ inl a ↦ dry.within x a | inr same ↦ subst (λ y. y < length net.devices) (sym same) inside ];
@@ -357,13 +356,12 @@ module _ (net : Network) (plan : Plan) (domain : DomainId) (from : ℕ) (old : L
             let same : get_or old i x ≡ x = same_Some (get_or old i x) x (sym (grown.kept i (get_or old i x) was) ∙ at) in
             leads_into_more net plan domain old (with_number old from) x grown.had (dry.closed x (has_at old i x (was ∙ ap Some same)));
         begun = has_insert old from;
-        had = grown.had;
       }
 
   -- one place more is done
-  pub search_more : (done d : ℕ) (visited new : List ℕ) → IsSearching net plan domain from done old visited → done < length visited
+  pub search_more : (done d : ℕ) (visited new : List ℕ) → IsSearching net plan domain from done visited → done < length visited
       → slice_get visited done ≡ Some d → Grows visited new (IsStep net plan domain d) → LeadsInto net plan domain new d
-      → IsSearching net plan domain from (done + 1) old new
+      → IsSearching net plan domain from (done + 1) new
   search_more done d visited new known inside at grown around =
       record {
         within = λ x there. elim (grown.added x there) [ inl a ↦ known.within x a | inr step ↦ step.within ];
@@ -386,11 +384,10 @@ module _ (net : Network) (plan : Plan) (domain : DomainId) (from : ℕ) (old : L
               subst (λ y. LeadsInto net plan domain new y) same around)
         ];
         begun = grown.had from known.begun;
-        had = λ x there. grown.had x (known.had x there);
       }
 
   -- all places are done
-  pub search_ends : (done : ℕ) (visited : List ℕ) → IsSearching net plan domain from done old visited → length visited ≤ done → IsDry net plan domain visited
+  pub search_ends : (done : ℕ) (visited : List ℕ) → IsSearching net plan domain from done visited → length visited ≤ done → IsDry net plan domain visited
   search_ends done visited known all =
       record {
         within = known.within;

@@ -4,6 +4,7 @@ mod Chosen
 pub mod Closed
 mod Following
 mod Joining
+mod Spreading
 mod Turning
 mod Walked
 pub mod Unique

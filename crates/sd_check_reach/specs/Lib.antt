@@ -4,5 +4,6 @@ pub mod Chains
 pub mod Reach
 pub mod Answered
 pub mod Reached
+pub mod Homes
 pub mod Searches
 pub mod Turns

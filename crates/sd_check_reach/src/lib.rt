@@ -14,6 +14,7 @@ mod aftermath;
 mod breach;
 mod chain;
 mod choosing;
+mod home;
 mod marks;
 mod search;
 mod turn;

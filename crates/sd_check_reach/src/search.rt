@@ -3,6 +3,7 @@ ghost use Rattle.std.specs.Prelude.{◌≡◌, IfOk};
 ghost use Rattle.sd_topo.specs.Topologies.{network};
 
 use crate::aftermath::Aftermath;
+use crate::home::Home;
 use sd_domain::NumberSet;
 use sd_num::NoMemory;
 use sd_plan::End;
@@ -15,6 +16,8 @@ use std::alloc::Global;
 pub struct Search {
     /// Devices that are cut off from the acting end: what searches visited that ran dry.
     visited: NumberSet,
+    /// The search from the acting end.
+    home: Home,
     /// Whether the backup root is cut off neither, once this is known: then what is not hit is not
     /// cut off.
     trusted: Option<bool>,
@@ -33,8 +36,10 @@ impl Search {
             → IsSearchOf net plan domain search) }
     {
         let visited = NumberSet::new(alloc, topo.devices())?;
+        let home = Home::new(alloc, topo)?;
         Ok(Search {
             visited,
+            home,
             trusted: None,
         })
     }
@@ -46,6 +51,7 @@ impl Search {
             → IsSearchOf net plan domain self.new }
     {
         self.visited.clear();
+        self.home.clear();
         self.trusted = None;
     }
 }
@@ -55,6 +61,7 @@ impl Aftermath<'_> {
     ghost use Rattle.sd_num.specs.Lists.{has};
     ghost use Rattle.sd_plan.specs.Plans.{is_member};
     ghost use Rattle.sd_check_reach.specs.Aftermaths.{net_of, plan_of, domain_of};
+    ghost use Rattle.sd_check_reach.specs.Homes.{IsHome};
     ghost use Rattle.sd_check_reach.specs.Reach.{acting_end, is_sound};
     ghost use Rattle.sd_check_reach.specs.Reached.{BackupReaches, FirstReached, Grows, IsDry, IsPassed, IsStep, LeadsInto, Reaches, is_left};
     ghost use Rattle.sd_check_reach.specs.Searches.{HasRoom, IsSearchOf};
@@ -106,7 +113,7 @@ impl Aftermath<'_> {
 
     /// Looks at all ends of the links of a device, and whether one is joined to the acting end for
     /// sure, over what the domain leaves. What may be is added to what is visited.
-    fn look_around(&self, trusted: bool, d: u32, visited: &mut NumberSet) -> bool
+    pub(crate) fn look_around(&self, trusted: bool, d: u32, visited: &mut NumberSet) -> bool
         requires trust { IsTrue trusted
             → BackupReaches (net_of self.now) (plan_of self.now) (domain_of self.now) }
         requires device { d < length (net_of self.now).devices }
@@ -128,29 +135,42 @@ impl Aftermath<'_> {
         false
     }
 
-    /// Whether a device is joined to the acting end. The set has what earlier searches visited, which
-    /// is cut off; where this one runs dry, all that it visited is added.
-    fn finds(&self, trusted: bool, from: u32, visited: &mut NumberSet) -> bool
+    /// Whether a sound device is joined to the acting end. The set has what earlier searches visited,
+    /// which is cut off; where this one runs dry, all that it visited is added. A search from the
+    /// acting end goes on step by step beside it, so that the shorter of the two ends both.
+    fn finds(&self, trusted: bool, from: u32, visited: &mut NumberSet, home: &mut Home) -> bool
         requires trust { IsTrue trusted
             → BackupReaches (net_of self.now) (plan_of self.now) (domain_of self.now) }
         requires device { from < length (net_of self.now).devices }
+        requires sound { IsTrue (is_sound (net_of self.now) (plan_of self.now) (domain_of self.now) from) }
         requires dry { IsDry (net_of self.now) (plan_of self.now) (domain_of self.now) visited.old.numbers }
         requires room { visited.old.bound ≡ length (net_of self.now).devices }
+        requires home { IsHome (net_of self.now) (plan_of self.now) (domain_of self.now) home.old }
+        requires home_room { home.old.joined.bound ≡ length (net_of self.now).devices }
         ensures met { result ≡ true
             → Reaches (net_of self.now) (plan_of self.now) (domain_of self.now) from }
+        ensures cut { result ≡ false
+            → Reaches (net_of self.now) (plan_of self.now) (domain_of self.now) from → ⊥ }
         ensures dry { result ≡ false
             → IsDry (net_of self.now) (plan_of self.now) (domain_of self.now) visited.new.numbers }
-        ensures among { result ≡ false → has visited.new.numbers from ≡ true }
-        ensures had { (x : ℕ) → has visited.old.numbers x ≡ true
-            → has visited.new.numbers x ≡ true }
         ensures room { visited.new.bound ≡ visited.old.bound }
+        ensures home { IsHome (net_of self.now) (plan_of self.now) (domain_of self.now) home.new }
+        ensures home_room { home.new.joined.bound ≡ home.old.joined.bound }
     {
         if from == self.acting {
             return true;
         }
+        if home.lacks(from) {
+            return false;
+        }
         let mut at = visited.as_slice().len();
         let _: bool = visited.insert(from);
         while at < visited.as_slice().len() {
+            self.spread(home);
+            if home.lacks(from) {
+                visited.clear();
+                return false;
+            }
             let d = visited.as_slice()[at];
             if self.look_around(trusted, d, visited) {
                 return true;
@@ -162,20 +182,24 @@ impl Aftermath<'_> {
 
     /// Whether the backup root, if it is sound, is joined to the acting end. A search is needed only
     /// where the domain hits it.
-    fn backup_reaches(&self, visited: &mut NumberSet) -> bool
+    fn backup_reaches(&self, visited: &mut NumberSet, home: &mut Home) -> bool
         requires dry { IsDry (net_of self.now) (plan_of self.now) (domain_of self.now) visited.old.numbers }
         requires room { visited.old.bound ≡ length (net_of self.now).devices }
+        requires home { IsHome (net_of self.now) (plan_of self.now) (domain_of self.now) home.old }
+        requires home_room { home.old.joined.bound ≡ length (net_of self.now).devices }
         ensures reaches { IsTrue result
             → BackupReaches (net_of self.now) (plan_of self.now) (domain_of self.now) }
         ensures dry { IsDry (net_of self.now) (plan_of self.now)
             (domain_of self.now) visited.new.numbers }
         ensures room { visited.new.bound ≡ visited.old.bound }
+        ensures home { IsHome (net_of self.now) (plan_of self.now) (domain_of self.now) home.new }
+        ensures home_room { home.new.joined.bound ≡ home.old.joined.bound }
     {
         let backup = self.outage.planned.plan.backup_root;
         if self.outage.holds_device(backup) || !self.outage.hits(backup) {
             return true;
         }
-        let reaches = self.finds(false, backup, visited);
+        let reaches = self.finds(false, backup, visited, home);
         if reaches {
             visited.clear();
         }
@@ -194,7 +218,7 @@ impl Aftermath<'_> {
         if let Some(known) = search.trusted {
             return known;
         }
-        let trusted = self.backup_reaches(&mut search.visited);
+        let trusted = self.backup_reaches(&mut search.visited, &mut search.home);
         search.trusted = Some(trusted);
         trusted
     }
@@ -203,6 +227,8 @@ impl Aftermath<'_> {
     pub(crate) fn first_uncut(&self, search: &mut Search, candidates: &[u32]) -> Option<u32>
         requires devices { (i d : ℕ) → slice_get candidates.now i ≡ Some d
             → d < length (net_of self.now).devices }
+        requires sound { (i d : ℕ) → slice_get candidates.now i ≡ Some d
+            → IsTrue (is_sound (net_of self.now) (plan_of self.now) (domain_of self.now) d) }
         requires search { IsSearchOf (net_of self.now) (plan_of self.now) (domain_of self.now) search.old }
         requires room { HasRoom (net_of self.now) search.old }
         ensures first { FirstReached (net_of self.now) (plan_of self.now)
@@ -216,7 +242,7 @@ impl Aftermath<'_> {
         }
         let trusted = self.trusts_backup(search);
         for d in candidates {
-            if self.finds(trusted, *d, &mut search.visited) {
+            if self.finds(trusted, *d, &mut search.visited, &mut search.home) {
                 return Some(*d);
             }
         }

@@ -18,6 +18,10 @@ first_uncut-requires-clause-devices c = λ i d at.
     let losing = c.in_ok-losing.ensures.each i d (subst (λ (xs : List ℕ). slice_get xs i ≡ Some d) c.as_slice.ensures at) in
     (hit_device net (plan_of o) (domain_of o) d index.fits (keeps_rules net (plan_of o) index.structured) losing.hit).within
 
+pub first_uncut-requires-clause-sound : goal.first_uncut-requires-clause-sound
+first_uncut-requires-clause-sound c = λ i d at.
+    (c.in_ok-losing.ensures.each i d (subst (λ (xs : List ℕ). slice_get xs i ≡ Some d) c.as_slice.ensures at)).sound
+
 pub returns-clause-shown : goal.returns-clause-shown
 returns-clause-shown c =
     let o = c.args.self.now in

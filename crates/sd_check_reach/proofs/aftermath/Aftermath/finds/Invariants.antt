@@ -1,12 +1,15 @@
 use Rattle.std.proofs.Common.{◌≡◌, ◌-◌, length}
 use Rattle.sd_check_reach.specs.Aftermaths.{net_of, plan_of, domain_of}
+use Rattle.sd_check_reach.specs.Homes.{IsHome}
 use Rattle.sd_check_reach.proofs.Joining.{IsSearching}
 use Rattle.sd_check_reach.proofs.aftermath.Aftermath.finds.Given as goal
 
 abbrev pub invariant-loop-at : goal.invariant-loop-at
 invariant-loop-at l = record {
-  known : IsSearching (net_of l.self) (plan_of l.self) (domain_of l.self) l.from l.at l.fn.visited.numbers l.visited.numbers;
+  known : IsSearching (net_of l.self) (plan_of l.self) (domain_of l.self) l.from l.at l.visited.numbers;
   room : l.visited.bound ≡ l.fn.visited.bound;
+  home : IsHome (net_of l.self) (plan_of l.self) (domain_of l.self) l.home;
+  home_room : l.home.joined.bound ≡ l.fn.home.joined.bound;
 }
 
 abbrev pub decreases-loop-at : goal.decreases-loop-at

@@ -17,6 +17,10 @@ first_uncut-requires-clause-devices c = λ i d at.
     unheard_within net (plan_of o) (domain_of o) d index.fits (keeps_rules net (plan_of o) index.structured)
     (c.in_ok-unheard.ensures.all.each i d (subst (λ (xs : List ℕ). slice_get xs i ≡ Some d) c.as_slice.ensures at))
 
+pub first_uncut-requires-clause-sound : goal.first_uncut-requires-clause-sound
+first_uncut-requires-clause-sound c = λ i d at.
+    (c.in_ok-unheard.ensures.all.each i d (subst (λ (xs : List ℕ). slice_get xs i ≡ Some d) c.as_slice.ensures at)).sound
+
 pub returns-in_default-clause-shown : goal.returns-in_default-clause-shown
 returns-in_default-clause-shown c =
     let o = c.args.self.now in
