@@ -52,9 +52,24 @@ impl EventOutput {
             self.tally = self.tally.with_nothing();
             self.lines.clear();
         } else {
-            self.tally = self.tally.with(findings);
-            print_findings(&mut self.lines, &self.topology, self.tally.events, findings);
+            // Of a copy, so that what is found of nearly all events, nothing, is written nowhere.
+            let found = *findings;
+            self.note_found(&found);
         }
         self.ended = ended;
+    }
+
+    /// Counts and prints what was found of an event.
+    #[inline(never)]
+    fn note_found(&mut self, findings: &Findings)
+        requires room { HasRoom self.old.tally }
+        requires devices { IsOf (network self.old.topology) findings.now }
+        ensures topology { self.new.topology ≡ self.old.topology }
+        ensures tally { self.new.tally ≡ tally_with self.old.tally findings.now }
+        ensures lines { printed self.new.lines
+            ≡ found_bytes (network self.old.topology) (self.old.tally.events + 1) findings.now }
+    {
+        self.tally = self.tally.with(findings);
+        print_findings(&mut self.lines, &self.topology, self.tally.events, findings);
     }
 }

@@ -63,6 +63,8 @@ pub struct Replay<N: Node, V: Observer> {
     monitors: Monitors,
     event_output: EventOutput,
     observer: V,
+    /// What the last event came to that was accepted. It is kept so that no event makes a new one.
+    latest: Outcome,
     ghost run: { ∥ HasRun N.Node V.Observer fleet monitors event_output observer ∥₁ },
 }
 
@@ -98,6 +100,7 @@ impl<N: Node, V: Observer> Replay<N, V> {
             monitors,
             event_output,
             observer,
+            latest: Outcome::nothing(),
         })
     }
 
@@ -121,9 +124,11 @@ impl<N: Node, V: Observer> Replay<N, V> {
             → StandsFor N.Node V.Observer self.new setting run
             × IsLineFault fault setting (steps_of run) line.now) }
     {
-        match read_line(line) {
-            Ok(event) => self.step_event(alloc, &event),
-            Err(fault) => Err(ReplayFault::Line(fault)),
+        // The event is lent where it was read.
+        let read = read_line(line);
+        match &read {
+            Ok(event) => self.step_event(alloc, event),
+            Err(fault) => Err(ReplayFault::Line(*fault)),
         }
     }
 
@@ -147,8 +152,7 @@ impl<N: Node, V: Observer> Replay<N, V> {
             → StandsFor N.Node V.Observer self.new setting run
             × IsFault fault setting (steps_of run) event.now) }
     {
-        let mut outcome = Outcome::nothing();
-        self.step_outcome(alloc, event, &mut outcome)
+        self.advance(alloc, event)
     }
 
     /// As `step_event`. What the event came to is written into an outcome that the caller lends, and
@@ -178,14 +182,43 @@ impl<N: Node, V: Observer> Replay<N, V> {
             × IsFault fault setting (steps_of run) event.now) }
         ensures same { OnErr result (outcome.new ≡ outcome.old) }
     {
+        match self.advance(alloc, event) {
+            Ok(()) => {
+                *outcome = self.latest;
+                Ok(())
+            }
+            Err(fault) => Err(fault),
+        }
+    }
+
+    /// As `step_event`. What the event came to is kept.
+    #[inline(always)]
+    fn advance(&mut self, alloc: Global, event: &Event) -> Result<(), ReplayFault>
+        requires within { IsTrue (is_within event.now) }
+        // where the history refuses the event, it is refused for that cause
+        ensures refusal { (setting : Setting) (run : List (NodeStep N))
+            → StandsFor N.Node V.Observer self.old setting run
+            → IfSome (refusal setting (steps_of run) event.now)
+            (λ fault. result ≡ Err (ReplayFault.Apply fault)) }
+        ensures accepted { OnOk result ((setting : Setting) (run : List (NodeStep N))
+            → StandsFor N.Node V.Observer self.old setting run
+            → IsSteppedTo N.Node V.Observer self.new setting run event.now self.new.latest) }
+        // while no premise is broken there is no alarm, where the nodes tell what devices tell
+        ensures calm { OnOk result ((setting : Setting) (run : List (NodeStep N))
+            → StandsFor N.Node V.Observer self.new setting run → StaysCalm setting (steps_of run)) }
+        ensures refused { IfErr result (λ fault. (setting : Setting) (run : List (NodeStep N))
+            → StandsFor N.Node V.Observer self.old setting run
+            → StandsFor N.Node V.Observer self.new setting run
+            × IsFault fault setting (steps_of run) event.now) }
+    {
         let most = self.fleet.prepare(alloc, event)?;
         let Ok(()) = self.ready(alloc, event, most) else {
             return Err(ReplayFault::Memory);
         };
-        self.fleet.happen(event, outcome);
-        let findings = self.monitors.look(&self.fleet, event, outcome);
-        self.event_output.note(&findings, outcome.ended);
-        if let Some((d, report)) = outcome.report {
+        self.fleet.happen(event, &mut self.latest);
+        let findings = self.monitors.look(&self.fleet, event, &self.latest);
+        self.event_output.note(&findings, self.latest.ended);
+        if let Some((d, report)) = self.latest.report {
             let line = self.event_output.tally.events;
             self.observer.seen(line, d, event.reference(), report);
         }

@@ -12,8 +12,8 @@ use Rattle.sd_replay.proofs.Causes.{if_told, told_as, told_cause, told_of_fleet,
 use Rattle.sd_replay.proofs.Calm.{stays_calm}
 use Rattle.sd_replay.proofs.Going.{with_fleet, stands_prepared, stands_with_room}
 use Rattle.sd_replay.proofs.Happening.{IsDone, has_step, numbers_merely, tally_merely, devices_merely, ready_merely, stands_on, run_on}
-use Rattle.sd_replay.proofs.replay.Replay.step_outcome.Given.{Over}
-use Rattle.sd_replay.proofs.replay.Replay.step_outcome.Goals as goal
+use Rattle.sd_replay.proofs.replay.Replay.advance.Given.{Over}
+use Rattle.sd_replay.proofs.replay.Replay.advance.Goals as goal
 
 pub invariant_of-self : goal.invariant_of-self
 invariant_of-self g c =
@@ -55,6 +55,10 @@ seen-requires-clause-ready g c =
     c.happen.new.self c.args.event.now c.happen.new.outcome c.happen.ensures.accepted
     (c.in-Some.d, c.in-Some.report) some c.in-Ok.ensures.observer c.ready.new.self.run
 
+-- a fact of one of two that are the same
+moved : {A : Type 0} (P : A → Type 0) {x y : A} → P x → x ≡ y → P y
+moved P fact same = subst P same fact
+
 -- a report is told
 told : (g : Over) (c : goal.After-seen g)
     → IsDone g.N.Node g.V.Observer c.ready.new.self.fleet c.happen.new.self c.ready.new.self.monitors c.look-findings.new.self c.ready.new.self.event_output
@@ -79,7 +83,9 @@ told g c =
           (sym some)
           (λ reports_ stands.
           subst (λ (r : ℕ). g.V.Observer.stands c.seen.new.self (reports_ ++ report_at c.note.new.self.tally.events c.in-Some.d r c.in-Some.report ∷ []))
-          c.reference.ensures (c.seen.ensures.told reports_ stands));
+          c.reference.ensures
+          (moved (λ (xs : List ReportAt). g.V.Observer.stands c.seen.new.self xs) (c.seen.ensures.told reports_ stands)
+          (cc (c.in-Some.is, c.in-Some.d-is, c.in-Some.report-is))));
     }
 
 -- nothing is told
