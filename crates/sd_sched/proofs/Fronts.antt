@@ -1,4 +1,4 @@
--- The lines at the front of bytes: a tick, an ask and a receipt.
+-- The lines at the front of bytes: a tick, an ask, a receipt and a fix.
 use Rattle.std.proofs.Common.{◌≡◌, ◌∙◌, ℕ, ◌+◌, ◌-◌, ◌<◌, ◌≤◌, true, List, [], ◌∷◌, ◌++◌, length, take, slice_range, refl, sym, ap, arith, take-add}
 use Rattle.std.specs.Prelude.{codes}
 use Rattle.std.proofs.lemmas.Bool.{le-leb}
@@ -7,9 +7,9 @@ use Rattle.sd_sched.specs.Lines.{fields, limit}
 use Rattle.sd_sched.specs.Reading.{Begins, BeginsThree}
 use Rattle.sd_sched.specs.InPlace.{HasLine, HasNumber, HasNumberBehind, is_one_line}
 use Rattle.sd_sched.specs.declared.words.Field.TheVariants.{Amount, Which}
-use Rattle.sd_sched.specs.declared.Event.TheVariants.{Tick, Recv, Ask}
+use Rattle.sd_sched.specs.declared.Event.TheVariants.{Tick, Recv, Ask, Fix}
 use Rattle.sd_sched.proofs.InPlace.{begins_more, begins_last, one_line_last, one_line_more}
-use Rattle.sd_sched.proofs.InTurn.{begins_three, tick_line, ask_line, recv_line}
+use Rattle.sd_sched.proofs.InTurn.{begins_three, tick_line, ask_line, recv_line, fix_line}
 
 -- a word, and what is behind it
 word_split : (bytes word : List ℕ) (from end : ℕ) → take from bytes ≡ word → from ≤ end → take end bytes ≡ word ++ slice_range bytes from end
@@ -135,5 +135,43 @@ module _ (bytes : List ℕ) (from first second third reference device counter : 
             le-leb reference (limit Amount) head.reference_is.within,
             le-leb counter (limit Amount) head.counter_is.has.within,
             le-leb message (limit Amount) last.has.within,
+          ) refl;
+        }
+
+    pub fix_front : (fourth fifth clock eps : ℕ) → HasNumberBehind (limit Amount) bytes third fourth clock
+        → HasNumberBehind (limit Amount) bytes fourth fifth eps → take from bytes ≡ codes "fix "
+        → from ≤ length bytes → HasLine bytes (Fix reference device counter clock eps) fifth
+    fix_front fourth fifth clock eps next last word inside =
+        let short = head_short in
+        let next_few = next.has.few in
+        let next_ordered = next.has.ordered in
+        let few = last.has.few in
+        let ordered = last.has.ordered in
+        let from_is = word_len bytes (codes "fix ") from word inside in
+        let line = word_split bytes (codes "fix ") from fifth word (omega (arith, head_before)) in
+        let rest = slice_range bytes (third + 1) fifth in
+        let begins =
+        head_begins fifth (fields rest) (omega arith)
+        (begins_more Amount (limit Amount) bytes (second + 1) third counter fifth head.counter_is.has head.counter_is.has.number_is next.space (omega arith)) in
+        let one_line =
+        head_one_line fifth (omega arith)
+        (one_line_more (limit Amount) bytes (second + 1) third counter fifth head.counter_is.has next.space (omega arith)
+        (one_line_more (limit Amount) bytes (third + 1) fourth clock fifth next.has last.space (omega arith)
+        (one_line_last (limit Amount) bytes (fourth + 1) fifth eps last.has))) in
+        record {
+          inside = last.has.inside;
+          short = omega (arith, from_is, short, next_few, few);
+          one_line = rw (line, one_line) refl;
+          event_is =
+              fix_line (take fifth bytes) (slice_range bytes from fifth) (32 ∷ rest) (fields (slice_range bytes (fourth + 1) fifth)) reference device counter
+              clock eps line begins
+              (begins_more Amount (limit Amount) bytes (third + 1) fourth clock fifth next.has next.has.number_is last.space (omega arith))
+              (begins_last Amount (limit Amount) bytes (fourth + 1) fifth eps last.has last.has.number_is);
+          within = rw (
+            le-leb device (limit Which) head.device_is.has.within,
+            le-leb reference (limit Amount) head.reference_is.within,
+            le-leb counter (limit Amount) head.counter_is.has.within,
+            le-leb clock (limit Amount) next.has.within,
+            le-leb eps (limit Amount) last.has.within,
           ) refl;
         }

@@ -7,8 +7,8 @@ use Rattle.sd_sched.specs.Reading.{Begins, BeginsThree, ◌then◌, fields_behin
 use Rattle.sd_sched.specs.declared.LineFault.{LineFault}
 use Rattle.sd_sched.specs.declared.words.Field.{Field}
 use Rattle.sd_sched.specs.declared.words.Field.TheVariants.{Amount, Which}
-use Rattle.sd_sched.specs.declared.words.Word.TheVariants.{Tick, Recv, Ask}
-use Rattle.sd_sched.specs.declared.Event.TheVariants.{Tick as TickEvent, Recv as RecvEvent, Ask as AskEvent}
+use Rattle.sd_sched.specs.declared.words.Word.TheVariants.{Tick, Recv, Ask, Fix}
+use Rattle.sd_sched.specs.declared.Event.TheVariants.{Tick as TickEvent, Recv as RecvEvent, Ask as AskEvent, Fix as FixEvent}
 use Rattle.sd_sched.proofs.ByLine.{word_first}
 use Rattle.sd_sched.proofs.Cuts.{fields_step}
 
@@ -65,3 +65,13 @@ recv_line line bytes left reference device counter message is read last =
     rw is
     (word_first (codes "recv " ++ bytes) Recv (Ok (reference ∷ device ∷ counter ∷ message ∷ [])) refl
     (read (Amount ∷ []) ∙ rw (first_number 4 Amount [] (fields_behind left) [] message last) refl))
+
+-- a fix with its five
+pub fix_line : (line bytes left : List ℕ) (behind : List (List ℕ)) (reference device counter clock eps : ℕ) → line ≡ codes "fix " ++ bytes
+    → BeginsThree (fields bytes) reference device counter (fields_behind left) → Begins Amount (fields_behind left) clock behind
+    → Begins Amount behind eps [] → event_of_line line ≡ Ok (FixEvent reference device counter clock eps)
+fix_line line bytes left behind reference device counter clock eps is read first last =
+    rw is
+    (word_first (codes "fix " ++ bytes) Fix (Ok (reference ∷ device ∷ counter ∷ clock ∷ eps ∷ [])) refl
+    (read (Amount ∷ Amount ∷ [])
+    ∙ rw (first_number 4 Amount (Amount ∷ []) (fields_behind left) behind clock first, first_number 5 Amount [] behind [] eps last) refl))

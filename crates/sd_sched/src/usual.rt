@@ -1,5 +1,5 @@
-//! The kinds of line that nearly all are, a tick, a receipt and an ask, each read in one go where
-//! it stands.
+//! The kinds of line that nearly all are, a tick, a receipt, an ask and a fix, each read in one go
+//! where it stands.
 ghost use Rattle.std.specs.Prelude.{◌≡◌, ◌≤◌, ◌++◌, [], ◌∷◌, length, take, position, nat_eq, Ok, Some, IfSome, IsTrue};
 ghost use Rattle.sd_sched.specs.Lines.{event_of_line, limit};
 ghost use Rattle.sd_sched.specs.Spelled.{is_within};
@@ -100,6 +100,20 @@ fn usual_front(bytes: &[u8]) -> Option<Front>
                 len: message.end,
             })
         }
+        Word::Fix => {
+            let clock = number_behind(bytes, head.counter.end, MOST_AMOUNT)?;
+            let eps = number_behind(bytes, clock.end, MOST_AMOUNT)?;
+            Some(Front {
+                event: Event::Fix {
+                    reference,
+                    device,
+                    counter,
+                    clock: clock.number,
+                    eps: eps.number,
+                },
+                len: eps.end,
+            })
+        }
         _ => None,
     }
 }
@@ -115,6 +129,7 @@ fn usual_word(bytes: &[u8]) -> Option<(Word, usize)>
         [b't', b'i', b'c', b'k', b' ', ..] => Some((Word::Tick, 5)),
         [b'r', b'e', b'c', b'v', b' ', ..] => Some((Word::Recv, 5)),
         [b'a', b's', b'k', b' ', ..] => Some((Word::Ask, 4)),
+        [b'f', b'i', b'x', b' ', ..] => Some((Word::Fix, 4)),
         _ => None,
     }
 }

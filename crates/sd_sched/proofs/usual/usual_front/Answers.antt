@@ -1,6 +1,6 @@
 use Rattle.std.proofs.Common.{◌≡◌, take}
 use Rattle.std.specs.Prelude.{codes}
-use Rattle.sd_sched.proofs.Fronts.{tick_front, ask_front, receipt_front}
+use Rattle.sd_sched.proofs.Fronts.{tick_front, ask_front, receipt_front, fix_front}
 use Rattle.sd_sched.proofs.usual.usual_front.Goals as goal
 
 pub returns-in-Tick : goal.returns-in-Tick
@@ -28,3 +28,14 @@ returns-in_ok-message-in-Recv c =
     receipt_front c.args.bytes.now c.in_ok-word.from h.reference.end h.device.end h.counter.end h.reference.number h.device.number h.counter.number
     (record { reference_is = read.reference; device_is = read.device; counter_is = read.counter }) last.message.end last.message.number last.ensures word
     c.in_ok-word.ensures.inside
+
+pub returns-in_ok-eps-in-Fix : goal.returns-in_ok-eps-in-Fix
+returns-in_ok-eps-in-Fix c =
+    let h = c.in_ok-head.head in
+    let read = c.in_ok-head.ensures in
+    let next = c.in_ok-clock-in-Fix in
+    let last = c.in_ok-eps-in-Fix in
+    let word : take c.in_ok-word.from c.args.bytes.now ≡ codes "fix " = rw c.in-Fix.is at c.in_ok-word.ensures.spelled in
+    fix_front c.args.bytes.now c.in_ok-word.from h.reference.end h.device.end h.counter.end h.reference.number h.device.number h.counter.number
+    (record { reference_is = read.reference; device_is = read.device; counter_is = read.counter }) next.clock.end last.eps.end next.clock.number
+    last.eps.number next.ensures last.ensures word c.in_ok-word.ensures.inside
