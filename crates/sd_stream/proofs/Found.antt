@@ -47,7 +47,7 @@ take_step true n m l e = omega arith
 take_step false n m l e = omega arith
 
 -- a line that is cut off
-line_len-take : (n : ℕ) (xs : List ℕ) → line_len (take n xs) ≡ min n (line_len xs)
+pub line_len-take : (n : ℕ) (xs : List ℕ) → line_len (take n xs) ≡ min n (line_len xs)
 line_len-take zero xs = omega arith
 line_len-take (suc n) [] = omega arith
 line_len-take (suc n) (x ∷ xs) = take_step (x == 10) n (line_len xs) (line_len (take n xs)) (line_len-take n xs)

@@ -1,5 +1,6 @@
 pub mod LineLaws
 pub mod AnswerLaws
+pub mod Windows
 mod Found
 mod Judged
 mod Ranges

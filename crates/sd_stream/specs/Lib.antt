@@ -4,3 +4,4 @@ pub mod Limits
 pub mod Findings
 pub mod Buffered
 pub mod Reader
+pub mod Windows

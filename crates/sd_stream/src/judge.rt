@@ -10,7 +10,7 @@ use memchr::memchr;
 const LINE: usize = 4096;
 
 /// The most bytes that a text may have.
-const TEXT: u64 = 1 << 32;
+pub(crate) const TEXT: u64 = 1 << 32;
 
 /// What the first bytes of a text say of its next line.
 #[derive(Clone, Copy)]

@@ -1,5 +1,5 @@
 //! A text lent line by line.
-ghost use Rattle.std.specs.Prelude.{◌≡◌, ◌≢◌, ◌≤◌, ◌+◌, ◌^◌, ◌<◌, length, take, drop, [], Some, Err, true, IsTrue, IfOk, IfSome, IfErr, OnOk, OnErr, OnSome, slice_range};
+ghost use Rattle.std.specs.Prelude.{◌≡◌, ◌≢◌, ◌≤◌, ◌+◌, ◌^◌, ◌<◌, length, take, drop, [], Ok, Some, Err, true, IsTrue, IfOk, IfSome, IfErr, OnOk, OnErr, OnSome, slice_range};
 ghost use Rattle.std.specs.Result.{IsErrOf};
 ghost use Rattle.std.specs.Io.KnownBytes.{Keeps};
 ghost use Rattle.sd_outside.specs.Shelves.{KeepsShelf};
@@ -8,7 +8,7 @@ ghost use Rattle.sd_stream.specs.Buffered.{buffered};
 
 use crate::buffer::Buffer;
 use crate::faults::StreamFault;
-use crate::judge::{Finding, judge};
+use crate::judge::{Finding, TEXT, judge};
 use sd_num::NoMemory;
 use sd_outside::Shelf;
 use std::alloc::Global;
@@ -39,6 +39,7 @@ pub struct LineReader<'s, S: Shelf, B = Buffer> {
 
 impl<'s, S: Shelf> LineReader<'s, S> {
     ghost use Rattle.sd_stream.specs.Reader.{shelf_of, text_left, bytes_before, buffered_answer, IsNear, AnswersAt, GoesPast, StaysAt, LeavesReader};
+    ghost use Rattle.sd_stream.specs.Windows.{window_of, EndsAt};
     ghost use Rattle.std.specs.Borrow.{sem};
 
     /// Takes one buffer, all the memory that a reader needs.
@@ -136,6 +137,34 @@ impl<'s, S: Shelf> LineReader<'s, S> {
             Some((from, to)) => Ok(Some(self.buffer.range(from, to))),
             None => Ok(None),
         }
+    }
+
+    /// Lends what waits in the buffer, as far as a text may go. It begins with the next line, and
+    /// may hold more lines, or not all of one.
+    pub fn window(&self) -> &[u8]
+        ensures window { result.now ≡ window_of self.now }
+        ensures near { IsNear (text_left S.Shelf self.now) (S.rest (shelf_of self.now).now) }
+    {
+        let waiting = self.buffer.waiting();
+        let most = (TEXT - self.before) as usize;
+        &waiting[..waiting.len().min(most)]
+    }
+
+    /// Goes past the next line, which ends in the window after so many bytes, as if it had been
+    /// lent.
+    pub fn pass_line(&mut self, len: usize)
+        requires { EndsAt (window_of self.old) len }
+        ensures answer { IfSome (text_left S.Shelf self.old) (λ text.
+            answer_of (bytes_before self.old) text ≡ Ok (Some (take len (window_of self.old)))) }
+        ensures past { IfSome (text_left S.Shelf self.old)
+            (GoesPast (bytes_before self.old) (bytes_before self.new) (text_left S.Shelf self.new)) }
+        ensures moves { bytes_before self.old < bytes_before self.new }
+        ensures within { bytes_before self.new ≤ 2 ^ 32 }
+        ensures near { IsNear (text_left S.Shelf self.old) (S.rest (shelf_of self.new).now) }
+        ensures shelf { (shelf_of self.new).now ≡ (shelf_of self.old).now }
+        ensures same_shelf { (shelf_of self.new).ghost_name ≡ (shelf_of self.old).ghost_name }
+    {
+        self.pass(len, len + 1);
     }
 }
 
