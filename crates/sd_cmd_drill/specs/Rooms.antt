@@ -5,11 +5,13 @@ use Rattle.sd_plan.specs.Plans.{members}
 use Rattle.sd_plan.specs.declared.Plan.{Plan}
 use Rattle.sd_drill.specs.Times.{IsDrillOf}
 use Rattle.sd_drill.specs.declared.Budget.{Budget}
+use Rattle.sd_cmd_drill.specs.Endings.{AreEndings}
 use Rattle.sd_cmd_drill.specs.declared.writing.Room.{Room}
 
 pub record IsRoomFor (net : Network) (plan : Plan) (room : Room) : Type 0 where
   pub drill : IsDrillOf net plan room.drill
   pub members : room.members ≡ members net plan
+  pub endings : AreEndings net room.page.endings.items
 
 -- the budget of the drill
 abbrev pub budget_of : Room → Budget

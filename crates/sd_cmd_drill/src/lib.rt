@@ -1,6 +1,7 @@
 //! What is written of a drill: one write for each domain, and the last line.
 #![tactic(auto)]
 
+mod endings;
 mod kinds;
 mod lines;
 mod members;

@@ -1,15 +1,20 @@
 //! The page of a domain: the lines of its members, one behind another.
-ghost use Rattle.std.specs.Prelude.{◌≡◌, ◌++◌, ◌∷◌, ◌≤◌, [], length, IfOk, OnOk, codes, decimal};
+ghost use Rattle.std.specs.Prelude.{◌≡◌, ◌++◌, ◌≤◌, ◌<◌, [], length, Some, None, IfOk, OnOk, codes};
+ghost use Rattle.sd_cmd_drill.specs.Endings.{AreEndings};
 ghost use Rattle.sd_cmd_drill.specs.Printing.{IsShort, front_of, line_behind};
 ghost use Rattle.sd_outside.specs.Printed.{printed};
+ghost use Rattle.sd_topo.specs.Network as names;
+ghost use Rattle.sd_topo.specs.Topologies.{network};
 
-use crate::lines::Named;
-use itoa::{Buffer, write_digits};
+use crate::endings::{Ending, no_endings, show_ending};
+use crate::lines::{Named, device_name};
 use sd_num::NoMemory;
 use sd_outside::LineBuffer;
+use sd_topo::Topology;
 use std::alloc::Global;
 
-/// Room for what is printed of a domain. What stands before the name of a device is printed once.
+/// Room for what is printed of a domain. What stands before the name of a device is printed once for
+/// all its lines, and what stands behind serves until the bound is another.
 #[derive(Drop)]
 pub(crate) struct Page {
     /// What begins the line of a device with a bound. Once all domains are written the last line is
@@ -17,6 +22,8 @@ pub(crate) struct Page {
     pub(crate) bound_front: LineBuffer,
     /// What begins the line of a device with none.
     pub(crate) nobound_front: LineBuffer,
+    /// By device, how its line ends.
+    pub(crate) endings: Vec<Ending>,
     /// All lines so far.
     pub(crate) text: Vec<u8>,
 }
@@ -28,36 +35,6 @@ fn append(text: &mut Vec<u8>, bytes: &[u8]) -> Result<(), NoMemory>
     match text.extend_from_slice(bytes) {
         Ok(()) => Ok(()),
         Err(_) => Err(NoMemory),
-    }
-}
-
-/// Adds a space, the digits of a number and the end of the line, all at once.
-fn append_number(text: &mut Vec<u8>, number: u64) -> Result<(), NoMemory>
-    ensures { OnOk result (text.new.items ≡ text.old.items ++ 32 ∷ decimal number ++ 10 ∷ []) }
-{
-    let mut bytes = [b'\n'; 22];
-    let start = write_digits(number, &mut bytes, 21);
-    bytes[start - 1] = b' ';
-    append(text, &bytes[start - 1..])
-}
-
-/// Adds the same of a number that may have more digits.
-fn append_wide_number(text: &mut Vec<u8>, number: u128) -> Result<(), NoMemory>
-    ensures { OnOk result (text.new.items ≡ text.old.items ++ 32 ∷ decimal number ++ 10 ∷ []) }
-{
-    let mut digits = Buffer::new();
-    append(text, b" ")?;
-    append(text, digits.format(number).as_bytes())?;
-    append(text, b"\n")
-}
-
-/// Adds a bound behind the name of a device, and the end of the line.
-fn append_bound(text: &mut Vec<u8>, bound: u128) -> Result<(), NoMemory>
-    ensures { OnOk result (text.new.items ≡ text.old.items ++ 32 ∷ decimal bound ++ 10 ∷ []) }
-{
-    match u64::try_from(bound) {
-        Ok(number) => append_number(text, number),
-        Err(_) => append_wide_number(text, bound),
     }
 }
 
@@ -77,15 +54,18 @@ fn print_front(front: &mut LineBuffer, word: &str, named: Named<'_>)
 }
 
 impl Page {
-    /// A page with no lines.
-    pub(crate) fn new(alloc: Global) -> Result<Page, NoMemory>
-        ensures { IfOk result (λ page. page.text.items ≡ []) }
+    /// A page with no lines, for the devices of a topology.
+    pub(crate) fn new(alloc: Global, topo: &Topology) -> Result<Page, NoMemory>
+        ensures text { IfOk result (λ page. page.text.items ≡ []) }
+        ensures endings { IfOk result (λ page. AreEndings (network topo.now) page.endings.items) }
     {
         let bound_front = LineBuffer::new(alloc)?;
         let nobound_front = LineBuffer::new(alloc)?;
+        let endings = no_endings(alloc, topo)?;
         Ok(Page {
             bound_front,
             nobound_front,
+            endings,
             text: Vec::new(alloc),
         })
     }
@@ -98,33 +78,62 @@ impl Page {
         ensures nobound_front { printed self.new.nobound_front
             ≡ front_of (codes "nobound") named.entry.kind.now named.entry.name.now }
         ensures text { self.new.text.items ≡ [] }
+        ensures endings { self.new.endings.items ≡ self.old.endings.items }
     {
         self.text.clear();
         print_front(&mut self.bound_front, "bound", named);
         print_front(&mut self.nobound_front, "nobound", named);
     }
 
-    /// Adds the line of a device's bound in ps, or that it has none.
-    pub(crate) fn add(&mut self, device: &str, bound: Option<u128>) -> Result<(), NoMemory>
+    /// Adds the line of a device's bound in ps.
+    fn add_bound(&mut self, topo: &Topology, d: u32, bound: u128) -> Result<(), NoMemory>
+        requires device { d < length (network topo.now).devices }
+        requires endings { AreEndings (network topo.now) self.old.endings.items }
         ensures text { OnOk result (self.new.text.items ≡ self.old.text.items
-            ++ line_behind (printed self.old.bound_front)
-            (printed self.old.nobound_front) device.now bound) }
-        ensures bound_front { OnOk result
-            (printed self.new.bound_front ≡ printed self.old.bound_front) }
-        ensures nobound_front { OnOk result
-            (printed self.new.nobound_front ≡ printed self.old.nobound_front) }
+            ++ line_behind (printed self.old.bound_front) (printed self.old.nobound_front)
+            (names.device_name (network topo.now) d) (Some bound)) }
+        ensures bound_front { printed self.new.bound_front ≡ printed self.old.bound_front }
+        ensures nobound_front { printed self.new.nobound_front ≡ printed self.old.nobound_front }
+        ensures endings { AreEndings (network topo.now) self.new.endings.items }
+    {
+        show_ending(&mut self.endings, topo, d, bound);
+        append(&mut self.text, self.bound_front.printed())?;
+        append(&mut self.text, self.endings[d as usize].as_bytes())
+    }
+
+    /// Adds the line of a device that has no bound.
+    fn add_none(&mut self, device: &str) -> Result<(), NoMemory>
+        ensures text { OnOk result (self.new.text.items ≡ self.old.text.items
+            ++ line_behind (printed self.old.bound_front) (printed self.old.nobound_front)
+            device.now None) }
+        ensures bound_front { printed self.new.bound_front ≡ printed self.old.bound_front }
+        ensures nobound_front { printed self.new.nobound_front ≡ printed self.old.nobound_front }
+        ensures endings { self.new.endings.items ≡ self.old.endings.items }
+    {
+        append(&mut self.text, self.nobound_front.printed())?;
+        append(&mut self.text, device.as_bytes())?;
+        append(&mut self.text, b"\n")
+    }
+
+    /// Adds the line of a device's bound in ps, or that it has none.
+    pub(crate) fn add(
+        &mut self,
+        topo: &Topology,
+        d: u32,
+        bound: Option<u128>,
+    ) -> Result<(), NoMemory>
+        requires device { d < length (network topo.now).devices }
+        requires endings { AreEndings (network topo.now) self.old.endings.items }
+        ensures text { OnOk result (self.new.text.items ≡ self.old.text.items
+            ++ line_behind (printed self.old.bound_front) (printed self.old.nobound_front)
+            (names.device_name (network topo.now) d) bound) }
+        ensures bound_front { printed self.new.bound_front ≡ printed self.old.bound_front }
+        ensures nobound_front { printed self.new.nobound_front ≡ printed self.old.nobound_front }
+        ensures endings { AreEndings (network topo.now) self.new.endings.items }
     {
         match bound {
-            Some(bound) => {
-                append(&mut self.text, self.bound_front.printed())?;
-                append(&mut self.text, device.as_bytes())?;
-                append_bound(&mut self.text, bound)
-            }
-            None => {
-                append(&mut self.text, self.nobound_front.printed())?;
-                append(&mut self.text, device.as_bytes())?;
-                append(&mut self.text, b"\n")
-            }
+            Some(bound) => self.add_bound(topo, d, bound),
+            None => self.add_none(device_name(topo, d)),
         }
     }
 }

@@ -6,6 +6,7 @@ ghost use Rattle.sd_domain.specs.Lone.{IsDomain};
 ghost use Rattle.sd_drill.specs.Budgets.{IsBudget};
 ghost use Rattle.sd_drill.specs.Printed.{IsLinesOf, bound_line, done_line};
 ghost use Rattle.sd_cmd_drill.specs.Adding.{AddsLines, Drills};
+ghost use Rattle.sd_cmd_drill.specs.Endings.{AreEndings};
 ghost use Rattle.sd_cmd_drill.specs.Kinds.{all_of};
 ghost use Rattle.sd_cmd_drill.specs.Rooms.{IsRoomFor, budget_of};
 ghost use Rattle.sd_outside.specs.Causes.{RisesFor};
@@ -15,7 +16,7 @@ ghost use Rattle.sd_plan.specs.Plans.{Fits};
 ghost use Rattle.sd_topo.specs.Topologies.{network};
 
 use crate::kinds::Kind;
-use crate::lines::{device_name, domain_named, print_done};
+use crate::lines::{domain_named, print_done};
 use crate::members::members_of;
 use crate::page::Page;
 use sd_cmd_files::{IoError, Status, send};
@@ -45,7 +46,7 @@ impl Room {
     {
         let drill = Drill::new(alloc, planned, budget)?;
         let members = members_of(alloc, planned)?;
-        let page = Page::new(alloc)?;
+        let page = Page::new(alloc, planned.topo)?;
         Ok(Room {
             drill,
             members,
@@ -73,12 +74,14 @@ fn print_domain(
     requires domain { IsDomain (network topo.now) domain }
     requires members { All (λ d. d < length (network topo.now).devices) members.now }
     requires bounds { length bounds.now ≡ length (network topo.now).devices }
-    ensures { OnOk result (page.new.text.items
+    requires endings { AreEndings (network topo.now) page.old.endings.items }
+    ensures lines { OnOk result (page.new.text.items
         ≡ flat_map (bound_line (network topo.now) domain bounds.now) members.now) }
+    ensures endings { AreEndings (network topo.now) page.new.endings.items }
 {
     page.begin(domain_named(topo, domain));
     for d in members {
-        page.add(device_name(topo, *d), bound_of(bounds, *d))?;
+        page.add(topo, *d, bound_of(bounds, *d))?;
     }
     Ok(())
 }

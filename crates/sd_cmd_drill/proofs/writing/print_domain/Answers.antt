@@ -1,10 +1,12 @@
-use Rattle.std.proofs.Common.{◌∙◌, ◌++◌, ◌<◌, List, ℕ, [], length, take, get_or, ap, sym, arith}
+use Rattle.std.proofs.Common.{◌∙◌, ◌++◌, ◌<◌, List, ℕ, [], length, take, get_or, ap, sym, subst, arith}
 use Rattle.std.specs.Prelude.{flat_map, codes}
 use Rattle.std.proofs.lemmas.List.{flat_map_more, take_more}
 use Rattle.sd_topo.specs.Topologies.{network}
 use Rattle.sd_topo.specs.Network.{device_name}
 use Rattle.sd_drill.specs.Printed.{bound_line}
+use Rattle.sd_cmd_drill.specs.Endings.{AreEndings}
 use Rattle.sd_cmd_drill.specs.Printing.{front_of, line_behind}
+use Rattle.sd_cmd_drill.specs.declared.endings.Ending.{Ending}
 use Rattle.sd_outside.specs.Printed.{printed}
 use Rattle.sd_cmd_drill.proofs.Names.{behind_fronts, bound_is, line_is}
 use Rattle.sd_cmd_drill.proofs.writing.print_domain.Goals as goal
@@ -17,11 +19,12 @@ loop-d-init c = (
   c.begin.ensures.bound_front,
   c.begin.ensures.nobound_front,
   c.begin.ensures.text,
+  subst (λ (xs : List Ending). AreEndings (network c.args.topo.now) xs) (sym c.begin.ensures.endings) c.requires.endings,
 )
 
 pub loop-d-preserved : goal.loop-d-preserved
 loop-d-preserved c =
-    let (kind, name, words, bound_front, nobound_front, text) = c.loop-d.invariant in
+    let (kind, name, words, bound_front, nobound_front, text, endings) = c.loop-d.invariant in
     let net = network c.args.topo.now in
     let xs = c.args.members.now in
     let i = c.loop-d.d-index in
@@ -31,11 +34,9 @@ loop-d-preserved c =
       kind,
       name,
       words,
-      c.in_ok-add.ensures.bound_front ∙ bound_front,
-      c.in_ok-add.ensures.nobound_front ∙ nobound_front,
+      c.add.ensures.bound_front ∙ bound_front,
+      c.add.ensures.nobound_front ∙ nobound_front,
       c.in_ok-add.ensures.text
-          ∙ ap (λ (n : List ℕ). c.loop-d.page.text.items ++ line_behind (printed c.loop-d.page.bound_front)
-          (printed c.loop-d.page.nobound_front) n c.bound_of.result) c.device_name.ensures.is
           ∙ ap (λ (f : List ℕ). c.loop-d.page.text.items ++ line_behind f (printed c.loop-d.page.nobound_front) (device_name net d) c.bound_of.result)
           bound_front
           ∙ ap (λ (f : List ℕ). c.loop-d.page.text.items ++ line_behind (front_of (codes "bound") kind name) f (device_name net d) c.bound_of.result)
@@ -46,4 +47,5 @@ loop-d-preserved c =
           ∙ ap (λ (t : List ℕ). t ++ line d) text
           ∙ flat_map_more line [] (take i xs) d
           ∙ ap (flat_map line) (sym (take_more xs i 0 c.loop-d-test.true)),
+      c.add.ensures.endings,
     )

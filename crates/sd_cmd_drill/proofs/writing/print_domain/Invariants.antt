@@ -3,6 +3,7 @@ use Rattle.std.specs.Prelude.{flat_map, codes}
 use Rattle.sd_topo.specs.Topologies.{network}
 use Rattle.sd_drill.specs.Checker.Text.{domain_words}
 use Rattle.sd_drill.specs.Printed.{bound_line}
+use Rattle.sd_cmd_drill.specs.Endings.{AreEndings}
 use Rattle.sd_cmd_drill.specs.Printing.{front_of}
 use Rattle.sd_outside.specs.Printed.{printed}
 use Rattle.sd_cmd_drill.proofs.writing.print_domain.Given as goal
@@ -12,3 +13,4 @@ invariant-loop-d l =
     (kind : List ℕ) × (name : List ℕ) × (domain_words (network l.topo) l.fn.domain ≡ kind ∷ name ∷ [])
     × (printed l.page.bound_front ≡ front_of (codes "bound") kind name) × (printed l.page.nobound_front ≡ front_of (codes "nobound") kind name)
     × (l.page.text.items ≡ flat_map (bound_line (network l.topo) l.fn.domain l.bounds) (take l.d-index l.members))
+    × AreEndings (network l.topo) l.page.endings.items

@@ -1,8 +1,8 @@
 use Rattle.std.proofs.Common.{◌≡◌, ◌∙◌, ℕ, ◌+◌, ◌-◌, ◌<◌, ◌≤◌, List, [], ◌∷◌, ◌++◌, length, take, drop, set as put, decimal, ap, sym, append_assoc, length-set, arith, rules}
 use Rattle.std.proofs.lemmas.Fmt.{length-decimal-le}
 use Rattle.std.proofs.lemmas.List.{drop-set, length-drop, take_all}
-use Rattle.std.proofs.lemmas.Result.{on_ok_weaker}
-use Rattle.sd_cmd_drill.proofs.page.append_number.Goals as goal
+use Rattle.sd_outside.specs.Printed.{printed}
+use Rattle.sd_cmd_drill.proofs.endings.push_number.Goals as goal
 
 pub write_digits-start-requires : goal.write_digits-start-requires
 write_digits-start-requires c = (omega (arith, length-decimal-le 20 c.args.number (omega arith) (omega arith) c.ranges.number.fits), search rules)
@@ -26,5 +26,5 @@ returns c =
     drop-set w.new.buf first 32 within ∙ ap (λ (n : ℕ). 32 ∷ drop n w.new.buf) next ∙ ap (λ (t : List ℕ). 32 ∷ t) w.ensures.written in
     let all : take (22 - first) (drop first spaced) ≡ drop first spaced =
     take_all (22 - first) (drop first spaced) (omega (arith, size, length-set w.new.buf first 32, length-drop first spaced)) in
-    on_ok_weaker c.append.result (λ is. is ∙ ap (λ (t : List ℕ). c.args.text.now.items ++ t) (all ∙ ending)
-    ∙ sym (append_assoc c.args.text.now.items (32 ∷ decimal c.args.number) (10 ∷ []))) c.append.ensures
+    c.push.ensures ∙ ap (λ (t : List ℕ). printed c.args.text.now ++ t) (all ∙ ending)
+    ∙ sym (append_assoc (printed c.args.text.now) (32 ∷ decimal c.args.number) (10 ∷ []))
