@@ -19,7 +19,8 @@ use std::alloc::Global;
 pub(crate) fn first_endless(marks: &[Mark]) -> Option<usize>
     ensures { MatchOption result ((k : ℕ) → k < length marks.now
         → mark_at marks.now k ≢ mark.Endless)
-        (λ i. (i < length marks.now) × (mark_at marks.now i ≡ mark.Endless) × ((k : ℕ) → k < i → mark_at marks.now k ≢ mark.Endless)) }
+        (λ i. (i < length marks.now) × (mark_at marks.now i ≡ mark.Endless)
+        × ((k : ℕ) → k < i → mark_at marks.now k ≢ mark.Endless)) }
 {
     for i in 0..marks.len() {
         if marks[i] == Mark::Endless {
@@ -84,7 +85,8 @@ fn pass(
     ensures trail { OnOk result ((begin : ℕ)
         → IsTrail hit.now graph.now marks.now begin path.old passed.old.items here
         → IfOk result (IsTrail hit.now graph.now marks.now begin path.new passed.new.items)) }
-    ensures left { OnOk result (count_by is_open passed.new.items < count_by is_open passed.old.items) }
+    ensures left { OnOk result
+        (count_by is_open passed.new.items < count_by is_open passed.old.items) }
 {
     let Some(next) = next_endless(graph, marks, here) else {
         unreachable!();

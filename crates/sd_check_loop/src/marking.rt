@@ -95,7 +95,8 @@ fn finish(graph: &[Successors], marks: &mut Vec<Mark>, stack: &mut Vec<usize>, t
     requires top { (k : ℕ) → k + 1 ≡ length stack.old.items
         → slice_index_or stack.old.items k 0 ≡ top }
     requires some { 0 < length stack.old.items }
-    requires ends { BothAre (λ j. mark_at marks.old.items j ≡ mark.Ending) (successors_at graph.now top) }
+    requires ends { BothAre (λ j. mark_at marks.old.items j ≡ mark.Ending)
+        (successors_at graph.now top) }
     ensures searched { IsSearch graph.now marks.new.items stack.new.items }
     ensures newer { NoneNewer marks.old.items marks.new.items }
     ensures left { search_left marks.new.items stack.new.items < search_left marks.old.items

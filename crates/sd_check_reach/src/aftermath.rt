@@ -13,8 +13,10 @@ pub(crate) struct Aftermath<'a> {
     pub(crate) outage: Outage<'a>,
     /// The root, or where the domain has it the backup root.
     pub(crate) acting: u32,
-    pub(crate) ghost acts: { acting ≡ acting_end (network outage.planned.topo.now) outage.planned.plan.now outage.domain },
-    pub(crate) ghost left: { holds_device (network outage.planned.topo.now) outage.domain acting ≡ false },
+    pub(crate) ghost acts: { acting ≡ acting_end (network outage.planned.topo.now)
+        outage.planned.plan.now outage.domain },
+    pub(crate) ghost left: { holds_device (network outage.planned.topo.now) outage.domain acting
+        ≡ false },
 }
 
 impl<'a> Aftermath<'a> {

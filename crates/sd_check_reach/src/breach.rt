@@ -15,9 +15,11 @@ impl Aftermath<'_> {
 
     /// The lowest device that breaks the domain condition.
     fn domain_breach(&self, alloc: Global, search: &mut Search) -> Result<Option<u32>, NoMemory>
-        requires search { IsSearchOf (net_of self.now) (plan_of self.now) (domain_of self.now) search.old }
+        requires search { IsSearchOf (net_of self.now) (plan_of self.now) (domain_of self.now)
+            search.old }
         requires room { HasRoom (net_of self.now) search.old }
-        ensures shown { IfOk result (DomainShown (net_of self.now) (plan_of self.now) (domain_of self.now)) }
+        ensures shown { IfOk result
+            (DomainShown (net_of self.now) (plan_of self.now) (domain_of self.now)) }
         ensures search { IfOk result (λ breach. breach ≡ None
             → IsSearchOf (net_of self.now) (plan_of self.now) (domain_of self.now) search.new) }
         ensures room { HasRoom (net_of self.now) search.new }
@@ -32,9 +34,11 @@ impl Aftermath<'_> {
         alloc: Global,
         search: &mut Search,
     ) -> Result<Option<DeviceList>, NoMemory>
-        requires search { IsSearchOf (net_of self.now) (plan_of self.now) (domain_of self.now) search.old }
+        requires search { IsSearchOf (net_of self.now) (plan_of self.now) (domain_of self.now)
+            search.old }
         requires room { HasRoom (net_of self.now) search.old }
-        ensures shown { IfOk result (ReachShown (net_of self.now) (plan_of self.now) (domain_of self.now)) }
+        ensures shown { IfOk result
+            (ReachShown (net_of self.now) (plan_of self.now) (domain_of self.now)) }
         ensures room { HasRoom (net_of self.now) search.new }
     {
         let unheard = self.unheard(alloc)?;
@@ -59,9 +63,11 @@ impl Search {
         alloc: Global,
         outage: &Outage<'_>,
     ) -> Result<Option<u32>, NoMemory>
-        requires search { IsSearchOf (net_of outage.now) (plan_of outage.now) outage.now.domain self.old }
+        requires search { IsSearchOf (net_of outage.now) (plan_of outage.now) outage.now.domain
+            self.old }
         requires room { HasRoom (net_of outage.now) self.old }
-        ensures shown { IfOk result (DomainShown (net_of outage.now) (plan_of outage.now) outage.now.domain) }
+        ensures shown { IfOk result
+            (DomainShown (net_of outage.now) (plan_of outage.now) outage.now.domain) }
         ensures search { IfOk result (λ breach. breach ≡ None
             → IsSearchOf (net_of outage.now) (plan_of outage.now) outage.now.domain self.new) }
         ensures room { HasRoom (net_of outage.now) self.new }
@@ -79,9 +85,11 @@ impl Search {
         alloc: Global,
         outage: &Outage<'_>,
     ) -> Result<Option<DeviceList>, NoMemory>
-        requires search { IsSearchOf (net_of outage.now) (plan_of outage.now) outage.now.domain self.old }
+        requires search { IsSearchOf (net_of outage.now) (plan_of outage.now) outage.now.domain
+            self.old }
         requires room { HasRoom (net_of outage.now) self.old }
-        ensures shown { IfOk result (ReachShown (net_of outage.now) (plan_of outage.now) outage.now.domain) }
+        ensures shown { IfOk result
+            (ReachShown (net_of outage.now) (plan_of outage.now) outage.now.domain) }
         ensures room { HasRoom (net_of outage.now) self.new }
     {
         match Aftermath::of(*outage) {

@@ -29,7 +29,8 @@ impl Aftermath<'_> {
     pub(crate) fn unheard(&self, alloc: Global) -> Result<DeviceList, NoMemory>
         ensures all { IfOk result
             (AreAll (IsUnheard (net_of self.now) (plan_of self.now) (domain_of self.now))) }
-        ensures decided { IfOk result (AreDecided (net_of self.now) (plan_of self.now) (domain_of self.now)) }
+        ensures decided { IfOk result
+            (AreDecided (net_of self.now) (plan_of self.now) (domain_of self.now)) }
     {
         let marks = self.marks(alloc)?;
         let mut unheard = DeviceList::new(alloc);

@@ -67,7 +67,8 @@ impl Aftermath<'_> {
         marks: &mut [Mark],
         start: usize,
     ) -> Result<bool, NoMemory>
-        requires marks { AreMarks (net_of self.now) (plan_of self.now) (domain_of self.now) (hit_of self.now)
+        requires marks { AreMarks (net_of self.now) (plan_of self.now) (domain_of self.now)
+            (hit_of self.now)
             (λ _. ⊥) marks.old }
         requires place { start < length (hit_of self.now) }
         requires none { trail.old.items ≡ [] }
@@ -98,7 +99,8 @@ impl Aftermath<'_> {
         marks: &mut [Mark],
         start: usize,
     ) -> Result<(), NoMemory>
-        requires marks { AreMarks (net_of self.now) (plan_of self.now) (domain_of self.now) (hit_of self.now)
+        requires marks { AreMarks (net_of self.now) (plan_of self.now) (domain_of self.now)
+            (hit_of self.now)
             (λ _. ⊥) marks.old }
         requires place { start < length (hit_of self.now) }
         ensures marks { OnOk result

@@ -32,7 +32,8 @@ impl Search {
     /// A search with room for the devices of a topology.
     pub fn new(alloc: Global, topo: &Topology) -> Result<Search, NoMemory>
         ensures room { IfOk result (HasRoom (network topo.now)) }
-        ensures fresh { IfOk result (λ search. (net : Network) (plan : PlanSeen) (domain : DomainSeen)
+        ensures fresh { IfOk result
+            (λ search. (net : Network) (plan : PlanSeen) (domain : DomainSeen)
             → IsSearchOf net plan domain search) }
     {
         let visited = NumberSet::new(alloc, topo.devices())?;
@@ -72,7 +73,8 @@ impl Aftermath<'_> {
         requires trust { IsTrue trusted
             → BackupReaches (net_of self.now) (plan_of self.now) (domain_of self.now) }
         requires device { d < length (net_of self.now).devices }
-        requires sound { IsTrue (is_sound (net_of self.now) (plan_of self.now) (domain_of self.now) d) }
+        requires sound { IsTrue
+            (is_sound (net_of self.now) (plan_of self.now) (domain_of self.now) d) }
         ensures sure { IsTrue result
             → Reaches (net_of self.now) (plan_of self.now) (domain_of self.now) d }
         ensures other { result ≡ false
@@ -142,8 +144,10 @@ impl Aftermath<'_> {
         requires trust { IsTrue trusted
             → BackupReaches (net_of self.now) (plan_of self.now) (domain_of self.now) }
         requires device { from < length (net_of self.now).devices }
-        requires sound { IsTrue (is_sound (net_of self.now) (plan_of self.now) (domain_of self.now) from) }
-        requires dry { IsDry (net_of self.now) (plan_of self.now) (domain_of self.now) visited.old.numbers }
+        requires sound { IsTrue
+            (is_sound (net_of self.now) (plan_of self.now) (domain_of self.now) from) }
+        requires dry { IsDry (net_of self.now) (plan_of self.now) (domain_of self.now)
+            visited.old.numbers }
         requires room { visited.old.bound ≡ length (net_of self.now).devices }
         requires home { IsHome (net_of self.now) (plan_of self.now) (domain_of self.now) home.old }
         requires home_room { home.old.joined.bound ≡ length (net_of self.now).devices }
@@ -183,7 +187,8 @@ impl Aftermath<'_> {
     /// Whether the backup root, if it is sound, is joined to the acting end. A search is needed only
     /// where the domain hits it.
     fn backup_reaches(&self, visited: &mut NumberSet, home: &mut Home) -> bool
-        requires dry { IsDry (net_of self.now) (plan_of self.now) (domain_of self.now) visited.old.numbers }
+        requires dry { IsDry (net_of self.now) (plan_of self.now) (domain_of self.now)
+            visited.old.numbers }
         requires room { visited.old.bound ≡ length (net_of self.now).devices }
         requires home { IsHome (net_of self.now) (plan_of self.now) (domain_of self.now) home.old }
         requires home_room { home.old.joined.bound ≡ length (net_of self.now).devices }
@@ -208,11 +213,13 @@ impl Aftermath<'_> {
 
     /// Whether what is not hit is joined to the acting end for sure.
     fn trusts_backup(&self, search: &mut Search) -> bool
-        requires search { IsSearchOf (net_of self.now) (plan_of self.now) (domain_of self.now) search.old }
+        requires search { IsSearchOf (net_of self.now) (plan_of self.now) (domain_of self.now)
+            search.old }
         requires room { HasRoom (net_of self.now) search.old }
         ensures trust { IsTrue result
             → BackupReaches (net_of self.now) (plan_of self.now) (domain_of self.now) }
-        ensures search { IsSearchOf (net_of self.now) (plan_of self.now) (domain_of self.now) search.new }
+        ensures search { IsSearchOf (net_of self.now) (plan_of self.now) (domain_of self.now)
+            search.new }
         ensures room { HasRoom (net_of self.now) search.new }
     {
         if let Some(known) = search.trusted {
@@ -229,7 +236,8 @@ impl Aftermath<'_> {
             → d < length (net_of self.now).devices }
         requires sound { (i d : ℕ) → slice_get candidates.now i ≡ Some d
             → IsTrue (is_sound (net_of self.now) (plan_of self.now) (domain_of self.now) d) }
-        requires search { IsSearchOf (net_of self.now) (plan_of self.now) (domain_of self.now) search.old }
+        requires search { IsSearchOf (net_of self.now) (plan_of self.now) (domain_of self.now)
+            search.old }
         requires room { HasRoom (net_of self.now) search.old }
         ensures first { FirstReached (net_of self.now) (plan_of self.now)
             (domain_of self.now) candidates.now result }

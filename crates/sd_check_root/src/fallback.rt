@@ -167,7 +167,8 @@ fn has_both_roots(topo: &Topology, plan: &Plan, domain: DomainId) -> bool
 fn is_hit(planned: Indexed<'_>, domain: DomainId) -> bool
     requires { IsDomain (network planned.topo.now) domain }
     ensures { result ≡ domains.hits (network planned.entry.topo.now) domain
-        (walks.path (network planned.entry.topo.now) planned.entry.plan.now planned.entry.plan.now.backup_root) }
+        (walks.path (network planned.entry.topo.now) planned.entry.plan.now
+        planned.entry.plan.now.backup_root) }
 {
     hits_device(planned, domain) || hits_link(planned, domain)
 }

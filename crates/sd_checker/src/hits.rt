@@ -24,7 +24,8 @@ fn earlier_breach(
     search: &mut Search,
     found: &Option<Breach>,
 ) -> Result<Option<Breach>, NoMemory>
-    requires search { IsSearchOf (net_of outage.now) (plan_of outage.now) outage.now.domain search.old }
+    requires search { IsSearchOf (net_of outage.now)
+        (plan_of outage.now) outage.now.domain search.old }
     requires room { HasRoom (net_of outage.now) search.old }
     requires found { ComesAfterLoops found.now }
     ensures judged { IfOk result

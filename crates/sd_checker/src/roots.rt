@@ -15,7 +15,8 @@ use sd_topo::Thing;
 pub(crate) fn first_root_breach(planned: Indexed<'_>) -> Option<(DomainId, Thing)>
     ensures { MatchOption result
         (Holds (network planned.entry.topo.now) planned.entry.plan.now condition.root)
-        (λ found. Shows (network planned.entry.topo.now) planned.entry.plan.now (breach.Root found.0 found.1)) }
+        (λ found. Shows (network planned.entry.topo.now) planned.entry.plan.now
+        (breach.Root found.0 found.1)) }
 {
     for place in 0..domain_count(planned.topo) {
         let domain = domain_at(planned.topo, place);

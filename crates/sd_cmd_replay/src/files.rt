@@ -34,16 +34,21 @@ pub(crate) fn start<S: Shelf, V: Observer>(
     observer: V,
 ) -> Result<Replay<Device, V>, SetupError>
     requires topology { IsTrue (S.serves shelf.old files.topology.now) }
-    requires plans { All (λ name. IsTrue (S.serves shelf.old name)) (map string_bytes files.plans.now) }
+    requires plans { All (λ name. IsTrue (S.serves shelf.old name))
+        (map string_bytes files.plans.now) }
     requires some { 1 ≤ length files.plans.now }
     requires few { length files.plans.now ≤ 64 }
     requires observer { V.stands observer [] }
     ensures started { IfOk result (λ replay. IfSome (S.held shelf.old) (λ held.
-        HasStarted V.Observer (texts_of held files.entry.topology.now) (map (λ name. texts_of held name) (map string_bytes files.entry.plans.now)) replay)) }
+        HasStarted V.Observer (texts_of held files.entry.topology.now)
+        (map (λ name. texts_of held name) (map string_bytes files.entry.plans.now)) replay)) }
     ensures makes { IfErr result (λ early. IfSome (S.held shelf.old) (λ held.
-        Makes (EndsBefore (texts_of held files.entry.topology.now) (map (λ name. texts_of held name) (map string_bytes files.entry.plans.now))) (made_of early))) }
+        Makes (EndsBefore (texts_of held files.entry.topology.now)
+        (map (λ name. texts_of held name) (map string_bytes files.entry.plans.now)))
+        (made_of early))) }
     ensures answered { IfErr result IsPlanRefused }
-    ensures shelf { KeepsShelf S.Shelf (result ≡ Err (SetupError.Stopped CommandError.Shelf)) shelf.old shelf.new }
+    ensures shelf { KeepsShelf S.Shelf (result ≡ Err (SetupError.Stopped CommandError.Shelf))
+        shelf.old shelf.new }
 {
     let topo = load_topology(alloc, shelf, files.topology)?;
     let plans = match load_plans(alloc, shelf, &topo, files.plans) {
@@ -62,7 +67,8 @@ pub(crate) fn end_early<O: Sink>(
     early: SetupError,
     out: &mut O,
 ) -> Result<Status, IoError>
-    ensures writes { WritesOnce (Tells (made_of early)) (O.written out.old) (O.written out.new) result }
+    ensures writes { WritesOnce (Tells (made_of early)) (O.written out.old) (O.written out.new)
+        result }
     ensures shelf { result ≡ Err IoError.Shelf ↔ early ≡ SetupError.Stopped CommandError.Shelf }
     ensures sink { RisesFor (result ≡ Err IoError.Sink) (O.faults out.old) (O.faults out.new) }
 {

@@ -33,18 +33,24 @@ pub fn replay<S: Shelf, O: Sink>(
     out: &mut O,
 ) -> Result<Status, IoError>
     requires topology { IsTrue (S.serves shelf.old files.topology.now) }
-    requires plans { All (λ name. IsTrue (S.serves shelf.old name)) (map string_bytes files.plans.now) }
+    requires plans { All (λ name. IsTrue (S.serves shelf.old name))
+        (map string_bytes files.plans.now) }
     requires schedule { IsTrue (S.serves shelf.old files.schedule.now) }
     requires some { 1 ≤ length files.plans.now }
     requires few { length files.plans.now ≤ 64 }
     ensures outcome { IfSome (S.held shelf.old) (λ held.
-        LeavesAt true (RunsIn replay_work (texts_of held files.entry.topology.now) (map (λ name. texts_of held name) (map string_bytes files.entry.plans.now)) (texts_of held files.entry.schedule.now)) (O.written out.old) (O.written out.new) result) }
+        LeavesAt true
+        (RunsIn replay_work (texts_of held files.entry.topology.now)
+        (map (λ name. texts_of held name) (map string_bytes files.entry.plans.now))
+        (texts_of held files.entry.schedule.now)) (O.written out.old) (O.written out.new) result) }
     ensures gives { IfOk result
         (λ status. IsTrue
         (is_among (Status.Done ∷ Status.PlanRefused ∷ Status.InputRefused ∷ Status.Broken ∷ [])
         status)) }
     ensures near { result ≡ Ok Status.InputRefused → IfSome (S.held shelf.old) (λ held.
-        IfSome (refused_over (topology_of (texts_of held files.entry.topology.now)) (map (λ name. texts_of held name) (map string_bytes files.entry.plans.now)) (texts_of held files.entry.schedule.now)) (λ part. IsNear (Some part) (S.rest shelf.new))) }
+        IfSome (refused_over (topology_of (texts_of held files.entry.topology.now))
+        (map (λ name. texts_of held name) (map string_bytes files.entry.plans.now))
+        (texts_of held files.entry.schedule.now)) (λ part. IsNear (Some part) (S.rest shelf.new))) }
     ensures shelf { KeepsShelf S.Shelf (result ≡ Err IoError.Shelf) shelf.old shelf.new }
     ensures sink { RisesFor (result ≡ Err IoError.Sink) (O.faults out.old) (O.faults out.new) }
 {
@@ -67,18 +73,24 @@ pub fn order<S: Shelf, O: Sink>(
     out: &mut O,
 ) -> Result<Status, IoError>
     requires topology { IsTrue (S.serves shelf.old files.topology.now) }
-    requires plans { All (λ name. IsTrue (S.serves shelf.old name)) (map string_bytes files.plans.now) }
+    requires plans { All (λ name. IsTrue (S.serves shelf.old name))
+        (map string_bytes files.plans.now) }
     requires schedule { IsTrue (S.serves shelf.old files.schedule.now) }
     requires some { 1 ≤ length files.plans.now }
     requires few { length files.plans.now ≤ 64 }
     ensures outcome { IfSome (S.held shelf.old) (λ held.
-        LeavesAt true (RunsIn order_work (texts_of held files.entry.topology.now) (map (λ name. texts_of held name) (map string_bytes files.entry.plans.now)) (texts_of held files.entry.schedule.now)) (O.written out.old) (O.written out.new) result) }
+        LeavesAt true
+        (RunsIn order_work (texts_of held files.entry.topology.now)
+        (map (λ name. texts_of held name) (map string_bytes files.entry.plans.now))
+        (texts_of held files.entry.schedule.now)) (O.written out.old) (O.written out.new) result) }
     ensures gives { IfOk result
         (λ status. IsTrue
         (is_among (Status.Done ∷ Status.PlanRefused ∷ Status.InputRefused ∷ Status.Broken ∷ [])
         status)) }
     ensures near { result ≡ Ok Status.InputRefused → IfSome (S.held shelf.old) (λ held.
-        IfSome (refused_over (topology_of (texts_of held files.entry.topology.now)) (map (λ name. texts_of held name) (map string_bytes files.entry.plans.now)) (texts_of held files.entry.schedule.now)) (λ part. IsNear (Some part) (S.rest shelf.new))) }
+        IfSome (refused_over (topology_of (texts_of held files.entry.topology.now))
+        (map (λ name. texts_of held name) (map string_bytes files.entry.plans.now))
+        (texts_of held files.entry.schedule.now)) (λ part. IsNear (Some part) (S.rest shelf.new))) }
     ensures shelf { KeepsShelf S.Shelf (result ≡ Err IoError.Shelf) shelf.old shelf.new }
     ensures sink { RisesFor (result ≡ Err IoError.Sink) (O.faults out.old) (O.faults out.new) }
 {
@@ -104,9 +116,11 @@ fn go_through<S: Shelf, O: Sink, W: LineWork>(
     ensures outcome { (w : Work W.Item) → W.does work w [] → WritesWhole w
         → IfSome (S.held shelf.old)
         (λ held. LeavesAt true
-        (InWrites (InSteps w (texts_of held schedule.now)) (IsOutcome w (texts_of held schedule.now)))
+        (InWrites (InSteps w (texts_of held schedule.now))
+        (IsOutcome w (texts_of held schedule.now)))
         (O.written out.old) (O.written out.new) result) }
-    ensures gives { IfOk result (λ status. IsTrue (is_among (Status.InputRefused ∷ W.gives) status)) }
+    ensures gives { IfOk result
+        (λ status. IsTrue (is_among (Status.InputRefused ∷ W.gives) status)) }
     ensures near { (w : Work W.Item) → W.does work w [] → result ≡ Ok Status.InputRefused
         → IfSome (S.held shelf.old)
         (λ held. IsNear (Some (refused_part w (texts_of held schedule.now)))

@@ -58,7 +58,8 @@ impl NumberSet {
     /// Adds a number, which may be there already, and whether it is new.
     pub fn insert(&mut self, number: u32) -> bool
         requires { number < self.old.bound }
-        ensures added { self.new ≡ record self.old { numbers = with_number self.old.numbers number } }
+        ensures added { self.new
+            ≡ record self.old { numbers = with_number self.old.numbers number } }
         ensures new { result ≡ not (has self.old.numbers number) }
         ensures distinct { IsDistinct nat_eq self.new.numbers }
     {

@@ -58,10 +58,11 @@ fn bound_of(
 ) -> Option<u128>
     requires times { AreTimes (net_of outage.now) (plan_of outage.now) times }
     requires growths { AreGrowths (net_of outage.now) (plan_of outage.now) growths.old }
-    requires found { AreRecoveries (net_of outage.now) (plan_of outage.now) outage.now.domain recoveries.now }
+    requires found { AreRecoveries (net_of outage.now) (plan_of outage.now) outage.now.domain
+        recoveries.now }
     requires device { d < length (net_of outage.now).devices }
-    ensures bound { IsListed (net_of outage.now) (plan_of outage.now) times.budget outage.now.domain d
-        result }
+    ensures bound { IsListed (net_of outage.now) (plan_of outage.now) times.budget
+        outage.now.domain d result }
     ensures growths { AreGrowths (net_of outage.now) (plan_of outage.now) growths.new }
 {
     let recovery = recoveries.of(outage, d);
@@ -84,7 +85,8 @@ fn all_bounds(
 ) -> Result<WorstList, NoMemory>
     requires times { AreTimes (net_of outage.now) (plan_of outage.now) times }
     requires growths { AreGrowths (net_of outage.now) (plan_of outage.now) growths.old }
-    requires found { AreRecoveries (net_of outage.now) (plan_of outage.now) outage.now.domain recoveries.now }
+    requires found { AreRecoveries (net_of outage.now) (plan_of outage.now) outage.now.domain
+        recoveries.now }
     ensures bounds { IfOk result
         (AreBounds (net_of outage.now) (plan_of outage.now) times.budget outage.now.domain) }
     ensures growths { AreGrowths (net_of outage.now) (plan_of outage.now) growths.new }

@@ -54,8 +54,10 @@ impl Growths {
         requires growths { AreGrowths (network planned.topo.now) planned.plan.now self.old }
         requires device { d < length (network planned.topo.now).devices }
         requires long { long ≤ (network planned.topo.now).params.depth + 1 }
-        ensures growth { IsGrowth (network planned.entry.topo.now) planned.entry.plan.now d long result }
-        ensures growths { AreGrowths (network planned.entry.topo.now) planned.entry.plan.now self.new }
+        ensures growth { IsGrowth (network planned.entry.topo.now) planned.entry.plan.now d long
+            result }
+        ensures growths { AreGrowths (network planned.entry.topo.now) planned.entry.plan.now
+            self.new }
     {
         match self.known[d as usize] {
             Some(known) if known.long == long => known.growth,

@@ -52,7 +52,8 @@ fn reach_over(outage: &Outage<'_>, marks: &[Mark], d: u32, first: Option<Hop>) -
 pub(crate) fn settle(outage: &Outage<'_>, marks: &[Mark], d: u32, hops: Hops) -> Recovery
     requires device { d < length (net_of outage.now).devices }
     requires marks { length marks.now ≡ length (net_of outage.now).devices }
-    requires hops { hops ≡ words.hops_at (net_of outage.now) (plan_of outage.now) outage.now.domain d }
+    requires hops { hops
+        ≡ words.hops_at (net_of outage.now) (plan_of outage.now) outage.now.domain d }
     requires right { BothAre (IsRightHop (net_of outage.now) d) hops }
     requires settled { BothAre (λ hop. IsSettled (net_of outage.now)
         (plan_of outage.now) outage.now.domain hop.parent (mark_at marks.now hop.parent)) hops }

@@ -82,7 +82,9 @@ impl Fabric {
     pub(crate) fn counter_falls(&self, event: &Event) -> bool
         requires { IfSome (device_of event.now) (λ d. d < length self.now.net.devices) }
         ensures { result ≡ (not (refusals.makes_some event.now)
-            && of_some (device_of event.now) false (λ d. of_some (counter_of event.now) false (λ c. nat_lt c (reading_at self.now.membership.world d)))) }
+            && of_some (device_of event.now) false
+            (λ d. of_some (counter_of event.now) false
+            (λ c. nat_lt c (reading_at self.now.membership.world d)))) }
     {
         if makes_some(event) {
             return false;

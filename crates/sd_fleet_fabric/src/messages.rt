@@ -49,7 +49,8 @@ impl Sent {
     /// One more, which has this number.
     fn add(&mut self, number: u64)
         requires { self.old.count < 2 ^ 32 - 1 }
-        ensures first { self.new.first ≡ (if nat_eq self.old.count 0 then number else self.old.first) }
+        ensures first { self.new.first
+            ≡ (if nat_eq self.old.count 0 then number else self.old.first) }
         ensures count { self.new.count ≡ self.old.count + 1 }
     {
         if self.count == 0 {
@@ -78,7 +79,9 @@ impl Ways<'_> {
         requires given { AreGiven book.old }
         ensures given { AreGiven book.new }
         ensures flights { book.new.flights ≡ book.old.flights
-            ++ filter (λ f. f.reaches) (flights_over (network self.now.topology.now) self.now.world.now sending.now (book.old.last + 1) ends.now) }
+            ++ filter (λ f. f.reaches)
+            (flights_over (network self.now.topology.now) self.now.world.now sending.now
+            (book.old.last + 1) ends.now) }
         ensures last { book.new.last ≡ book.old.last + length ends.now }
         ensures first { result.first
             ≡ first_number
@@ -155,7 +158,9 @@ pub(crate) fn send_by(
         sender epoch effect.now) ≤ book.old.room }
     ensures given { AreGiven book.new }
     ensures flights { book.new.flights ≡ book.old.flights
-        ++ filter (λ f. f.reaches) (sent_by (kept (network topology.now) membership.now book.old) reference sender epoch effect.now) }
+        ++ filter (λ f. f.reaches)
+        (sent_by (kept (network topology.now) membership.now book.old) reference sender epoch
+        effect.now) }
     ensures last { book.new.last ≡ book.old.last + length
         (sent_by (kept (network topology.now) membership.now book.old) reference sender epoch
         effect.now) }
@@ -198,7 +203,8 @@ pub(crate) fn send(
         reply.now) ≤ book.old.room }
     ensures given { AreGiven book.new }
     ensures flights { book.new.flights ≡ book.old.flights
-        ++ filter (λ f. f.reaches) (sent_in (kept (network topology.now) membership.now book.old) event.now reply.now) }
+        ++ filter (λ f. f.reaches)
+        (sent_in (kept (network topology.now) membership.now book.old) event.now reply.now) }
     ensures last { book.new.last ≡ book.old.last + length
         (sent_in (kept (network topology.now) membership.now book.old) event.now reply.now) }
     ensures first { result.first

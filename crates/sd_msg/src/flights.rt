@@ -38,7 +38,8 @@ fn flight_given(
     requires count { length flights.now.items ≤ last }
     requires row { IsRow last flights.now.items }
     ensures place { IfOk result (λ p. p.0 < length flights.now.items) }
-    ensures item { IfOk result (λ p. (d : Flight) → p.1.now ≡ slice_index_or flights.now.items p.0 d) }
+    ensures item { IfOk result
+        (λ p. (d : Flight) → p.1.now ≡ slice_index_or flights.now.items p.0 d) }
     ensures number { IfOk result (λ p. p.1.now.number ≡ number) }
     ensures flight { IfOk result (λ p. found last flights.now.items number ≡ Ok p.1.now) }
     ensures fault { IfErr result (λ e. found last flights.now.items number ≡ Err e) }
@@ -57,11 +58,14 @@ pub(crate) fn flight_left<'b>(
 ) -> Result<(usize, &'b Flight), TakeFault>
     requires kept { AreKept last spent.now flights.now.items }
     ensures place { IfOk result (λ p. p.0 < length flights.now.items) }
-    ensures item { IfOk result (λ p. (d : Flight) → p.1.now ≡ slice_index_or flights.now.items p.0 d) }
+    ensures item { IfOk result
+        (λ p. (d : Flight) → p.1.now ≡ slice_index_or flights.now.items p.0 d) }
     ensures number { IfOk result (λ p. p.1.now.number ≡ number) }
-    ensures flight { IfOk result (λ p. found last (filter (is_left spent.now) flights.now.items) number
+    ensures flight { IfOk result
+        (λ p. found last (filter (is_left spent.now) flights.now.items) number
         ≡ Ok p.1.now) }
-    ensures fault { IfErr result (λ e. found last (filter (is_left spent.now) flights.now.items) number
+    ensures fault { IfErr result
+        (λ e. found last (filter (is_left spent.now) flights.now.items) number
         ≡ Err e) }
 {
     let (place, flight) = flight_given(flights, last, number)?;
@@ -82,7 +86,8 @@ pub(crate) fn flight_for<'b>(
 ) -> Result<(usize, &'b Flight), TakeFault>
     requires kept { AreKept last spent.now flights.now.items }
     ensures place { IfOk result (λ p. p.0 < length flights.now.items) }
-    ensures item { IfOk result (λ p. (d : Flight) → p.1.now ≡ slice_index_or flights.now.items p.0 d) }
+    ensures item { IfOk result
+        (λ p. (d : Flight) → p.1.now ≡ slice_index_or flights.now.items p.0 d) }
     ensures number { IfOk result (λ p. p.1.now.number ≡ number) }
     ensures flight { IfOk result (λ p. for_device device
         (found last (filter (is_left spent.now) flights.now.items) number)

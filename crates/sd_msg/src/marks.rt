@@ -22,7 +22,8 @@ pub(crate) struct Marks {
     wanted: u16,
     /// At least each mark: few flights are swept, and nearly all numbers are greater.
     greatest: u64,
-    ghost bound: { (key : ℕ) → unwrap_or (slice_index_or near.items key (get nat_eq far key)) 0 ≤ greatest },
+    ghost bound: { (key : ℕ) → unwrap_or (slice_index_or near.items key (get nat_eq far key)) 0
+        ≤ greatest },
 }
 
 impl Marks {
@@ -133,7 +134,8 @@ impl Marks {
         requires { is_entered self.old key ≡ false → 1 ≤ room_of self.old }
         ensures marks { (k : ℕ)
             → marked self.new k ≡ (if nat_eq key k then Some mark else marked self.old k) }
-        ensures room { room_of self.old ≤ room_of self.new + (if is_entered self.old key then 0 else 1) }
+        ensures room { room_of self.old
+            ≤ room_of self.new + (if is_entered self.old key then 0 else 1) }
     {
         self.greatest = self.greatest.max(mark);
         let place = key as usize;

@@ -72,7 +72,8 @@ fn write_once<W: Write>(writer: &mut W, bytes: &[u8]) -> io::Result<usize>
 /// Writes all bytes, in as many calls as that takes. A call that takes none of them has failed.
 pub(crate) fn write_whole<W: Write>(writer: &mut W, bytes: &[u8]) -> io::Result<()>
     ensures all { OnOk result (Appends (W.contents writer.old) (W.contents writer.new) bytes.now) }
-    ensures front { OnErr result (WritesPrefix (W.contents writer.old) (W.contents writer.new) bytes.now) }
+    ensures front { OnErr result
+        (WritesPrefix (W.contents writer.old) (W.contents writer.new) bytes.now) }
 {
     let mut done = 0;
     while done < bytes.len() {

@@ -108,7 +108,8 @@ impl<'r, R: Files> Shelf for FileShelf<'r, R> {
         ensures cause { HasCause self.old.faults self.new.faults result }
         ensures faults { self.new.faults ≡ faults_after self.old.faults result }
         ensures begins { self.new.begins ≡ raised self.old.begins }
-        ensures last_fault { KeepsFault self.new.begins self.old.last_fault self.new.last_fault result }
+        ensures last_fault { KeepsFault self.new.begins self.old.last_fault self.new.last_fault
+            result }
     {
         self.begins = self.begins.saturating_add(1);
         match open_file(self.files, name) {
@@ -133,7 +134,8 @@ impl<'r, R: Files> Shelf for FileShelf<'r, R> {
         ensures cause { HasCause self.old.faults self.new.faults result }
         ensures faults { self.new.faults ≡ faults_after self.old.faults result }
         ensures begins { self.new.begins ≡ self.old.begins }
-        ensures last_fault { KeepsFault self.new.begins self.old.last_fault self.new.last_fault result }
+        ensures last_fault { KeepsFault self.new.begins self.old.last_fault self.new.last_fault
+            result }
     {
         let count = match &mut self.file {
             Some(file) => read_once(file, buf),

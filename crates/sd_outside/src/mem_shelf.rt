@@ -89,8 +89,10 @@ impl Shelf for MemShelf {
 
     fn begin(&mut self, name: &str) -> Result<(), Failed>
         // It fails exactly where it is listed or the name is not held.
-        ensures exactly { is_err result ≡ (is_listed self.old || is_none (text_in self.old.files name.now)) }
-        ensures text { OnOk result (RestIs (Some (text_in self.old.files)) name.now (Some self.new.rest)) }
+        ensures exactly { is_err result
+            ≡ (is_listed self.old || is_none (text_in self.old.files name.now)) }
+        ensures text { OnOk result
+            (RestIs (Some (text_in self.old.files)) name.now (Some self.new.rest)) }
         ensures begun { OnOk result (IsTrue self.new.begun) }
         ensures failed { OnErr result ((self.new.begun ≡ false) × IsAtEnd (Some self.new.rest)) }
         ensures cause { HasCause self.old.faults self.new.faults result }

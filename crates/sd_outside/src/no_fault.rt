@@ -55,7 +55,8 @@ impl Shelf for NoFaultShelf {
 
     fn begin(&mut self, name: &str) -> Result<(), Failed>
         ensures never { IsOk result }
-        ensures text { OnOk result (RestIs (Some (text_in self.old.files)) name.now (Some self.new.rest)) }
+        ensures text { OnOk result
+            (RestIs (Some (text_in self.old.files)) name.now (Some self.new.rest)) }
         ensures begun { OnOk result (IsTrue self.new.begun) }
         ensures failed { OnErr result ((self.new.begun ≡ false) × IsAtEnd (Some self.new.rest)) }
         ensures cause { HasCause 0 0 result }

@@ -15,7 +15,9 @@ pub trait Sink {
 
     /// Adds all of the bytes as one piece, or fails and has added a front of them.
     fn write(&mut self, bytes: &[u8]) -> Result<(), Failed>
-        ensures all { OnOk result (AddsPieces (written self.old) (written self.new) (piece_of bytes.now)) }
-        ensures front { OnErr result (AddsFront (written self.old) (written self.new) (piece_of bytes.now)) }
+        ensures all { OnOk result
+            (AddsPieces (written self.old) (written self.new) (piece_of bytes.now)) }
+        ensures front { OnErr result
+            (AddsFront (written self.old) (written self.new) (piece_of bytes.now)) }
         ensures cause { HasCause (faults self.old) (faults self.new) result };
 }

@@ -28,7 +28,8 @@ impl<W: Write> Model for StdSink<W> {
 
     ghost Value = { Counted };
 
-    ghost view = { λ s. record { taken = W.contents s.writer; last_fault = s.last_fault; faults = s.faults } };
+    ghost view = { λ s.
+        record { taken = W.contents s.writer; last_fault = s.last_fault; faults = s.faults } };
 }
 
 impl<W: Write> StdSink<W> {

@@ -212,10 +212,12 @@ devices_before net plan forest a inside = climb net plan forest
                 | inl same ↦
                     (ap (λ b. b && not (cut_off net plan d a)) (subst (λ x. on_walk net plan hop.parent x ≡ true) same (on_itself net plan hop.parent))
                     ∙ ap not (subst (λ x. cut_off net plan d x ≡ false) same (not_cut_at_parent net plan d hop step))
-                    ∙ sym (ap (λ b. b || has_device (things_of (rest plan (ends_walks plan hop.parent) (walk net plan hop.parent))) a) (eq-eqb hop.parent a same)))
+                    ∙ sym (ap (λ b. b || has_device (things_of (rest plan (ends_walks plan hop.parent) (walk net plan hop.parent))) a)
+                    (eq-eqb hop.parent a same)))
                 | inr apart ↦
                     (beyond d hop step (ne_eqb hop.parent a apart) above
-                    ∙ sym (ap (λ b. b || has_device (things_of (rest plan (ends_walks plan hop.parent) (walk net plan hop.parent))) a) (ne_eqb hop.parent a apart)))
+                    ∙ sym (ap (λ b. b || has_device (things_of (rest plan (ends_walks plan hop.parent) (walk net plan hop.parent))) a)
+                    (ne_eqb hop.parent a apart)))
               ])
         ]
         ∙ sym (ap (λ hs. has_device (things_of (cut (ends_walks plan) hs)) a) step.walk)

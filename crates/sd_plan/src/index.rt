@@ -158,7 +158,8 @@ impl WalkIndex {
         requires child { child < length self.now.spans }
         requires backup_root { self.now.backup_root < length self.now.spans }
         ensures { result ≡ ((nat_eq d child || not (nat_eq child self.now.backup_root))
-            && (indexed.stands_below self.now d child && not (indexed.is_cut_before self.now d child))) }
+            && (indexed.stands_below self.now d child
+            && not (indexed.is_cut_before self.now d child))) }
     {
         (d == child || child != self.backup_root) && self.comes_before_cut(d, child)
     }

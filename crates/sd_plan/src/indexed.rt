@@ -13,5 +13,6 @@ pub struct Indexed<'a> {
     pub topo: &'a Topology,
     pub plan: &'a Plan,
     pub index: &'a WalkIndex,
-    pub ghost is_index: { IsIndexOf (network topo.now) plan.now index.now } by { Prim.hlevel (props, IsRow-prop) },
+    pub ghost is_index: { IsIndexOf (network topo.now) plan.now
+        index.now } by { Prim.hlevel (props, IsRow-prop) },
 }

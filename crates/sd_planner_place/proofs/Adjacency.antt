@@ -86,7 +86,8 @@ usable_ends net absent l d y usable joined =
     let (front, second) =
     and_parts (not (has absent.links l) && takes_part net absent (link_of net l).end_a) (takes_part net absent (link_of net l).end_b) usable in
     let (present, first) = and_parts (not (has absent.links l)) (takes_part net absent (link_of net l).end_a) front in
-    elim (or_cases (nat_eq (link_of net l).end_a d && nat_eq (link_of net l).end_b y) (nat_eq (link_of net l).end_a y && nat_eq (link_of net l).end_b d) joined) [
+    elim (or_cases (nat_eq (link_of net l).end_a d && nat_eq (link_of net l).end_b y)
+    (nat_eq (link_of net l).end_a y && nat_eq (link_of net l).end_b d) joined) [
       | inl forth ↦
           (let (p, q) = and_parts (nat_eq (link_of net l).end_a d) (nat_eq (link_of net l).end_b y) forth in (
             subst (λ x. takes_part net absent x ≡ true) (eqb-true (link_of net l).end_a d p) first,

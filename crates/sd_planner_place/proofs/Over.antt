@@ -54,7 +54,8 @@ over_same : (net : Network) (flags : List Bool) (l d : ℕ) → is_flagged flags
 over_same net flags l d not_flagged =
     filtered_more (neighbour_by net flags d) l
     ∙ ap (λ more. over_before net flags l d ++ more)
-    (ap (λ p. filter_map (λ (x : ℕ). if p && is_end_of (link_of net l) d then Some (neighbour_to x (other_end (link_of net l) d)) else None) (l ∷ [])) not_flagged)
+    (ap (λ p. filter_map (λ (x : ℕ). if p && is_end_of (link_of net l) d then Some (neighbour_to x (other_end (link_of net l) d)) else None) (l ∷ []))
+    not_flagged)
 
 -- the rows after both ends of a link
 pub rows_over : (net : Network) (flags : List Bool) (l : ℕ) (link : LinkEntry) (rows some all : List (List Neighbour)) → IsNetwork net → l < length net.links

@@ -21,11 +21,12 @@ fn place_lowest(
 ) -> Result<bool, NoMemory>
     requires count { placement.old.count ≡ length (net_of present.now).devices }
     requires grown { HasGrown (net_of present.now) (left_out present.now) placement.old.order }
-    requires waiting { AreWaiting (neighbours_of (net_of present.now) (left_out present.now)) placement.old.order
-        placement.old.order waiting.old }
+    requires waiting { AreWaiting (neighbours_of (net_of present.now) (left_out present.now))
+        placement.old.order placement.old.order waiting.old }
     ensures count { OnOk result (placement.new.count ≡ placement.old.count) }
     ensures step { IfOk result (λ more.
-        IsNextStep (net_of present.now) (left_out present.now) more placement.old.order placement.new.order waiting.new) }
+        IsNextStep (net_of present.now) (left_out present.now) more
+        placement.old.order placement.new.order waiting.new) }
 {
     let Some(d) = waiting.take_lowest() else {
         return Ok(false);
@@ -44,7 +45,8 @@ pub(crate) fn place_left(
     requires count { placement.old.count ≡ length (net_of present.now).devices }
     requires grown { HasGrown (net_of present.now) (left_out present.now) placement.old.order }
     ensures { OnOk result (placement.new ≡ record {
-      order = placing.with_left (net_of present.now) (left_out present.now) (length (net_of present.now).devices) placement.old.order;
+      order = placing.with_left (net_of present.now) (left_out present.now)
+          (length (net_of present.now).devices) placement.old.order;
       count = placement.old.count;
     }) }
 {

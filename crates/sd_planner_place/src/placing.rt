@@ -48,8 +48,8 @@ fn place_backup_part(
       order = placing.with_backup_root (net_of present.now) root (left_out present.now);
       count = length (net_of present.now).devices;
     } }
-    requires differs { nat_eq (placing.backup_root_of (net_of present.now) root (left_out present.now)) root
-        ≡ false }
+    requires differs { nat_eq (placing.backup_root_of (net_of present.now) root
+        (left_out present.now)) root ≡ false }
     ensures { OnOk result (placement.new ≡ record {
       order = placing.both_parts (net_of present.now) root (left_out present.now);
       count = length (net_of present.now).devices;
@@ -96,7 +96,8 @@ pub fn place(alloc: Global, present: &Present, root: u32) -> Result<Placement, N
       order = placing.placed (net_of present.now) root (left_out present.now);
       count = length (net_of present.now).devices;
     }) }
-    ensures grows { IfOk result (λ p. Grows (net_of present.now) root (left_out present.now) p.order) }
+    ensures grows { IfOk result
+        (λ p. Grows (net_of present.now) root (left_out present.now) p.order) }
 {
     if !present.takes_part(root) {
         return Placement::new(alloc, present.topo.devices());

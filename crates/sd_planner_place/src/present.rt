@@ -48,7 +48,8 @@ pub struct Present<'a> {
     members: Vec<bool>,
     rows: Vec<NeighbourRow>,
     pub ghost is_absent: { IsAbsentOf (network topo.now) absent.now },
-    pub ghost members_are: { members.items ≡ map (takes_part (network topo.now) absent.now) (device_numbers (network topo.now)) },
+    pub ghost members_are: { members.items
+        ≡ map (takes_part (network topo.now) absent.now) (device_numbers (network topo.now)) },
     pub ghost rows_are: { rows.items ≡ all_neighbours (network topo.now) absent.now },
 }
 
@@ -92,7 +93,8 @@ impl<'a> Present<'a> {
     pub fn neighbours_of(&self, d: u32) -> &[Neighbour]
         requires { d < length (net_of self.now).devices }
         ensures are { result.now ≡ neighbours_of (net_of self.now) (left_out self.now) d }
-        ensures within { All (λ neighbour. neighbour.device < length (net_of self.now).devices) result.now }
+        ensures within { All
+            (λ neighbour. neighbour.device < length (net_of self.now).devices) result.now }
     {
         self.rows[d as usize].as_slice()
     }

@@ -53,7 +53,8 @@ pub(crate) fn root_side(
     requires { backup_root ≡ placing.backup_root_of (net_of present.now) root
         (left_out present.now) }
     ensures { IfOk result (λ flags. flags.items
-        ≡ map (placing.through_root (net_of present.now) root (left_out present.now)) (device_numbers (net_of present.now))) }
+        ≡ map (placing.through_root (net_of present.now) root (left_out present.now))
+        (device_numbers (net_of present.now))) }
 {
     let mut flags = Vec::new(alloc);
     for d in 0..present.topo.devices() {
@@ -73,7 +74,8 @@ pub(crate) fn backup_side(
 ) -> Result<Vec<bool>, NoMemory>
     requires { placement.now.count ≡ length (net_of present.now).devices }
     ensures { IfOk result (λ flags. flags.items
-        ≡ map (placing.through_backup (net_of present.now) (left_out present.now) placement.now.order) (device_numbers (net_of present.now))) }
+        ≡ map (placing.through_backup (net_of present.now) (left_out present.now)
+        placement.now.order) (device_numbers (net_of present.now))) }
 {
     let mut flags = Vec::new(alloc);
     for d in 0..present.topo.devices() {

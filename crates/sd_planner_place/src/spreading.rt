@@ -23,7 +23,8 @@ fn place_over(
     requires range { neighbour.device < placement.old.count }
     requires deep { parent.depth < 2 ^ 32 - 1 }
     ensures { OnOk result (placement.new ≡ record {
-      order = placement.old.order ++ children may_pass.now parent.device parent.depth placement.old.order (neighbour ∷ []);
+      order = placement.old.order
+          ++ children may_pass.now parent.device parent.depth placement.old.order (neighbour ∷ []);
       count = placement.old.count;
     }) }
 {
@@ -53,7 +54,8 @@ fn place_below(
     requires deep { parent.depth < 2 ^ 32 - 1 }
     ensures { OnOk result (placement.new ≡ record {
       order = placement.old.order
-          ++ children may_pass.now parent.device parent.depth placement.old.order (neighbours_of (net_of present.now) (left_out present.now) parent.device);
+          ++ children may_pass.now parent.device parent.depth placement.old.order
+          (neighbours_of (net_of present.now) (left_out present.now) parent.device);
       count = placement.old.count;
     }) }
 {
@@ -108,7 +110,8 @@ pub(crate) fn spread(
         → ((d : ℕ) → d < placement.old.count → slice_index_or may_pass.now d false ≡ through d)
         → OnOk result (placement.new ≡ record {
           order = placement.old.order
-              ++ spreading.spread (net_of present.now) (left_out present.now) source.device through source.depth;
+              ++ spreading.spread (net_of present.now) (left_out present.now)
+              source.device through source.depth;
           count = placement.old.count;
         }) }
 {

@@ -63,7 +63,8 @@ pub(crate) fn add_neighbours(
 ) -> Result<(), NoMemory>
     requires { All (λ neighbour. neighbour.device < placement.now.count) neighbours.now }
     ensures { OnOk result ((x : ℕ) → has waiting.new x
-        ≡ (has waiting.old x || (not (is_placed placement.now.order x) && lead_to neighbours.now x))) }
+        ≡ (has waiting.old x
+        || (not (is_placed placement.now.order x) && lead_to neighbours.now x))) }
 {
     for neighbour in neighbours {
         if placement.has(neighbour.device) {
@@ -85,7 +86,8 @@ pub(crate) fn all_waiting(
 ) -> Result<Waiting, NoMemory>
     requires { placement.now.count ≡ length (net_of present.now).devices }
     ensures { IfOk result (λ waiting.
-        AreWaiting (neighbours_of (net_of present.now) (left_out present.now)) placement.now.order placement.now.order waiting) }
+        AreWaiting (neighbours_of (net_of present.now) (left_out present.now))
+        placement.now.order placement.now.order waiting) }
 {
     let mut waiting = Waiting::new(alloc);
     for placed in placement.order() {

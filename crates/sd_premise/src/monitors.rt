@@ -39,19 +39,23 @@ impl Monitors {
             ≡ length (network topo.now).devices) }
         ensures tick_devices { IfOk result (λ monitors. length monitors.tick.owed
             ≡ length (network topo.now).devices) }
-        ensures domain_room { IfOk result (λ monitors. HasRoomFor (network topo.now) monitors.domain.failed) }
+        ensures domain_room { IfOk result
+            (λ monitors. HasRoomFor (network topo.now) monitors.domain.failed) }
         ensures renew_devices { IfOk result
             (λ monitors. HasDevices (length (network topo.now).devices) monitors.renew.progress) }
         ensures renew_windows { IfOk result (λ monitors. monitors.renew.progress.windows ≡ 0) }
-        ensures drift { IfOk result (λ monitors. (setting : Setting) → setting.net ≡ network topo.now
+        ensures drift { IfOk result
+            (λ monitors. (setting : Setting) → setting.net ≡ network topo.now
             → DriftStands setting monitors.drift []) }
         ensures tick { IfOk result (λ monitors. (setting : Setting) → setting.net ≡ network topo.now
             → AreMembers setting members.now → TickStands setting monitors.tick []) }
         ensures loss { IfOk result (λ monitors. (setting : Setting) → setting.net ≡ network topo.now
             → rounds.StandsFor monitors.loss setting []) }
-        ensures domain { IfOk result (λ monitors. (setting : Setting) → setting.net ≡ network topo.now
+        ensures domain { IfOk result
+            (λ monitors. (setting : Setting) → setting.net ≡ network topo.now
             → DomainStands setting monitors.domain []) }
-        ensures renew { IfOk result (λ monitors. (setting : Setting) → setting.net ≡ network topo.now
+        ensures renew { IfOk result
+            (λ monitors. (setting : Setting) → setting.net ≡ network topo.now
             → RenewalStands setting monitors.renew []) }
     {
         let drift = DriftMonitor::new(alloc, topo)?;

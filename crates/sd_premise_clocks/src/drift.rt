@@ -62,8 +62,10 @@ fn begins_life(event: &Event) -> bool
 impl DriftMonitor {
     /// A monitor that has seen nothing of the devices of a topology.
     pub fn new(alloc: Global, topo: &Topology) -> Result<DriftMonitor, NoMemory>
-        ensures devices { IfOk result (λ monitor. length monitor.lives ≡ length (network topo.now).devices) }
-        ensures stands { IfOk result (λ monitor. (setting : Setting) → setting.net ≡ network topo.now
+        ensures devices { IfOk result
+            (λ monitor. length monitor.lives ≡ length (network topo.now).devices) }
+        ensures stands { IfOk result
+            (λ monitor. (setting : Setting) → setting.net ≡ network topo.now
             → DriftStands setting monitor []) }
     {
         match vec![in alloc; Offsets::of_none(); topo.devices() as usize] {
@@ -75,7 +77,8 @@ impl DriftMonitor {
     /// Sees one event more, and tells whether the premise holds still.
     pub fn observe(&mut self, topo: &Topology, seen: &Seen<'_>) -> bool
         requires topology { length self.old.lives ≡ length (network topo.now).devices }
-        requires device { ForSome (device_of seen.now.event) (λ d. d < length (network topo.now).devices) }
+        requires device { ForSome (device_of seen.now.event)
+            (λ d. d < length (network topo.now).devices) }
         ensures stands { (setting : Setting) (earlier : List Sight) → setting.net ≡ network topo.now
             → DriftStands setting self.old earlier
             → IsTrue (may_be_seen setting earlier seen.now.event)

@@ -75,7 +75,8 @@ fn is_live(marks: &[Mark], entry: Entry) -> bool
 fn has_live_below(entries: &mut VecDeque<Entry>, marks: &[Mark], bound: u64) -> bool
     requires { IsTrue (ascend entries.old.items) }
     ensures order { IsTrue (ascend entries.new.items) }
-    ensures below { IsTrue result → list_all (nat_le bound) (map (λ m. m.number) marks.now) ≡ false }
+    ensures below { IsTrue result → list_all (nat_le bound) (map (λ m. m.number) marks.now)
+        ≡ false }
     ensures reached { result ≡ false → IsTrue (reach bound entries.new.items) }
     ensures kept { (k : ℕ) → k < length marks.now
         → IsTrue (is_queued_at marks.now k entries.old.items)

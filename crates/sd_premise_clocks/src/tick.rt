@@ -114,8 +114,10 @@ impl TickMonitor {
         topo: &Topology,
         members: &PresentRows,
     ) -> Result<TickMonitor, NoMemory>
-        ensures devices { IfOk result (λ monitor. length monitor.owed ≡ length (network topo.now).devices) }
-        ensures stands { IfOk result (λ monitor. (setting : Setting) → setting.net ≡ network topo.now
+        ensures devices { IfOk result
+            (λ monitor. length monitor.owed ≡ length (network topo.now).devices) }
+        ensures stands { IfOk result
+            (λ monitor. (setting : Setting) → setting.net ≡ network topo.now
             → AreMembers setting members.now → TickStands setting monitor []) }
     {
         let devices = topo.devices();

@@ -125,7 +125,8 @@ impl Rounds {
         ensures lost { IsTrue result
             → AddsLost (waiting_at self.old.waiting) (mark_of self.old.interruptions) reference
             (has_round self.old.runs) (has_round self.new.runs) }
-        ensures only { HasOnlyLost (waiting_at self.old.waiting) (mark_of self.old.interruptions) reference
+        ensures only { HasOnlyLost (waiting_at self.old.waiting) (mark_of self.old.interruptions)
+            reference
             (has_round self.old.runs) (has_round self.new.runs) }
         ensures short { IsTrue result → ¬ HasLongRun self.old.limit (has_round self.old.runs)
             → ¬ HasLongRun self.old.limit (has_round self.new.runs) }

@@ -42,7 +42,8 @@ impl DomainMonitor {
     /// A monitor that has seen nothing of the things of a topology.
     pub fn new(alloc: Global, topo: &Topology) -> Result<DomainMonitor, NoMemory>
         ensures room { IfOk result (λ monitor. HasRoomFor (network topo.now) monitor.failed) }
-        ensures stands { IfOk result (λ monitor. (setting : Setting) → setting.net ≡ network topo.now
+        ensures stands { IfOk result
+            (λ monitor. (setting : Setting) → setting.net ≡ network topo.now
             → DomainStands setting monitor []) }
     {
         let failed = Failure::new(alloc, topo)?;

@@ -44,7 +44,8 @@ impl RenewalMonitor {
         ensures devices { IfOk result
             (λ monitor. HasDevices (length (network topo.now).devices) monitor.progress) }
         ensures few { IfOk result (λ monitor. monitor.progress.windows ≡ 0) }
-        ensures stands { IfOk result (λ monitor. (setting : Setting) → setting.net ≡ network topo.now
+        ensures stands { IfOk result
+            (λ monitor. (setting : Setting) → setting.net ≡ network topo.now
             → RenewalStands setting monitor []) }
     {
         let progress = Progress::new(alloc, topo.devices())?;
@@ -59,7 +60,8 @@ impl RenewalMonitor {
         requires devices { HasDevices (length (network before.topo.now).devices) self.old.progress }
         requires device { IfSome (device_of seen.now.event)
             (λ d. d < length (network before.topo.now).devices) }
-        requires activated { IfSome seen.now.activated (λ d. d < length (network before.topo.now).devices) }
+        requires activated { IfSome seen.now.activated
+            (λ d. d < length (network before.topo.now).devices) }
         requires few { self.old.progress.windows < 2 ^ 63 }
         ensures stands { (setting : Setting) (earlier : List Sight)
             → IsMomentOf before.entry setting earlier
@@ -71,7 +73,8 @@ impl RenewalMonitor {
             → IsTrue (may_be_seen setting earlier seen.now.event)
             → RenewalStands setting self.old earlier
             → result ≡ renew_holds setting (sight_of seen.now ∷ earlier) }
-        ensures devices { HasDevices (length (network before.entry.topo.now).devices) self.new.progress }
+        ensures devices { HasDevices (length (network before.entry.topo.now).devices)
+            self.new.progress }
         ensures few { self.new.progress.windows ≤ self.old.progress.windows + 1 }
     {
         let judge = Judge {

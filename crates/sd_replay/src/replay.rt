@@ -107,8 +107,10 @@ impl<N: Node, V: Observer> Replay<N, V> {
     /// The event of a line happens, if there is one and it is accepted. A fault changes nothing.
     /// `Memory` is answered for a `tick`, a `recv` or an `ask` alone.
     pub fn step(&mut self, alloc: Global, line: &[u8]) -> Result<(), ReplayFault>
-        ensures line { IfErr (event_of_line line.now) (λ fault. result ≡ Err (ReplayFault.Line fault)) }
-        ensures refusal { IfOk (event_of_line line.now) (λ e. (setting : Setting) (run : List (NodeStep N))
+        ensures line { IfErr (event_of_line line.now)
+            (λ fault. result ≡ Err (ReplayFault.Line fault)) }
+        ensures refusal { IfOk (event_of_line line.now)
+            (λ e. (setting : Setting) (run : List (NodeStep N))
             → StandsFor N.Node V.Observer self.old setting run
             → IfSome (refusal setting (steps_of run) e)
             (λ fault. result ≡ Err (ReplayFault.Apply fault))) }

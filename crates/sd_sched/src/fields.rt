@@ -33,7 +33,8 @@ pub fn read_fields(shape: &[Field], behind: &[u8]) -> Result<[u64; MOST_FIELDS],
     requires { length shape.now ≤ MOST_FIELDS }
     ensures numbers { IfOk result (λ ns. numbers_from 1 shape.now (fields_behind behind.now)
         ≡ Ok (take (length shape.now) ns)) }
-    ensures fault { IfErr result (λ f. numbers_from 1 shape.now (fields_behind behind.now) ≡ Err f) }
+    ensures fault { IfErr result
+        (λ f. numbers_from 1 shape.now (fields_behind behind.now) ≡ Err f) }
     ensures within { IfOk result (λ ns. WithinFrom 0 shape.now ns) }
 {
     let mut numbers = [0; MOST_FIELDS];

@@ -32,7 +32,8 @@ pub fn number_at(bytes: &[u8], from: usize, most: u64) -> Option<Placed>
 /// Reads the number behind the space at a place.
 #[inline(always)]
 pub fn number_behind(bytes: &[u8], place: usize, most: u64) -> Option<Placed>
-    ensures { IfSome result (λ placed. HasNumberBehind most bytes.now place placed.end placed.number) }
+    ensures { IfSome result
+        (λ placed. HasNumberBehind most bytes.now place placed.end placed.number) }
 {
     if has_at(bytes, place, b' ') {
         number_at(bytes, place + 1, most)

@@ -40,7 +40,8 @@ fn read_at<S: Shelf>(shelf: &mut S, bytes: &mut Vec<u8>, end: usize) -> Result<u
     ensures len { vec_len bytes.new ≡ vec_len bytes.old }
     ensures bound { IfOk result (λ n. end + n ≤ vec_len bytes.old) }
     ensures bytes { IfOk result (λ n.
-        Consumes (S.rest shelf.old) (S.rest shelf.new) (slice_range bytes.new.items end (end + n))) }
+        Consumes (S.rest shelf.old) (S.rest shelf.new)
+        (slice_range bytes.new.items end (end + n))) }
     ensures end { IfOk result (λ n. n ≡ 0 → IsAtEnd (S.rest shelf.new)) }
     ensures err { OnErr result (Keeps (S.rest shelf.old) (S.rest shelf.new)) }
     ensures begun { IsTrue (S.begun shelf.new) }
@@ -122,7 +123,8 @@ impl Buffer {
         ensures left { Keeps (prepend_known (buffered self.old) (S.rest shelf.old))
             (prepend_known (buffered self.new) (S.rest shelf.new)) }
         ensures front { take (length (buffered self.old)) (buffered self.new) ≡ buffered self.old }
-        ensures grown { IfOk result (λ n. length (buffered self.new) ≡ length (buffered self.old) + n) }
+        ensures grown { IfOk result
+            (λ n. length (buffered self.new) ≡ length (buffered self.old) + n) }
         ensures end { IfOk result (λ n. n ≡ 0 → IsAtEnd (S.rest shelf.new)) }
         ensures err { OnErr result (buffered self.new ≡ buffered self.old) }
         ensures begun { IsTrue (S.begun shelf.new) }

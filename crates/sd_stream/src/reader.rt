@@ -98,10 +98,13 @@ impl<'s, S: Shelf> LineReader<'s, S> {
             (λ place. IfSome place (λ p. (p.0 ≤ p.1) × (p.1 ≤ p.0 + 4096) × (p.1 ≤ 8192))) }
         ensures repeats { IfErr (buffered_answer self.old) (λ f. result ≡ Err f) }
         ensures past { OnOk result (IfSome (text_left S.Shelf self.old)
-            (GoesPast (bytes_before self.old) (bytes_before self.new) (text_left S.Shelf self.new))) }
-        ensures moves { IfOk result (λ place. OnSome place (bytes_before self.old < bytes_before self.new)) }
+            (GoesPast (bytes_before self.old) (bytes_before self.new)
+            (text_left S.Shelf self.new))) }
+        ensures moves { IfOk result
+            (λ place. OnSome place (bytes_before self.old < bytes_before self.new)) }
         ensures kept { OnErr result (StaysAt S.Shelf self.old self.new) }
-        ensures settled { IfErr result (λ f. f ≢ StreamFault.ReadFault → buffered_answer self.new ≡ Err f) }
+        ensures settled { IfErr result
+            (λ f. f ≢ StreamFault.ReadFault → buffered_answer self.new ≡ Err f) }
         ensures near { IsNear (text_left S.Shelf self.old) (S.rest self.new.shelf.now) }
         ensures same_shelf { self.new.shelf.ghost_name ≡ self.old.shelf.ghost_name }
         ensures shelf { KeepsShelf S.Shelf (IsErrOf result StreamFault.ReadFault)
@@ -157,7 +160,8 @@ impl<'s, S: Shelf> LineReader<'s, S> {
         ensures answer { IfSome (text_left S.Shelf self.old) (λ text.
             answer_of (bytes_before self.old) text ≡ Ok (Some (take len (window_of self.old)))) }
         ensures past { IfSome (text_left S.Shelf self.old)
-            (GoesPast (bytes_before self.old) (bytes_before self.new) (text_left S.Shelf self.new)) }
+            (GoesPast (bytes_before self.old) (bytes_before self.new)
+            (text_left S.Shelf self.new)) }
         ensures moves { bytes_before self.old < bytes_before self.new }
         ensures within { bytes_before self.new ≤ 2 ^ 32 }
         ensures near { IsNear (text_left S.Shelf self.old) (S.rest (shelf_of self.new).now) }

@@ -23,7 +23,8 @@ pub fn read_whole<S: Shelf>(alloc: Global, shelf: &mut S) -> Result<Vec<u8>, Who
     // Each fault. After it the shelf has given a prefix of what was left.
     ensures too_long { IsErrOf result WholeFault.TooLong
         → IfSome (S.rest shelf.old) (λ bytes. 2 ^ 26 < length bytes) }
-    ensures given { OnErr result ((front : List ℕ) × Consumes (S.rest shelf.old) (S.rest shelf.new) front) }
+    ensures given { OnErr result
+        ((front : List ℕ) × Consumes (S.rest shelf.old) (S.rest shelf.new) front) }
 
     ensures begun { IsTrue (S.begun shelf.new) }
     ensures shelf { KeepsShelf S.Shelf (result ≡ Err WholeFault.ReadFault) shelf.old shelf.new }

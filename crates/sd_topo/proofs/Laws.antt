@@ -62,7 +62,8 @@ domain_law net f law within =
 -- a device that a link joins to another is an end of it
 pub joined_end : (net : Network) (l d e : ℕ) → joins net l d e ≡ true → is_end_of (link_of net l) d ≡ true
 joined_end net l d e joined =
-    elim (or_cases (nat_eq (link_of net l).end_a d && nat_eq (link_of net l).end_b e) (nat_eq (link_of net l).end_a e && nat_eq (link_of net l).end_b d) joined) [
+    elim (or_cases (nat_eq (link_of net l).end_a d && nat_eq (link_of net l).end_b e)
+    (nat_eq (link_of net l).end_a e && nat_eq (link_of net l).end_b d) joined) [
       | inl forth ↦ or_left (nat_eq d (link_of net l).end_a) (nat_eq d (link_of net l).end_b)
           (flip (link_of net l).end_a d (and_parts (nat_eq (link_of net l).end_a d) (nat_eq (link_of net l).end_b e) forth).0)
       | inr back ↦ or_right (nat_eq d (link_of net l).end_a) (nat_eq d (link_of net l).end_b)

@@ -54,7 +54,8 @@ pub(crate) fn end_below(
     requires none { ended.old.items ≡ [] }
     requires room { vec_len waiting.old ≤ vec_capacity ended.old }
     ensures ended { ended.new.items ≡ filter (ends_below device low) waiting.old.items }
-    ensures left { waiting.new.items ≡ filter (λ t. not (ends_below device low t)) waiting.old.items }
+    ensures left { waiting.new.items ≡ filter (λ t. not (ends_below device low t))
+        waiting.old.items }
     ensures len { vec_len waiting.new ≤ vec_len waiting.old }
     ensures waiting_room { vec_capacity waiting.new ≡ vec_capacity waiting.old }
     ensures ended_room { vec_capacity ended.old ≤ vec_capacity ended.new }

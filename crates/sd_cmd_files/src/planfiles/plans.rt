@@ -38,9 +38,11 @@ pub fn load_plans<S: Shelf>(
     ensures fit { IfOk result (λ plans. Each (Fits (network topo.now)) plans.items) }
     ensures accepted { IfOk result (λ plans. Each (IsAccepted (network topo.now)) plans.items) }
     ensures makes { IfErr result (λ early. IfSome (S.held shelf.old) (λ held.
-        Makes (AfterAllPlans (network topo.now) (map (λ name. texts_of held name) (map string_bytes names.now)) Nothing) (made_of early))) }
+        Makes (AfterAllPlans (network topo.now)
+        (map (λ name. texts_of held name) (map string_bytes names.now)) Nothing) (made_of early))) }
     ensures answered { IfErr result IsPlanRefused }
-    ensures shelf { KeepsShelf S.Shelf (result ≡ Err (SetupError.Stopped CommandError.Shelf)) shelf.old shelf.new }
+    ensures shelf { KeepsShelf S.Shelf (result ≡ Err (SetupError.Stopped CommandError.Shelf))
+        shelf.old shelf.new }
 {
     let mut plans = Vec::new(alloc);
     let mut place = 0;
@@ -74,7 +76,8 @@ fn load_accepted<S: Shelf>(
         (λ held. Makes (AfterPlan (network topo.now) place (texts_of held name.now) Nothing)
         (made_of early))) }
     ensures answered { IfErr result IsPlanRefused }
-    ensures shelf { KeepsShelf S.Shelf (result ≡ Err (SetupError.Stopped CommandError.Shelf)) shelf.old shelf.new }
+    ensures shelf { KeepsShelf S.Shelf (result ≡ Err (SetupError.Stopped CommandError.Shelf))
+        shelf.old shelf.new }
 {
     let plan = load_plan(alloc, shelf, name, topo, place)?;
     judge(alloc, topo, &plan, place)?;

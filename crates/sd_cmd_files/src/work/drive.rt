@@ -34,7 +34,8 @@ pub fn work_through<S: Shelf, O: Sink, W: LineWork>(
         → IfSome (S.rest shelf.old)
         (λ text. LeavesAt true (InWrites (InSteps w text) (IsOutcome w text)) (O.written out.old)
         (O.written out.new) result) }
-    ensures gives { IfOk result (λ status. IsTrue (is_among (Status.InputRefused ∷ W.gives) status)) }
+    ensures gives { IfOk result
+        (λ status. IsTrue (is_among (Status.InputRefused ∷ W.gives) status)) }
     ensures near { (w : Work W.Item) → W.does work w [] → result ≡ Ok Status.InputRefused
         → IfSome (S.rest shelf.old)
         (λ text. IsNear (Some (refused_part w text)) (S.rest shelf.new)) }
@@ -71,11 +72,13 @@ fn take_line<S: Shelf, O: Sink, W: LineWork>(
     out: &mut O,
 ) -> Result<Option<Status>, IoError>
     requires more { progress.old.taken ≤ 2 ^ 32 }
-    ensures makes { IfSome (text_left S.Shelf reader.old) (λ text. (w : Work W.Item) (xs : List W.Item)
+    ensures makes { IfSome (text_left S.Shelf reader.old)
+        (λ text. (w : Work W.Item) (xs : List W.Item)
         → Holds W.LineWork progress.old w xs
         → Makes (step_of w (bytes_before reader.old + length text) (bytes_before reader.old) xs
         (lines text)) xs (Holds W.LineWork progress.new w) result) }
-    ensures writes { IfSome (text_left S.Shelf reader.old) (λ text. (w : Work W.Item) (xs : List W.Item)
+    ensures writes { IfSome (text_left S.Shelf reader.old)
+        (λ text. (w : Work W.Item) (xs : List W.Item)
         → Holds W.LineWork progress.old w xs
         → Adds (step_pieces w xs
         (step_of w (bytes_before reader.old + length text) (bytes_before reader.old) xs

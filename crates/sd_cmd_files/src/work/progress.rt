@@ -96,7 +96,8 @@ impl<W: LineWork> Progress<W> {
     /// Writes what is due for a line that was accepted, by one write, if it is anything.
     fn write_accepted<O: Sink>(&mut self, out: &mut O) -> Result<(), IoError>
         requires more { self.old.taken < 2 ^ 63 }
-        ensures writes { Adds (piece_of (W.printing self.old.work)) (O.written out.old) (O.written out.new)
+        ensures writes { Adds (piece_of (W.printing self.old.work)) (O.written out.old)
+            (O.written out.new)
             result }
         ensures same { self.new.work ≡ self.old.work }
         ensures counts { self.new.taken ≡ self.old.taken + 1 }
@@ -159,7 +160,8 @@ impl<W: LineWork> Progress<W> {
             (O.written out.new) result }
         ensures makes { (w : Work W.Item) (xs : List W.Item) → Holds W.LineWork self.old w xs
             → IfOk result (λ status. (pieces : Pieces) × (end_step w xs ≡ Last pieces status)) }
-        ensures gives { IfOk result (λ status. IsTrue (is_among (Status.InputRefused ∷ W.gives) status)) }
+        ensures gives { IfOk result
+            (λ status. IsTrue (is_among (Status.InputRefused ∷ W.gives) status)) }
         ensures sink { RisesFor (result ≡ Err IoError.Sink) (O.faults out.old) (O.faults out.new) }
         ensures never_shelf { result ≢ Err IoError.Shelf }
     {

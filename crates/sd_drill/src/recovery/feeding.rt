@@ -63,7 +63,8 @@ fn is_fed_over(outage: &Outage<'_>, marks: &[Mark], next: Option<Hop>) -> bool
 pub(crate) fn is_fed(outage: &Outage<'_>, marks: &[Mark], d: u32, hops: Hops) -> bool
     requires device { d < length (net_of outage.now).devices }
     requires marks { length marks.now ≡ length (net_of outage.now).devices }
-    requires hops { hops ≡ words.hops_at (net_of outage.now) (plan_of outage.now) outage.now.domain d }
+    requires hops { hops
+        ≡ words.hops_at (net_of outage.now) (plan_of outage.now) outage.now.domain d }
     requires right { BothAre (IsRightHop (net_of outage.now) d) hops }
     requires settled { BothAre (λ hop. IsSettled (net_of outage.now)
         (plan_of outage.now) outage.now.domain hop.parent (mark_at marks.now hop.parent)) hops }

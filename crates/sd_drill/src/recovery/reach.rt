@@ -21,7 +21,8 @@ pub struct Reach {
 /// has more hops than the depth and one.
 pub(crate) fn over(outage: &Outage<'_>, d: u32, hop: Hop, behind: Option<Reach>) -> Option<Reach>
     requires right { IsRightHop (net_of outage.now) d hop }
-    requires behind { ReachesFrom (net_of outage.now) (plan_of outage.now) outage.now.domain hop.parent behind }
+    requires behind { ReachesFrom (net_of outage.now) (plan_of outage.now) outage.now.domain
+        hop.parent behind }
     ensures { ReachesOf (net_of outage.now)
         (BeginsWith (net_of outage.now) (plan_of outage.now) outage.now.domain (Some hop)) d
         result }

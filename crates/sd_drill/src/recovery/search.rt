@@ -92,7 +92,8 @@ impl Recoveries {
         requires top { (k : ℕ) → k + 1 ≡ length self.old.stack.items
             → stacked_at self.old.stack.items k ≡ top }
         requires some { 0 < length self.old.stack.items }
-        requires recovery { IsRecovery (net_of outage.now) (plan_of outage.now) outage.now.domain top recovery }
+        requires recovery { IsRecovery (net_of outage.now) (plan_of outage.now) outage.now.domain
+            top recovery }
         ensures searched { IsSearch (net_of outage.now) (plan_of outage.now) outage.now.domain
             self.new.marks.items self.new.stack.items }
         ensures newer { NoneNewer self.old.marks.items self.new.marks.items }
@@ -183,7 +184,8 @@ impl Recoveries {
 
     /// How a device recovers from the domain that was asked about last.
     pub fn of(&self, outage: &Outage<'_>, d: u32) -> Recovery
-        requires found { AreRecoveries (net_of outage.now) (plan_of outage.now) outage.now.domain self.now }
+        requires found { AreRecoveries (net_of outage.now) (plan_of outage.now) outage.now.domain
+            self.now }
         requires device { d < length (net_of outage.now).devices }
         ensures { IsRecovery (net_of outage.now) (plan_of outage.now) outage.now.domain d result }
     {

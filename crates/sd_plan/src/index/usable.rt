@@ -75,7 +75,8 @@ pub(super) fn usable_ends(
     requires fits { Fits (network topo.now) plan.now }
     requires structured { structure_breach (network topo.now) plan.now ≡ None }
     ensures { IfOk result (λ rows. rows.items
-        ≡ map (indexed.usable_ends (network topo.now) plan.now) (device_numbers (network topo.now))) }
+        ≡ map (indexed.usable_ends (network topo.now) plan.now)
+        (device_numbers (network topo.now))) }
 {
     let links = present(alloc, topo.links(), plan.absent.links.as_slice())?;
     let mut rows = no_ends(alloc, topo.devices())?;

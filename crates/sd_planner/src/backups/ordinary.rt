@@ -47,9 +47,12 @@ impl Survey<'_> {
         requires parent { placed_at (order_of self.now) parent.device ≡ Some parent }
         requires own { placed_at (order_of self.now) own.device ≡ Some own }
         ensures { result ≡ (serving.differ
-            (serving.is_behind_backup_root (net_in self.now) self.now.root (absent_in self.now) parent.device)
-            (serving.is_behind_backup_root (net_in self.now) self.now.root (absent_in self.now) own.device)
-            || serving.comes_before (net_in self.now) self.now.root (absent_in self.now) parent.device own.device) }
+            (serving.is_behind_backup_root
+            (net_in self.now) self.now.root (absent_in self.now) parent.device)
+            (serving.is_behind_backup_root
+            (net_in self.now) self.now.root (absent_in self.now) own.device)
+            || serving.comes_before
+            (net_in self.now) self.now.root (absent_in self.now) parent.device own.device) }
     {
         self.is_behind(parent) != self.is_behind(own) || self.comes_before(parent, own)
     }

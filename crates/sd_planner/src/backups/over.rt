@@ -12,7 +12,8 @@ use std::alloc::Global;
 /// Whether the device or its hop is flagged, or its parent leads over something that is.
 fn is_over(placed: Placed, devices: &[bool], links: &[bool], over: &[bool]) -> bool
     ensures { result ≡ (words.is_set devices.now placed.device
-        || of_some placed.hop false (λ hop. words.is_set links.now hop.link || words.is_set over.now hop.parent)) }
+        || of_some placed.hop false
+        (λ hop. words.is_set links.now hop.link || words.is_set over.now hop.parent)) }
 {
     is_set(devices, placed.device)
         || match placed.hop {

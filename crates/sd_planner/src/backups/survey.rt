@@ -53,10 +53,14 @@ pub(crate) struct Survey<'a> {
       order = placing.placed (net_of present.now) root (left_out present.now);
       count = length (net_of present.now).devices;
     } },
-    pub ghost backup_root_is: { backup_root ≡ placing.backup_root_of (net_of present.now) root (left_out present.now) },
-    pub ghost behind_are: { (d : ℕ) (p : Placed) → placed_at (placing.placed (net_of present.now) root (left_out present.now)) d ≡ Some p
-        → words.is_set behind.items d ≡ serving.on_walk_up (net_of present.now) root (left_out present.now) d backup_root },
-    pub ghost domains_are: { AreListed (net_of present.now) (length (net_of present.now).domains) domains },
+    pub ghost backup_root_is: { backup_root
+        ≡ placing.backup_root_of (net_of present.now) root (left_out present.now) },
+    pub ghost behind_are: { (d : ℕ) (p : Placed)
+        → placed_at (placing.placed (net_of present.now) root (left_out present.now)) d ≡ Some p
+        → words.is_set behind.items d
+        ≡ serving.on_walk_up (net_of present.now) root (left_out present.now) d backup_root },
+    pub ghost domains_are: { AreListed (net_of present.now)
+        (length (net_of present.now).domains) domains },
 }
 
 impl<'a> Survey<'a> {

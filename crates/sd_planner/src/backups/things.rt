@@ -78,7 +78,8 @@ impl Things {
         requires { AreSized (network topo.now) self.old }
         ensures { AddsAll
             (words.met_device (network topo.now) others.now (length (network topo.now).domains))
-            (words.met_link (network topo.now) others.now (length (network topo.now).domains)) self.old self.new }
+            (words.met_link (network topo.now) others.now
+            (length (network topo.now).domains)) self.old self.new }
     {
         for domain in 0..topo.domains() {
             if others.meets(topo, domain) {

@@ -44,7 +44,8 @@ impl Interruptions {
     /// The thing fails, if there is one.
     pub fn fail(&mut self, failed: Option<Thing>)
         ensures marks { (x : AnyThing) → mark_of self.new x
-            ≡ (if of_some failed false (λ f. same_thing x f && has_place self.old f) then last_number self.old else mark_of self.old x) }
+            ≡ (if of_some failed false (λ f. same_thing x f && has_place self.old f)
+            then last_number self.old else mark_of self.old x) }
         ensures last { last_number self.new ≡ last_number self.old }
         ensures places { HasSamePlaces self.old self.new }
     {

@@ -118,14 +118,16 @@ impl Orderly {
 
     /// Takes out a flight whose due lies before the reference, as long as there is one.
     pub fn next_overdue(&mut self, reference: u64) -> Option<Flight>
-        ensures flight { IfSome result (λ f. (orderly_at self.old f.number ≡ Some f) × (f.due < reference)) }
+        ensures flight { IfSome result
+            (λ f. (orderly_at self.old f.number ≡ Some f) × (f.due < reference)) }
         ensures flights { (n : ℕ)
             → orderly_at self.new n
             ≡ (if of_some result false (λ f. nat_eq f.number n) then None else orderly_at self.old
             n) }
         ensures none { IfNone result ((n : ℕ) (f : Flight) → orderly_at self.new n ≡ Some f
             → reference ≤ f.due) }
-        ensures count { orderly_count self.new + (if is_some result then 1 else 0) ≤ orderly_count self.old }
+        ensures count { orderly_count self.new + (if is_some result then 1 else 0)
+            ≤ orderly_count self.old }
         ensures room { orderly_room self.old ≤ orderly_room self.new }
     {
         drop_received(&mut self.entries);

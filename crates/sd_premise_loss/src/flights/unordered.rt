@@ -100,7 +100,8 @@ impl Unordered {
 
     /// Takes out a flight whose due lies before the reference, as long as there is one.
     pub fn next_overdue(&mut self, reference: u64) -> Option<Flight>
-        ensures flight { IfSome result (λ f. (unordered_at self.old f.number ≡ Some f) × (f.due < reference)) }
+        ensures flight { IfSome result
+            (λ f. (unordered_at self.old f.number ≡ Some f) × (f.due < reference)) }
         ensures flights { (n : ℕ)
             → unordered_at self.new n
             ≡ (if of_some result false (λ f. nat_eq f.number n) then None else unordered_at self.old
@@ -184,11 +185,13 @@ fn pop_before(dues: &mut BinaryHeap<Reverse<(u64, u64)>>, reference: u64) -> Opt
 
 /// Takes out the flight of a number, if its due lies before the reference.
 fn take_overdue(flights: &mut HashMap<u64, Flight>, number: u64, reference: u64) -> Option<Flight>
-    ensures flight { IfSome result (λ f. (flight_in flights.old number ≡ Some f) × (f.due < reference)) }
+    ensures flight { IfSome result
+        (λ f. (flight_in flights.old number ≡ Some f) × (f.due < reference)) }
     ensures flights { (n : ℕ)
         → flight_in flights.new n
         ≡ (if is_some result && nat_eq number n then None else flight_in flights.old n) }
-    ensures none { IfNone result ((f : Flight) → flight_in flights.old number ≡ Some f → reference ≤ f.due) }
+    ensures none { IfNone result
+        ((f : Flight) → flight_in flights.old number ≡ Some f → reference ≤ f.due) }
     ensures count { hash_map_len flights.new + (if is_some result then 1 else 0)
         ≡ hash_map_len flights.old }
     ensures room { spare flights.old ≤ spare flights.new }

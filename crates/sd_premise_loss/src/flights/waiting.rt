@@ -97,7 +97,8 @@ impl Waiting {
 
     /// Takes out a flight whose due lies before the reference, as long as there is one.
     pub fn next_overdue(&mut self, reference: u64) -> Option<Flight>
-        ensures flight { IfSome result (λ f. (waiting_at self.old f.number ≡ Some f) × (f.due < reference)) }
+        ensures flight { IfSome result
+            (λ f. (waiting_at self.old f.number ≡ Some f) × (f.due < reference)) }
         ensures flights { (n : ℕ)
             → waiting_at self.new n
             ≡ (if of_some result false (λ f. nat_eq f.number n) then None else waiting_at self.old

@@ -142,7 +142,8 @@ fn print_interval(out: &mut EventLines, topo: &Topology, number: u64, d: u32, re
 
 /// Prints what an `ask` brings: the report, and an alarm where it misses the reference time.
 fn print_answer(out: &mut EventLines, topo: &Topology, number: u64, findings: &Findings)
-    requires device { IfSome findings.now.report (λ told. told.0 < length (network topo.now).devices) }
+    requires device { IfSome findings.now.report
+        (λ told. told.0 < length (network topo.now).devices) }
     requires room { length (printed out.old) + 357 ≤ 2048 }
     ensures text { printed out.new ≡ printed out.old
         ++ flat_map (line_bytes (network topo.now) number)

@@ -23,5 +23,12 @@ returns-clause-bounds c =
     let silent = silence_bound (network c.args.topo.now) c.args.topo.now.is_network in (
       omega (arith, c.silence_and_tick-silent.ensures.is, silent, c.least_wait-first.ensures.bound),
       omega (arith, c.silence_and_tick-silent.ensures.is, silent, c.least_wait-first.ensures.bound),
-      omega (arith, c.silence_and_tick-silent.ensures.is, silent, c.least_wait-first.ensures.bound, c.greatest_up-moved.ensures.bound, c.least_wait-ordinary.ensures.bound),
+      omega (
+        arith,
+        c.silence_and_tick-silent.ensures.is,
+        silent,
+        c.least_wait-first.ensures.bound,
+        c.greatest_up-moved.ensures.bound,
+        c.least_wait-ordinary.ensures.bound,
+      ),
     )
