@@ -1,5 +1,6 @@
 -- What an accepted event asks of the parts of a fabric, and that a fabric stays sound.
-use Rattle.std.specs.Prelude.{◌≡◌, ℕ, ◌+◌, ◌^◌, ◌<◌, ◌≤◌, Bool, true, false, ◌&&◌, ◌||◌, List, [], length, find, filter, nat_eq, nat_le, ok_or, is_ok, Option, Some, None, IfSome, IsOkAnd, Result, Ok, Err, refl, if◌then◌else◌}
+use Rattle.std.specs.Prelude.{◌≡◌, ℕ, ◌+◌, ◌^◌, ◌<◌, ◌≤◌, Bool, true, false, ◌&&◌, ◌||◌, List, [], length, find, filter, nat_eq, nat_le, ok_or, is_ok, is_some, Option, Some, None, IfSome, IsOkAnd, Result, Ok, Err, refl, if◌then◌else◌}
+use Rattle.std.specs.Result.{result_ok}
 use Rattle.std.proofs.Common.{arith, sym, ◌∙◌, ap, subst, inl, inr}
 use Rattle.std.proofs.lemmas.Bool.{and_parts, or_cases, eqb-true, eq-eqb, ne_eqb, leb-true, ltb-false, le-leb, lt-ltb, not-false}
 use Rattle.sd_num.specs.Lists.{of_some}
@@ -106,9 +107,9 @@ taken_is book reference d n given can =
     ∙ ap (λ b. if b then Ok it.0 else Err take.WrongDevice) (eq-eqb it.0.receiver d it.2.1)
     ∙ sym it.1
 
-pub taken_ok : (P : Flight → Type 0) (look : Result Flight TakeFault) → IsOkAnd look P → is_ok look ≡ true
-taken_ok P (Ok f) is = refl
-taken_ok P (Err e) is = absurd is
+pub taken_some : (P : Flight → Type 0) (look : Result Flight TakeFault) → IsOkAnd look P → is_some (result_ok look) ≡ true
+taken_some P (Ok f) is = refl
+taken_some P (Err e) is = absurd is
 
 pub lost_is : (book : Book) (reference n : ℕ) → AreGiven book → IsOkAnd (found book.last book.flights n) (λ f. reference ≤ f.last)
     → found book.last (filter (is_current reference) book.flights) n ≡ found book.last book.flights n
@@ -285,13 +286,14 @@ sound_first setting net r book same law tables stands given none =
 
 -- What was taken and lost
 
-pub took_is : (book mid : Book) (ref d n r0 : ℕ) (took : Result Flight TakeFault)
+pub took_is : (book mid : Book) (ref d n r0 : ℕ) (took : Option Flight)
     → IsOkAnd (found book.last book.flights n) (λ f. (ref ≤ f.last) × (f.receiver ≡ d)) → AreGiven book
-    → mid.last ≡ book.last → mid.flights ≡ filter (is_current r0) book.flights → r0 ≡ ref → took ≡ for_device d (found mid.last mid.flights n)
-    → took ≡ found book.last book.flights n
+    → mid.last ≡ book.last → mid.flights ≡ filter (is_current r0) book.flights → r0 ≡ ref → took ≡ result_ok (for_device d (found mid.last mid.flights n))
+    → took ≡ result_ok (found book.last book.flights n)
 took_is book mid ref d n r0 took can given last flights same takes =
-    takes ∙ ap (λ l. for_device d (found l mid.flights n)) last
-    ∙ ap (λ fs. for_device d (found book.last fs n)) (flights ∙ ap (λ r. filter (is_current r) book.flights) same) ∙ taken_is book ref d n given can
+    takes ∙ ap result_ok
+    (ap (λ l. for_device d (found l mid.flights n)) last
+    ∙ ap (λ fs. for_device d (found book.last fs n)) (flights ∙ ap (λ r. filter (is_current r) book.flights) same) ∙ taken_is book ref d n given can)
 
 pub lost_ok : (book mid : Book) (ref n r0 : ℕ) (lost : Result (Unit {0}) TakeFault) → IsOkAnd (found book.last book.flights n) (λ f. ref ≤ f.last)
     → AreGiven book

@@ -63,9 +63,15 @@ module _ (r : memberships.Registers) (reference d counter : ℕ) (answers : Answ
 -- The taking of a flight
 
 -- what was found for its receiver is taken
-pub taken_for : (look : Result Flight TakeFault) (d : ℕ) → IsOkAnd look (λ f. f.receiver ≡ d) → for_device d look ≡ look
+taken_for : (look : Result Flight TakeFault) (d : ℕ) → IsOkAnd look (λ f. f.receiver ≡ d) → for_device d look ≡ look
 taken_for (Ok f) d is = ap (λ b. if b then Ok f else Err fault.WrongDevice) (eq-eqb f.receiver d is)
 taken_for (Err e) d is = absurd is
+
+-- and that is written
+pub written_is : (seen now : Registers) (number d : ℕ) → seen ≡ now → IsOkAnd (flight_at now number) (λ f. f.receiver ≡ d)
+    → result_ok (for_device d (flight_at seen number)) ≡ result_ok (flight_at now number)
+written_is seen now number d same there =
+    ap (λ r. result_ok (for_device d (flight_at r number))) same ∙ ap result_ok (taken_for (flight_at now number) d there)
 
 -- A receipt
 

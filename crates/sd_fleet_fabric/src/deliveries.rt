@@ -27,7 +27,7 @@ pub(crate) fn deliver(book: &mut FlightBook, event: &Event, taken: &mut Option<F
             device,
             message,
             ..
-        } => *taken = book.take(message, device).ok(),
+        } => book.take_into(message, device, taken),
         Event::Lose { message, .. } => {
             let _: Result<(), TakeFault> = book.lose(message);
             *taken = None;

@@ -25,7 +25,7 @@ impl Fabric {
         ensures left { IsWithout number self.old self.new }
         ensures sound { IsSound self.new }
     {
-        *taken = self.book.take(number, d).ok();
+        self.book.take_into(number, d, taken);
     }
 
     /// A tick while no window is open, at which the device did this and answers this from then on.
