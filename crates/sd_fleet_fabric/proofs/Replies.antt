@@ -1,6 +1,8 @@
 -- What a reply makes an event send, case by case.
-use Rattle.std.specs.Prelude.{◌≡◌, ℕ, ◌+◌, List, [], length, Option, Some, None, refl}
+use Rattle.std.specs.Prelude.{◌≡◌, ℕ, ◌+◌, ◌==◌, true, List, [], length, Option, Some, None, refl}
 use Rattle.std.proofs.Common.{sym, ◌∙◌, ap}
+use Rattle.std.proofs.lemmas.Bool.{eqb-true}
+use Rattle.std.proofs.lemmas.List.{nil_from_length}
 use Rattle.sd_num.specs.Lists.{of_some}
 use Rattle.sd_plan.specs.declared.End.{End}
 use Rattle.sd_msg.specs.declared.Message.{Message}
@@ -62,6 +64,13 @@ sent_size r reference d epoch ends effect m are sends =
     ∙ sym
     (ap (λ x. length (sent_by r reference d epoch x)) sends
     ∙ length-over r.net r.membership.world (record { reference = reference; sender = d; message = m }) (r.book.last + 1) (ends_below r.membership epoch d))
+
+-- nothing over no ends
+pub sent_nowhere : (r : Registers) (reference d epoch : ℕ) (ends : List End) (effect : Effect) (m : Message) → ends ≡ ends_below r.membership epoch d
+    → effect ≡ Send m → (length ends == 0) ≡ true → sent_by r reference d epoch effect ≡ []
+sent_nowhere r reference d epoch ends effect m are sends none =
+    nil_from_length (sent_by r reference d epoch effect)
+    (sym (sent_size r reference d epoch ends effect m are sends) ∙ eqb-true (length ends) 0 none)
 
 pub covers_sound : (r : Registers) → IsSound r → Covers r.net r.membership.world
 covers_sound r sound = record { net = sound.net; devices = sound.membership.devices ∙ sound.answers; links = sound.links }

@@ -69,6 +69,7 @@ pub(crate) struct Ways<'a> {
 
 impl Ways<'_> {
     /// Sends the message over each of the ends, in their order.
+    #[inline(never)]
     fn send(&self, book: &mut FlightBook, ends: &[End], sending: &Sending) -> Sent
         requires covers { Covers (network self.now.topology.now) self.now.world.now }
         requires ends { Each (IsEnd (network self.now.topology.now)) ends.now }
@@ -142,6 +143,9 @@ impl Ways<'_> {
 }
 
 /// What a device sends at a reference time, in the plan with a number, where this is its effect.
+// Inlined, since most effects send nothing, and most devices have nobody below them: no message is
+// copied then.
+#[inline(always)]
 pub(crate) fn send_by(
     topology: &Topology,
     membership: &Membership,
@@ -175,6 +179,10 @@ pub(crate) fn send_by(
     let Effect::Send(message) = effect else {
         return Sent::none();
     };
+    let ends = membership.ends_below(epoch, sender);
+    if ends.is_empty() {
+        return Sent::none();
+    }
     let sending = Sending {
         reference,
         sender,
@@ -184,7 +192,6 @@ pub(crate) fn send_by(
         topology,
         world: membership.world(),
     };
-    let ends = membership.ends_below(epoch, sender);
     ways.send(book, ends, &sending)
 }
 
