@@ -138,6 +138,8 @@ impl Fabric {
     }
 
     /// The flight of a number, or why there is none: `Unknown` or `Spent`.
+    // A flight is large: inlined, it is not copied once more.
+    #[inline(always)]
     pub fn flight(&self, number: u64) -> Result<Flight, TakeFault>
         ensures found { result ≡ found self.now.book.last self.now.book.flights number }
         ensures stands { (setting : Setting) (steps : List Step) → Stands self.now setting steps

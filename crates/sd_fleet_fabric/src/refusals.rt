@@ -12,6 +12,7 @@ use sd_sched::Event;
 
 impl Fabric {
     /// The first cause for which an event is refused, if there is one.
+    #[inline(always)]
     pub fn refusal(&self, event: &Event) -> Option<ApplyFault>
         ensures { result ≡ refusal_in self.now event.now }
     {
@@ -63,6 +64,9 @@ impl Fabric {
     }
 
     /// The first cause that holds, one after the other.
+    // Never inlined, so that a calm event pays nothing for what only the causes need.
+    #[cold]
+    #[inline(never)]
     fn first_refusal(&self, event: &Event) -> Option<ApplyFault>
         ensures { result ≡ refusal_in self.now event.now }
     {
