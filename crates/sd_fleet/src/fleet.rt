@@ -86,6 +86,17 @@ fn context_of_call(fabric: &Fabric, d: u32) -> CallContext
     }
 }
 
+/// No flight is left there.
+// A flight is large, and most ticks come after a tick: it is written where there is one alone.
+#[inline(always)]
+fn forget(taken: &mut Option<Flight>)
+    ensures { taken.new ≡ None }
+{
+    if taken.is_some() {
+        *taken = None;
+    }
+}
+
 impl<N: Node> Fleet<N> {
     ghost use Rattle.sd_fleet.specs.Standing.{StandsFor, IsPrepared, IsAccepted, IsFault};
 
@@ -230,7 +241,7 @@ impl<N: Node> Fleet<N> {
         let mut answers = unanswered();
         let call = Call::Tick { counter };
         let effect = step_at(&mut self.nodes, d, &call, &context, &mut answers);
-        outcome.taken = None;
+        forget(&mut outcome.taken);
         self.fabric
             .tick(reference, d, counter, &effect, &answers, outcome);
     }

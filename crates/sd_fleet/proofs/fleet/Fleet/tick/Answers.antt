@@ -1,12 +1,12 @@
 -- What the node did and the fabric keeps makes the fleet stand for one step more.
-use Rattle.std.proofs.Common.{◌≡◌, ◌∙◌, length, refl, sym}
+use Rattle.std.proofs.Common.{◌≡◌, ◌∙◌, length, refl, sym, ap}
 use Rattle.std.specs.Vec.{with_items}
 use Rattle.std.proofs.lemmas.List.{with_items_is}
 use Rattle.sd_sched.specs.declared.Event.{Event}
 use Rattle.sd_sched.specs.declared.Event.TheVariants as event
 use Rattle.sd_fleet_fabric.specs.declared.Reply.{Reply}
 use Rattle.sd_fleet_fabric.specs.Doing.{act_in, replied}
-use Rattle.sd_fleet_fabric.specs.Stepping.{IsAfter, outcome_in}
+use Rattle.sd_fleet_fabric.specs.Stepping.{IsAfter, outcome_in, outcome_with}
 use Rattle.sd_fleet_fabric.proofs.Admitted.{device_known}
 use Rattle.sd_fleet_fabric.proofs.Keeping.{reference_few}
 use Rattle.sd_fleet_fabric.proofs.Steady.{tick_tells}
@@ -64,7 +64,8 @@ after : (g : Over) (c : goal.After-self-2-1 g) → IsAfter c.args.self.now.fabri
 after g c = c.tick.ensures.after
 
 comes : (g : Over) (c : goal.After-self-2-1 g) → c.tick.new.outcome ≡ outcome_in c.args.self.now.fabric (happened g c) (reply g c)
-comes g c = c.tick.ensures.comes
+comes g c =
+    c.tick.ensures.comes ∙ ap (λ taken. outcome_with taken c.args.self.now.fabric (happened g c) (reply g c)) c.forget.ensures
 
 same_length : (g : Over) (c : goal.After-self-2-1 g) → length c.step_at-effect.new.nodes ≡ length c.args.self.now.nodes.items
 same_length g c =
