@@ -2,5 +2,6 @@ mod Reached
 mod Rows
 mod Hearing
 mod Leading
-mod Searching
+pub mod Searching
+pub mod Sparing
 pub mod Existing

@@ -1,6 +1,7 @@
 pub mod Drill
 pub mod Bounds
 pub mod Budgets
+pub mod Spared
 pub mod Times
 pub mod Printed
 pub mod ages

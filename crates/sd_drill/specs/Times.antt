@@ -8,7 +8,10 @@ use Rattle.sd_drill.specs.recovery.Searches.{HasRoom as HasRecoveryRoom}
 use Rattle.sd_drill.specs.ages.Ages.{IsOldest, ageing}
 use Rattle.sd_drill.specs.declared.recovery.reach.Reach.{Reach}
 use Rattle.sd_drill.specs.Drill.{root_halves, settling, quiet, source}
+use Rattle.sd_drill.specs.Spared.{AreSparedBounds}
+use Rattle.sd_drill.specs.declared.Budget.{Budget}
 use Rattle.sd_drill.specs.declared.drill.Drill.{Drill}
+use Rattle.sd_drill.specs.declared.drill.Known.{Known}
 use Rattle.sd_drill.specs.declared.growths.Growth.{Growth}
 use Rattle.sd_drill.specs.declared.growths.Growths.{Growths}
 use Rattle.sd_drill.specs.declared.times.Times.{Times}
@@ -48,9 +51,14 @@ pub record AreGrowths (net : Network) (plan : Plan) (growths : Growths) : Type 0
   pub size : length growths.known.items ≡ length net.devices
   pub each : (d : ℕ) → IsKnown net plan d (known_at growths.known.items d)
 
+-- what is known of the devices is right, and there is room for how each recovers
+pub record AreKnown (net : Network) (plan : Plan) (budget : Budget) (known : Known) : Type 0 where
+  pub growths : AreGrowths net plan known.growths
+  pub spared : AreSparedBounds net plan budget known.spared.known.items
+  pub room : HasRecoveryRoom net known.recoveries
+
 -- a drill of this plan, with room for each of its devices
 pub record IsDrillOf (net : Network) (plan : Plan) (drill : Drill) : Type 0 where
   pub times : AreTimes net plan drill.times
-  pub growths : AreGrowths net plan drill.growths
   pub impact : HasImpactRoom net drill.impact
-  pub recoveries : HasRecoveryRoom net drill.recoveries
+  pub known : AreKnown net plan drill.times.budget drill.known

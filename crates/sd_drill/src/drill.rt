@@ -1,32 +1,43 @@
 //! A plan under drill: one domain after another.
-ghost use Rattle.std.specs.Prelude.{◌≡◌, ◌≤◌, ◌<◌, ◌+◌, length, IfOk};
+ghost use Rattle.std.specs.Prelude.{◌≡◌, ◌≤◌, ◌<◌, ◌+◌, length, IsTrue, IfOk, OnOk};
 ghost use Rattle.sd_drill.specs.Bounds.{AreBounds};
 ghost use Rattle.sd_drill.specs.Budgets.{IsBudget};
 ghost use Rattle.sd_drill.specs.Drill.{IsListed};
-ghost use Rattle.sd_drill.specs.Times.{AreGrowths, AreTimes, IsBoundOf};
+ghost use Rattle.sd_drill.specs.Spared as words;
+ghost use Rattle.sd_drill.specs.Times.{AreGrowths, AreKnown, AreTimes, IsBoundOf};
 ghost use Rattle.sd_checker.specs.CheckHit.Outages.{net_of, plan_of};
 ghost use Rattle.sd_checker.specs.CheckLoop.Loops.{HasNoCycle};
-ghost use Rattle.sd_drill.specs.recovery.Searches.{AreRecoveries, HasRoom};
+ghost use Rattle.sd_drill.specs.recovery.Recoveries.{IsRecovery};
+ghost use Rattle.sd_drill.specs.recovery.Searches.{IsReadyFor};
 
 use crate::Budget;
 use crate::bounds::WorstList;
 use crate::growths::Growths;
-use crate::recovery::{Reach, Recoveries};
+use crate::recovery::{Reach, Recoveries, Recovery};
+use crate::spared::{SparedBounds, spares};
 use crate::times::Times;
 use sd_checker::check_hit::{Impact, Outage};
 use sd_domain::DomainId;
 use sd_num::NoMemory;
 use sd_plan::Indexed;
+use sd_topo::Topology;
 use std::alloc::Global;
 
-/// A plan and a budget under drill: what the bounds of all domains share, what those of most domains
-/// share, and room for what one domain does, which serves one after another.
+/// What is known of devices from the domains before, and room for how they recover from the next.
+#[derive(Drop)]
+struct Known {
+    growths: Growths,
+    spared: SparedBounds,
+    recoveries: Recoveries,
+}
+
+/// A plan and a budget under drill: what the bounds of all domains share, and what serves one domain
+/// after another.
 #[derive(Drop)]
 pub struct Drill {
     times: Times,
-    growths: Growths,
     impact: Impact,
-    recoveries: Recoveries,
+    known: Known,
 }
 
 /// The bound of a device that comes to hear again over walks that reach so far.
@@ -48,24 +59,23 @@ fn bound_over(
     times.sent + u128::from(reach.far) + growth
 }
 
-/// The bound of a device, if it has one.
-fn bound_of(
+/// The bound of a device that recovers so, if it has one.
+fn bound_by(
     times: Times,
     growths: &mut Growths,
     outage: &Outage<'_>,
-    recoveries: &Recoveries,
     d: u32,
+    recovery: Recovery,
 ) -> Option<u128>
     requires times { AreTimes (net_of outage.now) (plan_of outage.now) times }
     requires growths { AreGrowths (net_of outage.now) (plan_of outage.now) growths.old }
-    requires found { AreRecoveries (net_of outage.now) (plan_of outage.now) outage.now.domain
-        recoveries.now }
     requires device { d < length (net_of outage.now).devices }
+    requires recovery { IsRecovery (net_of outage.now) (plan_of outage.now) outage.now.domain d
+        recovery }
     ensures bound { IsListed (net_of outage.now) (plan_of outage.now) times.budget
         outage.now.domain d result }
     ensures growths { AreGrowths (net_of outage.now) (plan_of outage.now) growths.new }
 {
-    let recovery = recoveries.of(outage, d);
     if !recovery.fed {
         return None;
     }
@@ -75,56 +85,154 @@ fn bound_of(
     }
 }
 
+/// The bound of a device, if it has one, by a search of how it recovers.
+fn find_bound(
+    times: Times,
+    known: &mut Known,
+    outage: &Outage<'_>,
+    d: u32,
+) -> Result<Option<u128>, NoMemory>
+    requires times { AreTimes (net_of outage.now) (plan_of outage.now) times }
+    requires known { AreKnown (net_of outage.now) (plan_of outage.now) times.budget known.old }
+    requires acyclic { HasNoCycle (net_of outage.now) (plan_of outage.now) outage.now.domain }
+    requires ready { IsReadyFor (net_of outage.now) (plan_of outage.now) outage.now.domain
+        known.old.recoveries }
+    requires device { d < length (net_of outage.now).devices }
+    ensures bound { IfOk result
+        (IsListed (net_of outage.now) (plan_of outage.now) times.budget outage.now.domain d) }
+    ensures known { AreKnown (net_of outage.now) (plan_of outage.now) times.budget known.new }
+    ensures ready { OnOk result
+        (IsReadyFor (net_of outage.now) (plan_of outage.now) outage.now.domain
+        known.new.recoveries) }
+{
+    let recovery = known.recoveries.of(outage, d)?;
+    Ok(bound_by(times, &mut known.growths, outage, d, recovery))
+}
+
+/// The same of a device that the domain spares. It is known from then on.
+fn note_bound(
+    times: Times,
+    known: &mut Known,
+    outage: &Outage<'_>,
+    d: u32,
+) -> Result<Option<u128>, NoMemory>
+    requires times { AreTimes (net_of outage.now) (plan_of outage.now) times }
+    requires known { AreKnown (net_of outage.now) (plan_of outage.now) times.budget known.old }
+    requires acyclic { HasNoCycle (net_of outage.now) (plan_of outage.now) outage.now.domain }
+    requires ready { IsReadyFor (net_of outage.now) (plan_of outage.now) outage.now.domain
+        known.old.recoveries }
+    requires device { d < length (net_of outage.now).devices }
+    requires spared { IsTrue
+        (words.spares (net_of outage.now) (plan_of outage.now) outage.now.domain d) }
+    ensures bound { IfOk result
+        (IsListed (net_of outage.now) (plan_of outage.now) times.budget outage.now.domain d) }
+    ensures known { AreKnown (net_of outage.now) (plan_of outage.now) times.budget known.new }
+    ensures ready { OnOk result
+        (IsReadyFor (net_of outage.now) (plan_of outage.now) outage.now.domain
+        known.new.recoveries) }
+{
+    let bound = find_bound(times, known, outage, d)?;
+    known.spared.note(d, bound);
+    Ok(bound)
+}
+
+/// The bound of a device, if it has one. No walk is searched where the domain spares the device and
+/// its bound is known.
+fn bound_of(
+    times: Times,
+    known: &mut Known,
+    outage: &Outage<'_>,
+    d: u32,
+) -> Result<Option<u128>, NoMemory>
+    requires times { AreTimes (net_of outage.now) (plan_of outage.now) times }
+    requires known { AreKnown (net_of outage.now) (plan_of outage.now) times.budget known.old }
+    requires acyclic { HasNoCycle (net_of outage.now) (plan_of outage.now) outage.now.domain }
+    requires ready { IsReadyFor (net_of outage.now) (plan_of outage.now) outage.now.domain
+        known.old.recoveries }
+    requires device { d < length (net_of outage.now).devices }
+    ensures bound { IfOk result
+        (IsListed (net_of outage.now) (plan_of outage.now) times.budget outage.now.domain d) }
+    ensures known { AreKnown (net_of outage.now) (plan_of outage.now) times.budget known.new }
+    ensures ready { OnOk result
+        (IsReadyFor (net_of outage.now) (plan_of outage.now) outage.now.domain
+        known.new.recoveries) }
+{
+    if !spares(outage, d) {
+        return find_bound(times, known, outage, d);
+    }
+    match known.spared.get(d) {
+        Some(bound) => Ok(Some(bound)),
+        None => note_bound(times, known, outage, d),
+    }
+}
+
 /// The bounds of all devices.
 fn all_bounds(
     alloc: Global,
     times: Times,
-    growths: &mut Growths,
+    known: &mut Known,
     outage: &Outage<'_>,
-    recoveries: &Recoveries,
 ) -> Result<WorstList, NoMemory>
     requires times { AreTimes (net_of outage.now) (plan_of outage.now) times }
-    requires growths { AreGrowths (net_of outage.now) (plan_of outage.now) growths.old }
-    requires found { AreRecoveries (net_of outage.now) (plan_of outage.now) outage.now.domain
-        recoveries.now }
+    requires known { AreKnown (net_of outage.now) (plan_of outage.now) times.budget known.old }
+    requires acyclic { HasNoCycle (net_of outage.now) (plan_of outage.now) outage.now.domain }
+    requires ready { IsReadyFor (net_of outage.now) (plan_of outage.now) outage.now.domain
+        known.old.recoveries }
     ensures bounds { IfOk result
         (AreBounds (net_of outage.now) (plan_of outage.now) times.budget outage.now.domain) }
-    ensures growths { AreGrowths (net_of outage.now) (plan_of outage.now) growths.new }
+    ensures known { AreKnown (net_of outage.now) (plan_of outage.now) times.budget known.new }
 {
     let devices = outage.planned.topo.devices();
     let Ok(mut bounds) = Vec::with_capacity(alloc, devices as usize) else {
         return Err(NoMemory);
     };
     for d in 0..devices {
-        bounds.push_reserved(bound_of(times, growths, outage, recoveries, d));
+        let bound = bound_of(times, known, outage, d)?;
+        bounds.push_reserved(bound);
     }
     Ok(WorstList::from_vec(bounds))
 }
 
-/// The bounds under an outage, with room for how devices recover from it.
+/// The bounds under an outage.
 fn bounds_under(
     alloc: Global,
     times: Times,
-    growths: &mut Growths,
+    known: &mut Known,
     outage: &Outage<'_>,
-    recoveries: &mut Recoveries,
 ) -> Result<WorstList, NoMemory>
     requires times { AreTimes (net_of outage.now) (plan_of outage.now) times }
-    requires growths { AreGrowths (net_of outage.now) (plan_of outage.now) growths.old }
+    requires known { AreKnown (net_of outage.now) (plan_of outage.now) times.budget known.old }
     requires acyclic { HasNoCycle (net_of outage.now) (plan_of outage.now) outage.now.domain }
-    requires room { HasRoom (net_of outage.now) recoveries.old }
     ensures bounds { IfOk result
         (AreBounds (net_of outage.now) (plan_of outage.now) times.budget outage.now.domain) }
-    ensures growths { AreGrowths (net_of outage.now) (plan_of outage.now) growths.new }
-    ensures room { HasRoom (net_of outage.now) recoveries.new }
+    ensures known { AreKnown (net_of outage.now) (plan_of outage.now) times.budget known.new }
 {
-    recoveries.find(outage)?;
-    all_bounds(alloc, times, growths, outage, recoveries)
+    known.recoveries.clear();
+    all_bounds(alloc, times, known, outage)
+}
+
+impl Known {
+    ghost use Rattle.sd_plan.specs.declared.Plan.{Plan};
+    ghost use Rattle.sd_drill.specs.declared.Budget.{Budget as BudgetSeen};
+    ghost use Rattle.sd_topo.specs.Topologies.{network};
+
+    /// Nothing is known of the devices of a topology.
+    fn new(alloc: Global, topo: &Topology) -> Result<Known, NoMemory>
+        ensures { IfOk result (λ known. (plan : Plan) (budget : BudgetSeen)
+            → AreKnown (network topo.now) plan budget known) }
+    {
+        let growths = Growths::new(alloc, topo)?;
+        let spared = SparedBounds::new(alloc, topo)?;
+        let recoveries = Recoveries::new(alloc, topo)?;
+        Ok(Known {
+            growths,
+            spared,
+            recoveries,
+        })
+    }
 }
 
 impl Drill {
-    ghost use Rattle.std.specs.Prelude.{OnOk};
-    ghost use Rattle.sd_checker.specs.CheckLoop.Loops.{HasNoCycle};
     ghost use Rattle.sd_domain.specs.Lone.{IsDomain};
     ghost use Rattle.sd_drill.specs.Times.{IsDrillOf};
     ghost use Rattle.sd_topo.specs.Topologies.{network};
@@ -137,14 +245,12 @@ impl Drill {
             × (drill.times.budget ≡ budget)) }
     {
         let times = Times::new(planned, budget);
-        let growths = Growths::new(alloc, planned.topo)?;
         let impact = Impact::new(alloc, planned.topo)?;
-        let recoveries = Recoveries::new(alloc, planned.topo)?;
+        let known = Known::new(alloc, planned.topo)?;
         Ok(Drill {
             times,
-            growths,
             impact,
-            recoveries,
+            known,
         })
     }
 
@@ -167,12 +273,6 @@ impl Drill {
     {
         self.impact.strike(alloc, planned, domain)?;
         let outage = self.impact.outage(planned, domain);
-        bounds_under(
-            alloc,
-            self.times,
-            &mut self.growths,
-            &outage,
-            &mut self.recoveries,
-        )
+        bounds_under(alloc, self.times, &mut self.known, &outage)
     }
 }

@@ -15,6 +15,7 @@ mod drill;
 mod growths;
 pub mod recovery;
 mod roots;
+mod spared;
 mod times;
 
 pub use bounds::WorstList;

@@ -13,7 +13,7 @@ use Rattle.sd_checker.specs.CheckReach.Reach.{Fed, acts, stands_by, spared, turn
 use Rattle.sd_drill.specs.recovery.Feeding.{IsFedOver}
 use Rattle.sd_drill.specs.recovery.Hops.{hops_at, next_of}
 
-sound_of : {net : Network} {plan : Plan} {f : DomainId} {d : ℕ} → Fed net plan f d → is_sound net plan f d ≡ true
+pub sound_of : {net : Network} {plan : Plan} {f : DomainId} {d : ℕ} → Fed net plan f d → is_sound net plan f d ≡ true
 sound_of (acts sound equal) = sound
 sound_of (stands_by sound equal) = sound
 sound_of (spared sound free) = sound

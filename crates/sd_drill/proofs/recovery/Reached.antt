@@ -69,7 +69,7 @@ wrong : {X : Type 0} → false ≡ true → X
 wrong same = cc
 
 -- the one hop of a list
-one_is : (h hop : Hop) → list_any (same_hop h) (option_to_list (Some hop)) ≡ true → h ≡ hop
+pub one_is : (h hop : Hop) → list_any (same_hop h) (option_to_list (Some hop)) ≡ true → h ≡ hop
 one_is h hop some = elim (or_cases (same_hop h hop) false some) [ inl here ↦ same_is h hop here | inr none ↦ wrong none ]
 
 one_has : (hop : Hop) → list_any (same_hop hop) (option_to_list (Some hop)) ≡ true

@@ -12,11 +12,12 @@ use Rattle.sd_plan.proofs.Numbered.{both_none}
 use Rattle.sd_checker.specs.CheckLoop.Loops.{hops_of, HasNoCycle}
 use Rattle.sd_drill.specs.recovery.Recoveries.{IsRecovery}
 use Rattle.sd_drill.specs.recovery.Hops.{listed, BothAre}
-use Rattle.sd_drill.specs.recovery.Searches.{IsSearch, IsSettled, Leads, first_new, new_parent, is_new, mark_at}
+use Rattle.sd_drill.specs.recovery.Searches.{IsSearch, IsReadyFor, IsSettled, Leads, first_new, new_parent, is_new, mark_at}
 use Rattle.sd_drill.specs.declared.recovery.hops.Hops.{Hops}
 use Rattle.sd_drill.specs.declared.recovery.marks.Mark.{Mark}
 use Rattle.sd_drill.specs.declared.recovery.marks.Mark.TheVariants as mark
 use Rattle.sd_drill.specs.declared.recovery.Recovery.{Recovery}
+use Rattle.sd_drill.specs.declared.recovery.search.Recoveries.{Recoveries}
 use Rattle.sd_drill.proofs.recovery.Leading.{leads_on, no_return, hop_leads}
 
 entered_new : mark.Entered ≡ mark.New → ⊥
@@ -57,6 +58,22 @@ settled_by : (net : Network) (plan : Plan) (f : DomainId) (d : ℕ) (m : Mark) �
 settled_by net plan f d mark.New old left right = old refl
 settled_by net plan f d mark.Entered old left right = left refl
 settled_by net plan f d (mark.Settled r) old left right = right r refl
+
+-- where all devices are new, no search is under way
+pub ready : (net : Network) (plan : Plan) (f : DomainId) (recoveries : Recoveries) → length recoveries.marks.items ≡ length net.devices
+    → ((d : ℕ) → mark_at recoveries.marks.items d ≡ mark.New) → recoveries.stack.items ≡ [] → IsReadyFor net plan f recoveries
+ready net plan f recoveries size new alone =
+    record {
+      searched = record {
+        size = size;
+        settled = λ d r is. absurd (settled_new r (sym is ∙ new d));
+        within = λ k below. absurd (omega (arith, below));
+        old = λ k below. absurd (omega (arith, below));
+        chain = λ k l order below. absurd (omega (arith, below));
+        entered = λ d is. absurd (entered_new (sym is ∙ new d));
+      };
+      alone = alone;
+    }
 
 -- a device that is not new, of which no stack knows, is settled
 pub settled_off : (net : Network) (plan : Plan) (f : DomainId) (marks : List Mark) (d : ℕ) → IsSearch net plan f marks [] → mark_at marks d ≢ mark.New

@@ -1,5 +1,5 @@
 -- A search that settles devices, each after those to which its hops lead.
-use Rattle.std.specs.Prelude.{◌≡◌, ◌≢◌, ℕ, ◌+◌, ◌*◌, ◌<◌, Bool, true, false, List, ◌∷◌, length, slice_index_or, count_by, Option, Some, None, if◌then◌else◌}
+use Rattle.std.specs.Prelude.{◌≡◌, ◌≢◌, ℕ, ◌+◌, ◌*◌, ◌<◌, Bool, true, false, List, [], ◌∷◌, length, slice_index_or, count_by, Option, Some, None, if◌then◌else◌}
 use Rattle.std.specs.Option.{option_or}
 use Rattle.sd_topo.specs.Network.{Network}
 use Rattle.sd_domain.specs.declared.DomainId.{DomainId}
@@ -69,7 +69,7 @@ NoneNewer before after = (d : ℕ) → mark_at after d ≡ mark.New → mark_at 
 pub record HasRoom (net : Network) (recoveries : Recoveries) : Type 0 where
   pub marks : length recoveries.marks.items ≡ length net.devices
 
--- each device is settled
-pub record AreRecoveries (net : Network) (plan : Plan) (f : DomainId) (recoveries : Recoveries) : Type 0 where
-  pub size : length recoveries.marks.items ≡ length net.devices
-  pub each : (d : ℕ) → d < length net.devices → IsSettled net plan f d (mark_at recoveries.marks.items d)
+-- the domain can be asked about: no search is under way, and what was found out is right
+pub record IsReadyFor (net : Network) (plan : Plan) (f : DomainId) (recoveries : Recoveries) : Type 0 where
+  pub searched : IsSearch net plan f recoveries.marks.items []
+  pub alone : recoveries.stack.items ≡ []

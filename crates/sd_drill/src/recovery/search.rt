@@ -1,4 +1,4 @@
-//! How all devices recover: a search that settles each after those to which its hops lead.
+//! How devices recover: a search that settles each after those to which its hops lead.
 ghost use Rattle.std.specs.Prelude.{◌≡◌, length, IfOk};
 
 use crate::recovery::hops::hops_of;
@@ -9,7 +9,7 @@ use sd_num::NoMemory;
 use sd_topo::Topology;
 use std::alloc::Global;
 
-/// How each device recovers, in room that serves one domain after another.
+/// How devices recover, as far as it was asked, in room that serves one domain after another.
 #[derive(Drop)]
 pub struct Recoveries {
     /// By device.
@@ -35,7 +35,7 @@ impl Recoveries {
     ghost use Rattle.sd_topo.specs.Topologies.{network};
     ghost use Rattle.sd_drill.specs.recovery.Recoveries.{IsRecovery};
     ghost use Rattle.sd_drill.specs.recovery.Searches as searches;
-    ghost use Rattle.sd_drill.specs.recovery.Searches.{AreRecoveries, HasRoom, IsSearch, Leads, NoneNewer, mark_at, search_left, stacked_at};
+    ghost use Rattle.sd_drill.specs.recovery.Searches.{HasRoom, IsReadyFor, IsSearch, Leads, NoneNewer, mark_at, search_left, stacked_at};
     ghost use Rattle.sd_drill.specs.declared.recovery.marks.Mark.TheVariants as mark;
 
     /// Room for the devices of a topology.
@@ -49,8 +49,8 @@ impl Recoveries {
         })
     }
 
-    /// Forgets what was found out.
-    fn clear(&mut self)
+    /// Forgets what was found out, so that another domain can be asked about.
+    pub(crate) fn clear(&mut self)
         ensures marks { length self.new.marks.items ≡ length self.old.marks.items }
         ensures new { (d : ℕ) → mark_at self.new.marks.items d ≡ mark.New }
         ensures stack { self.new.stack.items ≡ [] }
@@ -164,31 +164,38 @@ impl Recoveries {
         matches!(self.marks[d as usize], Mark::New)
     }
 
-    /// Finds out how each device recovers from a domain under which hops lead in no circle. It looks
-    /// at each device at most as often as it has hops, and once more.
-    pub fn find(&mut self, outage: &Outage<'_>) -> Result<(), NoMemory>
+    /// Sees to it that a device is settled.
+    fn visit(&mut self, outage: &Outage<'_>, d: u32) -> Result<(), NoMemory>
         requires acyclic { HasNoCycle (net_of outage.now) (plan_of outage.now) outage.now.domain }
-        requires room { HasRoom (net_of outage.now) self.old }
-        ensures found { OnOk result
-            (AreRecoveries (net_of outage.now) (plan_of outage.now) outage.now.domain self.new) }
+        requires ready { IsReadyFor (net_of outage.now) (plan_of outage.now) outage.now.domain
+            self.old }
+        requires device { d < length (net_of outage.now).devices }
+        ensures ready { OnOk result
+            (IsReadyFor (net_of outage.now) (plan_of outage.now) outage.now.domain self.new) }
+        ensures old { OnOk result (mark_at self.new.marks.items d ≢ mark.New) }
         ensures room { HasRoom (net_of outage.now) self.new }
     {
-        self.clear();
-        for start in 0..outage.planned.topo.devices() {
-            if self.is_new(start) {
-                self.settle_from(outage, start)?;
-            }
+        if self.is_new(d) {
+            self.settle_from(outage, d)?;
         }
         Ok(())
     }
 
-    /// How a device recovers from the domain that was asked about last.
-    pub fn of(&self, outage: &Outage<'_>, d: u32) -> Recovery
-        requires found { AreRecoveries (net_of outage.now) (plan_of outage.now) outage.now.domain
-            self.now }
+    /// How a device recovers from the domain that is asked about, under which hops lead in no circle.
+    /// What is found out on the way serves those that are asked about later: no device is looked at
+    /// more often than it has hops, and once more.
+    pub fn of(&mut self, outage: &Outage<'_>, d: u32) -> Result<Recovery, NoMemory>
+        requires acyclic { HasNoCycle (net_of outage.now) (plan_of outage.now) outage.now.domain }
+        requires ready { IsReadyFor (net_of outage.now) (plan_of outage.now) outage.now.domain
+            self.old }
         requires device { d < length (net_of outage.now).devices }
-        ensures { IsRecovery (net_of outage.now) (plan_of outage.now) outage.now.domain d result }
+        ensures recovery { IfOk result
+            (IsRecovery (net_of outage.now) (plan_of outage.now) outage.now.domain d) }
+        ensures ready { OnOk result
+            (IsReadyFor (net_of outage.now) (plan_of outage.now) outage.now.domain self.new) }
+        ensures room { HasRoom (net_of outage.now) self.new }
     {
-        settled_at(outage, &self.marks, d)
+        self.visit(outage, d)?;
+        Ok(settled_at(outage, &self.marks, d))
     }
 }

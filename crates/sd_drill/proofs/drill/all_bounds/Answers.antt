@@ -14,9 +14,10 @@ loop-d-preserved c =
     record {
       listed = subst (λ (xs : List (Option ℕ)). (k : ℕ) → k < c.loop-d.d + 1
           → IsListed (net_of o) (plan_of o) c.args.times.budget o.domain k (bound_at xs k)) (sym items)
-          (listed_more (IsListed (net_of o) (plan_of o) c.args.times.budget o.domain) old c.bound_of.result c.loop-d.d c.loop-d.invariant.size
-          c.loop-d.invariant.listed c.bound_of.ensures.bound);
-      size = ap (λ (xs : List (Option ℕ)). length xs) items ∙ length_push old c.bound_of.result ∙ omega (arith, c.loop-d.invariant.size);
-      growths = c.bound_of.ensures.growths;
+          (listed_more (IsListed (net_of o) (plan_of o) c.args.times.budget o.domain) old c.in_ok-bound.bound c.loop-d.d c.loop-d.invariant.size
+          c.loop-d.invariant.listed c.in_ok-bound.ensures.bound);
+      size = ap (λ (xs : List (Option ℕ)). length xs) items ∙ length_push old c.in_ok-bound.bound ∙ omega (arith, c.loop-d.invariant.size);
+      known = c.bound_of.ensures.known;
+      ready = c.in_ok-bound.ensures.ready;
       room = c.push_reserved.ensures.capacity ∙ c.loop-d.invariant.room;
     }

@@ -3,7 +3,8 @@ use Rattle.std.specs.Vec.{vec_capacity}
 use Rattle.sd_checker.specs.CheckHit.Outages.{net_of, plan_of}
 use Rattle.sd_drill.specs.Bounds.{bound_at}
 use Rattle.sd_drill.specs.Drill.{IsListed}
-use Rattle.sd_drill.specs.Times.{AreGrowths}
+use Rattle.sd_drill.specs.Times.{AreKnown}
+use Rattle.sd_drill.specs.recovery.Searches.{IsReadyFor}
 use Rattle.sd_drill.proofs.drill.all_bounds.Given as goal
 
 abbrev pub invariant-loop-d : goal.invariant-loop-d
@@ -11,6 +12,7 @@ invariant-loop-d l =
     record {
       listed : (k : ℕ) → k < l.d → IsListed (net_of l.outage) (plan_of l.outage) l.times.budget l.outage.domain k (bound_at l.bounds.items k);
       size : length l.bounds.items ≡ l.d;
-      growths : AreGrowths (net_of l.outage) (plan_of l.outage) l.growths;
+      known : AreKnown (net_of l.outage) (plan_of l.outage) l.times.budget l.known;
+      ready : IsReadyFor (net_of l.outage) (plan_of l.outage) l.outage.domain l.known.recoveries;
       room : vec_capacity l.bounds ≡ length (net_of l.outage).devices;
     }
