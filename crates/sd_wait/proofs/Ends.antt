@@ -1,8 +1,8 @@
 -- One more report: which transactions end at it, and which wait on.
-use Rattle.std.specs.Prelude.{◌≡◌, ℕ, zero, suc, ◌+◌, ◌-◌, ◌<◌, ◌≤◌, Bool, true, false, ◌&&◌, not, List, [], ◌∷◌, ◌++◌, length, filter, map, find, count_by, sum_by, slice_get, All, nat_eq, nat_le, nat_lt, Option, Some, None, is_some, is_none, if◌then◌else◌, ◌⊎◌}
+use Rattle.std.specs.Prelude.{◌≡◌, ℕ, zero, suc, ◌+◌, ◌-◌, ◌<◌, ◌≤◌, Bool, true, false, ◌&&◌, not, List, [], ◌∷◌, ◌++◌, length, filter, map, find, count_by, sum_by, slice_get, All, nat_eq, nat_lt, Option, Some, None, is_some, is_none, if◌then◌else◌}
 use Rattle.std.specs.Option.{option_or}
 use Rattle.std.proofs.Common.{refl, sym, ap, ◌∙◌, arith, inl, inr, cond, subst}
-use Rattle.std.proofs.lemmas.Bool.{cases_lt, lt-ltb, le-ltb, ltb-true, ne_eqb, eq-eqb, and_right, and_left, cases_order}
+use Rattle.std.proofs.lemmas.Bool.{cases_lt, lt-ltb, le-ltb, ne_eqb, eq-eqb, and_left}
 use Rattle.std.proofs.lemmas.List.{length-append, map-append}
 use Rattle.std.proofs.lemmas.List.Elements.{All-push, All-weaker}
 use Rattle.std.proofs.lemmas.List.Folds.{find-append}
@@ -15,7 +15,7 @@ use Rattle.sd_wait.specs.Waits.{stamp_of, surely_after, ends_by, end_place, stam
 use Rattle.sd_wait.specs.Waiting.{ends_below}
 use Rattle.sd_wait.specs.Standing.{transaction, transaction_at, unended}
 use Rattle.sd_wait.specs.declared.transactions.Transaction.{Transaction}
-use Rattle.sd_wait.proofs.Below.{Agree, same_find, same_filter, filter_more, count_more, found_below}
+use Rattle.sd_wait.proofs.Below.{same_find, filter_more, count_more, found_below}
 use Rattle.sd_wait.proofs.Rising.{Rises, rises_push}
 
 -- the lower end of an interval lies past a stamp

@@ -1,11 +1,11 @@
 -- What is kept stands for one more report.
-use Rattle.std.specs.Prelude.{◌≡◌, ℕ, zero, suc, ◌+◌, ◌-◌, ◌<◌, Bool, true, false, not, List, [], ◌∷◌, ◌++◌, length, filter, map, count_by, sum_by, nat_lt, Option, Some, None, is_some, option_map, if◌then◌else◌}
+use Rattle.std.specs.Prelude.{◌≡◌, ◌+◌, ◌-◌, not, List, length, filter, map, count_by, sum_by, Option, Some, None, is_some, if◌then◌else◌}
 use Rattle.std.specs.List.Sorted.{IsNonDecreasingBy}
-use Rattle.std.proofs.Common.{refl, sym, ap, ◌∙◌, arith, subst}
+use Rattle.std.proofs.Common.{sym, ap, ◌∙◌, arith, subst}
 use Rattle.std.proofs.lemmas.Bool.{lt-ltb}
 use Rattle.sd_num.specs.Lists.{below}
 use Rattle.sd_msg.specs.Observed.{ReportAt}
-use Rattle.sd_wait.specs.Waits.{stamp_of, stamp_at, ended_at, worst_disorder, has_disorder}
+use Rattle.sd_wait.specs.Waits.{stamp_of, stamp_at, ended_at, has_disorder}
 use Rattle.sd_wait.specs.Waiting.{Held, placed, sorted, ends_below, worst_among, disordered_by}
 use Rattle.sd_wait.specs.Standing.{transaction, transaction_at, unended, shown_at, last_shown, HasWorst, StandsFor}
 use Rattle.sd_wait.specs.declared.transactions.Transaction.{Transaction}

@@ -1,15 +1,14 @@
 -- What is printed of the last report is what its lines say.
-use Rattle.std.specs.Prelude.{◌≡◌, ℕ, zero, suc, ◌+◌, ◌-◌, ◌<◌, Bool, true, false, List, [], ◌∷◌, ◌++◌, length, map, flat_map, slice_get, nat_lt, Option, Some, None, option_map, codes, decimal, if◌then◌else◌}
-use Rattle.std.proofs.Common.{refl, sym, ap, ◌∙◌, arith, subst, append_assoc}
+use Rattle.std.specs.Prelude.{◌≡◌, ℕ, zero, suc, ◌-◌, ◌<◌, List, [], ◌∷◌, ◌++◌, length, map, flat_map, slice_get, Option, Some, None, option_map, codes, decimal, if◌then◌else◌}
+use Rattle.std.proofs.Common.{refl, sym, ap, ◌∙◌, arith}
 use Rattle.std.proofs.lemmas.List.{append-nil}
 use Rattle.std.proofs.lemmas.List.Concat.{flat_map-append}
-use Rattle.std.proofs.lemmas.List.Folds.{flat_map-map}
 use Rattle.std.proofs.lemmas.Option.{same_Some}
 use Rattle.std.proofs.lemmas.Bool.{lt-ltb}
 use Rattle.sd_num.specs.Lists.{of_some, at_place}
 use Rattle.sd_num.specs.Texts.{text_of}
 use Rattle.sd_msg.specs.Observed.{ReportAt}
-use Rattle.sd_wait.specs.Waits.{WaitLine, Ended, Disorder, Begin, stamp_of, line_at, ended_at, worst_disorder, lines_at}
+use Rattle.sd_wait.specs.Waits.{WaitLine, Ended, Disorder, Begin, stamp_of, line_at, ended_at, worst_disorder}
 use Rattle.sd_wait.specs.Printed.{words_of, bytes_at}
 use Rattle.sd_wait.specs.Waiting.{ended_bytes, shown_bytes}
 use Rattle.sd_wait.specs.Standing.{transaction, transaction_at, shown_at, last_shown}

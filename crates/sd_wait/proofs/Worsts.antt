@@ -1,21 +1,20 @@
 -- Of all that ended the first with the greatest stamp: when more end, and which disorder it shows.
-use Rattle.std.specs.Prelude.{◌≡◌, ℕ, zero, suc, ◌+◌, ◌<◌, ◌≤◌, Bool, true, false, ◌&&◌, ◌||◌, List, [], ◌∷◌, ◌++◌, length, filter, map, find, slice_get, nat_eq, nat_le, nat_lt, Option, Some, None, is_some, is_none, IfSome, option_map, if◌then◌else◌, ◌⊎◌}
+use Rattle.std.specs.Prelude.{◌≡◌, ℕ, suc, ◌<◌, ◌≤◌, Bool, true, false, ◌&&◌, ◌||◌, List, [], ◌∷◌, length, filter, map, find, nat_eq, nat_le, nat_lt, Option, Some, None, is_some, is_none, IfSome, option_map, if◌then◌else◌, ◌⊎◌}
 use Rattle.std.specs.List.{list_any}
 use Rattle.std.specs.Option.{option_or}
 use Rattle.std.proofs.Common.{refl, sym, ap, ◌∙◌, arith, inl, inr, cond, subst}
-use Rattle.std.proofs.lemmas.Bool.{cases_lt, cases_Bool, cases_order, lt-ltb, le-ltb, le-leb, lt-leb, leb-true, leb-false, ltb-true, ltb-false, eqb-true, eq-eqb, and_parts, and_from, or_cases, or_parts, or_left, or_right, and_left, and_right, both_ways, false_from_ne_true}
+use Rattle.std.proofs.lemmas.Bool.{cases_lt, lt-ltb, le-ltb, le-leb, lt-leb, leb-true, leb-false, ltb-true, ltb-false, eqb-true, eq-eqb, and_parts, and_from, or_cases, or_parts, or_left, or_right, and_left, and_right, both_ways, false_from_ne_true}
 use Rattle.std.proofs.lemmas.Option.{same_Some}
 use Rattle.std.proofs.lemmas.List.Folds.{list_any-append}
 use Rattle.sd_num.specs.Lists.{below, has, of_some, greatest, same_number}
 use Rattle.sd_num.proofs.Places.{kept_parts, kept_from, has_below, below_has}
-use Rattle.sd_num.proofs.Firsts.{find_below_none}
 use Rattle.sd_msg.specs.Observed.{ReportAt}
-use Rattle.sd_wait.specs.Waits.{ends_by, end_place, stamp_at, ended_at, has_ended_by, is_disorder, disordered_at, worst_disorder, has_disorder}
+use Rattle.sd_wait.specs.Waits.{ends_by, end_place, stamp_at, ended_at, has_ended_by, is_disorder, worst_disorder, has_disorder}
 use Rattle.sd_wait.specs.Waiting.{worse, worst_among, disordered_by}
-use Rattle.sd_wait.specs.Standing.{transaction, transaction_at, IsWorst, HasWorst}
+use Rattle.sd_wait.specs.Standing.{transaction_at, IsWorst, HasWorst}
 use Rattle.sd_wait.specs.declared.transactions.Transaction.{Transaction}
-use Rattle.sd_wait.proofs.Below.{Agree, NonePasses, filter_none, any_none, any_here, same_any, found_below, first_most, most}
-use Rattle.sd_wait.proofs.Ends.{now, ends_now, ends_last, last_is, new_not_last, place_is, stamp_is, length_more, transaction_before, stamp_before, end_before, end_new, ended_now}
+use Rattle.sd_wait.proofs.Below.{Agree, NonePasses, filter_none, any_none, any_here, same_any, found_below, first_most}
+use Rattle.sd_wait.proofs.Ends.{now, ends_now, ends_last, last_is, place_is, stamp_is, length_more, transaction_before, stamp_before, end_before, end_new, ended_now}
 
 -- a has a greater stamp than b, or the same and did not begin behind it
 pub record IsAsBad (a b : Transaction) : Type 0 where

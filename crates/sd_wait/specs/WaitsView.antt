@@ -1,5 +1,5 @@
 -- What the fields of `Waits` stand for.
-use Rattle.std.specs.Prelude.{ℕ, ◌+◌, ◌-◌, ◌^◌, ◌≤◌, min, vec_len, vec_capacity}
+use Rattle.std.specs.Prelude.{◌+◌, ◌-◌, ◌^◌, ◌≤◌, min, vec_len, vec_capacity}
 use Rattle.sd_wait.specs.Waiting.{Held, AreSorted}
 use Rattle.sd_wait.specs.declared.waits.Waits.TheInside.{Inside}
 

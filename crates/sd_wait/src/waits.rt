@@ -68,11 +68,20 @@ impl Waits {
             → IfOk result (λ text. text.items ≡ bytes_at told (length told - 1) name.now) }
     {
         let mut text = Vec::new(alloc);
-        let Some(shown) = self.last else {
-            return Ok(text);
-        };
-        print(&mut text, self.ended.as_slice(), shown, name)?;
+        self.add_lines(&mut text, name)?;
         Ok(text)
+    }
+
+    /// Adds the same lines to a text.
+    pub fn add_lines(&self, text: &mut Vec<u8>, name: &str) -> Result<(), NoMemory>
+        ensures { (told : List ReportAt) → StandsFor self.now told
+            → OnOk result (text.new.items
+            ≡ text.old.items ++ bytes_at told (length told - 1) name.now) }
+    {
+        match self.last {
+            Some(shown) => print(text, self.ended.as_slice(), shown, name),
+            None => Ok(()),
+        }
     }
 
     /// How many began and ended, and at how many reports a disorder showed.

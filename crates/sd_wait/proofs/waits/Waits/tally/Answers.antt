@@ -1,12 +1,12 @@
 -- As many have ended as do not wait.
-use Rattle.std.proofs.Common.{◌≡◌, ◌+◌, ◌-◌, ℕ, List, length, count_by, sym, ap, ◌∙◌, subst, arith}
+use Rattle.std.proofs.Common.{◌≡◌, ◌-◌, ℕ, List, length, count_by, sym, ap, ◌∙◌, subst, arith}
 use Rattle.std.specs.Prelude.{is_some}
 use Rattle.sd_num.specs.Lists.{below}
 use Rattle.sd_msg.specs.Observed.{ReportAt}
 use Rattle.sd_wait.specs.Waits.{end_place, tally_of}
 use Rattle.sd_wait.specs.WaitsView.{waits_seen}
 use Rattle.sd_wait.specs.Standing.{unended, StandsFor}
-use Rattle.sd_wait.specs.Waiting.{Held, sorted}
+use Rattle.sd_wait.specs.Waiting.{Held}
 use Rattle.sd_wait.specs.declared.WaitTally.{WaitTally}
 use Rattle.sd_wait.proofs.Ends.{counted}
 use Rattle.sd_wait.proofs.Sorting.{length_sorted}

@@ -1,5 +1,5 @@
 -- One more report is what is kept for it.
-use Rattle.std.proofs.Common.{◌≡◌, ◌+◌, ◌-◌, ◌≤◌, ℕ, Bool, true, false, List, Some, Option, filter, refl, subst, sym, ap, ◌∙◌, arith, sum_by, if◌then◌else◌}
+use Rattle.std.proofs.Common.{◌≡◌, ◌+◌, ◌≤◌, Bool, true, false, List, Some, Option, filter, refl, subst, sym, ap, ◌∙◌, arith, sum_by, if◌then◌else◌}
 use Rattle.std.specs.Prelude.{not, is_some}
 use mir.Val.{bool_byte}
 use Rattle.sd_msg.specs.Observed.{ReportAt}
