@@ -1,5 +1,5 @@
 -- What two calls keep of a shelf, and what one keeps that blames it for the same.
-use Rattle.std.proofs.Common.{◌≡◌, ℕ, ◌≤◌, ◌∙◌, sym, subst}
+use Rattle.std.proofs.Common.{◌≡◌, ℕ, ◌≤◌, ◌∙◌, subst}
 use Rattle.sd_outside.specs.Causes.{Rose}
 use Rattle.sd_outside.specs.Shelves.{KeepsShelf}
 use Rattle.sd_outside.specs.declared.shelf.Shelf.{Ghosts}

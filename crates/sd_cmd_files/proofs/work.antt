@@ -5,3 +5,4 @@ pub mod Whole
 pub mod Coming
 pub mod Adding
 pub mod Leaving
+pub mod Front

@@ -1,13 +1,14 @@
 //! Texts that are read line by line: each line is accepted or refused after those before it, and
 //! what is due for it is written before the next one is read.
-ghost use Rattle.std.specs.Prelude.{◌≡◌, ◌≢◌, ◌≤◌, ℕ, List, [], length, Err, Ok, IfOk, IsTrue};
+ghost use Rattle.std.specs.Prelude.{◌≡◌, ◌≢◌, ◌≤◌, ℕ, List, [], length, Err, Ok, IfOk, IfSome, IsTrue};
 ghost use Rattle.std.specs.List.{list_any};
 ghost use Rattle.sd_outside.specs.Causes.{RisesFor};
 ghost use Rattle.sd_cmd_files.specs.Statuses.{is_among};
 ghost use Rattle.sd_cmd_files.specs.Writes.{Adds};
 ghost use Rattle.sd_cmd_files.specs.declared.Status.{Status as AnyStatus};
 ghost use Rattle.sd_cmd_files.specs.work.Works.{Work};
-ghost use Rattle.sd_cmd_files.specs.work.Taking.{Takes};
+ghost use Rattle.sd_stream.specs.Windows.{EndsAt};
+ghost use Rattle.sd_cmd_files.specs.work.Taking.{Takes, TakesFront};
 
 mod drive;
 mod progress;
@@ -54,6 +55,18 @@ pub trait LineWork: Drop {
             → does self.old work xs
             → Takes work xs line.now (does self.new work) (printing self.new) what) }
         ensures short { result ≡ Ok Taken.Refused → length (printing self.new) ≤ 64 };
+
+    /// Takes the next line where it stands at the front of a text, if it can at once: a line that
+    /// ends with a newline there and is accepted. It answers how many bytes the line has, or none
+    /// where it took none. Then `take` is to take the line.
+    fn take_front(&mut self, _alloc: Global, _text: &[u8]) -> Result<Option<usize>, NoMemory>
+        ensures ends { IfOk result (λ found. IfSome found (λ len. EndsAt _text.now len)) }
+        ensures takes { IfOk result (λ found. (work : Work Self.Item) (xs : List Self.Item)
+            → does self.old work xs
+            → TakesFront work xs _text.now (does self.new work) (printing self.new) found) }
+    {
+        Ok(None)
+    }
 
     /// Whether a line that was accepted ends the text.
     fn ended(&self) -> bool

@@ -1,10 +1,8 @@
 -- The device of the latest report, and the lines of commit wait that bear its name.
-use Rattle.std.proofs.Common.{◌≡◌, ℕ, ◌-◌, ◌<◌, List, [], Option, Some, None, Result, sym, ap, ◌∙◌, subst, length}
-use Rattle.std.specs.Prelude.{IfOk}
+use Rattle.std.proofs.Common.{◌≡◌, ℕ, ◌-◌, ◌<◌, List, [], Option, Some, None, sym, ap, ◌∙◌, subst, length}
 use Rattle.std.proofs.Props.{props}
 use Rattle.std.proofs.Math.Logic.{∥∥₁_elim}
 use Rattle.sd_num.specs.Lists.{of_some}
-use Rattle.sd_num.specs.declared.NoMemory.{NoMemory}
 use Rattle.sd_msg.specs.Topo.Network.{Network, device_names, name_at}
 use Rattle.sd_core.specs.declared.registers.Registers.{Registers}
 use Rattle.sd_core.specs.contracts.device.DeviceNode.TheImpl.{ghosts as device}
@@ -64,17 +62,17 @@ unnamed replay observer same name is called setting events replayed =
     subst (λ (ss : List Step). latest_device (reports ss) ≡ None) steps (sym replayed.stands.told.device ∙ ap (λ (w : ToldWaits). w.device) (sym same) ∙ is) in
     called ∙ ap (λ (o : Option ℕ). of_some o [] (device_name setting.net)) (sym latest)
 
--- the lines that bear the name are those of the latest report
-pub waits_named : {A : Type 0} (items : A → List ℕ) (result : Result A NoMemory) (replay : Replay Registers ToldWaits device ghosts) (observer : ToldWaits)
+-- what is said of the lines that bear the name is said of those of the latest report
+pub waits_named : (Says : List ℕ → Type 0) (replay : Replay Registers ToldWaits device ghosts) (observer : ToldWaits)
     → observer ≡ replay.observer → (name : List ℕ)
-    → ((told : List ReportAt) → StandsFor observer.waits told → IfOk result (λ text. items text ≡ bytes_at told (length told - 1) name))
+    → ((told : List ReportAt) → StandsFor observer.waits told → Says (bytes_at told (length told - 1) name))
     → (setting : Setting) (events : List Event) → HasReplayed ghosts replay setting events
     → name ≡ latest_name setting.net (reports (chronicle setting events))
-    → IfOk result (λ text. items text ≡ latest_waits setting.net (reports (chronicle setting events)))
-waits_named items result replay observer same name says setting events replayed called =
+    → Says (latest_waits setting.net (reports (chronicle setting events)))
+waits_named Says replay observer same name says setting events replayed called =
     let told : List ReportAt = reports (chronicle setting events) in
     let stands : StandsFor observer.waits told =
     subst (λ (w : ToldWaits). StandsFor w.waits told) (sym same)
     (subst (λ (ss : List Step). StandsFor replay.observer.waits (reports ss))
     (chronicled ghosts setting events replay replayed) replayed.stands.told.waits) in
-    subst (λ (n : List ℕ). IfOk result (λ text. items text ≡ bytes_at told (length told - 1) n)) called (says told stands)
+    subst (λ (n : List ℕ). Says (bytes_at told (length told - 1) n)) called (says told stands)

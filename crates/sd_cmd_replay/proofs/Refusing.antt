@@ -6,6 +6,7 @@ use Rattle.sd_core.specs.declared.registers.Registers.{Registers}
 use Rattle.sd_core.specs.contracts.device.DeviceNode.TheImpl.{ghosts}
 use Rattle.sd_msg.specs.declared.observer.Observer as observers
 use Rattle.sd_sched.specs.declared.Event.{Event}
+use Rattle.sd_sched.specs.declared.LineFault.{LineFault}
 use Rattle.sd_sched.specs.Lines.{event_of_line}
 use Rattle.sd_replay.specs.History.Refusals.{refusal}
 use Rattle.sd_replay.specs.declared.faults.ReplayFault.{ReplayFault}
@@ -67,3 +68,21 @@ module _ {V : Type 0} (o : observers.Ghosts V) (result : Result Taken NoMemory) 
       by (fault.Line f) reason keeps setting events replayed = refuses_line o setting events old middle line text replayed f keeps reason
       by (fault.Apply f) reason keeps setting events replayed = refuses_event o setting events old middle line text replayed f keeps reason
       by fault.Memory reason keeps setting events replayed = absurd reason
+
+-- a line at the front of a text was taken
+pub front_accepted : {V : Type 0} (o : observers.Ghosts V) (old middle new : Replay Registers V ghosts o) (line text : List ℕ) (e : Event) → new ≡ middle
+    → event_of_line line ≡ Ok e → (u : Unit {0}) (went : Result (Unit {0}) ReplayFault) → went ≡ Ok u
+    → ((s : Setting) (run : List (NodeStep Registers)) → StandsFor ghosts o old s run
+    → IfSome (refusal s (steps_of run) e) (λ why. went ≡ Err (fault.Apply why)))
+    → ((s : Setting) (run : List (NodeStep Registers)) → StandsFor ghosts o old s run → IsStepped ghosts o middle s run e) → text ≡ lines_in middle
+    → (setting : Setting) (events : List Event) → HasReplayed o old setting events
+    → Takes (replay_work setting) events line (HasReplayed o new setting) text taken.Accepted
+front_accepted o old middle new line text e same is u went ok refused stepped put setting events replayed =
+    subst (λ (r : Replay Registers _ ghosts o). Takes (replay_work setting) events line (HasReplayed o r setting) text taken.Accepted) (sym same)
+    (accepts o setting events old middle line text replayed went u ok
+    (subst (λ (r : Result Event LineFault). IfErr r (λ why. went ≡ Err (fault.Line why))) (sym is) tt)
+    (subst (λ (r : Result Event LineFault). IfOk r (λ x. (s : Setting) (run : List (NodeStep Registers)) → StandsFor ghosts o old s run
+    → IfSome (refusal s (steps_of run) x) (λ why. went ≡ Err (fault.Apply why)))) (sym is) refused)
+    (subst (λ (r : Result Event LineFault). IfOk r (λ x. (s : Setting) (run : List (NodeStep Registers)) → StandsFor ghosts o old s run
+    → IsStepped ghosts o middle s run x)) (sym is) stepped)
+    (λ s run stands. put ∙ stands.tells.lines))

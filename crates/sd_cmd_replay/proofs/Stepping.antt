@@ -59,6 +59,12 @@ module _ {V : Type 0} (o : observers.Ghosts V) (setting : Setting) (events : Lis
       → HasReplayed o replay setting events → tally ≡ tally_of setting (chronicle setting events)
   tally_as replay tally says replayed = says setting replayed.run replayed.stands ∙ ap (tally_of setting) (chronicled replay replayed)
 
+  -- where nothing was accepted the replay stands for the same events
+  pub stays : (old new : Replay Registers V ghosts o)
+      → ((s : Setting) (run : List (NodeStep Registers)) → StandsFor ghosts o old s run → StandsFor ghosts o new s run)
+      → HasReplayed o old setting events → HasReplayed o new setting events
+  stays old new kept replayed = record { run = replayed.run; stands = kept setting replayed.run replayed.stands; happened = replayed.happened }
+
   module _ (old new : Replay Registers V ghosts o) (line printed : List ℕ) (replayed : HasReplayed o old setting events) where
     pub accepts : (result : Result (Unit {0}) ReplayFault) (u : Unit {0}) → result ≡ Ok u → IfErr (event_of_line line) (λ why. result ≡ Err (fault.Line why))
         → IfOk (event_of_line line) (λ e. (s : Setting) (run : List (NodeStep Registers)) → StandsFor ghosts o old s run
@@ -88,17 +94,13 @@ module _ {V : Type 0} (o : observers.Ghosts V) (setting : Setting) (events : Lis
               more,
             )
 
-    -- after a refusal the replay stands for the same events
-    stays : ((s : Setting) (run : List (NodeStep Registers)) → StandsFor ghosts o old s run → StandsFor ghosts o new s run) → HasReplayed o new setting events
-    stays kept = record { run = replayed.run; stands = kept setting replayed.run replayed.stands; happened = replayed.happened }
-
     pub refuses_line : (why : LineFault)
         → ((s : Setting) (run : List (NodeStep Registers)) → StandsFor ghosts o old s run
         → StandsFor ghosts o new s run × IsLineFault (fault.Line why) s (steps_of run) line)
         → printed ≡ line_reason why → Takes (replay_work setting) events line (HasReplayed o new setting) printed taken.Refused
     refuses_line why refused prints =
         let now = refused setting replayed.run replayed.stands in
-        (ap (accepted setting events) now.1 ∙ ap Err (sym prints), stays (λ s run stands. (refused s run stands).0))
+        (ap (accepted setting events) now.1 ∙ ap Err (sym prints), stays old new (λ s run stands. (refused s run stands).0) replayed)
 
     pub refuses_event : (why : ApplyFault)
         → ((s : Setting) (run : List (NodeStep Registers)) → StandsFor ghosts o old s run
@@ -109,5 +111,5 @@ module _ {V : Type 0} (o : observers.Ghosts V) (setting : Setting) (events : Lis
         let found : refusal setting (chronicle setting events) now.1.0 ≡ Some why =
         subst (λ (steps : List Step). refusal setting steps now.1.0 ≡ Some why) (chronicled old replayed) now.1.2 in (
           ap (accepted setting events) now.1.1 ∙ ap (λ (r : Option ApplyFault). unless_refused r now.1.0) found ∙ ap Err (sym prints),
-          stays (λ s run stands. (refused s run stands).0),
+          stays old new (λ s run stands. (refused s run stands).0) replayed,
         )

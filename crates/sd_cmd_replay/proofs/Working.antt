@@ -1,5 +1,5 @@
 -- That what goes through a schedule does the work of `replay`, and of `order`.
-use Rattle.std.proofs.Common.{◌≡◌, ℕ, ◌<◌, Bool, List, ◌∷◌, ◌++◌, Result, Ok, Err, refl, sym, ap, ◌∙◌, subst, length}
+use Rattle.std.proofs.Common.{◌≡◌, ℕ, ◌<◌, Bool, List, ◌∷◌, ◌++◌, take, Option, Some, None, Result, Ok, Err, refl, sym, ap, ◌∙◌, subst, length}
 use Rattle.std.specs.Prelude.{IfOk, nat_lt, ◌||◌}
 use Rattle.std.specs.List.{list_any}
 use Rattle.sd_num.specs.declared.NoMemory.{NoMemory}
@@ -24,7 +24,7 @@ use Rattle.sd_wait.specs.Waits.{tally_of as waits_of}
 use Rattle.sd_wait.specs.declared.WaitTally.{WaitTally}
 use Rattle.sd_outside.specs.Pieces.{piece_of}
 use Rattle.sd_cmd_files.specs.declared.Status.{Status}
-use Rattle.sd_cmd_files.specs.work.Taking.{Takes}
+use Rattle.sd_cmd_files.specs.work.Taking.{Takes, TakesFront}
 use Rattle.sd_cmd_files.specs.work.Works.{Work}
 use Rattle.sd_cmd_files.specs.declared.work.Taken.{Taken}
 use Rattle.sd_cmd_files.specs.declared.work.Taken.TheVariants as taken
@@ -58,6 +58,17 @@ module _ {V : Type 0} (o : observers.Ghosts V) where
   replay_takes old new line printed (Err why) takes = tt
   replay_takes old new line printed (Ok what) takes =
       λ work xs does. as_replay new line printed what work xs does.setting does.is (takes does.setting xs does.replayed)
+
+  -- a line was taken at the front of a text, or none
+  pub replay_takes_front : (old new : Replayed V o) (text printed : List ℕ) (result : Result (Option ℕ) NoMemory)
+      → IfOk result (λ found. (setting : Setting) (events : List Event) → HasReplayed o old.replay setting events
+      → TakesFront (replay_work setting) events text (HasReplayed o new.replay setting) printed found)
+      → IfOk result (λ found. (work : Work Event) (xs : List Event) → DoesReplay o old work xs → TakesFront work xs text (DoesReplay o new work) printed found)
+  replay_takes_front old new text printed (Err why) takes = tt
+  replay_takes_front old new text printed (Ok None) takes =
+      λ work xs does. record { setting = does.setting; is = does.is; replayed = takes does.setting xs does.replayed }
+  replay_takes_front old new text printed (Ok (Some len)) takes =
+      λ work xs does. as_replay new (take len text) printed taken.Accepted work xs does.setting does.is (takes does.setting xs does.replayed)
 
   pub replay_ends : (old : Replayed V o) (over : Bool)
       → ((setting : Setting) (events : List Event) → HasReplayed o old.replay setting events → over ≡ list_any is_end_event events)
@@ -128,6 +139,12 @@ pub order_takes : (old new : Ordered) (line printed : List ℕ) (what : Taken)
     → Takes (order_work setting) events line (HasReplayed ghosts new.replayed.replay setting) printed what) → (work : Work Event) (xs : List Event)
     → DoesOrder old work xs → Takes work xs line (DoesOrder new work) printed what
 order_takes old new line printed what takes work xs does = as_order new line printed what work xs does.setting does.is (takes does.setting xs does.replayed)
+
+-- none was
+pub order_stays : (old new : Ordered)
+    → ((setting : Setting) (events : List Event) → HasReplayed ghosts old.replayed.replay setting events
+    → HasReplayed ghosts new.replayed.replay setting events) → (work : Work Event) (xs : List Event) → DoesOrder old work xs → DoesOrder new work xs
+order_stays old new stays work xs does = record { setting = does.setting; is = does.is; replayed = stays does.setting xs does.replayed }
 
 pub order_ends : (old : Ordered) (over : Bool)
     → ((setting : Setting) (events : List Event) → HasReplayed ghosts old.replayed.replay setting events → over ≡ list_any is_end_event events)

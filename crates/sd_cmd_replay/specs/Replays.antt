@@ -2,7 +2,6 @@
 use Rattle.std.specs.Prelude.{ℕ, Bool, ◌||◌, List, [], ◌∷◌, ◌++◌, length, nat_lt, Option, None, Some, Result, Ok, Err, codes, option_map, if◌then◌else◌}
 use Rattle.sd_num.specs.Lists.{of_some}
 use Rattle.sd_msg.specs.Topo.Network.{Network}
-use Rattle.sd_core.specs.Plan.declared.Plan.{Plan}
 use Rattle.sd_sched.specs.declared.Event.{Event}
 use Rattle.sd_sched.specs.declared.LineFault.{LineFault}
 use Rattle.sd_sched.specs.Lines.{event_of_line}

@@ -1,5 +1,5 @@
 //! A replay with commit wait: the work of `order`.
-ghost use Rattle.std.specs.Prelude.{◌≡◌, ◌++◌, ◌||◌, List, nat_lt, IfOk, OnOk};
+ghost use Rattle.std.specs.Prelude.{◌≡◌, ◌++◌, ◌||◌, ℕ, List, length, nat_lt, OnOk};
 ghost use Rattle.sd_outside.specs.Printed.{printed};
 ghost use Rattle.sd_sched.specs.declared.Event.{Event as AnyEvent};
 ghost use Rattle.sd_replay.specs.History.World.{Setting};
@@ -8,6 +8,9 @@ ghost use Rattle.sd_replay.specs.History.Lines.{reports};
 ghost use Rattle.sd_replay.specs.Devices.{HasReplayed};
 ghost use Rattle.sd_wait.specs.Printed.{waits_line};
 ghost use Rattle.sd_wait.specs.declared.WaitTally.{WaitTally as AnyTally};
+ghost use Rattle.sd_cmd_files.specs.work.Taking.{Takes};
+ghost use Rattle.sd_cmd_files.specs.declared.work.Taken.TheVariants.{Accepted};
+ghost use Rattle.sd_cmd_replay.specs.Replays.{order_work, replay_work};
 ghost use Rattle.sd_cmd_replay.specs.Telling.{latest_name, latest_waits};
 ghost use Rattle.sd_cmd_replay.specs.contracts.told.ToldWaitsObserver.TheImpl.{ghosts};
 
@@ -40,30 +43,33 @@ fn name_of(replay: &Replay<Device, ToldWaits>) -> &str
     }
 }
 
-/// The lines of commit wait of the latest report.
-fn waits_of(alloc: Global, replay: &Replay<Device, ToldWaits>) -> Result<Vec<u8>, NoMemory>
-    ensures { (setting : Setting) (events : List AnyEvent)
-        → HasReplayed ghosts replay.now setting events
-        → IfOk result (λ lines. lines.items
-        ≡ latest_waits setting.net (reports (chronicle setting events))) }
-{
-    let name = name_of(replay);
-    replay.observer().waits.lines(alloc, name)
-}
-
 /// Adds the lines of commit wait of the latest report.
-fn add_waits(alloc: Global, replayed: &mut Replayed<ToldWaits>) -> Result<(), NoMemory>
+fn add_waits(replayed: &mut Replayed<ToldWaits>) -> Result<(), NoMemory>
     ensures text { (setting : Setting) (events : List AnyEvent)
         → HasReplayed ghosts replayed.old.replay setting events
         → OnOk result (replayed.new.text.items ≡ replayed.old.text.items
         ++ latest_waits setting.net (reports (chronicle setting events))) }
     ensures same { replayed.new.replay ≡ replayed.old.replay }
 {
-    let lines = waits_of(alloc, &replayed.replay)?;
-    match replayed.text.extend_from_slice(lines.as_slice()) {
-        Ok(()) => Ok(()),
-        Err(_) => Err(NoMemory),
+    let name = name_of(&replayed.replay);
+    let told = replayed.replay.observer();
+    told.waits.add_lines(&mut replayed.text, name)
+}
+
+/// Adds the lines of commit wait, if the line that was accepted last made a report. So many reports
+/// there were before it.
+fn add_reported(replayed: &mut Replayed<ToldWaits>, before: u64) -> Result<(), NoMemory>
+    ensures { OnOk result ((setting : Setting) (events : List AnyEvent) (line : List ℕ)
+        → before ≡ length (reports (chronicle setting events))
+        → Takes (replay_work setting) events line
+        (HasReplayed ghosts replayed.old.replay setting) replayed.old.text.items Accepted
+        → Takes (order_work setting) events line
+        (HasReplayed ghosts replayed.new.replay setting) replayed.new.text.items Accepted) }
+{
+    if replayed.reports() > before {
+        add_waits(replayed)?;
     }
+    Ok(())
 }
 
 /// Prints how many transactions began and ended, and at how many reports a disorder showed.
@@ -108,12 +114,21 @@ impl LineWork for Ordered {
         let reports = self.replayed.reports();
         match self.replayed.step(alloc, line)? {
             Taken::Accepted => {
-                if self.replayed.reports() > reports {
-                    add_waits(alloc, &mut self.replayed)?;
-                }
+                add_reported(&mut self.replayed, reports)?;
                 Ok(Taken::Accepted)
             }
             Taken::Refused => Ok(Taken::Refused),
+        }
+    }
+
+    fn take_front(&mut self, alloc: Global, text: &[u8]) -> Result<Option<usize>, NoMemory> {
+        let reports = self.replayed.reports();
+        match self.replayed.step_front(alloc, text)? {
+            Some(len) => {
+                add_reported(&mut self.replayed, reports)?;
+                Ok(Some(len))
+            }
+            None => Ok(None),
         }
     }
 

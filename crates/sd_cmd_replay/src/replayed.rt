@@ -1,5 +1,5 @@
 //! A replay on its way through a schedule: the work of `replay`.
-ghost use Rattle.std.specs.Prelude.{◌≡◌, ◌≤◌, ◌∷◌, [], List, length, codes, decimal, Ok, IfOk, OnOk};
+ghost use Rattle.std.specs.Prelude.{◌≡◌, ◌≤◌, ◌∷◌, [], List, length, codes, decimal, Ok, IfOk, IfSome, OnOk};
 ghost use Rattle.std.specs.List.{list_any};
 ghost use Rattle.sd_num.specs.Texts.{text_of};
 ghost use Rattle.sd_outside.specs.Printed.{printed};
@@ -11,7 +11,8 @@ ghost use Rattle.sd_replay.specs.History.Lines.{reports};
 ghost use Rattle.sd_replay.specs.History.Text.{done_bytes};
 ghost use Rattle.sd_replay.specs.Devices.{HasReplayed};
 ghost use Rattle.sd_replay.specs.Tallies.{tally_of, shows_trouble};
-ghost use Rattle.sd_cmd_files.specs.work.Taking.{Takes};
+ghost use Rattle.sd_cmd_files.specs.Stream.Windows.{EndsAt};
+ghost use Rattle.sd_cmd_files.specs.work.Taking.{Takes, TakesFront};
 ghost use Rattle.sd_replay.specs.Replaying.{lines_in};
 ghost use Rattle.sd_cmd_replay.specs.Reasoned.{HasReason};
 ghost use Rattle.sd_cmd_replay.specs.Replays as words;
@@ -24,6 +25,7 @@ use sd_msg::Observer;
 use sd_num::NoMemory;
 use sd_outside::{LineBuffer, Sink};
 use sd_replay::{Event, Replay, ReplayFault, Tally};
+use sd_sched::read_front;
 use std::alloc::Global;
 
 /// A replay of devices, and what is written for the latest line of its schedule.
@@ -107,6 +109,27 @@ impl<V: Observer> Replayed<V> {
         }
     }
 
+    /// Takes the line at the front of a text, if it is of a kind that nearly all are and its event
+    /// is accepted. Any other is left to `step`, which says why one is refused.
+    pub fn step_front(&mut self, alloc: Global, text: &[u8]) -> Result<Option<usize>, NoMemory>
+        ensures ends { IfOk result (λ found. IfSome found (λ len. EndsAt text.now len)) }
+        ensures takes { IfOk result (λ found. (setting : Setting) (events : List AnyEvent)
+            → HasReplayed V.Observer self.old.replay setting events
+            → TakesFront (words.replay_work setting) events text.now
+            (HasReplayed V.Observer self.new.replay setting) self.new.text.items found) }
+    {
+        let Some(front) = read_front(text) else {
+            return Ok(None);
+        };
+        match self.replay.step_event(alloc, &front.event) {
+            Ok(()) => {
+                self.accept()?;
+                Ok(Some(front.len))
+            }
+            Err(_) => Ok(None),
+        }
+    }
+
     /// Puts the lines of the latest event into the text.
     fn accept(&mut self) -> Result<Taken, NoMemory>
         ensures text { OnOk result (self.new.text.items ≡ lines_in self.old.replay) }
@@ -186,6 +209,10 @@ impl<V: Observer> LineWork for Replayed<V> {
 
     fn take(&mut self, alloc: Global, line: &[u8]) -> Result<Taken, NoMemory> {
         self.step(alloc, line)
+    }
+
+    fn take_front(&mut self, alloc: Global, text: &[u8]) -> Result<Option<usize>, NoMemory> {
+        self.step_front(alloc, text)
     }
 
     fn ended(&self) -> bool {

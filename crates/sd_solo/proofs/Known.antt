@@ -3,7 +3,7 @@ use Rattle.std.proofs.Common.{◌≡◌, ◌∙◌, ℕ, Bool, true, false, cond
 use Rattle.std.proofs.lemmas.Bool.{and_parts, eqb-true}
 use Rattle.std.specs.Prelude.{IfOk, find, nat_eq, slice_index}
 use Rattle.sd_num.specs.Lists.{of_some}
-use Rattle.sd_sched.specs.Lines.{Word, words, event_of_word, event_or_number, event_of_fields, event_of_line, has_unknown_kind, field_numbers, fields, first_field, same_bytes}
+use Rattle.sd_sched.specs.Lines.{Word, words, event_of_word, event_or_number, event_of_fields, event_of_line, has_unknown_kind, field_numbers, first_field, same_bytes}
 use Rattle.sd_sched.specs.Reading.{fields_behind}
 use Rattle.sd_sched.specs.declared.Event.{Event}
 use Rattle.sd_sched.specs.declared.Event.TheVariants as event

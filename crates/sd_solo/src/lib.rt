@@ -8,7 +8,7 @@ mod device;
 mod faults;
 mod line;
 
-pub use line::read_solo_line;
+pub use line::{read_solo_front, read_solo_line};
 use sd_clock::Estimate;
 
 /// Why an event is refused, the first cause in this order.

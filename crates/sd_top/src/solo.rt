@@ -1,5 +1,5 @@
 //! `solo`: the schedule of one device, line by line, and what is written for it.
-ghost use Rattle.std.specs.Prelude.{◌≡◌, ◌≤◌, [], ◌∷◌, true, Ok, Err, Some, IsTrue, IfOk, IfSome};
+ghost use Rattle.std.specs.Prelude.{◌≡◌, ◌≤◌, ℕ, [], ◌∷◌, true, Ok, Err, Some, IsTrue, IfOk, IfErr, IfSome, OnOk, OnErr};
 ghost use Rattle.sd_outside.specs.Causes.{RisesFor};
 ghost use Rattle.sd_outside.specs.Shelves.{KeepsShelf};
 ghost use Rattle.sd_cmd_files.specs.Stream.Reader.{IsNear};
@@ -17,7 +17,7 @@ use sd_cmd_replay::print_line_fault;
 use sd_num::NoMemory;
 use sd_outside::{LineBuffer, Shelf, Sink};
 use sd_sched::Event;
-use sd_solo::{Solo, read_solo_line};
+use sd_solo::{Solo, SoloFault, read_solo_front, read_solo_line};
 use std::alloc::Global;
 
 /// A device alone, and the line that was printed for its latest event. It takes no memory.
@@ -25,6 +25,37 @@ use std::alloc::Global;
 struct Alone {
     device: Solo,
     line: LineBuffer,
+}
+
+impl Alone {
+    ghost use Rattle.std.specs.Prelude.{List};
+    ghost use Rattle.sd_outside.specs.Printed.{printed as bytes_in};
+    ghost use Rattle.sd_sched.specs.declared.Event.{Event as AnyEvent};
+    ghost use Rattle.sd_solo.specs.Histories.{is_known, refusal};
+    ghost use Rattle.sd_solo.specs.Lines.{solo_event};
+    ghost use Rattle.sd_solo.specs.Registers.{StandsFor};
+    ghost use Rattle.sd_cmd_files.specs.declared.work.Taken.TheVariants.{Accepted};
+    ghost use Rattle.sd_cmd_files.specs.work.Taking.{Takes};
+    ghost use Rattle.sd_cmd_files.specs.work.Works.{Work};
+    ghost use Rattle.sd_top.specs.Alone.{IsAlone};
+
+    /// The device takes the event of a line, and what it reports is printed.
+    fn apply(&mut self, event: &Event) -> Result<(), SoloFault>
+        requires known { IsTrue (is_known event.now) }
+        ensures takes { OnOk result ((work : Work AnyEvent) (xs : List AnyEvent) (line : List ℕ)
+            → IsAlone self.old work xs → solo_event line ≡ Ok event.now
+            → Takes work xs line (IsAlone self.new work) (bytes_in self.new.line) Accepted) }
+        ensures refused { IfErr result (λ fault. (xs : List AnyEvent)
+            → StandsFor self.old.device xs → refusal xs event.now ≡ Some fault) }
+        ensures same { OnErr result (self.new.device ≡ self.old.device) }
+    {
+        match self.device.apply(event) {
+            Ok(Some(report)) => print_report(&mut self.line, self.device.events(), report),
+            Ok(None) => self.line.clear(),
+            Err(fault) => return Err(fault),
+        }
+        Ok(())
+    }
 }
 
 impl LineWork for Alone {
@@ -53,15 +84,24 @@ impl LineWork for Alone {
                 return Ok(Taken::Refused);
             }
         };
-        match self.device.apply(&event) {
-            Ok(Some(report)) => print_report(&mut self.line, self.device.events(), report),
-            Ok(None) => self.line.clear(),
+        match self.apply(&event) {
+            Ok(()) => Ok(Taken::Accepted),
             Err(fault) => {
                 print_solo_fault(&mut self.line, fault);
-                return Ok(Taken::Refused);
+                Ok(Taken::Refused)
             }
         }
-        Ok(Taken::Accepted)
+    }
+
+    fn take_front(&mut self, _alloc: Global, text: &[u8]) -> Result<Option<usize>, NoMemory> {
+        let Some(front) = read_solo_front(text) else {
+            return Ok(None);
+        };
+        match self.apply(&front.event) {
+            Ok(()) => Ok(Some(front.len)),
+            // `take` says why.
+            Err(_) => Ok(None),
+        }
     }
 
     fn ended(&self) -> bool {

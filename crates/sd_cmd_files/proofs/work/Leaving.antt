@@ -1,6 +1,5 @@
 -- What a command leaves at its sink that writes once, or may write more.
-use Rattle.std.proofs.Common.{◌≡◌, ℕ, true, false, List, Option, Result, Ok, Err, inl, inr, sym, ap, subst}
-use Rattle.std.specs.List.{concat}
+use Rattle.std.proofs.Common.{ℕ, true, false, List, Option, Result, Ok, Err, inl, inr, sym, ap, subst}
 use Rattle.sd_outside.specs.Pieces.{Pieces, piece_of}
 use Rattle.sd_outside.proofs.Adding.{concat_piece}
 use Rattle.sd_cmd_files.specs.Answering.{AtOnce, InWrites, May, MayWrite}

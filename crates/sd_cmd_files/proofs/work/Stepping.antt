@@ -77,6 +77,13 @@ step_end work before text xs answer =
 abbrev pub HoldsNext : {E : Type 0} → (Work E → List E → Step E → Type 0) → Option (List ℕ) → ℕ → Type 0
 HoldsNext {E = E} P left before = IfSome left (λ text. (w : Work E) (xs : List E) → P w xs (step_of w (before + length text) before xs (lines text)))
 
+-- a line that was passed
+pub next_passed : {E : Type 0} (P : Work E → List E → Step E → Type 0) (left : Option (List ℕ)) (before : ℕ) (line : List ℕ)
+    → IfSome left (λ text. answer_of before text ≡ Ok (Some line)) → ((w : Work E) (xs : List E) → P w xs (step_for w xs (w.says xs line)))
+    → HoldsNext P left before
+next_passed P None before line answer holds = tt
+next_passed P (Some text) before line answer holds = λ w xs. subst (P w xs) (sym (step_line w before text line xs answer)) (holds w xs)
+
 pub next_line : {E : Type 0} (P : Work E → List E → Step E → Type 0) (left : Option (List ℕ)) (before : ℕ) (field : Option (Bor (List ℕ))) (line : Bor (List ℕ))
     → field ≡ Some line → IfSome left (λ text. Answers (answer_of before text) (Ok field))
     → ((w : Work E) (xs : List E) → P w xs (step_for w xs (w.says xs line.now))) → HoldsNext P left before

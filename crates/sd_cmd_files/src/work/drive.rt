@@ -89,6 +89,42 @@ fn take_line<S: Shelf, O: Sink, W: LineWork>(
     ensures reader { HasTaken S.Shelf reader.old result reader.new }
     ensures sink { RisesFor (result ≡ Err IoError.Sink) (O.faults out.old) (O.faults out.new) }
 {
+    match progress.work.take_front(alloc, reader.window()) {
+        Ok(Some(len)) => {
+            reader.pass_line(len);
+            progress.write_accepted(out)?;
+            Ok(None)
+        }
+        Ok(None) => take_lent(alloc, reader, progress, out),
+        Err(_) => Err(IoError::Memory),
+    }
+}
+
+/// Takes the next line as it is lent. It answers the status where that is the last one.
+fn take_lent<S: Shelf, O: Sink, W: LineWork>(
+    alloc: Global,
+    reader: &mut LineReader<'_, S>,
+    progress: &mut Progress<W>,
+    out: &mut O,
+) -> Result<Option<Status>, IoError>
+    requires more { progress.old.taken ≤ 2 ^ 32 }
+    ensures makes { IfSome (text_left S.Shelf reader.old)
+        (λ text. (w : Work W.Item) (xs : List W.Item)
+        → Holds W.LineWork progress.old w xs
+        → Makes (step_of w (bytes_before reader.old + length text) (bytes_before reader.old) xs
+        (lines text)) xs (Holds W.LineWork progress.new w) result) }
+    ensures writes { IfSome (text_left S.Shelf reader.old)
+        (λ text. (w : Work W.Item) (xs : List W.Item)
+        → Holds W.LineWork progress.old w xs
+        → Adds (step_pieces w xs
+        (step_of w (bytes_before reader.old + length text) (bytes_before reader.old) xs
+        (lines text))) (O.written out.old) (O.written out.new) result) }
+    ensures counts { result ≡ Ok None → progress.new.taken ≡ progress.old.taken + 1 }
+    ensures gives { IfOk result
+        (λ last. IfSome last (λ status. IsTrue (is_among (Status.InputRefused ∷ W.gives) status))) }
+    ensures reader { HasTaken S.Shelf reader.old result reader.new }
+    ensures sink { RisesFor (result ≡ Err IoError.Sink) (O.faults out.old) (O.faults out.new) }
+{
     match reader.next_line() {
         Ok(Some(line)) => progress.take_line(alloc, line, out),
         Ok(None) => Ok(Some(progress.finish(alloc, out)?)),

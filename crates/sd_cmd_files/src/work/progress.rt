@@ -94,7 +94,7 @@ impl<W: LineWork> Progress<W> {
     }
 
     /// Writes what is due for a line that was accepted, by one write, if it is anything.
-    fn write_accepted<O: Sink>(&mut self, out: &mut O) -> Result<(), IoError>
+    pub fn write_accepted<O: Sink>(&mut self, out: &mut O) -> Result<(), IoError>
         requires more { self.old.taken < 2 ^ 63 }
         ensures writes { Adds (piece_of (W.printing self.old.work)) (O.written out.old)
             (O.written out.new)

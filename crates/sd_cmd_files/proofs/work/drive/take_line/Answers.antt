@@ -1,84 +1,33 @@
-use Rattle.std.proofs.Common.{Ok, Some, refl, length, ◌+◌, codes}
-use Rattle.sd_cmd_files.specs.declared.Status.{Status}
+use Rattle.std.proofs.Common.{Ok, None}
+use Rattle.sd_stream.specs.Windows.{window_of}
 use Rattle.sd_cmd_files.specs.work.Progresses.{Holds}
-use Rattle.sd_outside.specs.Pieces.{piece_of}
-use Rattle.sd_cmd_files.specs.work.Works.{refused_line}
-use Rattle.sd_cmd_files.proofs.work.Stepping.{next_line, next_end, next_long, next_past}
+use Rattle.sd_cmd_files.proofs.work.Front.{front_adds, front_makes}
+use Rattle.sd_cmd_files.proofs.work.Stepping.{next_passed}
 use Rattle.sd_cmd_files.proofs.work.Writing.{AddsStep, MakesStep, adds_handed_on}
 use Rattle.sd_cmd_files.proofs.work.drive.take_line.Goals as goal
 
-pub returns-in-Ok-Some-clause-makes : goal.returns-in-Ok-Some-clause-makes
-returns-in-Ok-Some-clause-makes g c =
-    next_line (MakesStep (Holds g.W.LineWork c.args.progress.now) (Holds g.W.LineWork c.take_line.new.self) c.take_line.result) _ _ c.in-Ok-Some.field-0
-    c.in-Ok-Some.line c.in-Ok-Some.field-0-is c.in-Ok-Some.ensures.answer c.take_line.ensures.makes
+pub returns-in_ok-write_accepted-in-Ok-Some-clause-makes :
+    goal.returns-in_ok-write_accepted-in-Ok-Some-clause-makes
+returns-in_ok-write_accepted-in-Ok-Some-clause-makes g c =
+    next_passed (MakesStep (Holds g.W.LineWork c.args.progress.now) (Holds g.W.LineWork c.write_accepted.new.self) (Ok None)) _ _ _
+    c.pass_line.ensures.answer
+    (λ w xs h. front_makes g.W.LineWork c.take_front.new.self w xs c.window.result.now (window_of c.args.reader.now) c.in-Ok-Some.len
+    c.in-Ok-Some.field-0 c.in-Ok-Some.field-0-is c.window.ensures.window (c.in-Ok-Some.ensures.takes w xs h.0) c.args.progress.now c.write_accepted.new.self
+    c.write_accepted.ensures.same h.1 c.write_accepted.ensures.counts)
 
-pub returns-in-Ok-Some-clause-writes : goal.returns-in-Ok-Some-clause-writes
-returns-in-Ok-Some-clause-writes g c =
-    next_line (AddsStep (Holds g.W.LineWork c.args.progress.now) _ _ c.take_line.result) _ _ c.in-Ok-Some.field-0
-    c.in-Ok-Some.line c.in-Ok-Some.field-0-is c.in-Ok-Some.ensures.answer c.take_line.ensures.writes
+pub returns-in_ok-write_accepted-in-Ok-Some-clause-writes :
+    goal.returns-in_ok-write_accepted-in-Ok-Some-clause-writes
+returns-in_ok-write_accepted-in-Ok-Some-clause-writes g c =
+    next_passed (AddsStep (Holds g.W.LineWork c.args.progress.now) _ _ (Ok c.in_ok-write_accepted-in-Ok-Some.field-0)) _ _ _ c.pass_line.ensures.answer
+    (λ w xs h. front_adds g.W.LineWork c.take_front.new.self w xs c.window.result.now (window_of c.args.reader.now) c.in-Ok-Some.len
+    c.in-Ok-Some.field-0 c.in-Ok-Some.field-0-is c.window.ensures.window (c.in-Ok-Some.ensures.takes w xs h.0)
+    (Ok c.in_ok-write_accepted-in-Ok-Some.field-0) _ _ c.in_ok-write_accepted-in-Ok-Some.ensures.writes)
 
-pub returns-in_ok-finish-in-Ok-None-clause-makes :
-    goal.returns-in_ok-finish-in-Ok-None-clause-makes
-returns-in_ok-finish-in-Ok-None-clause-makes g c =
-    next_end (MakesStep (Holds g.W.LineWork c.args.progress.now)
-    (Holds g.W.LineWork c.finish.new.self) (Ok (Some c.in_ok-finish-in-Ok-None.field-0))) _ _ c.in-Ok-None.field-0
-    c.in-Ok-None.field-0-is c.in-Ok-None.ensures.answer
-    c.in_ok-finish-in-Ok-None.ensures.makes
-
-pub returns-in_ok-finish-in-Ok-None-clause-writes :
-    goal.returns-in_ok-finish-in-Ok-None-clause-writes
-returns-in_ok-finish-in-Ok-None-clause-writes g c =
-    next_end (AddsStep (Holds g.W.LineWork c.args.progress.now) _ _ (Ok (Some c.in_ok-finish-in-Ok-None.field-0))) _ _ c.in-Ok-None.field-0
-    c.in-Ok-None.field-0-is c.in-Ok-None.ensures.answer c.in_ok-finish-in-Ok-None.ensures.writes
-
-pub returns-in_err-finish-in-Ok-None-clause-writes :
-    goal.returns-in_err-finish-in-Ok-None-clause-writes
-returns-in_err-finish-in-Ok-None-clause-writes g c =
+pub returns-in_err-write_accepted-in-Ok-Some-clause-writes :
+    goal.returns-in_err-write_accepted-in-Ok-Some-clause-writes
+returns-in_err-write_accepted-in-Ok-Some-clause-writes g c =
     let last = c.from_residual in
-    next_end (AddsStep (Holds g.W.LineWork c.args.progress.now) _ _ last.result) _ _ c.in-Ok-None.field-0
-    c.in-Ok-None.field-0-is c.in-Ok-None.ensures.answer
-    (λ w xs h. adds_handed_on Status last.result _ _ _ _ last.ensures.1 (c.in_err-finish-in-Ok-None.ensures.writes w xs h))
-
-pub returns-in_ok-refuse_for-in-Err-LongLine-clause-makes :
-    goal.returns-in_ok-refuse_for-in-Err-LongLine-clause-makes
-returns-in_ok-refuse_for-in-Err-LongLine-clause-makes g c =
-    next_long (MakesStep (Holds g.W.LineWork c.args.progress.now)
-    (Holds g.W.LineWork c.refuse_for.new.self) (Ok (Some c.in_ok-refuse_for-in-Err-LongLine.field-0))) _ _ c.in-Err-LongLine.field-0
-    c.in-Err-LongLine.field-0-is c.in-Err-LongLine.ensures.answer
-    (λ w xs h. (piece_of (refused_line w (length xs + 1) (codes "LongLine")), rw c.in_ok-refuse_for-in-Err-LongLine.ensures.status refl))
-
-pub returns-in_ok-refuse_for-in-Err-LongLine-clause-writes :
-    goal.returns-in_ok-refuse_for-in-Err-LongLine-clause-writes
-returns-in_ok-refuse_for-in-Err-LongLine-clause-writes g c =
-    next_long (AddsStep (Holds g.W.LineWork c.args.progress.now) _ _ (Ok (Some c.in_ok-refuse_for-in-Err-LongLine.field-0))) _ _ c.in-Err-LongLine.field-0
-    c.in-Err-LongLine.field-0-is c.in-Err-LongLine.ensures.answer c.in_ok-refuse_for-in-Err-LongLine.ensures.writes
-
-pub returns-in_err-refuse_for-in-Err-LongLine-clause-writes :
-    goal.returns-in_err-refuse_for-in-Err-LongLine-clause-writes
-returns-in_err-refuse_for-in-Err-LongLine-clause-writes g c =
-    let last = c.from_residual-in_err-refuse_for-in-Err-LongLine in
-    next_long (AddsStep (Holds g.W.LineWork c.args.progress.now) _ _ last.result) _ _ c.in-Err-LongLine.field-0
-    c.in-Err-LongLine.field-0-is c.in-Err-LongLine.ensures.answer
-    (λ w xs h. adds_handed_on Status last.result _ _ _ _ last.ensures.1 (c.in_err-refuse_for-in-Err-LongLine.ensures.writes w xs h))
-
-pub returns-in_ok-refuse_for-in-Err-Limit-clause-makes :
-    goal.returns-in_ok-refuse_for-in-Err-Limit-clause-makes
-returns-in_ok-refuse_for-in-Err-Limit-clause-makes g c =
-    next_past (MakesStep (Holds g.W.LineWork c.args.progress.now)
-    (Holds g.W.LineWork c.refuse_for-in-Err-Limit.new.self) (Ok (Some c.in_ok-refuse_for-in-Err-Limit.field-0))) _ _ c.in-Err-Limit.field-0
-    c.args.reader.now.within c.in-Err-Limit.field-0-is c.in-Err-Limit.ensures.answer
-    (λ w xs h. (piece_of (refused_line w (length xs + 1) (codes "Limit")), rw c.in_ok-refuse_for-in-Err-Limit.ensures.status refl))
-
-pub returns-in_ok-refuse_for-in-Err-Limit-clause-writes :
-    goal.returns-in_ok-refuse_for-in-Err-Limit-clause-writes
-returns-in_ok-refuse_for-in-Err-Limit-clause-writes g c =
-    next_past (AddsStep (Holds g.W.LineWork c.args.progress.now) _ _ (Ok (Some c.in_ok-refuse_for-in-Err-Limit.field-0))) _ _ c.in-Err-Limit.field-0
-    c.args.reader.now.within c.in-Err-Limit.field-0-is c.in-Err-Limit.ensures.answer c.in_ok-refuse_for-in-Err-Limit.ensures.writes
-
-pub returns-in_err-refuse_for-in-Err-Limit-clause-writes :
-    goal.returns-in_err-refuse_for-in-Err-Limit-clause-writes
-returns-in_err-refuse_for-in-Err-Limit-clause-writes g c =
-    let last = c.from_residual-in_err-refuse_for-in-Err-Limit in
-    next_past (AddsStep (Holds g.W.LineWork c.args.progress.now) _ _ last.result) _ _ c.in-Err-Limit.field-0
-    c.args.reader.now.within c.in-Err-Limit.field-0-is c.in-Err-Limit.ensures.answer
-    (λ w xs h. adds_handed_on Status last.result _ _ _ _ last.ensures.1 (c.in_err-refuse_for-in-Err-Limit.ensures.writes w xs h))
+    next_passed (AddsStep (Holds g.W.LineWork c.args.progress.now) _ _ last.result) _ _ _ c.pass_line.ensures.answer
+    (λ w xs h. front_adds g.W.LineWork c.take_front.new.self w xs c.window.result.now (window_of c.args.reader.now) c.in-Ok-Some.len
+    c.in-Ok-Some.field-0 c.in-Ok-Some.field-0-is c.window.ensures.window (c.in-Ok-Some.ensures.takes w xs h.0) last.result _ _
+    (adds_handed_on (Unit {0}) last.result _ _ _ _ last.ensures.1 c.in_err-write_accepted-in-Ok-Some.ensures.writes))

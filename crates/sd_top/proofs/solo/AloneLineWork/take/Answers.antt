@@ -1,15 +1,5 @@
-use Rattle.std.proofs.Common.{sym, ◌∙◌}
-use Rattle.sd_top.proofs.Alone.{goes_reporting, goes_silently}
+use Rattle.std.proofs.Common.{sym}
 use Rattle.sd_top.proofs.solo.AloneLineWork.take.Goals as goal
 
-pub returns-in-Ok-Some-clause-takes : goal.returns-in-Ok-Some-clause-takes
-returns-in-Ok-Some-clause-takes c =
-    λ work xs is.
-    let stands = c.in-Ok-Some.ensures.stands xs is.1 in
-    goes_reporting work xs c.in-Ok.event c.args.line.now _ c.apply.new.self c.in-Ok-Some.report _ is.0 c.in-Ok.ensures.event stands
-    (sym c.in-Ok-Some.field-0-is ∙ c.in-Ok-Some.ensures.accepted xs is.1) (c.events.ensures.count _ stands) c.print_report.ensures
-
-pub returns-in-Ok-None-clause-takes : goal.returns-in-Ok-None-clause-takes
-returns-in-Ok-None-clause-takes c =
-    λ work xs is. goes_silently work xs c.in-Ok.event c.args.line.now _ c.apply.new.self is.0 c.in-Ok.ensures.event (c.in-Ok-None.ensures.stands xs is.1)
-    (sym c.in-Ok-None.field-0-is ∙ c.in-Ok-None.ensures.accepted xs is.1) c.clear.ensures
+pub returns-in-Ok-apply-clause-takes : goal.returns-in-Ok-apply-clause-takes
+returns-in-Ok-apply-clause-takes c = λ work xs is. c.in-Ok-apply.ensures.takes work xs c.args.line.now is (sym c.in-Ok.ensures.event)
