@@ -1,6 +1,7 @@
-//! A fleet beside the plain slow program over whole histories (`trial`), and a fleet of as many
-//! devices as there may be (`load`).
+//! A fleet beside the plain slow program over whole histories (`trial`), a fleet of as many devices
+//! as there may be (`load`), and one that follows a schedule that was made (`made`).
 #![tactic(auto)]
 
 mod load;
+mod made;
 mod trial;

@@ -1,0 +1,65 @@
+//! The schedule of `case 2 3 3`. The program prints how many events and reports it has, which are
+//! counted here of its list.
+ghost use Rattle.std.specs.Prelude.{◌≤◌, ◌<◌, ◌^◌, length};
+ghost use Rattle.sd_gen.specs.Listed.{AreWithin};
+ghost use Rattle.sd_test_fleet_kit.specs.Topo.Topologies.{network};
+ghost use Rattle.sd_test_fleet_kit.specs.FleetState.membership.Plans.{AreSound};
+
+use sd_gen::{fabric_text, make_schedule};
+use sd_test_fleet_kit::device::Device;
+use sd_test_fleet_kit::examples::plans_of;
+use sd_test_fleet_kit::fleet::Fleet;
+use sd_test_fleet_kit::plan::Plan;
+use sd_test_fleet_kit::sched::Event;
+use sd_test_fleet_kit::topo::Topology;
+use sd_test_fleet_kit::topotext::read_topology;
+use std::process::Abort;
+use std::test::Fail;
+
+/// The greedy plans over three leaves and three spines: from s0, and from s1 without s0.
+const PLANS: [&str; 2] = [
+    r#"{"version":1,"root":"s0","backup_root":"s1","wait_first":1112349470,"wait_second":1112349470,"wait":5562637408,"absent_devices":[],"absent_links":[],"rows":[{"device":"s1","parent":"l0","link":"k0-1","backup":"l1","backup_link":"k1-1"},{"device":"s2","parent":"l0","link":"k0-2","backup":"l1","backup_link":"k1-2"},{"device":"l0","parent":"s0","link":"k0-0","backup":"s1","backup_link":"k0-1"},{"device":"l1","parent":"s0","link":"k1-0","backup":"s1","backup_link":"k1-1"},{"device":"l2","parent":"s0","link":"k2-0","backup":"s1","backup_link":"k2-1"}]}"#,
+    r#"{"version":1,"root":"s1","backup_root":"s2","wait_first":1112349470,"wait_second":1112349470,"wait":5562637408,"absent_devices":["s0"],"absent_links":[],"rows":[{"device":"s2","parent":"l0","link":"k0-2","backup":"l1","backup_link":"k1-2"},{"device":"l0","parent":"s1","link":"k0-1","backup":"s2","backup_link":"k0-2"},{"device":"l1","parent":"s1","link":"k1-1","backup":"s2","backup_link":"k1-2"},{"device":"l2","parent":"s1","link":"k2-1","backup":"s2","backup_link":"k2-2"}]}"#,
+];
+
+/// A fleet accepts the events one by one, and makes so many reports.
+fn assert_accepts(
+    rt: &(impl AllocGlobal + Abort),
+    fleet: &mut Fleet<Device>,
+    events: &[Event],
+    reports: u64,
+) -> Result<(), Fail>
+    requires { AreWithin events.now }
+{
+    let mut made = 0u64;
+    for event in events {
+        let outcome = fleet.apply(rt.alloc(), event)?;
+        made = made.saturating_add(u64::from(outcome.report.is_some()));
+    }
+    assert_eq!(rt; made, reports);
+    Ok(())
+}
+
+/// The schedule is listed, and a fleet accepts it.
+fn assert_followed(
+    rt: &(impl AllocGlobal + Abort),
+    topo: &Topology,
+    plans: &[Plan],
+) -> Result<(), Fail>
+    requires some { 1 ≤ length plans.now }
+    requires count { length plans.now < 2 ^ 32 }
+    requires sound { AreSound (network topo.now) plans.now }
+{
+    let schedule = make_schedule(rt.alloc(), topo, plans, 2)?;
+    assert_eq!(rt; schedule.as_slice().len(), 1521);
+    let mut fleet = Fleet::new(rt.alloc(), topo, plans)?;
+    assert_accepts(rt, &mut fleet, schedule.as_slice(), 20)
+}
+
+#[test]
+fn a_fleet_accepts_the_schedule_that_is_listed(rt: HostRuntime) -> Result<(), Fail> {
+    let text = fabric_text(rt.alloc(), 3, 3)?;
+    let topo = read_topology(rt.alloc(), text.as_slice())?;
+    let plans = plans_of(rt.alloc(), &topo, &PLANS)?;
+    assert_followed(&rt, &topo, plans.as_slice())
+}
