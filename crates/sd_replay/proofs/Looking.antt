@@ -26,7 +26,7 @@ use Rattle.sd_fleet.specs.FleetFabric.Outcomes.{first_number, outcome_of}
 use Rattle.sd_fleet.specs.FleetFabric.Doing.{asks}
 use Rattle.sd_replay.specs.declared.lines.findings.Findings.{Findings}
 use Rattle.sd_replay.specs.lines.Findings.{IsOf, found_lines, loop_found, roots_found}
-use Rattle.sd_replay.specs.Standing.{counted_acts}
+use Rattle.sd_replay.specs.Standing.{counted_acts, new_loop, new_roots}
 use Rattle.sd_replay.proofs.ParentTable.{loop_lines_are, root_lines_are}
 use Rattle.sd_replay.proofs.Flights.{seen_sent, first_is}
 
@@ -50,31 +50,19 @@ abbrev lines_with : BrokenSet → List Line → List Line → Option (ℕ × Rep
 lines_with broken loop acting report reference = broken_lines broken ++ loop ++ acting ++ of_some report [] (report_lines reference)
 
 -- the parts of what was found are those of the step
-pub record AreFound (setting : Setting) (s : Step) (earlier : List Step) (found : Findings) (loop_before loop_now : Option ℕ)
-    (roots_before roots_now : Option (ℕ × ℕ)) : Type 0 where
+pub record AreFound (setting : Setting) (s : Step) (earlier : List Step) (found : Findings) : Type 0 where
   pub broken : found.broken ≡ breaks setting (seen_of (s ∷ earlier))
-  pub looped : found.looped ≡ (if is_some loop_before then None else loop_now)
-  pub before_loop : first_on_loop setting earlier ≡ loop_before
-  pub now_loop : first_on_loop setting (s ∷ earlier) ≡ loop_now
-  pub acting : found.roots ≡ (if is_some roots_before then None else roots_now)
-  pub before_roots : roots_before ≡ two_least (roots setting earlier)
-  pub now_roots : roots_now ≡ two_least (roots setting (s ∷ earlier))
+  pub looped : found.looped ≡ new_loop setting s earlier
+  pub roots : found.roots ≡ new_roots setting s earlier
   pub report : found.report ≡ asked_report s
   pub reference : found.reference ≡ reference_of s.seen.event
 
-module _ (setting : Setting) (s : Step) (earlier : List Step) (found : Findings) (loop_before loop_now : Option ℕ) (roots_before roots_now : Option (ℕ × ℕ))
-    (are : AreFound setting s earlier found loop_before loop_now roots_before roots_now) where
+module _ (setting : Setting) (s : Step) (earlier : List Step) (found : Findings) (are : AreFound setting s earlier found) where
   loop_is : loop_found found.looped ≡ loop_lines (first_on_loop setting earlier) (first_on_loop setting (s ∷ earlier))
-  loop_is =
-      ap loop_found (are.looped ∙ ap (λ o. if is_some o then None else loop_now) (sym are.before_loop)
-      ∙ ap (λ o. if is_some (first_on_loop setting earlier) then None else o) (sym are.now_loop))
-      ∙ loop_lines_are (first_on_loop setting earlier) (first_on_loop setting (s ∷ earlier))
+  loop_is = ap loop_found are.looped ∙ loop_lines_are (first_on_loop setting earlier) (first_on_loop setting (s ∷ earlier))
 
   roots_is : roots_found found.roots ≡ root_lines (roots setting earlier) (roots setting (s ∷ earlier))
-  roots_is =
-      ap roots_found (are.acting ∙ ap (λ o. if is_some o then None else roots_now) are.before_roots
-      ∙ ap (λ o. if is_some (two_least (roots setting earlier)) then None else o) are.now_roots)
-      ∙ root_lines_are (roots setting earlier) (roots setting (s ∷ earlier))
+  roots_is = ap roots_found are.roots ∙ root_lines_are (roots setting earlier) (roots setting (s ∷ earlier))
 
   -- so its lines are
   pub lines_are : found_lines found ≡ lines_of setting (s ∷ earlier)
@@ -126,11 +114,12 @@ module _ (setting : Setting) (s : Step) (earlier : List Step) (found : Findings)
   found_of is =
       record {
         looped = subst (λ o. IfSome o (λ d. d < length setting.net.devices)) (sym are.looped)
-            (loop_within loop_before loop_now (λ d at. (found_passes (is_on_loop setting (s ∷ earlier)) (length setting.net.devices) d (are.now_loop ∙ at)).0));
-        first = subst (λ o. IfSome o (λ two. two.0 < length setting.net.devices)) (sym are.acting)
-            (first_within roots_before roots_now (λ two at. two_acting_bound two (sym are.now_roots ∙ at)));
-        second = subst (λ o. IfSome o (λ two. two.1 < length setting.net.devices)) (sym are.acting)
-            (second_within roots_before roots_now (λ two at. two_acting_bound two (sym are.now_roots ∙ at)));
+            (loop_within (first_on_loop setting earlier) (first_on_loop setting (s ∷ earlier))
+            (λ d at. (found_passes (is_on_loop setting (s ∷ earlier)) (length setting.net.devices) d at).0));
+        first = subst (λ o. IfSome o (λ two. two.0 < length setting.net.devices)) (sym are.roots)
+            (first_within (two_least (roots setting earlier)) (two_least (roots setting (s ∷ earlier))) two_acting_bound);
+        second = subst (λ o. IfSome o (λ two. two.1 < length setting.net.devices)) (sym are.roots)
+            (second_within (two_least (roots setting earlier)) (two_least (roots setting (s ∷ earlier))) two_acting_bound);
         asked = subst (λ o. IfSome o (λ told. told.0 < length setting.net.devices)) (sym are.report)
             (asked_within (asked_report s) (λ told at. named_is_known setting earlier s.seen.event told.0 is.1 (report_named told at)));
       }

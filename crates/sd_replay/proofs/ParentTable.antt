@@ -1,5 +1,6 @@
 -- What is kept of the parent_table of devices is how they stand after an event, and answers for loops and roots of the history.
-use Rattle.std.specs.Prelude.{◌≡◌, ◌≢◌, ℕ, zero, suc, ◌+◌, ◌<◌, Bool, false, List, [], ◌∷◌, ◌++◌, length, filter, nat_eq, replicate, Option, Some, None, is_some, option_and_then, MatchOption, refl, if◌then◌else◌}
+use Rattle.std.specs.Prelude.{◌≡◌, ◌≢◌, ℕ, zero, suc, ◌+◌, ◌<◌, Bool, false, List, [], ◌∷◌, ◌++◌, length, filter, find, nat_eq, replicate, slice_get, Option, Some, None, is_some, option_and_then, MatchOption, refl, if◌then◌else◌}
+use Rattle.std.specs.List.{list_any}
 use Rattle.std.proofs.Common.{sym, ap, ◌∙◌, subst, arith, inl, inr}
 use Rattle.std.proofs.lemmas.Bool.{cases_lt, cases_Bool, eqb-true, eqb-false, ne_eqb, le-leb}
 use Rattle.std.proofs.lemmas.List.{length-set, length-replicate}
@@ -7,18 +8,20 @@ use Rattle.std.proofs.lemmas.List.Elements.{filter-append}
 use Rattle.std.proofs.lemmas.Option.{same_Some}
 use Rattle.sd_num.specs.Lists.{below, of_some, at_place, same_number}
 use Rattle.sd_num.proofs.Places.{at_written, at_unwritten}
+use Rattle.sd_topo.specs.Network.{device_numbers}
 use Rattle.sd_watch.specs.Watch.{parent_in, follow, IsOnLoop, HasNoLoop, IsFirstOnLoop, acting_devices, two_least}
 use Rattle.sd_watch.proofs.Settling.{only_within}
 use Rattle.sd_sched.specs.Events.{device_of}
 use Rattle.sd_history.specs.World.{Setting}
 use Rattle.sd_history.specs.Steps.{Step}
 use Rattle.sd_history.specs.Accepted.{AreSteps}
+use Rattle.sd_history.specs.Lines as lines
 use Rattle.sd_history.specs.Lines.{RootsAlarm, counted_parent, first_on_loop, roots, loop_lines, root_lines}
 use Rattle.sd_replay.proofs.Loops.{UpIsKnown, parents_known, first_is}
 use Rattle.sd_watch.specs.parent_table.ParentTable as parent_table
 use Rattle.sd_watch.specs.declared.parent_table.ParentRow.{ParentRow}
 use Rattle.sd_replay.specs.lines.Findings.{loop_found, roots_found}
-use Rattle.sd_replay.specs.Standing.{counted_acts, parent_row_in, parent_row_at, IsSet, IsParentTable}
+use Rattle.sd_replay.specs.Standing.{counted_acts, parent_row_in, parent_row_at, IsSet, IsParentTable, new_loop, new_roots}
 use Rattle.sd_replay.proofs.Others.{parent_row_same}
 
 -- One device that is set
@@ -109,6 +112,37 @@ one_changed setting s earlier old new d parent_row is open_ named within stands 
     one : (x : ℕ) → device_of s.seen.event ≡ Some x → x ≡ d
     one x at = same_Some x d (sym at ∙ named)
 
+-- the named device stands as it is kept already
+pub one_kept : (setting : Setting) (s : Step) (earlier : List Step) (kept : parent_table.Kept) (d : ℕ) → AreSteps setting (s ∷ earlier) → s.seen.closed ≡ false
+    → device_of s.seen.event ≡ Some d → parent_row_at kept d ≡ parent_row_in setting (s ∷ earlier) d → IsParentTable kept setting earlier
+    → IsParentTable kept setting (s ∷ earlier)
+one_kept setting s earlier kept d is open_ named stands are =
+    record {
+      parents = are.parents;
+      acting = are.acting;
+      each = λ e inside. elim (cases_Bool (nat_eq e d)) [
+        | inl same ↦ subst (λ x. parent_row_at kept x ≡ parent_row_in setting (s ∷ earlier) x) (sym (eqb-true e d same)) stands
+        | inr apart ↦
+            let other : e ≢ d = eqb-false e d apart in
+            are.each e inside
+            ∙ sym (parent_row_same setting s earlier is e open_ (named_apart (device_of s.seen.event) e (λ x at same. other (same ∙ one x at))))
+      ];
+    }
+  where
+    one : (x : ℕ) → device_of s.seen.event ≡ Some x → x ≡ d
+    one x at = same_Some x d (sym at ∙ named)
+
+-- what is kept of a device is its row
+pub row_at : (kept : parent_table.Kept) (d : ℕ) (row : ParentRow) → slice_get kept.parents d ≡ Some row.parent → slice_get kept.acting d ≡ Some row.acts
+    → parent_row_at kept d ≡ row
+row_at kept d row parent acts =
+    ap (λ (p : Option ℕ). parent_row_of p (at_place kept.acting d false (λ acts. acts))) (ap (λ o. of_some o None (λ parent. parent)) parent)
+    ∙ ap (parent_row_of row.parent) (ap (λ o. of_some o false (λ acts. acts)) acts)
+
+-- two rows that say the same
+pub same_rows : (a b : ParentRow) → a.parent ≡ b.parent → a.acts ≡ b.acts → a ≡ b
+same_rows a b parent acts = λ i. parent_row_of (parent i) (acts i)
+
 -- no device is named, and each stands as before
 pub none_changed : (setting : Setting) (s : Step) (earlier : List Step) (kept : parent_table.Kept) → AreSteps setting (s ∷ earlier) → s.seen.closed ≡ false
     → device_of s.seen.event ≡ None → IsParentTable kept setting earlier → IsParentTable kept setting (s ∷ earlier)
@@ -173,6 +207,39 @@ module _ (kept : parent_table.Kept) (setting : Setting) (steps : List Step) (are
       same_below (λ d. at_place kept.acting d false (λ acts. acts)) (counted_acts setting steps) (length kept.acting)
       (λ d within. ap (λ (s : ParentRow). s.acts) (are.each d (subst (λ n. d < n) are.acting within)))
       ∙ ap (λ n. filter (counted_acts setting steps) (below n)) are.acting
+
+-- What is new
+
+-- there is nothing new where it is as before
+newly_same : {A : Type 0} (before now : Option A) → before ≡ now → None ≡ (if is_some before then None else now)
+newly_same None now same = same
+newly_same (Some x) now same = refl
+
+pub newly_is : {A : Type 0} (before now told_before told_now : Option A) → told_before ≡ before → told_now ≡ now
+    → (if is_some told_before then None else told_now) ≡ (if is_some before then None else now)
+newly_is before now told_before told_now was is =
+    ap (λ o. if is_some o then None else told_now) was ∙ ap (λ o. if is_some before then None else o) is
+
+-- the least device on a loop, by the parents of counted devices
+abbrev first_by : Setting → (ℕ → Option ℕ) → Option ℕ
+first_by setting parent =
+    find (λ d. list_any (λ n. same_number (lines.follow parent (n + 1) d) d) (device_numbers setting.net)) (device_numbers setting.net)
+
+-- what is kept stands for the steps, and for those with one more
+module _ (kept : parent_table.Kept) (setting : Setting) (s : Step) (earlier : List Step) (before : IsParentTable kept setting earlier)
+    (after : IsParentTable kept setting (s ∷ earlier)) (known : UpIsKnown setting earlier) (known_after : UpIsKnown setting (s ∷ earlier)) where
+  parents_stay : counted_parent setting earlier ≡ counted_parent setting (s ∷ earlier)
+  parents_stay = λ i d. (sym (parent_same kept setting earlier before known d) ∙ parent_same kept setting (s ∷ earlier) after known_after d) i
+
+  -- then there is no new loop
+  pub no_new_loop : None ≡ new_loop setting s earlier
+  no_new_loop = newly_same (first_on_loop setting earlier) (first_on_loop setting (s ∷ earlier)) (ap (first_by setting) parents_stay)
+
+  -- and there are no new roots
+  pub no_new_roots : None ≡ new_roots setting s earlier
+  no_new_roots =
+      newly_same (two_least (roots setting earlier)) (two_least (roots setting (s ∷ earlier)))
+      (ap two_least (sym (roots_are kept setting earlier before known) ∙ roots_are kept setting (s ∷ earlier) after known_after))
 
 -- Lines
 

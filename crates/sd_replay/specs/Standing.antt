@@ -1,10 +1,10 @@
 -- For which steps and runs the parts of a replay stand.
-use Rattle.std.specs.Prelude.{◌≡◌, ℕ, ◌<◌, ◌&&◌, List, length, min, slice_set, Bool, false}
+use Rattle.std.specs.Prelude.{◌≡◌, ℕ, ◌<◌, ◌&&◌, List, ◌∷◌, length, min, slice_set, Bool, false, Option, None, is_some, if◌then◌else◌}
 use Rattle.std.specs.Vec.{vec_capacity}
 use Rattle.sd_num.specs.Lists.{at_place}
 use Rattle.sd_replay.specs.lines.Printed.{printed}
 use Rattle.sd_topo.specs.Topologies.{network}
-use Rattle.sd_watch.specs.Watch.{parent_in}
+use Rattle.sd_watch.specs.Watch.{parent_in, two_least}
 use Rattle.sd_core.specs.declared.node.Node.{Ghosts}
 use Rattle.sd_msg.specs.declared.observer.Observer as observers
 use Rattle.sd_sched.specs.declared.Event.{Event}
@@ -12,7 +12,7 @@ use Rattle.sd_history.specs.World.{Setting, is_counted}
 use Rattle.sd_history.specs.Steps.{Step, seen_of, acts_in}
 use Rattle.sd_history.specs.Nodes.{NodeStep, steps_of}
 use Rattle.sd_history.specs.Refusals.{after_end}
-use Rattle.sd_history.specs.Lines.{counted_parent, reports}
+use Rattle.sd_history.specs.Lines.{counted_parent, first_on_loop, roots, reports}
 use Rattle.sd_history.specs.Text.{bytes_of}
 use Rattle.sd_fleet.specs.FleetFabric.declared.Outcome.{Outcome}
 use Rattle.sd_fleet.specs.declared.fleet.Fleet.{Fleet}
@@ -49,6 +49,14 @@ pub record IsParentTable (kept : parent_table.Kept) (setting : Setting) (steps :
   pub parents : length kept.parents ≡ length setting.net.devices
   pub acting : length kept.acting ≡ length setting.net.devices
   pub each : (d : ℕ) → d < length setting.net.devices → parent_row_at kept d ≡ parent_row_in setting steps d
+
+-- the least device on a loop, where there was no loop before the step
+abbrev pub new_loop : Setting → Step → List Step → Option ℕ
+new_loop setting s earlier = if is_some (first_on_loop setting earlier) then None else first_on_loop setting (s ∷ earlier)
+
+-- the two least devices that act as root, where fewer than two acted before the step
+abbrev pub new_roots : Setting → Step → List Step → Option (ℕ × ℕ)
+new_roots setting s earlier = if is_some (two_least (roots setting earlier)) then None else two_least (roots setting (s ∷ earlier))
 
 -- The parts
 

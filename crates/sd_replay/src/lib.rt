@@ -5,6 +5,7 @@
 //! run for which the replay stood, and a fault leaves it standing for the same runs.
 #![tactic(auto)]
 
+mod alarms;
 mod counting;
 mod event_output;
 mod faults;

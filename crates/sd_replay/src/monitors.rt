@@ -1,5 +1,5 @@
 //! Who looks on: judges the premises, and looks for loops of parents and several roots.
-ghost use Rattle.std.specs.Prelude.{◌≡◌, ◌<◌, ◌≤◌, ◌+◌, ◌^◌, List, [], ◌∷◌, length, OnOk, IfOk, if◌then◌else◌, is_some, None};
+ghost use Rattle.std.specs.Prelude.{◌≡◌, ◌<◌, ◌≤◌, ◌+◌, ◌^◌, List, [], ◌∷◌, length, OnOk, IfOk};
 ghost use Rattle.sd_topo.specs.Topologies.{network};
 ghost use Rattle.sd_history.specs.World.{Setting};
 ghost use Rattle.sd_history.specs.Steps.{Step};
@@ -9,8 +9,9 @@ ghost use Rattle.sd_fleet.specs.Standing.{IsAccepted};
 ghost use Rattle.sd_premise.specs.FleetState.membership.Plans.{AreSound};
 ghost use Rattle.sd_replay.specs.lines.Findings.{IsOf, found_lines};
 
+use crate::alarms::alarms_of;
 use crate::lines::Findings;
-use crate::sights::{collect, restand};
+use crate::sights::collect;
 use sd_core::Node;
 use sd_fleet::{Fleet, Outcome};
 use sd_msg::Flight;
@@ -29,16 +30,6 @@ pub(crate) struct Monitors {
     parent_table: ParentTable,
     /// The flights of one event, of which there is room for those that the next may send.
     sent: Vec<Flight>,
-}
-
-/// What there is now, where there was nothing of its kind before.
-fn newly<T: Copy>(before: Option<T>, now: Option<T>) -> Option<T>
-    ensures { result ≡ (if is_some before then None else now) }
-{
-    match before {
-        Some(_) => None,
-        None => now,
-    }
 }
 
 impl Monitors {
@@ -115,13 +106,11 @@ impl Monitors {
             acted: outcome.acted,
             closed: outcome.closed,
         });
-        let looped = self.parent_table.first_loop();
-        let roots = self.parent_table.two_acting();
-        restand(&mut self.parent_table, fleet, event, outcome);
+        let alarms = alarms_of(&mut self.parent_table, fleet, event, outcome);
         Findings {
             broken,
-            looped: newly(looped, self.parent_table.first_loop()),
-            roots: newly(roots, self.parent_table.two_acting()),
+            looped: alarms.looped,
+            roots: alarms.roots,
             report: outcome.report,
             reference: event.reference(),
         }

@@ -17,7 +17,7 @@ use sd_sched::Event;
 use sd_watch::parent_table::{ParentRow, ParentTable};
 
 /// How a device stands: nobody's follower and no root where it does not count as live.
-fn parent_row_of<N: Node>(fleet: &Fleet<N>, d: u32) -> ParentRow
+pub(crate) fn parent_row_of<N: Node>(fleet: &Fleet<N>, d: u32) -> ParentRow
     requires { d < length fleet.now.fabric.net.devices }
     ensures { (setting : Setting) (run : List (NodeStep N))
         → StandsFor N.Node fleet.now setting run → result ≡ parent_row_in setting (steps_of run) d }

@@ -2,7 +2,7 @@
 //! is asked of them after each event, the first loop of parents and the two least that act, is
 //! kept, and is looked for anew only where a parent or an acting changed, and a loop first from
 //! the device that changed.
-ghost use Rattle.std.specs.Prelude.{◌≡◌, ◌<◌, ◌≤◌, ℕ, None, false, length, replicate, slice_set, IfOk, MatchOption};
+ghost use Rattle.std.specs.Prelude.{◌≡◌, ◌<◌, ◌≤◌, ℕ, Some, None, false, length, replicate, slice_get, slice_set, IfOk, MatchOption};
 ghost use Rattle.sd_watch.specs.Watch.{parent_in, HasNoLoop, IsFirstOnLoop, acting_devices, two_least};
 
 use crate::{first_loop, loop_at, two_acting};
@@ -80,6 +80,20 @@ impl ParentTable {
             looped: None,
             roots: None,
         })
+    }
+
+    /// How a device stands.
+    #[inline(always)]
+    pub fn row(&self, d: u32) -> ParentRow
+        requires parents { d < length self.now.parents }
+        requires acting { d < length self.now.acting }
+        ensures parent { slice_get self.now.parents d ≡ Some result.parent }
+        ensures acts { slice_get self.now.acting d ≡ Some result.acts }
+    {
+        ParentRow {
+            parent: self.parents[d as usize],
+            acts: self.acting[d as usize],
+        }
     }
 
     /// A device stands so from now on. It takes no memory.

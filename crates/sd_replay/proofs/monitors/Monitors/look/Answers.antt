@@ -9,11 +9,8 @@ use Rattle.sd_history.specs.Steps.{seen_of}
 use Rattle.sd_history.specs.Nodes.{NodeStep, steps_of}
 use Rattle.sd_history.proofs.Known.{named_is_known}
 use Rattle.sd_fleet.specs.FleetFabric.declared.Outcome.{Outcome}
-use Rattle.sd_watch.specs.Watch.{two_least}
 use Rattle.sd_fleet.specs.Standing.{IsAccepted}
 use Rattle.sd_replay.specs.Standing.{Onlooks}
-use Rattle.sd_replay.proofs.Others.{steps_know}
-use Rattle.sd_replay.proofs.ParentTable.{loop_is, roots_are}
 use Rattle.sd_replay.proofs.Looking.{seen_by, AreFound, lines_are, found_of}
 use Rattle.sd_replay.proofs.Observing.{can_show, can_see, ask_merely, seen_on, broken_on}
 use Rattle.sd_replay.proofs.monitors.Monitors.look.Given.{Over}
@@ -34,8 +31,8 @@ observe-broken-requires g c =
     c.args.self.now.premises has.onlooks.premises
     (let few = c.collect.ensures.few in let same = ap length c.deref.ensures.value in omega (arith, few, same, c.requires.room))))
 
-pub restand-requires-clause-device : goal.restand-requires-clause-device
-restand-requires-clause-device g c =
+pub alarms_of-alarms-requires-clause-device : goal.alarms_of-alarms-requires-clause-device
+alarms_of-alarms-requires-clause-device g c =
     named (length c.args.fleet.now.fabric.net.devices) (device_of c.args.event.now)
     (λ d at. ∥∥₁_elim c.requires.step (search props)
     (λ has.
@@ -43,13 +40,13 @@ restand-requires-clause-device g c =
     (named_is_known has.setting (steps_of has.run) has.accepted.next.step.seen.event d has.accepted.stands.fabric.accepted.1
     (ap device_of has.accepted.happens ∙ at))))
 
-pub restand-requires-clause-parents : goal.restand-requires-clause-parents
-restand-requires-clause-parents g c =
+pub alarms_of-alarms-requires-clause-parents : goal.alarms_of-alarms-requires-clause-parents
+alarms_of-alarms-requires-clause-parents g c =
     ∥∥₁_elim c.requires.step (search props) (λ has. has.onlooks.parent_table.parents
     ∙ sym (ap (λ (net : Network). length net.devices) has.accepted.stands.fabric.net))
 
-pub restand-requires-clause-acting : goal.restand-requires-clause-acting
-restand-requires-clause-acting g c =
+pub alarms_of-alarms-requires-clause-acting : goal.alarms_of-alarms-requires-clause-acting
+alarms_of-alarms-requires-clause-acting g c =
     ∥∥₁_elim c.requires.step (search props) (λ has. has.onlooks.parent_table.acting
     ∙ sym (ap (λ (net : Network). length net.devices) has.accepted.stands.fabric.net))
 
@@ -61,7 +58,7 @@ returns-clause-stands g c = λ setting run accepted onlooks.
           seen_on g.N.Node c.args.fleet.now setting run c.args.event.now c.args.outcome.now accepted c.deref.result.now collected c.observe-broken.new.self
           (c.observe-broken.ensures.stands setting (seen_of (steps_of run))
           (can_show g.N.Node c.args.fleet.now setting run c.args.event.now c.args.outcome.now accepted c.deref.result.now collected) onlooks.premises);
-      parent_table = c.restand.ensures setting run accepted onlooks.parent_table;
+      parent_table = c.alarms_of-alarms.ensures.stands setting run accepted onlooks.parent_table;
     }
 
 -- the parts of what was found
@@ -70,39 +67,28 @@ found : (g : Over) (c : goal.After-reference g) (setting : Setting) (run : List 
     → AreFound setting accepted.next.step (steps_of run)
     (record {
       broken = c.observe-broken.result;
-      looped = c.newly.result;
-      roots = c.newly-2.result;
+      looped = c.alarms_of-alarms.result.looped;
+      roots = c.alarms_of-alarms.result.roots;
       report = c.args.outcome.now.report;
       reference = c.reference.result;
     })
-    c.first_loop-looped.result c.first_loop.result c.two_acting-roots.result c.two_acting.result
 found g c setting run accepted onlooks =
     let collected = c.deref.ensures.value ∙ c.collect.ensures.flights setting run c.args.event.now accepted in
-    let after = c.restand.ensures setting run accepted onlooks.parent_table in
-    let known = steps_know setting (steps_of run) accepted.stands.fabric.accepted.0 in
-    let known_after = steps_know setting (accepted.next.step ∷ steps_of run) accepted.stands.fabric.accepted in
     record {
       broken =
           broken_on g.N.Node c.args.fleet.now setting run c.args.event.now c.args.outcome.now accepted c.deref.result.now collected c.observe-broken.result
           (c.observe-broken.ensures.breaks setting (seen_of (steps_of run))
           (can_show g.N.Node c.args.fleet.now setting run c.args.event.now c.args.outcome.now accepted c.deref.result.now collected) onlooks.premises);
-      looped = c.newly.ensures;
-      before_loop =
-          loop_is c.args.self.now.parent_table setting (steps_of run) onlooks.parent_table known c.first_loop-looped.result c.first_loop-looped.ensures;
-      now_loop = loop_is c.restand.new.parent_table setting (accepted.next.step ∷ steps_of run) after known_after c.first_loop.result c.first_loop.ensures;
-      acting = c.newly-2.ensures;
-      before_roots = c.two_acting-roots.ensures ∙ ap two_least (roots_are c.args.self.now.parent_table setting (steps_of run) onlooks.parent_table known);
-      now_roots = c.two_acting.ensures ∙ ap two_least (roots_are c.restand.new.parent_table setting (accepted.next.step ∷ steps_of run) after known_after);
+      looped = c.alarms_of-alarms.ensures.looped setting run accepted onlooks.parent_table;
+      roots = c.alarms_of-alarms.ensures.roots setting run accepted onlooks.parent_table;
       report = ap (λ (o : Outcome). o.report) accepted.comes;
       reference = c.reference.ensures ∙ ap reference_of (sym accepted.happens);
     }
 
 pub returns-clause-found : goal.returns-clause-found
 returns-clause-found g c = λ setting run accepted onlooks.
-    lines_are setting accepted.next.step (steps_of run) _ c.first_loop-looped.result c.first_loop.result c.two_acting-roots.result c.two_acting.result
-    (found g c setting run accepted onlooks)
+    lines_are setting accepted.next.step (steps_of run) _ (found g c setting run accepted onlooks)
 
 pub returns-clause-devices : goal.returns-clause-devices
 returns-clause-devices g c = λ setting run accepted onlooks.
-    found_of setting accepted.next.step (steps_of run) _ c.first_loop-looped.result c.first_loop.result c.two_acting-roots.result c.two_acting.result
-    (found g c setting run accepted onlooks) accepted.stands.fabric.accepted
+    found_of setting accepted.next.step (steps_of run) _ (found g c setting run accepted onlooks) accepted.stands.fabric.accepted
