@@ -1,5 +1,5 @@
 //! All seven premises over one world.
-ghost use Rattle.std.specs.Prelude.{◌≡◌, true, ◌+◌, ◌-◌, ◌<◌, ◌≤◌, ◌^◌, ◌∷◌, [], List, length, false, None, IsTrue, OnOk, IfOk};
+ghost use Rattle.std.specs.Prelude.{◌≡◌, true, ◌+◌, ◌-◌, ◌<◌, ◌≤◌, ◌^◌, ◌∷◌, [], List, length, OnOk, IfOk};
 ghost use Rattle.sd_topo.specs.Topologies.{network};
 ghost use Rattle.sd_plan.specs.Domain.Failing.{HasRoomFor};
 ghost use Rattle.sd_history.specs.Premises.{breaks, broken_in};
@@ -8,26 +8,27 @@ ghost use Rattle.sd_fleet_state.specs.membership.Plans.{AreSound};
 ghost use Rattle.sd_fleet_state.specs.world.Registers.{HasNamed};
 ghost use Rattle.sd_fleet_state.specs.world.Standing.{Stands};
 ghost use Rattle.sd_premise_clocks.specs.Sights.{sight_of};
-ghost use Rattle.sd_premise_clocks.specs.Kinds.{IsTick, IsReceipt};
 ghost use Rattle.sd_premise_loss.specs.rounds.Loss.{number_taken};
 ghost use Rattle.sd_premise_renewal.specs.Progressing.{HasDevices};
 ghost use Rattle.sd_premise.specs.Order.{CanFollow};
 ghost use Rattle.sd_premise.specs.Worlds.{world_after};
+ghost use Rattle.sd_premise.specs.Calm.{IsCalmTick, IsCalmReceipt};
 
 #[cfg(test)]
 mod tests;
 
+use crate::delays::take_delayed;
 use crate::ground::Ground;
 use crate::monitors::Monitors;
-use crate::sets::{NONE_BROKEN, newly_broken};
+use crate::sets::{NONE_BROKEN, break_now};
 use sd_fleet_state::world::World;
 use sd_history::BrokenSet;
+use sd_msg::Flight;
 use sd_num::NoMemory;
 use sd_plan::Plan;
 use sd_premise_clocks::{DelayMonitor, DriftMonitor, PresentRows, Seen, StartMonitor, TickMonitor};
 use sd_premise_loss::rounds::Rounds;
 use sd_premise_renewal::{DomainMonitor, Moment, RenewalMonitor};
-use sd_sched::Event;
 use sd_topo::Topology;
 use std::alloc::Global;
 
@@ -65,23 +66,6 @@ fn number_taken(seen: &Seen<'_>) -> Option<u64>
         Some(flight) => Some(flight.number),
         None => None,
     }
-}
-
-/// Whether no window closes with the event, and no device enters the staged plan.
-#[inline(always)]
-fn is_plain(seen: &Seen<'_>) -> bool
-    ensures stays { IsTrue result → seen.now.closed ≡ false }
-    ensures activated { IsTrue result → seen.now.activated ≡ None }
-{
-    !seen.closed && seen.activated.is_none()
-}
-
-/// Whether the event received no flight.
-#[inline(always)]
-fn takes_none(seen: &Seen<'_>) -> bool
-    ensures { IsTrue result → seen.now.taken ≡ None }
-{
-    seen.taken.is_none()
 }
 
 /// The world after one event more, with which the window may close.
@@ -143,7 +127,8 @@ impl Premises {
     }
 
     /// Sees one event more, and answers which premises break with it: each that held of the events
-    /// before and does not hold with this one. It takes no memory.
+    /// before and does not hold with this one. It takes no memory. Of nearly all ticks and receipts
+    /// `tick` and `receive` answer the same for less.
     pub fn observe(&mut self, seen: &Seen<'_>) -> BrokenSet
         requires { CanObserve self.old (sight_of seen.now) }
         ensures stands { (setting : Setting) (earlier : List Sight)
@@ -158,125 +143,6 @@ impl Premises {
         ensures world { self.new.world ≡ world_after self.old.world (sight_of seen.now) }
         ensures network { net_of self.new ≡ net_of self.old }
     {
-        let now = self.judge(seen);
-        let breaks = newly_broken(self.broken, now);
-        self.broken = now;
-        breaks
-    }
-
-    /// Judges an event by its kind, and answers which premises are broken then. Nearly all events
-    /// are ticks and receipts, which can break few of them.
-    #[inline(always)]
-    fn judge(&mut self, seen: &Seen<'_>) -> BrokenSet
-        requires { CanObserve self.old (sight_of seen.now) }
-        ensures stands { (setting : Setting) (earlier : List Sight)
-            → CanFollow setting earlier (sight_of seen.now)
-            → StandsFor self.old setting earlier
-            → StandsFor (record self.new { broken = result }) setting
-            (sight_of seen.now ∷ earlier) }
-        ensures broken { self.new.broken ≡ self.old.broken }
-        ensures room { room_of self.old ≤ room_of self.new + length seen.now.sent.now }
-        ensures world { self.new.world ≡ world_after self.old.world (sight_of seen.now) }
-        ensures network { net_of self.new ≡ net_of self.old }
-    {
-        match seen.event {
-            Event::Tick {
-                reference,
-                device,
-                counter,
-            } if is_plain(seen) && takes_none(seen) => {
-                self.tick(seen, reference, device, counter)
-            }
-            Event::Recv {
-                reference,
-                device,
-                counter,
-                message,
-            } if is_plain(seen) => self.receive(seen, reference, device, counter, message),
-            _ => self.judge_any(seen),
-        }
-    }
-
-    /// Judges a tick that receives nothing and leaves the open window as it is, and answers which
-    /// premises are broken then. Only those on drift, ticks and loss can break.
-    #[inline(always)]
-    fn tick(&mut self, seen: &Seen<'_>, reference: u64, device: u32, counter: u64) -> BrokenSet
-        requires can { CanObserve self.old (sight_of seen.now) }
-        requires tick { IsTick (sight_of seen.now) reference device counter }
-        requires taken { seen.now.taken ≡ None }
-        requires activated { seen.now.activated ≡ None }
-        ensures stands { (setting : Setting) (earlier : List Sight)
-            → CanFollow setting earlier (sight_of seen.now)
-            → StandsFor self.old setting earlier
-            → StandsFor (record self.new { broken = result }) setting
-            (sight_of seen.now ∷ earlier) }
-        ensures broken { self.new.broken ≡ self.old.broken }
-        ensures room { room_of self.old ≤ room_of self.new + length seen.now.sent.now }
-        ensures world { self.new.world ≡ world_after self.old.world (sight_of seen.now) }
-        ensures network { net_of self.new ≡ net_of self.old }
-    {
-        self.world.note_call(reference, device, counter);
-        BrokenSet {
-            drift: !self
-                .drift
-                .read(&self.topology, device, reference, counter, false),
-            tick: !self.tick.tick(device, reference),
-            loss: !self.loss.see(reference, None, None, seen.sent),
-            ..self.broken
-        }
-    }
-
-    /// Judges a receipt that leaves the open window as it is, and answers which premises are broken
-    /// then. Only those on drift, delays, ticks and loss can break.
-    #[inline(always)]
-    fn receive(
-        &mut self,
-        seen: &Seen<'_>,
-        reference: u64,
-        device: u32,
-        counter: u64,
-        message: u64,
-    ) -> BrokenSet
-        requires can { CanObserve self.old (sight_of seen.now) }
-        requires receipt { IsReceipt (sight_of seen.now) reference device counter message }
-        requires activated { seen.now.activated ≡ None }
-        ensures stands { (setting : Setting) (earlier : List Sight)
-            → CanFollow setting earlier (sight_of seen.now)
-            → StandsFor self.old setting earlier
-            → StandsFor (record self.new { broken = result }) setting
-            (sight_of seen.now ∷ earlier) }
-        ensures broken { self.new.broken ≡ self.old.broken }
-        ensures room { room_of self.old ≤ room_of self.new + length seen.now.sent.now }
-        ensures world { self.new.world ≡ world_after self.old.world (sight_of seen.now) }
-        ensures network { net_of self.new ≡ net_of self.old }
-    {
-        self.world.note_call(reference, device, counter);
-        BrokenSet {
-            drift: !self
-                .drift
-                .read(&self.topology, device, reference, counter, false),
-            delay: !self.delay.observe(&self.topology, seen),
-            tick: !self.tick.receive(reference),
-            loss: !self
-                .loss
-                .see(reference, None, number_taken(seen), seen.sent),
-            ..self.broken
-        }
-    }
-
-    /// Judges an event of any kind, and answers which premises are broken then.
-    fn judge_any(&mut self, seen: &Seen<'_>) -> BrokenSet
-        requires { CanObserve self.old (sight_of seen.now) }
-        ensures stands { (setting : Setting) (earlier : List Sight)
-            → CanFollow setting earlier (sight_of seen.now)
-            → StandsFor self.old setting earlier
-            → StandsFor (record self.new { broken = result }) setting
-            (sight_of seen.now ∷ earlier) }
-        ensures broken { self.new.broken ≡ self.old.broken }
-        ensures room { room_of self.old ≤ room_of self.new + length seen.now.sent.now }
-        ensures world { self.new.world ≡ world_after self.old.world (sight_of seen.now) }
-        ensures network { net_of self.new ≡ net_of self.old }
-    {
         let before = Moment {
             topo: &self.topology,
             members: &self.members,
@@ -285,7 +151,7 @@ impl Premises {
         };
         let renew = self.renew.observe(before, seen);
         observe_world(&mut self.world, seen);
-        BrokenSet {
+        let now = BrokenSet {
             start: !self.start.observe(seen),
             drift: !self.drift.observe(&self.topology, seen),
             delay: !self.delay.observe(&self.topology, seen),
@@ -295,7 +161,80 @@ impl Premises {
                 .observe(&seen.event, number_taken(seen), seen.sent),
             domain: !self.domain.observe(&self.topology, seen),
             renew: !renew,
-        }
+        };
+        break_now(&mut self.broken, now)
+    }
+
+    /// As `observe`, of a tick that receives nothing, with which no window closes and no device
+    /// enters the staged plan. Of the premises only those on drift, ticks and loss can break.
+    #[inline(always)]
+    pub fn tick(&mut self, reference: u64, device: u32, counter: u64, sent: &[Flight]) -> BrokenSet
+        requires room { length sent.now ≤ room_of self.old }
+        requires device { device < length self.old.world.devices }
+        requires events { self.old.world.events < 2 ^ 26 }
+        ensures stands { (setting : Setting) (earlier : List Sight) (s : Sight)
+            → IsCalmTick s reference device counter sent.now → CanFollow setting earlier s
+            → StandsFor self.old setting earlier → StandsFor self.new setting (s ∷ earlier) }
+        ensures breaks { (setting : Setting) (earlier : List Sight) (s : Sight)
+            → IsCalmTick s reference device counter sent.now → CanFollow setting earlier s
+            → StandsFor self.old setting earlier → result ≡ breaks setting (s ∷ earlier) }
+        ensures room { room_of self.old ≤ room_of self.new + length sent.now }
+        ensures world { (s : Sight) → IsCalmTick s reference device counter sent.now
+            → self.new.world ≡ world_after self.old.world s }
+        ensures network { net_of self.new ≡ net_of self.old }
+    {
+        self.world.note_call(reference, device, counter);
+        let now = BrokenSet {
+            drift: !self
+                .drift
+                .read(&self.topology, device, reference, counter, false),
+            tick: !self.tick.tick(device, reference),
+            loss: !self.loss.see(reference, None, None, sent),
+            ..self.broken
+        };
+        break_now(&mut self.broken, now)
+    }
+
+    /// As `observe`, of a receipt of this flight, with which no window closes and no device enters
+    /// the staged plan. Of the premises only those on drift, delays, ticks and loss can break.
+    #[inline(always)]
+    pub fn receive(
+        &mut self,
+        reference: u64,
+        device: u32,
+        counter: u64,
+        flight: &Flight,
+        sent: &[Flight],
+    ) -> BrokenSet
+        requires room { length sent.now ≤ room_of self.old }
+        requires device { device < length self.old.world.devices }
+        requires link { flight.now.link < length (net_of self.old).links }
+        requires events { self.old.world.events < 2 ^ 26 }
+        ensures stands { (setting : Setting) (earlier : List Sight) (s : Sight)
+            → IsCalmReceipt s reference device counter flight.now sent.now
+            → CanFollow setting earlier s
+            → StandsFor self.old setting earlier → StandsFor self.new setting (s ∷ earlier) }
+        ensures breaks { (setting : Setting) (earlier : List Sight) (s : Sight)
+            → IsCalmReceipt s reference device counter flight.now sent.now
+            → CanFollow setting earlier s
+            → StandsFor self.old setting earlier → result ≡ breaks setting (s ∷ earlier) }
+        ensures room { room_of self.old ≤ room_of self.new + length sent.now }
+        ensures world { (s : Sight)
+            → IsCalmReceipt s reference device counter flight.now sent.now
+            → self.new.world ≡ world_after self.old.world s }
+        ensures network { net_of self.new ≡ net_of self.old }
+    {
+        self.world.note_call(reference, device, counter);
+        let now = BrokenSet {
+            drift: !self
+                .drift
+                .read(&self.topology, device, reference, counter, false),
+            delay: !take_delayed(&mut self.delay, &self.topology, reference, flight),
+            tick: !self.tick.receive(reference),
+            loss: !self.loss.see(reference, None, Some(flight.number), sent),
+            ..self.broken
+        };
+        break_now(&mut self.broken, now)
     }
 
     /// Which premises are broken so far.

@@ -29,3 +29,14 @@ pub(crate) fn newly_broken(before: BrokenSet, now: BrokenSet) -> BrokenSet
         renew: now.renew && !before.renew,
     }
 }
+
+/// Keeps which premises are broken now, and answers those that were not before.
+#[inline(always)]
+pub(crate) fn break_now(broken: &mut BrokenSet, now: BrokenSet) -> BrokenSet
+    ensures breaks { result ≡ newly broken.old now }
+    ensures kept { broken.new ≡ now }
+{
+    let breaks = newly_broken(*broken, now);
+    *broken = now;
+    breaks
+}

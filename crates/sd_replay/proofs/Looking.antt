@@ -13,7 +13,7 @@ use Rattle.sd_sched.specs.declared.Event.{Event}
 use Rattle.sd_sched.specs.declared.Event.TheVariants as event
 use Rattle.sd_sched.specs.Events.{reference_of, device_of}
 use Rattle.sd_history.specs.declared.BrokenSet.{BrokenSet}
-use Rattle.sd_history.specs.World.{Setting, Seen}
+use Rattle.sd_history.specs.World.{Setting}
 use Rattle.sd_history.specs.Steps.{Step, seen_of, flight_count}
 use Rattle.sd_history.specs.Accepted.{AreSteps}
 use Rattle.sd_history.specs.Premises.{breaks}
@@ -26,23 +26,20 @@ use Rattle.sd_fleet.specs.FleetFabric.Outcomes.{first_number, outcome_of}
 use Rattle.sd_fleet.specs.FleetFabric.Doing.{asks}
 use Rattle.sd_replay.specs.declared.lines.findings.Findings.{Findings}
 use Rattle.sd_replay.specs.lines.Findings.{IsOf, found_lines, loop_found, roots_found}
+use Rattle.sd_replay.specs.Sights.{sight_by}
 use Rattle.sd_replay.specs.Standing.{counted_acts, new_loop, new_roots}
 use Rattle.sd_replay.proofs.ParentTable.{loop_lines_are, root_lines_are}
 use Rattle.sd_replay.proofs.Flights.{seen_sent, first_is}
 
 -- What is seen
 
-abbrev pub seen_by : Event → Option Flight → List Flight → Option ℕ → Bool → Bool → Seen
-seen_by e taken sent activated acted closed = record { event = e; taken = taken; sent = sent; activated = activated; acted = acted; closed = closed }
-
 -- it is told of the event, its outcome and its flights that reach
 pub sight_is : (setting : Setting) (s : Step) (earlier : List Step) (e : Event) (outcome : Outcome) (sent : List Flight) → AreSteps setting (s ∷ earlier)
-    → s.seen.event ≡ e → outcome ≡ outcome_of s → sent ≡ filter (λ f. f.reaches) s.sent
-    → seen_by e outcome.taken sent outcome.activated outcome.acted outcome.closed ≡ s.seen
+    → s.seen.event ≡ e → outcome ≡ outcome_of s → sent ≡ filter (λ f. f.reaches) s.sent → sight_by e outcome sent ≡ s.seen
 sight_is setting s earlier e outcome sent is happens comes reach =
-    ap (λ (o : Outcome). seen_by e o.taken sent o.activated o.acted o.closed) comes
-    ∙ ap (λ (x : Event). seen_by x s.seen.taken sent s.seen.activated s.seen.acted s.seen.closed) (sym happens)
-    ∙ ap (λ (fs : List Flight). seen_by s.seen.event s.seen.taken fs s.seen.activated s.seen.acted s.seen.closed) (reach ∙ sym (seen_sent setting s earlier is))
+    ap (λ (o : Outcome). sight_by e o sent) comes
+    ∙ ap (λ (x : Event). sight_by x (outcome_of s) sent) (sym happens)
+    ∙ ap (λ (fs : List Flight). sight_by s.seen.event (outcome_of s) fs) (reach ∙ sym (seen_sent setting s earlier is))
 
 -- What is found
 

@@ -21,13 +21,14 @@ use Rattle.sd_premise.specs.Standing as premises
 use Rattle.sd_premise.specs.declared.premises.Premises.{Premises}
 use Rattle.sd_premise.proofs.Stepping.{can_follow}
 use Rattle.sd_premise.proofs.Asking.{can_observe}
-use Rattle.sd_replay.proofs.Looking.{seen_by, sight_is}
+use Rattle.sd_replay.specs.Sights.{sight_by}
+use Rattle.sd_replay.proofs.Looking.{sight_is}
 
 module _ {N : Type 0} (g : Ghosts N) (fleet : Fleet N g) (setting : Setting) (run : List (NodeStep N)) (e : Event) (outcome : Outcome)
     (accepted : IsAccepted g fleet setting run e outcome) (sent : List Flight)
     (collected : sent ≡ filter (λ f. f.reaches) accepted.next.step.sent) where
   abbrev sight : Seen
-  sight = seen_by e outcome.taken sent outcome.activated outcome.acted outcome.closed
+  sight = sight_by e outcome sent
 
   seen_is : sight ≡ accepted.next.step.seen
   seen_is = sight_is setting accepted.next.step (steps_of run) e outcome sent accepted.stands.fabric.accepted accepted.happens accepted.comes collected

@@ -9,6 +9,7 @@ mod alarms;
 mod counting;
 mod event_output;
 mod faults;
+mod judging;
 pub mod lines;
 mod monitors;
 mod plans;

@@ -10,6 +10,7 @@ ghost use Rattle.sd_premise.specs.FleetState.membership.Plans.{AreSound};
 ghost use Rattle.sd_replay.specs.lines.Findings.{IsOf, found_lines};
 
 use crate::alarms::alarms_of;
+use crate::judging::judge;
 use crate::lines::Findings;
 use crate::sights::collect;
 use sd_core::Node;
@@ -17,7 +18,7 @@ use sd_fleet::{Fleet, Outcome};
 use sd_msg::Flight;
 use sd_num::NoMemory;
 use sd_plan::Plan;
-use sd_premise::{Premises, Seen};
+use sd_premise::Premises;
 use sd_sched::Event;
 use sd_topo::Topology;
 use sd_watch::parent_table::ParentTable;
@@ -98,14 +99,7 @@ impl Monitors {
         ensures report { result.report ≡ outcome.now.report }
     {
         collect(fleet, outcome, &mut self.sent);
-        let broken = self.premises.observe(&Seen {
-            event: *event,
-            taken: outcome.taken,
-            sent: &self.sent,
-            activated: outcome.activated,
-            acted: outcome.acted,
-            closed: outcome.closed,
-        });
+        let broken = judge(&mut self.premises, event, outcome, &self.sent);
         let alarms = alarms_of(&mut self.parent_table, fleet, event, outcome);
         Findings {
             broken,

@@ -1,45 +1,42 @@
-use Rattle.std.proofs.Common.{◌≤◌, false, None, length, subst, refl, sym, ap, ◌∙◌}
+use Rattle.std.proofs.Common.{◌≤◌, false, None, Some, length, Option, option_map, subst, sym, ap, ◌∙◌}
 use Rattle.sd_topo.specs.Network.{Network}
+use Rattle.sd_msg.specs.declared.Flight.{Flight}
 use Rattle.sd_sched.specs.declared.Event.TheVariants.{Recv}
 use Rattle.sd_sched.specs.Events.{reference_of}
 use Rattle.sd_sched.specs.Honesty.{clock_set}
 use Rattle.sd_history.specs.Refusals.{makes_some}
 use Rattle.sd_history.specs.Things.{failure_of}
-use Rattle.sd_history.specs.World.{Seen}
 use Rattle.sd_premise_clocks.specs.Drifts.{reading_of, IsReading}
-use Rattle.sd_premise_clocks.specs.Sights.{sight_of}
 use Rattle.sd_premise_clocks.proofs.Skipping.{start_skips}
 use Rattle.sd_premise_loss.specs.rounds.Standing.{IsShown}
 use Rattle.sd_premise_renewal.proofs.Skipping.{domain_skips, renewal_skips_receipt}
 use Rattle.sd_premise.proofs.Following.{follows}
 use Rattle.sd_premise.proofs.Worlds.{world_stands, world_by}
-use Rattle.sd_premise.proofs.Judging.{receipt_answered}
+use Rattle.sd_premise.proofs.Judging.{receipt_answered, breaks_with}
 use Rattle.sd_premise.proofs.premises.Premises.receive.Goals as goal
 
 pub returns-clause-world : goal.returns-clause-world
-returns-clause-world c =
-    c.note_call.ensures.receipt c.args.message
-    ∙ world_by c.args.self.now.world (sight_of c.args.seen.now) (Recv c.args.reference c.args.device c.args.counter c.args.message)
-    c.requires.receipt.event c.requires.receipt.stays
+returns-clause-world c s is =
+    c.note_call.ensures.receipt is.message
+    ∙ world_by c.args.self.now.world s (Recv c.args.reference c.args.device c.args.counter is.message) is.receipt.event is.receipt.stays
 
 pub returns-clause-stands : goal.returns-clause-stands
-returns-clause-stands c setting earlier can stands =
-    let s : Seen = sight_of c.args.seen.now in
-    let is = c.requires.receipt in
-    let at = ap reference_of is.event in
-    let reading : IsReading s.event c.args.device c.args.reference c.args.counter false = record { reading = ap reading_of is.event; life = sym (ap makes_some is.event) } in
-    let shown : IsShown c.args.reference None c.number_taken.result c.args.seen.now.sent.now s = record {
+returns-clause-stands c setting earlier s is can stands =
+    let event = is.receipt.event in
+    let at = ap reference_of event in
+    let reading : IsReading s.event c.args.device c.args.reference c.args.counter false = record { reading = ap reading_of event; life = sym (ap makes_some event) } in
+    let shown : IsShown c.args.reference None (Some c.args.flight.now.number) c.args.sent.now s = record {
       reference = at;
-      failed = ap failure_of is.event;
-      taken = sym c.number_taken.ensures;
-      sent = refl;
+      failed = ap failure_of event;
+      taken = ap (λ (o : Option Flight). option_map (λ f. f.number) o) is.taken;
+      sent = is.sends;
     } in
-    let start = start_skips c.args.self.now.start s earlier (ap clock_set is.event) stands.start in
+    let start = start_skips c.args.self.now.start s earlier (ap clock_set event) stands.start in
     let some : 1 ≤ length setting.net.devices =
     subst (λ (n : Network). 1 ≤ length n.devices) (sym stands.net) c.args.self.now.topology.is_network.devices.0 in
-    let domain = domain_skips setting c.args.self.now.domain s earlier (ap failure_of is.event) is.stays some stands.domain in
-    let renew = renewal_skips_receipt setting c.args.self.now.renew s earlier c.args.reference c.args.device c.args.counter c.args.message is
-    c.requires.activated can.allowed stands.renew in
+    let domain = domain_skips setting c.args.self.now.domain s earlier (ap failure_of event) is.receipt.stays some stands.domain in
+    let renew = renewal_skips_receipt setting c.args.self.now.renew s earlier c.args.reference c.args.device c.args.counter is.message is.receipt
+    is.activated can.allowed stands.renew in
     record {
       order = (stands.order, can);
       net = stands.net;
@@ -47,21 +44,28 @@ returns-clause-stands c setting earlier can stands =
       sound = stands.sound;
       members = stands.members;
       links = stands.links;
-      world = world_stands c.args.self.now.world _ setting s earlier (returns-clause-world c) stands.world;
+      world = world_stands c.args.self.now.world _ setting s earlier (returns-clause-world c s is) stands.world;
       start = start;
       drift = c.read.ensures.stands setting earlier s stands.net reading stands.drift can.allowed;
-      delay = c.observe.ensures.stands setting earlier stands.net stands.delay;
-      tick = c.receive.ensures.stands setting earlier s c.args.device c.args.counter c.args.message is can.allowed stands.tick;
+      delay = c.take_delayed.ensures.stands setting earlier s stands.net at is.taken stands.delay;
+      tick = c.receive.ensures.stands setting earlier s c.args.device c.args.counter is.message is.receipt can.allowed stands.tick;
       loss = c.see.ensures.stands setting earlier s shown (follows setting earlier s can) stands.loss;
       domain = domain;
       renew = renew;
       broken =
-          receipt_answered setting s earlier c.args.self.now.broken c.read.result c.observe.result c.receive.result c.see.result stands.broken
+          c.break_now.ensures.kept
+          ∙ receipt_answered setting s earlier c.args.self.now.broken c.read.result c.take_delayed.result c.receive.result c.see.result stands.broken
           (sym stands.start.holds ∙ start.holds)
           (c.read.ensures.holds setting earlier s stands.net reading stands.drift can.allowed)
-          (c.observe.ensures.holds setting earlier stands.net stands.delay)
-          (c.receive.ensures.holds setting earlier s c.args.device c.args.counter c.args.message is can.allowed stands.tick)
+          (c.take_delayed.ensures.holds setting earlier s stands.net at is.taken stands.delay)
+          (c.receive.ensures.holds setting earlier s c.args.device c.args.counter is.message is.receipt can.allowed stands.tick)
           (c.see.ensures.holds setting earlier s shown (follows setting earlier s can) stands.loss)
           (sym stands.domain.holds ∙ domain.holds)
           (sym stands.renew.holds ∙ renew.holds);
     }
+
+pub returns-clause-breaks : goal.returns-clause-breaks
+returns-clause-breaks c setting earlier s is can stands =
+    c.break_now.ensures.breaks
+    ∙ breaks_with setting s earlier c.args.self.now.broken _ stands.broken
+    (sym c.break_now.ensures.kept ∙ (returns-clause-stands c setting earlier s is can stands).broken)

@@ -1,4 +1,4 @@
-use Rattle.std.proofs.Common.{◌≤◌, false, None, length, Option, option_map, subst, refl, sym, ap, ◌∙◌}
+use Rattle.std.proofs.Common.{◌≤◌, false, None, length, Option, option_map, subst, sym, ap, ◌∙◌}
 use Rattle.sd_topo.specs.Network.{Network}
 use Rattle.sd_msg.specs.declared.Flight.{Flight}
 use Rattle.sd_sched.specs.declared.Event.TheVariants.{Tick}
@@ -6,42 +6,38 @@ use Rattle.sd_sched.specs.Events.{reference_of}
 use Rattle.sd_sched.specs.Honesty.{clock_set}
 use Rattle.sd_history.specs.Refusals.{makes_some}
 use Rattle.sd_history.specs.Things.{failure_of}
-use Rattle.sd_history.specs.World.{Seen}
 use Rattle.sd_premise_clocks.specs.Drifts.{reading_of, IsReading}
-use Rattle.sd_premise_clocks.specs.Sights.{sight_of}
 use Rattle.sd_premise_clocks.proofs.Skipping.{start_skips, delay_skips}
 use Rattle.sd_premise_loss.specs.rounds.Standing.{IsShown}
 use Rattle.sd_premise_renewal.proofs.Skipping.{domain_skips, renewal_skips_tick}
 use Rattle.sd_premise.proofs.Following.{follows, tick_before}
 use Rattle.sd_premise.proofs.Worlds.{world_stands, world_by}
-use Rattle.sd_premise.proofs.Judging.{tick_answered}
+use Rattle.sd_premise.proofs.Judging.{tick_answered, breaks_with}
 use Rattle.sd_premise.proofs.premises.Premises.tick.Goals as goal
 
 pub returns-clause-world : goal.returns-clause-world
-returns-clause-world c =
+returns-clause-world c s is =
     c.note_call.ensures.tick
-    ∙ world_by c.args.self.now.world (sight_of c.args.seen.now) (Tick c.args.reference c.args.device c.args.counter)
-    c.requires.tick.event c.requires.tick.stays
+    ∙ world_by c.args.self.now.world s (Tick c.args.reference c.args.device c.args.counter) is.tick.event is.tick.stays
 
 pub returns-clause-stands : goal.returns-clause-stands
-returns-clause-stands c setting earlier can stands =
-    let s : Seen = sight_of c.args.seen.now in
-    let is = c.requires.tick in
-    let at = ap reference_of is.event in
-    let reading : IsReading s.event c.args.device c.args.reference c.args.counter false = record { reading = ap reading_of is.event; life = sym (ap makes_some is.event) } in
+returns-clause-stands c setting earlier s is can stands =
+    let event = is.tick.event in
+    let at = ap reference_of event in
+    let reading : IsReading s.event c.args.device c.args.reference c.args.counter false = record { reading = ap reading_of event; life = sym (ap makes_some event) } in
     let low = tick_before setting earlier s c.args.device c.args.reference stands.order can at in
-    let shown : IsShown c.args.reference None None c.args.seen.now.sent.now s = record {
+    let shown : IsShown c.args.reference None None c.args.sent.now s = record {
       reference = at;
-      failed = ap failure_of is.event;
-      taken = ap (λ (o : Option Flight). option_map (λ f. f.number) o) c.requires.taken;
-      sent = refl;
+      failed = ap failure_of event;
+      taken = ap (λ (o : Option Flight). option_map (λ f. f.number) o) is.taken;
+      sent = is.sends;
     } in
-    let start = start_skips c.args.self.now.start s earlier (ap clock_set is.event) stands.start in
-    let delay = delay_skips setting c.args.self.now.delay s earlier c.requires.taken stands.delay in
+    let start = start_skips c.args.self.now.start s earlier (ap clock_set event) stands.start in
+    let delay = delay_skips setting c.args.self.now.delay s earlier is.taken stands.delay in
     let some : 1 ≤ length setting.net.devices =
     subst (λ (n : Network). 1 ≤ length n.devices) (sym stands.net) c.args.self.now.topology.is_network.devices.0 in
-    let domain = domain_skips setting c.args.self.now.domain s earlier (ap failure_of is.event) is.stays some stands.domain in
-    let renew = renewal_skips_tick setting c.args.self.now.renew s earlier c.args.reference c.args.device c.args.counter is c.requires.activated
+    let domain = domain_skips setting c.args.self.now.domain s earlier (ap failure_of event) is.tick.stays some stands.domain in
+    let renew = renewal_skips_tick setting c.args.self.now.renew s earlier c.args.reference c.args.device c.args.counter is.tick is.activated
     can.allowed stands.renew in
     record {
       order = (stands.order, can);
@@ -50,21 +46,28 @@ returns-clause-stands c setting earlier can stands =
       sound = stands.sound;
       members = stands.members;
       links = stands.links;
-      world = world_stands c.args.self.now.world _ setting s earlier (returns-clause-world c) stands.world;
+      world = world_stands c.args.self.now.world _ setting s earlier (returns-clause-world c s is) stands.world;
       start = start;
       drift = c.read.ensures.stands setting earlier s stands.net reading stands.drift can.allowed;
       delay = delay;
-      tick = c.tick.ensures.stands setting earlier s c.args.counter is can.allowed low stands.tick;
+      tick = c.tick.ensures.stands setting earlier s c.args.counter is.tick can.allowed low stands.tick;
       loss = c.see.ensures.stands setting earlier s shown (follows setting earlier s can) stands.loss;
       domain = domain;
       renew = renew;
       broken =
-          tick_answered setting s earlier c.args.self.now.broken c.read.result c.tick.result c.see.result stands.broken
+          c.break_now.ensures.kept
+          ∙ tick_answered setting s earlier c.args.self.now.broken c.read.result c.tick.result c.see.result stands.broken
           (sym stands.start.holds ∙ start.holds)
           (c.read.ensures.holds setting earlier s stands.net reading stands.drift can.allowed)
           (sym stands.delay.holds ∙ delay.holds)
-          (c.tick.ensures.holds setting earlier s c.args.counter is can.allowed low stands.tick)
+          (c.tick.ensures.holds setting earlier s c.args.counter is.tick can.allowed low stands.tick)
           (c.see.ensures.holds setting earlier s shown (follows setting earlier s can) stands.loss)
           (sym stands.domain.holds ∙ domain.holds)
           (sym stands.renew.holds ∙ renew.holds);
     }
+
+pub returns-clause-breaks : goal.returns-clause-breaks
+returns-clause-breaks c setting earlier s is can stands =
+    c.break_now.ensures.breaks
+    ∙ breaks_with setting s earlier c.args.self.now.broken _ stands.broken
+    (sym c.break_now.ensures.kept ∙ (returns-clause-stands c setting earlier s is can stands).broken)

@@ -10,8 +10,9 @@ use Rattle.sd_history.specs.Nodes.{NodeStep, steps_of}
 use Rattle.sd_history.proofs.Known.{named_is_known}
 use Rattle.sd_fleet.specs.FleetFabric.declared.Outcome.{Outcome}
 use Rattle.sd_fleet.specs.Standing.{IsAccepted}
+use Rattle.sd_replay.specs.Sights.{sight_by}
 use Rattle.sd_replay.specs.Standing.{Onlooks}
-use Rattle.sd_replay.proofs.Looking.{seen_by, AreFound, lines_are, found_of}
+use Rattle.sd_replay.proofs.Looking.{AreFound, lines_are, found_of}
 use Rattle.sd_replay.proofs.Observing.{can_show, can_see, ask_merely, seen_on, broken_on}
 use Rattle.sd_replay.proofs.monitors.Monitors.look.Given.{Over}
 use Rattle.sd_replay.proofs.monitors.Monitors.look.Goals as goal
@@ -21,10 +22,10 @@ named : (count : ℕ) (o : Option ℕ) → ((d : ℕ) → o ≡ Some d → d < c
 named count None within = tt
 named count (Some d) within = within d refl
 
-pub observe-broken-requires : goal.observe-broken-requires
-observe-broken-requires g c =
+pub judge-broken-requires : goal.judge-broken-requires
+judge-broken-requires g c =
     ask_merely c.args.self.now.premises
-    (seen_by c.args.event.now c.args.outcome.now.taken c.deref.result.now c.args.outcome.now.activated c.args.outcome.now.acted c.args.outcome.now.closed)
+    (sight_by c.args.event.now c.args.outcome.now c.deref.result.now)
     (∥∥₁_map c.requires.step (λ has.
     can_see g.N.Node c.args.fleet.now has.setting has.run c.args.event.now c.args.outcome.now has.accepted c.deref.result.now
     (c.deref.ensures.value ∙ c.collect.ensures.flights has.setting has.run c.args.event.now has.accepted)
@@ -55,8 +56,8 @@ returns-clause-stands g c = λ setting run accepted onlooks.
     let collected = c.deref.ensures.value ∙ c.collect.ensures.flights setting run c.args.event.now accepted in
     record {
       premises =
-          seen_on g.N.Node c.args.fleet.now setting run c.args.event.now c.args.outcome.now accepted c.deref.result.now collected c.observe-broken.new.self
-          (c.observe-broken.ensures.stands setting (seen_of (steps_of run))
+          seen_on g.N.Node c.args.fleet.now setting run c.args.event.now c.args.outcome.now accepted c.deref.result.now collected c.judge-broken.new.premises
+          (c.judge-broken.ensures.stands setting (seen_of (steps_of run))
           (can_show g.N.Node c.args.fleet.now setting run c.args.event.now c.args.outcome.now accepted c.deref.result.now collected) onlooks.premises);
       parent_table = c.alarms_of-alarms.ensures.stands setting run accepted onlooks.parent_table;
     }
@@ -66,7 +67,7 @@ found : (g : Over) (c : goal.After-reference g) (setting : Setting) (run : List 
     (accepted : IsAccepted g.N.Node c.args.fleet.now setting run c.args.event.now c.args.outcome.now) → Onlooks c.args.self.now setting (steps_of run)
     → AreFound setting accepted.next.step (steps_of run)
     (record {
-      broken = c.observe-broken.result;
+      broken = c.judge-broken.result;
       looped = c.alarms_of-alarms.result.looped;
       roots = c.alarms_of-alarms.result.roots;
       report = c.args.outcome.now.report;
@@ -76,8 +77,8 @@ found g c setting run accepted onlooks =
     let collected = c.deref.ensures.value ∙ c.collect.ensures.flights setting run c.args.event.now accepted in
     record {
       broken =
-          broken_on g.N.Node c.args.fleet.now setting run c.args.event.now c.args.outcome.now accepted c.deref.result.now collected c.observe-broken.result
-          (c.observe-broken.ensures.breaks setting (seen_of (steps_of run))
+          broken_on g.N.Node c.args.fleet.now setting run c.args.event.now c.args.outcome.now accepted c.deref.result.now collected c.judge-broken.result
+          (c.judge-broken.ensures.breaks setting (seen_of (steps_of run))
           (can_show g.N.Node c.args.fleet.now setting run c.args.event.now c.args.outcome.now accepted c.deref.result.now collected) onlooks.premises);
       looped = c.alarms_of-alarms.ensures.looped setting run accepted onlooks.parent_table;
       roots = c.alarms_of-alarms.ensures.roots setting run accepted onlooks.parent_table;
