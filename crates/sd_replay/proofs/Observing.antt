@@ -1,9 +1,9 @@
 -- The premises are shown just what is seen of an accepted step.
 use Rattle.std.specs.Prelude.{◌≡◌, ◌<◌, ◌≤◌, List, ◌∷◌, filter, length}
-use Rattle.std.proofs.Common.{sym, subst}
+use Rattle.std.proofs.Common.{sym, ap, subst}
 use Rattle.std.proofs.Props.{props}
 use Rattle.std.proofs.Math.Logic.{∥∥₁_elim, ∥∥₁_map}
-use Rattle.sd_sched.specs.Events.{device_of, link_of}
+use Rattle.sd_sched.specs.Events.{reference_of, device_of, link_of}
 use Rattle.sd_replay.proofs.Happening.{if_merely}
 use Rattle.sd_msg.specs.declared.Flight.{Flight}
 use Rattle.sd_core.specs.declared.node.Node.{Ghosts}
@@ -22,7 +22,10 @@ use Rattle.sd_premise.specs.declared.premises.Premises.{Premises}
 use Rattle.sd_premise.proofs.Stepping.{can_follow}
 use Rattle.sd_premise.proofs.Asking.{can_observe}
 use Rattle.sd_replay.specs.Sights.{sight_by}
-use Rattle.sd_replay.proofs.Looking.{sight_is}
+use Rattle.sd_replay.specs.declared.alarms.Alarms.{Alarms}
+use Rattle.sd_replay.specs.Standing.{new_loop, new_roots}
+use Rattle.sd_replay.specs.Troubles.{found_with}
+use Rattle.sd_replay.proofs.Looking.{sight_is, AreFound}
 
 module _ {N : Type 0} (g : Ghosts N) (fleet : Fleet N g) (setting : Setting) (run : List (NodeStep N)) (e : Event) (outcome : Outcome)
     (accepted : IsAccepted g fleet setting run e outcome) (sent : List Flight)
@@ -47,9 +50,22 @@ module _ {N : Type 0} (g : Ghosts N) (fleet : Fleet N g) (setting : Setting) (ru
       → premises.StandsFor monitors setting (seen_of (accepted.next.step ∷ steps_of run))
   seen_on monitors stands = subst (λ (s : Seen). premises.StandsFor monitors setting (s ∷ seen_of (steps_of run))) seen_is stands
 
-  pub broken_on : (broken : BrokenSet) → broken ≡ breaks setting (sight ∷ seen_of (steps_of run))
+  broken_on : (broken : BrokenSet) → broken ≡ breaks setting (sight ∷ seen_of (steps_of run))
       → broken ≡ breaks setting (seen_of (accepted.next.step ∷ steps_of run))
   broken_on broken is = subst (λ (s : Seen). broken ≡ breaks setting (s ∷ seen_of (steps_of run))) seen_is is
+
+  -- what was found of it, by what the premises and the table of parents tell
+  pub found_on : (broken : BrokenSet) (alarms : Alarms) → broken ≡ breaks setting (sight ∷ seen_of (steps_of run))
+      → alarms.looped ≡ new_loop setting accepted.next.step (steps_of run) → alarms.roots ≡ new_roots setting accepted.next.step (steps_of run)
+      → AreFound setting accepted.next.step (steps_of run) (found_with (record { broken = broken; alarms = alarms }) e outcome)
+  found_on broken alarms told looped acting =
+      record {
+        broken = broken_on broken told;
+        looped = looped;
+        roots = acting;
+        report = ap (λ (o : Outcome). o.report) accepted.comes;
+        reference = ap reference_of (sym accepted.happens);
+      }
 
 -- what the premises ask, where it merely holds
 pub ask_merely : (monitors : Premises) (s : Seen) → ∥ premises.CanObserve monitors s ∥₁ → premises.CanObserve monitors s

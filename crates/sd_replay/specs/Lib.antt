@@ -3,6 +3,7 @@ pub mod Settings
 pub mod Tallies
 pub mod Promises
 pub mod Counting
+pub mod Troubles
 pub mod Sights
 pub mod Standing
 pub mod Replaying

@@ -15,6 +15,7 @@ mod monitors;
 mod plans;
 mod replay;
 mod sights;
+mod trouble;
 
 pub use faults::ReplayFault;
 pub use plans::PlanList;

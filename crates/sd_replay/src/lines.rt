@@ -6,4 +6,5 @@ mod printing;
 
 pub use buffer::EventLines;
 pub use findings::Findings;
+pub(crate) use findings::finds_none;
 pub use printing::print_findings;

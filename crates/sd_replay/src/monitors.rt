@@ -8,11 +8,12 @@ ghost use Rattle.sd_history.specs.Lines.{lines_of};
 ghost use Rattle.sd_fleet.specs.Standing.{IsAccepted};
 ghost use Rattle.sd_premise.specs.FleetState.membership.Plans.{AreSound};
 ghost use Rattle.sd_replay.specs.lines.Findings.{IsOf, found_lines};
+ghost use Rattle.sd_replay.specs.Troubles.{found_with};
 
 use crate::alarms::alarms_of;
 use crate::judging::judge;
-use crate::lines::Findings;
 use crate::sights::collect;
+use crate::trouble::Trouble;
 use sd_core::Node;
 use sd_fleet::{Fleet, Outcome};
 use sd_msg::Flight;
@@ -73,15 +74,15 @@ impl Monitors {
         self.premises.ready(alloc, sent)
     }
 
-    /// Looks at an event that has just happened in the fleet, and tells what is to be printed of
-    /// it. It takes no memory.
+    /// Looks at an event that has just happened in the fleet, and tells the trouble that it brings.
+    /// It takes no memory.
     #[inline(always)]
     pub(crate) fn look<N: Node>(
         &mut self,
         fleet: &Fleet<N>,
         event: &Event,
         outcome: &Outcome,
-    ) -> Findings
+    ) -> Trouble
         requires step { ∥ HasStep N.Node self.old fleet.now event.now outcome.now ∥₁ }
         requires room { outcome.now.sent ≤ room_of self.old }
         requires numbers { outcome.now.first_sent + outcome.now.sent < 2 ^ 64 }
@@ -92,21 +93,16 @@ impl Monitors {
         ensures found { (setting : Setting) (run : List (NodeStep N))
             (accepted : IsAccepted N.Node fleet.now setting run event.now outcome.now)
             → Onlooks self.old setting (steps_of run)
-            → found_lines result ≡ lines_of setting (accepted.next.step ∷ steps_of run) }
+            → found_lines (found_with result event.now outcome.now)
+            ≡ lines_of setting (accepted.next.step ∷ steps_of run) }
         ensures devices { (setting : Setting) (run : List (NodeStep N))
             → IsAccepted N.Node fleet.now setting run event.now outcome.now
-            → Onlooks self.old setting (steps_of run) → IsOf setting.net result }
-        ensures report { result.report ≡ outcome.now.report }
+            → Onlooks self.old setting (steps_of run)
+            → IsOf setting.net (found_with result event.now outcome.now) }
     {
         collect(fleet, outcome, &mut self.sent);
         let broken = judge(&mut self.premises, event, outcome, &self.sent);
         let alarms = alarms_of(&mut self.parent_table, fleet, event, outcome);
-        Findings {
-            broken,
-            looped: alarms.looped,
-            roots: alarms.roots,
-            report: outcome.report,
-            reference: event.reference(),
-        }
+        Trouble { broken, alarms }
     }
 }

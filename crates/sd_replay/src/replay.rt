@@ -218,8 +218,8 @@ impl<N: Node, V: Observer> Replay<N, V> {
             return Err(ReplayFault::Memory);
         };
         self.fleet.happen(event, &mut self.latest);
-        let findings = self.monitors.look(&self.fleet, event, &self.latest);
-        self.event_output.note(&findings, self.latest.ended);
+        let trouble = self.monitors.look(&self.fleet, event, &self.latest);
+        self.event_output.note(&trouble, event, &self.latest);
         if let Some((d, report)) = self.latest.report {
             let line = self.event_output.tally.events;
             self.observer.seen(line, d, event.reference(), report);

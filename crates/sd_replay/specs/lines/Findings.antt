@@ -3,6 +3,7 @@ use Rattle.std.specs.Prelude.{◌≡◌, ◌⊎◌, ℕ, ◌<◌, Bool, false, n
 use Rattle.sd_num.specs.Lists.{of_some}
 use Rattle.sd_num.specs.Texts.{text_of}
 use Rattle.sd_topo.specs.Network.{Network}
+use Rattle.sd_clock.specs.declared.Report.{Report}
 use Rattle.sd_clock.specs.Estimates.{contains}
 use Rattle.sd_history.specs.declared.BrokenSet.{BrokenSet}
 use Rattle.sd_history.specs.Lines.{Line, LoopAlarm, RootsAlarm, broken_lines, report_lines}
@@ -22,9 +23,13 @@ pub record IsOf (net : Network) (found : Findings) : Type 0 where
 abbrev pub breaks_some : BrokenSet → Bool
 breaks_some b = b.start || (b.drift || (b.delay || (b.tick || (b.loss || (b.domain || b.renew)))))
 
+-- no premise breaks, and there is no loop, no two that act and no report
+abbrev pub finds_none : BrokenSet → Option ℕ → Option (ℕ × ℕ) → Option (ℕ × Report) → Bool
+finds_none broken looped roots report = not (breaks_some broken) && (not (is_some looped) && (not (is_some roots) && not (is_some report)))
+
 -- nothing is to be printed
 abbrev pub are_none : Findings → Bool
-are_none found = not (breaks_some found.broken) && (not (is_some found.looped) && (not (is_some found.roots) && not (is_some found.report)))
+are_none found = finds_none found.broken found.looped found.roots found.report
 
 -- there is a report that misses the reference
 abbrev pub misses_in : Findings → Bool

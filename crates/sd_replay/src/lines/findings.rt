@@ -1,6 +1,6 @@
 //! What is found of one event.
 ghost use Rattle.std.specs.Prelude.{◌≡◌};
-ghost use Rattle.sd_replay.specs.lines.Findings.{breaks_some, are_none, misses_in};
+ghost use Rattle.sd_replay.specs.lines.Findings.{breaks_some, finds_none, are_none, misses_in};
 
 use sd_clock::Report;
 use sd_history::BrokenSet;
@@ -34,15 +34,25 @@ fn breaks_some(broken: &BrokenSet) -> bool
         || broken.renew
 }
 
+/// Whether none of these is found of an event.
+#[inline(always)]
+pub(crate) fn finds_none(
+    broken: &BrokenSet,
+    looped: &Option<u32>,
+    roots: &Option<(u32, u32)>,
+    report: &Option<(u32, Report)>,
+) -> bool
+    ensures { result ≡ finds_none broken.now looped.now roots.now report.now }
+{
+    !breaks_some(broken) && looped.is_none() && roots.is_none() && report.is_none()
+}
+
 impl Findings {
     /// Whether nothing is to be printed of the event, as of nearly all.
     pub fn are_none(&self) -> bool
         ensures { result ≡ are_none self.now }
     {
-        !breaks_some(&self.broken)
-            && self.looped.is_none()
-            && self.roots.is_none()
-            && self.report.is_none()
+        finds_none(&self.broken, &self.looped, &self.roots, &self.report)
     }
 
     /// Whether the event has a report whose interval does not have the reference time in it.

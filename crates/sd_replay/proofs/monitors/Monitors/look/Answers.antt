@@ -3,18 +3,13 @@ use Rattle.std.proofs.Common.{◌≡◌, ◌∷◌, ◌<◌, ℕ, List, Option, 
 use Rattle.std.proofs.Props.{props}
 use Rattle.std.proofs.Math.Logic.{∥∥₁_elim, ∥∥₁_map}
 use Rattle.sd_topo.specs.Network.{Network}
-use Rattle.sd_sched.specs.Events.{device_of, reference_of}
-use Rattle.sd_history.specs.World.{Setting}
+use Rattle.sd_sched.specs.Events.{device_of}
 use Rattle.sd_history.specs.Steps.{seen_of}
-use Rattle.sd_history.specs.Nodes.{NodeStep, steps_of}
+use Rattle.sd_history.specs.Nodes.{steps_of}
 use Rattle.sd_history.proofs.Known.{named_is_known}
-use Rattle.sd_fleet.specs.FleetFabric.declared.Outcome.{Outcome}
-use Rattle.sd_fleet.specs.Standing.{IsAccepted}
 use Rattle.sd_replay.specs.Sights.{sight_by}
-use Rattle.sd_replay.specs.Standing.{Onlooks}
-use Rattle.sd_replay.proofs.Looking.{AreFound, lines_are, found_of}
-use Rattle.sd_replay.proofs.Observing.{can_show, can_see, ask_merely, seen_on, broken_on}
-use Rattle.sd_replay.proofs.monitors.Monitors.look.Given.{Over}
+use Rattle.sd_replay.proofs.Looking.{lines_are, found_of}
+use Rattle.sd_replay.proofs.Observing.{can_show, can_see, ask_merely, seen_on, found_on}
 use Rattle.sd_replay.proofs.monitors.Monitors.look.Goals as goal
 
 -- a fact of the device that an event names
@@ -62,34 +57,24 @@ returns-clause-stands g c = λ setting run accepted onlooks.
       parent_table = c.alarms_of-alarms.ensures.stands setting run accepted onlooks.parent_table;
     }
 
--- the parts of what was found
-found : (g : Over) (c : goal.After-reference g) (setting : Setting) (run : List (NodeStep _))
-    (accepted : IsAccepted g.N.Node c.args.fleet.now setting run c.args.event.now c.args.outcome.now) → Onlooks c.args.self.now setting (steps_of run)
-    → AreFound setting accepted.next.step (steps_of run)
-    (record {
-      broken = c.judge-broken.result;
-      looped = c.alarms_of-alarms.result.looped;
-      roots = c.alarms_of-alarms.result.roots;
-      report = c.args.outcome.now.report;
-      reference = c.reference.result;
-    })
-found g c setting run accepted onlooks =
-    let collected = c.deref.ensures.value ∙ c.collect.ensures.flights setting run c.args.event.now accepted in
-    record {
-      broken =
-          broken_on g.N.Node c.args.fleet.now setting run c.args.event.now c.args.outcome.now accepted c.deref.result.now collected c.judge-broken.result
-          (c.judge-broken.ensures.breaks setting (seen_of (steps_of run))
-          (can_show g.N.Node c.args.fleet.now setting run c.args.event.now c.args.outcome.now accepted c.deref.result.now collected) onlooks.premises);
-      looped = c.alarms_of-alarms.ensures.looped setting run accepted onlooks.parent_table;
-      roots = c.alarms_of-alarms.ensures.roots setting run accepted onlooks.parent_table;
-      report = ap (λ (o : Outcome). o.report) accepted.comes;
-      reference = c.reference.ensures ∙ ap reference_of (sym accepted.happens);
-    }
-
 pub returns-clause-found : goal.returns-clause-found
 returns-clause-found g c = λ setting run accepted onlooks.
-    lines_are setting accepted.next.step (steps_of run) _ (found g c setting run accepted onlooks)
+    let collected = c.deref.ensures.value ∙ c.collect.ensures.flights setting run c.args.event.now accepted in
+    lines_are setting accepted.next.step (steps_of run) _
+    (found_on g.N.Node c.args.fleet.now setting run c.args.event.now c.args.outcome.now accepted c.deref.result.now collected c.judge-broken.result
+    c.alarms_of-alarms.result
+    (c.judge-broken.ensures.breaks setting (seen_of (steps_of run))
+    (can_show g.N.Node c.args.fleet.now setting run c.args.event.now c.args.outcome.now accepted c.deref.result.now collected) onlooks.premises)
+    (c.alarms_of-alarms.ensures.looped setting run accepted onlooks.parent_table)
+    (c.alarms_of-alarms.ensures.roots setting run accepted onlooks.parent_table))
 
 pub returns-clause-devices : goal.returns-clause-devices
 returns-clause-devices g c = λ setting run accepted onlooks.
-    found_of setting accepted.next.step (steps_of run) _ (found g c setting run accepted onlooks) accepted.stands.fabric.accepted
+    let collected = c.deref.ensures.value ∙ c.collect.ensures.flights setting run c.args.event.now accepted in
+    found_of setting accepted.next.step (steps_of run) _
+    (found_on g.N.Node c.args.fleet.now setting run c.args.event.now c.args.outcome.now accepted c.deref.result.now collected c.judge-broken.result
+    c.alarms_of-alarms.result
+    (c.judge-broken.ensures.breaks setting (seen_of (steps_of run))
+    (can_show g.N.Node c.args.fleet.now setting run c.args.event.now c.args.outcome.now accepted c.deref.result.now collected) onlooks.premises)
+    (c.alarms_of-alarms.ensures.looped setting run accepted onlooks.parent_table)
+    (c.alarms_of-alarms.ensures.roots setting run accepted onlooks.parent_table)) accepted.stands.fabric.accepted

@@ -8,6 +8,7 @@ use Rattle.sd_sched.specs.Events.{reference_of}
 use Rattle.sd_history.specs.Nodes.{steps_of}
 use Rattle.sd_fleet.proofs.FleetFabric.Refused.{refusal_is}
 use Rattle.sd_replay.specs.FleetFaults.{of_fleet}
+use Rattle.sd_replay.specs.Troubles.{found_with}
 use Rattle.sd_replay.proofs.Causes.{if_told, told_as, told_cause, told_of_fleet, unrefused}
 use Rattle.sd_replay.proofs.Calm.{stays_calm}
 use Rattle.sd_replay.proofs.Going.{with_fleet, stands_prepared, stands_with_room}
@@ -24,14 +25,14 @@ invariant_of-self g c =
           c.args.self.now.observer c.prepare.ensures.stands);
     }
 
-pub look-findings-requires-clause-step : goal.look-findings-requires-clause-step
-look-findings-requires-clause-step g c =
+pub look-trouble-requires-clause-step : goal.look-trouble-requires-clause-step
+look-trouble-requires-clause-step g c =
     ∥∥₁_map c.ready.new.self.run
     (has_step g.N.Node g.V.Observer c.ready.new.self.fleet c.ready.new.self.monitors c.ready.new.self.event_output c.ready.new.self.observer c.happen.new.self
     c.args.event.now c.happen.new.outcome c.happen.ensures.accepted)
 
-pub look-findings-requires-clause-numbers : goal.look-findings-requires-clause-numbers
-look-findings-requires-clause-numbers g c =
+pub look-trouble-requires-clause-numbers : goal.look-trouble-requires-clause-numbers
+look-trouble-requires-clause-numbers g c =
     numbers_merely g.N.Node g.V.Observer c.ready.new.self.fleet c.ready.new.self.monitors c.ready.new.self.event_output c.ready.new.self.observer
     c.happen.new.self c.args.event.now c.happen.new.outcome c.happen.ensures.accepted
     c.ready.new.self.run
@@ -46,7 +47,7 @@ pub note-requires-clause-devices : goal.note-requires-clause-devices
 note-requires-clause-devices g c =
     devices_merely g.N.Node g.V.Observer c.ready.new.self.fleet c.ready.new.self.monitors c.ready.new.self.event_output c.ready.new.self.observer
     c.happen.new.self c.args.event.now c.happen.new.outcome c.happen.ensures.accepted
-    c.look-findings.result c.look-findings.ensures.devices c.ready.new.self.run
+    (found_with c.look-trouble.result c.args.event.now c.happen.new.outcome) c.look-trouble.ensures.devices c.ready.new.self.run
 
 pub seen-requires-clause-ready : goal.seen-requires-clause-ready
 seen-requires-clause-ready g c =
@@ -61,16 +62,16 @@ moved P fact same = subst P same fact
 
 -- a report is told
 told : (g : Over) (c : goal.After-seen g)
-    → IsDone g.N.Node g.V.Observer c.ready.new.self.fleet c.happen.new.self c.ready.new.self.monitors c.look-findings.new.self c.ready.new.self.event_output
+    → IsDone g.N.Node g.V.Observer c.ready.new.self.fleet c.happen.new.self c.ready.new.self.monitors c.look-trouble.new.self c.ready.new.self.event_output
     c.note.new.self c.ready.new.self.observer c.seen.new.self c.args.event.now c.happen.new.outcome
-    c.look-findings.result
+    (found_with c.look-trouble.result c.args.event.now c.happen.new.outcome)
 told g c =
     let some : c.happen.new.outcome.report ≡ Some (c.in-Some.d, c.in-Some.report) = cc (c.in-Some.is, c.in-Some.d-is, c.in-Some.report-is) in
     record {
       accepts = c.happen.ensures.accepted;
-      onlooks = c.look-findings.ensures.stands;
-      finds = c.look-findings.ensures.found;
-      report = c.look-findings.ensures.report;
+      onlooks = c.look-trouble.ensures.stands;
+      finds = c.look-trouble.ensures.found;
+      report = refl;
       topology = c.note.ensures.topology;
       tally = c.note.ensures.tally;
       lines = c.note.ensures.lines;
@@ -90,15 +91,15 @@ told g c =
 
 -- nothing is told
 untold : (g : Over) (c : goal.In_default-report g)
-    → IsDone g.N.Node g.V.Observer c.ready.new.self.fleet c.happen.new.self c.ready.new.self.monitors c.look-findings.new.self c.ready.new.self.event_output
+    → IsDone g.N.Node g.V.Observer c.ready.new.self.fleet c.happen.new.self c.ready.new.self.monitors c.look-trouble.new.self c.ready.new.self.event_output
     c.note.new.self c.ready.new.self.observer c.ready.new.self.observer c.args.event.now
-    c.happen.new.outcome c.look-findings.result
+    c.happen.new.outcome (found_with c.look-trouble.result c.args.event.now c.happen.new.outcome)
 untold g c =
     record {
       accepts = c.happen.ensures.accepted;
-      onlooks = c.look-findings.ensures.stands;
-      finds = c.look-findings.ensures.found;
-      report = c.look-findings.ensures.report;
+      onlooks = c.look-trouble.ensures.stands;
+      finds = c.look-trouble.ensures.found;
+      report = refl;
       topology = c.note.ensures.topology;
       tally = c.note.ensures.tally;
       lines = c.note.ensures.lines;
@@ -117,9 +118,9 @@ invariant_of-self-in-Some g c =
     record {
       run =
           ∥∥₁_map c.ready.new.self.run
-          (run_on g.N.Node g.V.Observer c.ready.new.self.fleet c.happen.new.self c.ready.new.self.monitors c.look-findings.new.self
+          (run_on g.N.Node g.V.Observer c.ready.new.self.fleet c.happen.new.self c.ready.new.self.monitors c.look-trouble.new.self
           c.ready.new.self.event_output c.note.new.self c.ready.new.self.observer c.seen.new.self c.args.event.now c.happen.new.outcome
-          c.look-findings.result (told g c));
+          (found_with c.look-trouble.result c.args.event.now c.happen.new.outcome) (told g c));
     }
 
 pub invariant_of-self-in_default-report : goal.invariant_of-self-in_default-report
@@ -127,9 +128,9 @@ invariant_of-self-in_default-report g c =
     record {
       run =
           ∥∥₁_map c.ready.new.self.run
-          (run_on g.N.Node g.V.Observer c.ready.new.self.fleet c.happen.new.self c.ready.new.self.monitors c.look-findings.new.self
+          (run_on g.N.Node g.V.Observer c.ready.new.self.fleet c.happen.new.self c.ready.new.self.monitors c.look-trouble.new.self
           c.ready.new.self.event_output c.note.new.self c.ready.new.self.observer c.ready.new.self.observer c.args.event.now
-          c.happen.new.outcome c.look-findings.result (untold g c));
+          c.happen.new.outcome (found_with c.look-trouble.result c.args.event.now c.happen.new.outcome) (untold g c));
     }
 
 pub returns-in-Some-clause-accepted : goal.returns-in-Some-clause-accepted
@@ -139,9 +140,9 @@ returns-in-Some-clause-accepted g c = λ setting run stands.
     c.ready.ensures.onlooks c.ready.ensures.told stands in
     let accepted = c.happen.ensures.accepted setting run ready.made in
     let stands_after =
-    stands_on g.N.Node g.V.Observer c.ready.new.self.fleet c.happen.new.self c.ready.new.self.monitors c.look-findings.new.self c.ready.new.self.event_output
+    stands_on g.N.Node g.V.Observer c.ready.new.self.fleet c.happen.new.self c.ready.new.self.monitors c.look-trouble.new.self c.ready.new.self.event_output
     c.note.new.self c.ready.new.self.observer c.seen.new.self c.args.event.now c.happen.new.outcome
-    c.look-findings.result (told g c.before) setting run ready in
+    (found_with c.look-trouble.result c.args.event.now c.happen.new.outcome) (told g c.before) setting run ready in
     record { stepped = record { next = accepted.next; happens = accepted.happens; stands = stands_after }; comes = accepted.comes }
 
 pub returns-in_default-report-clause-accepted : goal.returns-in_default-report-clause-accepted
@@ -151,9 +152,9 @@ returns-in_default-report-clause-accepted g c = λ setting run stands.
     c.ready.ensures.onlooks c.ready.ensures.told stands in
     let accepted = c.happen.ensures.accepted setting run ready.made in
     let stands_after =
-    stands_on g.N.Node g.V.Observer c.ready.new.self.fleet c.happen.new.self c.ready.new.self.monitors c.look-findings.new.self c.ready.new.self.event_output
+    stands_on g.N.Node g.V.Observer c.ready.new.self.fleet c.happen.new.self c.ready.new.self.monitors c.look-trouble.new.self c.ready.new.self.event_output
     c.note.new.self c.ready.new.self.observer c.ready.new.self.observer c.args.event.now c.happen.new.outcome
-    c.look-findings.result (untold g c.before) setting run ready in
+    (found_with c.look-trouble.result c.args.event.now c.happen.new.outcome) (untold g c.before) setting run ready in
     record { stepped = record { next = accepted.next; happens = accepted.happens; stands = stands_after }; comes = accepted.comes }
 
 pub returns-in-Some-clause-calm : goal.returns-in-Some-clause-calm
