@@ -152,7 +152,7 @@ struct sundial_estimate {
 };
 
 /* The reference time lies from clock - eps to clock + eps. */
-struct sundial_report {
+struct sundial_clock_report {
     struct sundial_wide clock;
     struct sundial_wide eps;
 };
@@ -179,7 +179,7 @@ struct sundial_effect {
 };
 
 /* The number of the parent, where the flag is set. */
-struct sundial_parent {
+struct sundial_optional_parent {
     uint32_t parent;
     uint8_t has_parent;
 };
@@ -223,16 +223,16 @@ SUNDIAL_ASSERT(offsetof(struct sundial_stamp, term) == 8);
 SUNDIAL_ASSERT(sizeof(struct sundial_estimate) == 40);
 SUNDIAL_ASSERT(offsetof(struct sundial_estimate, base) == 16);
 SUNDIAL_ASSERT(offsetof(struct sundial_estimate, at) == 32);
-SUNDIAL_ASSERT(sizeof(struct sundial_report) == 32);
-SUNDIAL_ASSERT(offsetof(struct sundial_report, eps) == 16);
+SUNDIAL_ASSERT(sizeof(struct sundial_clock_report) == 32);
+SUNDIAL_ASSERT(offsetof(struct sundial_clock_report, eps) == 16);
 SUNDIAL_ASSERT(sizeof(struct sundial_message) == 56);
 SUNDIAL_ASSERT(offsetof(struct sundial_message, eps) == 16);
 SUNDIAL_ASSERT(offsetof(struct sundial_message, stamp) == 32);
 SUNDIAL_ASSERT(offsetof(struct sundial_message, epoch) == 48);
 SUNDIAL_ASSERT(sizeof(struct sundial_effect) == 64);
 SUNDIAL_ASSERT(offsetof(struct sundial_effect, sends) == 56);
-SUNDIAL_ASSERT(sizeof(struct sundial_parent) == 8);
-SUNDIAL_ASSERT(offsetof(struct sundial_parent, has_parent) == 4);
+SUNDIAL_ASSERT(sizeof(struct sundial_optional_parent) == 8);
+SUNDIAL_ASSERT(offsetof(struct sundial_optional_parent, has_parent) == 4);
 SUNDIAL_ASSERT(sizeof(struct sundial_device) == 304);
 SUNDIAL_ASSERT(offsetof(struct sundial_device, given) == 104);
 SUNDIAL_ASSERT(offsetof(struct sundial_device, estimate) == 208);
@@ -300,11 +300,12 @@ uint32_t sundial_receive(struct sundial_device *device, uint32_t link,
  * be off, in ps (event `ask`). The counter is as for a commit.
  * Faults: NO_DEVICE, COUNTER_FELL, COUNTER_TOO_GREAT, ESTIMATE_TOO_GREAT. */
 uint32_t sundial_report(const struct sundial_device *device, uint64_t counter,
-                        struct sundial_report *report);
+                        struct sundial_clock_report *report);
 
 /* The number of the device that it follows, if it follows one.
  * Faults: NO_DEVICE. */
-uint32_t sundial_parent(const struct sundial_device *device, struct sundial_parent *parent);
+uint32_t sundial_parent(const struct sundial_device *device,
+                        struct sundial_optional_parent *parent);
 
 /* 1 where it acts as root, and else 0.
  * Faults: NO_DEVICE. */
@@ -315,7 +316,7 @@ uint32_t sundial_acts(const struct sundial_device *device, uint8_t *acts);
 uint32_t sundial_epoch(const struct sundial_device *device, uint32_t *epoch);
 
 /* The earliest reference time that a report allows, in ps: clock - eps, and at least 0. */
-static inline struct sundial_wide sundial_earliest(const struct sundial_report *report)
+static inline struct sundial_wide sundial_earliest(const struct sundial_clock_report *report)
 {
     struct sundial_wide earliest = {0, 0};
     struct sundial_wide clock = report->clock;
@@ -328,7 +329,7 @@ static inline struct sundial_wide sundial_earliest(const struct sundial_report *
 }
 
 /* The latest reference time that a report allows, in ps: clock + eps. */
-static inline struct sundial_wide sundial_latest(const struct sundial_report *report)
+static inline struct sundial_wide sundial_latest(const struct sundial_clock_report *report)
 {
     struct sundial_wide latest;
     latest.low = report->clock.low + report->eps.low;
@@ -341,7 +342,7 @@ static inline struct sundial_wide sundial_latest(const struct sundial_report *re
 static inline uint32_t sundial_now(const struct sundial_device *device, uint64_t counter,
                                    struct sundial_interval *now)
 {
-    struct sundial_report report = {{0, 0}, {0, 0}};
+    struct sundial_clock_report report = {{0, 0}, {0, 0}};
     uint32_t answer = sundial_report(device, counter, &report);
     if (answer == SUNDIAL_DONE) {
         now->earliest = sundial_earliest(&report);

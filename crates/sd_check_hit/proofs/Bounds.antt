@@ -1,11 +1,11 @@
 -- The numbers of a domain, and of the index of a plan, are in range.
 use Rattle.std.proofs.Common.{◌≡◌, ℕ, zero, suc, ◌+◌, ◌<◌, ◌≤◌, Bool, true, false, cond, List, [], ◌∷◌, length, find, get_or, min, max, nat_lt, Option, Some, None, All, flat_map, refl, sym, ap, ◌∙◌, subst, inl, inr, arith}
-use Rattle.std.proofs.lemmas.List.{length_push, length-map, get_or-map, get_or_past}
+use Rattle.std.proofs.lemmas.List.{get_or-map, get_or_past}
 use Rattle.std.proofs.lemmas.List.Elements.{All-nil, All-cons, All-append, All-weaker, All-head, All-tail}
 use Rattle.std.proofs.lemmas.List.Folds.{find-append}
 use Rattle.std.proofs.lemmas.Bool.{cases_lt}
 use Rattle.std.specs.Option.{option_or, IfSome}
-use Rattle.sd_num.specs.Lists.{below, of_some}
+use Rattle.sd_num.specs.Lists.{below, map_or}
 use Rattle.sd_topo.specs.Network.{Network, link_numbers}
 use Rattle.sd_topo.specs.Limits.{IsNetwork}
 use Rattle.sd_topo.specs.Places.{domain_of}
@@ -13,9 +13,11 @@ use Rattle.sd_topo.proofs.Laws.{domain_law}
 use Rattle.sd_domain.specs.Lone.{IsDomain}
 use Rattle.sd_domain.specs.declared.DomainId.{DomainId}
 use Rattle.sd_domain.specs.declared.DomainId.TheVariants as domain
-use Rattle.sd_plan.specs.Indexed.{Indexed, IsIndexOf, span_of, goes_over, carried_over, is_within}
+use Rattle.sd_plan.specs.IndexedPlan.{IndexedPlan, IsIndexOf, span_of, goes_over, carried_over, is_within}
 use Rattle.sd_plan.specs.declared.Plan.{Plan}
 use Rattle.sd_plan.specs.declared.index.Span.{Span}
+use Rattle.sd_plan.proofs.Numbered.{length-below}
+use Rattle.sd_plan.proofs.Shared.{carried_length}
 use Rattle.sd_check_hit.specs.Spans.{CarriesDevices, non_empty, outside, behind_first, below_device, below_child, below_link, below_domain}
 
 -- a number found below n is below n, and passes
@@ -31,24 +33,15 @@ found_below test (suc n) =
     by_first None within false is = tt
     by_first (Some c) within t is = (omega (arith, within.0), within.1)
 
--- as many places as numbers
-pub length_below : (n : ℕ) → length (below n) ≡ n
-length_below zero = refl
-length_below (suc n) = length_push (below n) n ∙ rw (length_below n) (omega arith)
-
--- one entry for each link
-pub carried_length : (net : Network) (plan : Plan) (index : Indexed) → IsIndexOf net plan index → length index.carried ≡ length net.links
-carried_length net plan index indexed = ap length indexed.carried ∙ length-map (link_numbers net) (carried_over net plan) ∙ length_below (length net.links)
-
 -- what an index says of a link is a device whose hop goes over one
-pub carried_hop : (net : Network) (plan : Plan) (index : Indexed) (l c : ℕ) → IsIndexOf net plan index → get_or index.carried l None ≡ Some c
+pub carried_hop : (net : Network) (plan : Plan) (index : IndexedPlan) (l c : ℕ) → IsIndexOf net plan index → get_or index.carried l None ≡ Some c
     → (c < length net.devices) × ((m : ℕ) × (goes_over plan m c ≡ true))
 carried_hop net plan index l c indexed is =
     let m = get_or (link_numbers net) l 0 in
     elim (cases_lt l (length net.links)) [
       | inl within ↦
           (let here : carried_over net plan m ≡ Some c =
-          sym (get_or-map (carried_over net plan) (link_numbers net) l 0 None (omega (arith, length_below (length net.links))))
+          sym (get_or-map (carried_over net plan) (link_numbers net) l 0 None (omega (arith, length-below (length net.links))))
           ∙ ap (λ (carried : List (Option ℕ)). get_or carried l None) (sym indexed.carried) ∙ is
           in
           let found : (c < length net.devices) × (goes_over plan m c ≡ true) =
@@ -61,18 +54,18 @@ carried_hop net plan index l c indexed is =
           cc)
     ]
 
-pub carries_devices : (net : Network) (plan : Plan) (index : Indexed) → IsIndexOf net plan index → CarriesDevices index
+pub carries_devices : (net : Network) (plan : Plan) (index : IndexedPlan) → IsIndexOf net plan index → CarriesDevices index
 carries_devices net plan index indexed l c is = let size = indexed.spans in omega (arith, (carried_hop net plan index l c indexed is).0)
 
 -- the devices of a listed domain, and its links
-pub devices_within : (net : Network) (plan : Plan) (index : Indexed) (k : ℕ) → IsNetwork net → IsIndexOf net plan index → k < length net.domains
+pub devices_within : (net : Network) (plan : Plan) (index : IndexedPlan) (k : ℕ) → IsNetwork net → IsIndexOf net plan index → k < length net.domains
     → All (λ a. a < length index.spans) (domain_of net k).devices
 devices_within net plan index k law indexed there =
     let group = domain_law net k law there in
     All-weaker (λ a. a < length net.devices) (λ a. a < length index.spans) (λ a within. omega (arith, indexed.spans))
     (domain_of net k).devices group.devices_within
 
-pub links_within : (net : Network) (plan : Plan) (index : Indexed) (k : ℕ) → IsNetwork net → IsIndexOf net plan index → k < length net.domains
+pub links_within : (net : Network) (plan : Plan) (index : IndexedPlan) (k : ℕ) → IsNetwork net → IsIndexOf net plan index → k < length net.domains
     → All (λ l. l < length index.carried) (domain_of net k).links
 links_within net plan index k law indexed there =
     let group = domain_law net k law there in
@@ -98,7 +91,7 @@ outside_within m s cut within =
     (non_empty_within m (record { from = max s.from cut.to; to = s.to }) within)
 
 -- what a thing of the domain hits lies in the order
-device_within : (index : Indexed) (m b a : ℕ) → (span_of index a).to ≤ m → All (λ (x : Span). x.to ≤ m) (below_device index b a)
+device_within : (index : IndexedPlan) (m b a : ℕ) → (span_of index a).to ≤ m → All (λ (x : Span). x.to ≤ m) (below_device index b a)
 device_within index m b a within =
     elim (is_within (span_of index b) (span_of index a).from)
     as (λ t. All (λ (x : Span). x.to ≤ m)
@@ -107,7 +100,7 @@ device_within index m b a within =
       | false ↦ outside_within m (behind_first (span_of index a)) (behind_first (span_of index b)) (behind_to m (span_of index a) within)
     ]
 
-child_within : (index : Indexed) (m b c : ℕ) → (span_of index c).to ≤ m → All (λ (x : Span). x.to ≤ m) (below_child index b c)
+child_within : (index : IndexedPlan) (m b c : ℕ) → (span_of index c).to ≤ m → All (λ (x : Span). x.to ≤ m) (below_child index b c)
 child_within index m b c within =
     elim (is_within (behind_first (span_of index b)) (span_of index c).from)
     as (λ t. All (λ (x : Span). x.to ≤ m) (cond t (non_empty (span_of index c)) (outside (span_of index c) (behind_first (span_of index b))))) [
@@ -115,11 +108,11 @@ child_within index m b c within =
       | false ↦ outside_within m (span_of index c) (behind_first (span_of index b)) within
     ]
 
-link_within : (index : Indexed) (m b l : ℕ) → ((c : ℕ) → get_or index.carried l None ≡ Some c → (span_of index c).to ≤ m)
+link_within : (index : IndexedPlan) (m b l : ℕ) → ((c : ℕ) → get_or index.carried l None ≡ Some c → (span_of index c).to ≤ m)
     → All (λ (x : Span). x.to ≤ m) (below_link index b l)
 link_within index m b l within = by_child (get_or index.carried l None) within
   where
-    by_child : (o : Option ℕ) → ((c : ℕ) → o ≡ Some c → (span_of index c).to ≤ m) → All (λ (x : Span). x.to ≤ m) (of_some o [] (below_child index b))
+    by_child : (o : Option ℕ) → ((c : ℕ) → o ≡ Some c → (span_of index c).to ≤ m) → All (λ (x : Span). x.to ≤ m) (map_or o [] (below_child index b))
     by_child None each = All-nil (λ (x : Span). x.to ≤ m)
     by_child (Some c) each = child_within index m b c (each c refl)
 
@@ -130,7 +123,7 @@ all_of_each m f P (x ∷ xs) each all =
     All-append (λ (s : Span). s.to ≤ m) (f x) (flat_map f xs) (each x (All-head P x xs all)) (all_of_each m f P xs each (All-tail P x xs all))
 
 -- so do all that a domain hits
-pub domain_within : (net : Network) (plan : Plan) (index : Indexed) (f : DomainId) → IsNetwork net → IsIndexOf net plan index → IsDomain net f
+pub domain_within : (net : Network) (plan : Plan) (index : IndexedPlan) (f : DomainId) → IsNetwork net → IsIndexOf net plan index → IsDomain net f
     → All (λ (s : Span). s.to ≤ length index.order) (below_domain net index plan.backup_root f)
 domain_within net plan index f law indexed there = by_kind f there
   where

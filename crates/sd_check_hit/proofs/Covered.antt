@@ -1,17 +1,14 @@
 -- Which places the spans of a thing cover.
-use Rattle.std.proofs.Common.{◌≡◌, ℕ, ◌+◌, ◌<◌, ◌≤◌, Bool, true, false, ◌&&◌, ◌||◌, not, cond, List, [], ◌∷◌, min, max, nat_le, nat_lt, nat_eq, flat_map, refl, sym, ap, ◌∙◌, inl, inr, arith}
+use Rattle.std.proofs.Common.{◌≡◌, ℕ, ◌+◌, ◌<◌, ◌≤◌, true, false, ◌&&◌, ◌||◌, not, cond, List, [], ◌∷◌, min, max, nat_le, nat_lt, nat_eq, flat_map, refl, sym, ap, ◌∙◌, inl, inr, arith}
 use Rattle.std.specs.List.{list_any}
 use Rattle.std.proofs.lemmas.Bool.{cases_lt, lt-ltb, le-ltb, le-leb, lt-leb, eq-eqb, ne_eqb, and_left, and_right, and_from, or_from, or_left, or_right, cases_order}
 use Rattle.std.proofs.lemmas.List.Folds.{list_any-append}
-use Rattle.sd_plan.specs.Indexed.{is_within}
+use Rattle.sd_plan.specs.IndexedPlan.{is_within}
 use Rattle.sd_plan.specs.declared.index.Span.{Span}
+use Rattle.sd_plan.proofs.Forest.{or_none}
 use Rattle.sd_check_hit.specs.Spans.{non_empty, outside, behind_first, is_covered}
 
-or_false : (t : Bool) → (t || false) ≡ t
-or_false true = refl
-or_false false = refl
-
-within_true : (s : Span) (p : ℕ) → s.from ≤ p → p < s.to → is_within s p ≡ true
+pub within_true : (s : Span) (p : ℕ) → s.from ≤ p → p < s.to → is_within s p ≡ true
 within_true s p from to = and_from (nat_le s.from p) (nat_lt p s.to) (le-leb s.from p from) (lt-ltb p s.to to)
 
 before_span : (s : Span) (p : ℕ) → p < s.from → is_within s p ≡ false
@@ -24,7 +21,7 @@ after_span s p after = and_right (nat_le s.from p) (nat_lt p s.to) (le-ltb p s.t
 pub covered-non_empty : (s : Span) (p : ℕ) → is_covered (non_empty s) p ≡ is_within s p
 covered-non_empty s p =
     elim (cases_lt s.from s.to) [
-      | inl some ↦ (ap (λ t. is_covered (cond t (s ∷ []) []) p) (lt-ltb s.from s.to some) ∙ or_false (is_within s p))
+      | inl some ↦ (ap (λ t. is_covered (cond t (s ∷ []) []) p) (lt-ltb s.from s.to some) ∙ or_none (is_within s p))
       | inr none ↦
           (ap (λ t. is_covered (cond t (s ∷ []) []) p) (le-ltb s.from s.to none)
           ∙ elim (cases_lt p s.from) [ inl before ↦ sym (before_span s p before) | inr after ↦ sym (after_span s p (omega arith)) ])

@@ -1,39 +1,40 @@
 -- What the cut path of a device has, by the numbers of an index.
 use Rattle.std.proofs.Common.{◌≡◌, ℕ, zero, suc, ◌<◌, Bool, true, false, ◌&&◌, ◌||◌, not, [], ◌∷◌, length, get_or, nat_eq, Option, Some, None, if◌then◌else◌, refl, sym, ap, ◌∙◌, arith}
 use Rattle.std.proofs.lemmas.Bool.{not_from_false}
-use Rattle.sd_num.specs.Lists.{has, of_some}
+use Rattle.sd_num.specs.Lists.{has, map_or}
 use Rattle.sd_topo.specs.Network.{Network}
 use Rattle.sd_plan.specs.Plans.{is_member, is_root, primary_of}
 use Rattle.sd_plan.specs.Walks.{hops, ends_walks, epath, on_walk, devices_of, things_of}
-use Rattle.sd_plan.specs.Indexed.{Indexed, IsIndexOf, stands_below, is_cut_before, has_device, has_link}
+use Rattle.sd_plan.specs.IndexedPlan.{IndexedPlan, IsIndexOf, stands_below, is_cut_before, has_device, has_link}
 use Rattle.sd_plan.specs.declared.Hop.{Hop}
 use Rattle.sd_plan.specs.declared.Plan.{Plan}
-use Rattle.sd_plan.proofs.Forest.{forest_of, by_option, on_member, hop_over}
+use Rattle.sd_plan.proofs.Forest.{forest_of, by_option, on_member, hop_over, or_none}
 use Rattle.sd_plan.proofs.Cutting.{has_device_by, has_link_by, has_no_link_by}
-use Rattle.sd_check_hit.proofs.Bounds.{carried_hop, carried_length}
+use Rattle.sd_plan.proofs.Shared.{carried_length}
+use Rattle.sd_check_hit.proofs.Bounds.{carried_hop}
 
 -- a member's walk has members
-pub above_member : (net : Network) (plan : Plan) (index : Indexed) (d a : ℕ) → IsIndexOf net plan index → d < length net.devices → is_member plan d ≡ true
+pub above_member : (net : Network) (plan : Plan) (index : IndexedPlan) (d a : ℕ) → IsIndexOf net plan index → d < length net.devices → is_member plan d ≡ true
     → on_walk net plan d a ≡ true → is_member plan a ≡ true
 above_member net plan index d a law within member on = on_member net plan (forest_of net plan law.fits law.structured) a d within member on
 
-pub epath_device : (net : Network) (plan : Plan) (index : Indexed) (d a : ℕ) → IsIndexOf net plan index → d < length net.devices → a < length net.devices
+pub epath_device : (net : Network) (plan : Plan) (index : IndexedPlan) (d a : ℕ) → IsIndexOf net plan index → d < length net.devices → a < length net.devices
     → is_member plan d ≡ true → is_root plan d ≡ false
     → has_device (epath net plan d) a ≡ (not (nat_eq d a) && (stands_below index d a && not (is_cut_before index d a)))
 epath_device net plan index d a law within inside member other =
     let size : length index.spans ≡ length net.devices = law.spans in
     sym (has_device_by net plan index d a law (omega arith) (omega arith) member (not_from_false (is_root plan d) other))
 
-pub epath_link : (net : Network) (plan : Plan) (index : Indexed) (d l : ℕ) → IsIndexOf net plan index → d < length net.devices → l < length net.links
+pub epath_link : (net : Network) (plan : Plan) (index : IndexedPlan) (d l : ℕ) → IsIndexOf net plan index → d < length net.devices → l < length net.links
     → is_member plan d ≡ true → is_root plan d ≡ false
     → has_link (epath net plan d) l
-    ≡ of_some (get_or index.carried l None) false (λ c. (nat_eq d c || not (nat_eq c index.backup_root))
+    ≡ map_or (get_or index.carried l None) false (λ c. (nat_eq d c || not (nat_eq c index.backup_root))
     && (stands_below index d c && not (is_cut_before index d c)))
 epath_link net plan index d l law within inside member other = by_child (get_or index.carried l None) refl
   where
     by_child : (o : Option ℕ) → get_or index.carried l None ≡ o
         → has_link (epath net plan d) l
-        ≡ of_some o false (λ c. (nat_eq d c || not (nat_eq c index.backup_root)) && (stands_below index d c && not (is_cut_before index d c)))
+        ≡ map_or o false (λ c. (nat_eq d c || not (nat_eq c index.backup_root)) && (stands_below index d c && not (is_cut_before index d c)))
     by_child None is =
         let size : length index.spans ≡ length net.devices = law.spans in
         sym (has_no_link_by net plan index d l law (omega arith) (omega (arith, carried_length net plan index law)) is (not_from_false (is_root plan d) other))
@@ -43,7 +44,7 @@ epath_link net plan index d l law within inside member other = by_child (get_or 
         (not_from_false (is_root plan d) other))
 
 -- what goes over a link is a member other than the root
-pub child_member : (net : Network) (plan : Plan) (index : Indexed) (l c : ℕ) → IsIndexOf net plan index → get_or index.carried l None ≡ Some c
+pub child_member : (net : Network) (plan : Plan) (index : IndexedPlan) (l c : ℕ) → IsIndexOf net plan index → get_or index.carried l None ≡ Some c
     → (c < length net.devices) × ((is_member plan c ≡ true) × (is_root plan c ≡ false))
 child_member net plan index l c law is =
     let carried = carried_hop net plan index l c law is in
@@ -51,10 +52,6 @@ child_member net plan index l c law is =
     let (hop, first, over) = hop_over plan goes.0 c goes.1 in
     let step = (forest_of net plan law.fits law.structured).up c hop carried.0 first in
     (carried.0, (step.below, step.other))
-
-or_none : (b : Bool) → (b || false) ≡ b
-or_none true = refl
-or_none false = refl
 
 -- the root's walk is the root alone
 pub on_root : (net : Network) (plan : Plan) (d a : ℕ) → is_root plan d ≡ true → on_walk net plan d a ≡ nat_eq a d
@@ -66,7 +63,7 @@ pub no_root_path : (net : Network) (plan : Plan) (d : ℕ) → is_root plan d �
 no_root_path net plan d root = ap (λ (t : Bool). things_of (if t then [] else hops (ends_walks plan) plan net.params.depth d)) root
 
 -- so is that of a device that is left out
-pub no_path : (net : Network) (plan : Plan) (index : Indexed) (d : ℕ) → IsIndexOf net plan index → d < length net.devices → is_member plan d ≡ false
+pub no_path : (net : Network) (plan : Plan) (index : IndexedPlan) (d : ℕ) → IsIndexOf net plan index → d < length net.devices → is_member plan d ≡ false
     → epath net plan d ≡ []
 no_path net plan index d law within absent = by_hops (is_root plan d) (ends_walks plan) net.params.depth none
   where

@@ -11,9 +11,9 @@ use Rattle.sd_topo.proofs.Ascending.{Rises, rising}
 use Rattle.sd_domain.specs.declared.DomainId.{DomainId}
 use Rattle.sd_plan.specs.declared.Plan.{Plan}
 use Rattle.sd_plan.specs.Walks.{is_hit}
+use Rattle.sd_plan.proofs.Numbered.{length-below}
 use Rattle.sd_check_hit.specs.Hit.{hit_by}
 use Rattle.sd_check_hit.specs.Places.{IsOnce}
-use Rattle.sd_check_hit.proofs.Bounds.{length_below}
 
 -- what a rising list has further on is greater
 low_at : (a : ℕ) (xs : List ℕ) (i x : ℕ) → Rises a xs → slice_get xs i ≡ Some x → a ≤ x
@@ -86,5 +86,5 @@ module _ (net : Network) (plan : Plan) (domain : DomainId) where
         length-filter (is_hit net plan domain) (below (length net.devices)),
         count_by-le-length (is_hit net plan domain)
             (below (length net.devices)),
-        length_below (length net.devices),
+        length-below (length net.devices),
       )

@@ -1,8 +1,8 @@
 -- What of some things a domain has.
-use Rattle.std.proofs.Common.{◌≡◌, ℕ, ◌<◌, Bool, true, false, ◌||◌, List, [], ◌∷◌, length, nat_eq, refl, sym, ap, ◌∙◌, inl, inr}
+use Rattle.std.proofs.Common.{◌≡◌, ℕ, ◌<◌, Bool, true, false, ◌||◌, List, [], ◌∷◌, length, nat_eq, refl, sym, ap, ◌∙◌}
 use Rattle.std.specs.List.{list_any}
-use Rattle.std.proofs.lemmas.Bool.{cases_eq, eq-eqb, ne_eqb}
 use Rattle.sd_num.specs.Lists.{has}
+use Rattle.sd_num.proofs.Shared.{equal_swap, any_either, none_any, any_same}
 use Rattle.sd_topo.specs.Network.{Network}
 use Rattle.sd_topo.specs.Places.{no_domain, domain_of}
 use Rattle.sd_topo.specs.declared.Thing.{Thing}
@@ -10,48 +10,24 @@ use Rattle.sd_topo.specs.declared.Thing.TheVariants as thing
 use Rattle.sd_topo.proofs.Laws.{found_at}
 use Rattle.sd_domain.specs.Domains.{holds, hits}
 use Rattle.sd_domain.specs.declared.DomainId.TheVariants as domain
-use Rattle.sd_plan.specs.Indexed.{has_device, has_link}
-
-same_ways : (a b : ℕ) → nat_eq a b ≡ nat_eq b a
-same_ways a b =
-    elim (cases_eq a b)
-    [ inl same ↦ (eq-eqb a b same ∙ sym (eq-eqb b a (sym same))) | inr other ↦ (ne_eqb a b other ∙ sym (ne_eqb b a (λ same. other (sym same)))) ]
+use Rattle.sd_plan.specs.IndexedPlan.{has_device, has_link}
 
 -- a device alone
 pub hits-device : (net : Network) (a : ℕ) (things : List Thing) → hits net (domain.Device a) things ≡ has_device things a
 hits-device net a [] = refl
-hits-device net a (thing.Device d ∷ ts) = ap (λ t. t || hits net (domain.Device a) ts) (same_ways a d) ∙ ap (λ t. nat_eq d a || t) (hits-device net a ts)
+hits-device net a (thing.Device d ∷ ts) = ap (λ t. t || hits net (domain.Device a) ts) (equal_swap a d) ∙ ap (λ t. nat_eq d a || t) (hits-device net a ts)
 hits-device net a (thing.Link l ∷ ts) = hits-device net a ts
 
 -- a link alone
 pub hits-link : (net : Network) (l : ℕ) (things : List Thing) → hits net (domain.Link l) things ≡ has_link things l
 hits-link net l [] = refl
 hits-link net l (thing.Device d ∷ ts) = hits-link net l ts
-hits-link net l (thing.Link m ∷ ts) = ap (λ t. t || hits net (domain.Link l) ts) (same_ways l m) ∙ ap (λ t. nat_eq m l || t) (hits-link net l ts)
-
--- either test of each
-any_either : {X : Type 0} (p q : X → Bool) (xs : List X) → list_any (λ x. p x || q x) xs ≡ (list_any p xs || list_any q xs)
-any_either p q [] = refl
-any_either p q (x ∷ xs) = ap (λ t. (p x || q x) || t) (any_either p q xs) ∙ regroup (p x) (q x) (list_any p xs) (list_any q xs)
-  where
-    regroup : (a b c d : Bool) → ((a || b) || (c || d)) ≡ ((a || c) || (b || d))
-    regroup true b c d = refl
-    regroup false true true d = refl
-    regroup false true false d = refl
-    regroup false false c d = refl
-
-none_any : {X : Type 0} (xs : List X) → list_any (λ (x : X). false) xs ≡ false
-none_any [] = refl
-none_any (x ∷ xs) = none_any xs
+hits-link net l (thing.Link m ∷ ts) = ap (λ t. t || hits net (domain.Link l) ts) (equal_swap l m) ∙ ap (λ t. nat_eq m l || t) (hits-link net l ts)
 
 -- the things of a list of devices and a list of links
 abbrev listed : List ℕ → List ℕ → Thing → Bool
 listed devices links (thing.Device d) = has devices d
 listed devices links (thing.Link l) = has links l
-
-any_same : {X : Type 0} (p q : X → Bool) (xs : List X) → ((x : X) → p x ≡ q x) → list_any p xs ≡ list_any q xs
-any_same p q [] same = refl
-any_same p q (x ∷ xs) same = ap (λ t. t || list_any p xs) (same x) ∙ ap (λ t. q x || t) (any_same p q xs same)
 
 pub hits-lists : (devices links : List ℕ) (things : List Thing)
     → list_any (listed devices links) things ≡ (list_any (has_device things) devices || list_any (has_link things) links)

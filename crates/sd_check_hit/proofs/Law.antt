@@ -7,7 +7,7 @@ use Rattle.std.proofs.lemmas.List.Elements.{All-head, All-tail}
 use Rattle.std.proofs.lemmas.List.Folds.{list_any-append}
 use Rattle.std.proofs.lemmas.List.Sorted.{sum_by-IsPermutation, list_any-IsPermutation}
 use Rattle.std.proofs.lemmas.Option.{slice_get-get_or, slice_get_within}
-use Rattle.sd_num.specs.Lists.{below, has, of_some}
+use Rattle.sd_num.specs.Lists.{below, has, map_or}
 use Rattle.sd_topo.specs.Network.{Network}
 use Rattle.sd_topo.specs.Limits.{IsNetwork}
 use Rattle.sd_topo.specs.Places.{domain_of}
@@ -17,12 +17,13 @@ use Rattle.sd_domain.specs.declared.DomainId.{DomainId}
 use Rattle.sd_domain.specs.declared.DomainId.TheVariants as domain
 use Rattle.sd_plan.specs.Plans.{is_member, is_root}
 use Rattle.sd_plan.specs.Walks.{epath, walk, is_hit}
-use Rattle.sd_plan.specs.Indexed.{Indexed, IsIndexOf, span_of, is_within, stands_below, is_cut_before, has_device, has_link}
+use Rattle.sd_plan.specs.IndexedPlan.{IndexedPlan, IsIndexOf, span_of, is_within, stands_below, is_cut_before, has_device, has_link}
 use Rattle.sd_plan.specs.declared.Plan.{Plan}
 use Rattle.sd_plan.specs.declared.index.Span.{Span}
+use Rattle.sd_plan.proofs.Shared.{carried_length}
 use Rattle.sd_check_hit.specs.Hit.{hit_by}
 use Rattle.sd_check_hit.specs.Spans.{non_empty, outside, behind_first, below_device, below_child, below_link, below_domain, is_covered, picked}
-use Rattle.sd_check_hit.proofs.Bounds.{devices_within, links_within, carried_length}
+use Rattle.sd_check_hit.proofs.Bounds.{devices_within, links_within}
 use Rattle.sd_check_hit.proofs.Counting.{one_if, times, times_filtered, times_picked, times_absent, same_sorted, filtered_rises}
 use Rattle.sd_check_hit.proofs.Covered.{covered-non_empty, covered-outside, within-behind_first, covered-flat_map}
 use Rattle.sd_check_hit.proofs.Cut.{above_member, epath_device, epath_link, child_member, on_root, no_root_path, no_path}
@@ -30,7 +31,7 @@ use Rattle.sd_check_hit.proofs.Picked.{picked_agree}
 use Rattle.sd_check_hit.proofs.Hits.{hits-device, hits-link, hits-listed}
 
 -- members with one place are one
-same_place : (net : Network) (plan : Plan) (index : Indexed) (d a : ℕ) → IsIndexOf net plan index → d < length net.devices → a < length net.devices
+same_place : (net : Network) (plan : Plan) (index : IndexedPlan) (d a : ℕ) → IsIndexOf net plan index → d < length net.devices → a < length net.devices
     → is_member plan d ≡ true → is_member plan a ≡ true
     → nat_eq (span_of index d).from (span_of index a).from ≡ nat_eq d a
 same_place net plan index d a law within inside member also =
@@ -47,7 +48,7 @@ same_place net plan index d a law within inside member also =
     ]
 
 -- strictly below a device
-strictly_below : (net : Network) (plan : Plan) (index : Indexed) (d a : ℕ) → IsIndexOf net plan index → d < length net.devices → a < length net.devices
+strictly_below : (net : Network) (plan : Plan) (index : IndexedPlan) (d a : ℕ) → IsIndexOf net plan index → d < length net.devices → a < length net.devices
     → is_member plan d ≡ true
     → is_within (behind_first (span_of index a)) (span_of index d).from ≡ (not (nat_eq d a) && stands_below index d a)
 strictly_below net plan index d a law within inside member =
@@ -68,7 +69,7 @@ cut_test true y false = refl
 cut_test false y c = refl
 
 -- a device's spans cover those strictly below it, but for those that are cut off
-device_covers : (net : Network) (plan : Plan) (index : Indexed) (d a : ℕ) → IsIndexOf net plan index → d < length net.devices → a < length net.devices
+device_covers : (net : Network) (plan : Plan) (index : IndexedPlan) (d a : ℕ) → IsIndexOf net plan index → d < length net.devices → a < length net.devices
     → is_member plan d ≡ true
     → is_covered (below_device index index.backup_root a) (span_of index d).from
     ≡ (not (nat_eq d a) && (stands_below index d a && not (is_cut_before index d a)))
@@ -109,7 +110,7 @@ device_covers net plan index d a law within inside member =
     cut false y e s false h = refl
 
 -- the spans of a link's child cover it and those below it, but for those that are cut off
-child_covers : (net : Network) (plan : Plan) (index : Indexed) (d c : ℕ) → IsIndexOf net plan index → d < length net.devices → c < length net.devices
+child_covers : (net : Network) (plan : Plan) (index : IndexedPlan) (d c : ℕ) → IsIndexOf net plan index → d < length net.devices → c < length net.devices
     → is_member plan d ≡ true → is_member plan c ≡ true
     → is_covered (below_child index index.backup_root c) (span_of index d).from
     ≡ ((nat_eq d c || not (nat_eq c index.backup_root)) && (stands_below index d c && not (is_cut_before index d c)))
@@ -178,7 +179,7 @@ child_covers net plan index d c law within inside member also =
     cut false false false f t false h k = refl
 
 -- a device of the domain
-device_law : (net : Network) (plan : Plan) (index : Indexed) (d a : ℕ) → IsIndexOf net plan index → d < length net.devices → a < length net.devices
+device_law : (net : Network) (plan : Plan) (index : IndexedPlan) (d a : ℕ) → IsIndexOf net plan index → d < length net.devices → a < length net.devices
     → is_member plan d ≡ true
     → is_covered (below_device index index.backup_root a) (span_of index d).from ≡ has_device (epath net plan d) a
 device_law net plan index d a law within inside member =
@@ -197,7 +198,7 @@ device_law net plan index d a law within inside member =
     ]
 
 -- a link of the domain
-link_law : (net : Network) (plan : Plan) (index : Indexed) (d l : ℕ) → IsIndexOf net plan index → d < length net.devices → l < length net.links
+link_law : (net : Network) (plan : Plan) (index : IndexedPlan) (d l : ℕ) → IsIndexOf net plan index → d < length net.devices → l < length net.links
     → is_member plan d ≡ true
     → is_covered (below_link index index.backup_root l) (span_of index d).from ≡ has_link (epath net plan d) l
 link_law net plan index d l law within inside member = by_child (get_or index.carried l None) refl
@@ -207,15 +208,15 @@ link_law net plan index d l law within inside member = by_child (get_or index.ca
     ]
   where
     by_child : (o : Option ℕ) → get_or index.carried l None ≡ o
-        → is_covered (of_some o [] (below_child index index.backup_root)) (span_of index d).from
-        ≡ of_some o false (λ c. (nat_eq d c || not (nat_eq c index.backup_root)) && (stands_below index d c && not (is_cut_before index d c)))
+        → is_covered (map_or o [] (below_child index index.backup_root)) (span_of index d).from
+        ≡ map_or o false (λ c. (nat_eq d c || not (nat_eq c index.backup_root)) && (stands_below index d c && not (is_cut_before index d c)))
     by_child None is = refl
     by_child (Some c) is =
         let child = child_member net plan index l c law is in
         child_covers net plan index d c law within child.0 member child.1.0
 
     at_root : is_root plan d ≡ true → (o : Option ℕ) → get_or index.carried l None ≡ o
-        → of_some o false (λ c. (nat_eq d c || not (nat_eq c index.backup_root)) && (stands_below index d c && not (is_cut_before index d c))) ≡ false
+        → map_or o false (λ c. (nat_eq d c || not (nat_eq c index.backup_root)) && (stands_below index d c && not (is_cut_before index d c))) ≡ false
     at_root root None is = refl
     at_root root (Some c) is =
         let child = child_member net plan index l c law is in
@@ -232,7 +233,7 @@ any_alike P p q (x ∷ xs) all same =
     ap (λ t. t || list_any p xs) (same x (All-head P x xs all)) ∙ ap (λ t. q x || t) (any_alike P p q xs (All-tail P x xs all) same)
 
 -- a member's place is covered where the domain hits it
-member_law : (net : Network) (plan : Plan) (index : Indexed) (f : DomainId) (d : ℕ) → IsNetwork net → IsIndexOf net plan index → IsDomain net f
+member_law : (net : Network) (plan : Plan) (index : IndexedPlan) (f : DomainId) (d : ℕ) → IsNetwork net → IsIndexOf net plan index → IsDomain net f
     → d < length net.devices → is_member plan d ≡ true
     → is_covered (below_domain net index index.backup_root f) (span_of index d).from ≡ is_hit net plan f d
 member_law net plan index f d sound law there within member = by_kind f there
@@ -261,7 +262,7 @@ member_law net plan index f d sound law there within member = by_kind f there
     by_kind (domain.Link l) there = links l (omega (arith, carried_length net plan index law)) ∙ sym (hits-link net l (epath net plan d))
 
 -- how often a device is picked
-hit_times : (net : Network) (plan : Plan) (index : Indexed) (f : DomainId) (v : ℕ) → IsNetwork net → IsIndexOf net plan index → IsDomain net f
+hit_times : (net : Network) (plan : Plan) (index : IndexedPlan) (f : DomainId) (v : ℕ) → IsNetwork net → IsIndexOf net plan index → IsDomain net f
     → times v (picked index.order (is_covered (below_domain net index index.backup_root f)) (length index.order))
     ≡ one_if (nat_lt v (length net.devices) && is_hit net plan f v)
 hit_times net plan index f v sound law there =
@@ -309,7 +310,7 @@ hit_times net plan index f v sound law there =
         ]
 
 -- in order, what is picked are the devices that the domain hits
-pub hit_law : (net : Network) (plan : Plan) (index : Indexed) (f : DomainId) (spans : List Span) (list : List ℕ) → IsNetwork net → IsIndexOf net plan index
+pub hit_law : (net : Network) (plan : Plan) (index : IndexedPlan) (f : DomainId) (spans : List Span) (list : List ℕ) → IsNetwork net → IsIndexOf net plan index
     → IsDomain net f
     → IsPermutation (below_domain net index plan.backup_root f) spans
     → IsPermutation (picked index.order (is_covered spans) (length index.order)) list → IsNonDecreasing list

@@ -2,13 +2,14 @@
 use Rattle.std.proofs.Common.{◌≡◌, ℕ, ◌+◌, ◌<◌, ◌≤◌, Bool, true, false, ◌||◌, List, [], ◌++◌, length, take, get_or, max, refl, sym, ap, ◌∙◌, inl, inr, arith, nat_le, nat_lt}
 use Rattle.std.specs.List.{slice_range}
 use Rattle.std.specs.List.Sorted.{IsNonDecreasingBy}
-use Rattle.std.proofs.lemmas.Bool.{cases_Bool, and_parts, and_from, or_cases, or_left, or_right, false_from_ne_true, leb-true, ltb-true, le-leb, lt-ltb}
+use Rattle.std.proofs.lemmas.Bool.{cases_Bool, and_parts, or_cases, or_left, or_right, false_from_ne_true, leb-true, ltb-true}
 use Rattle.std.proofs.lemmas.List.{take_all}
 use Rattle.std.proofs.lemmas.List.Folds.{list_any_more}
-use Rattle.sd_plan.specs.Indexed.{is_within, no_span}
+use Rattle.sd_plan.specs.IndexedPlan.{is_within, no_span}
 use Rattle.sd_plan.specs.declared.index.Span.{Span}
 use Rattle.sd_check_hit.specs.Spans.{is_covered, picked}
 use Rattle.sd_check_hit.proofs.Picked.{picked_agree, picked_skip, picked_slice}
+use Rattle.sd_check_hit.proofs.Covered.{within_true}
 
 -- the first i spans are merged: what they cover is taken, and lies below a place up to which, from the last first place on, all is covered
 pub record IsMerged (order : List ℕ) (spans : List Span) (i taken : ℕ) (devices : List ℕ) : Type 0 where
@@ -31,9 +32,6 @@ within_parts : (s : Span) (p : ℕ) → is_within s p ≡ true → (s.from ≤ p
 within_parts s p h =
     let parts : (nat_le s.from p ≡ true) × (nat_lt p s.to ≡ true) = and_parts (nat_le s.from p) (nat_lt p s.to) h in
     (leb-true s.from p parts.0, ltb-true p s.to parts.1)
-
-within_from : (s : Span) (p : ℕ) → s.from ≤ p → p < s.to → is_within s p ≡ true
-within_from s p from before = and_from (nat_le s.from p) (nat_lt p s.to) (le-leb s.from p from) (lt-ltb p s.to before)
 
 -- one span more
 covered_more : (spans : List Span) (i p : ℕ) → i < length spans
@@ -65,7 +63,7 @@ pub merged_more : (order : List ℕ) (spans : List Span) (i taken from to : ℕ)
 merged_more order spans i taken from to devices sorted merged within last first some room =
     let s = get_or spans i no_span in
     let new : (p : ℕ) → s.from ≤ p → p < to → is_covered (take (i + 1) spans) p ≡ true =
-    λ p a b. covered_more spans i p within ∙ or_right (is_covered (take i spans) p) (is_within s p) (within_from s p a (omega arith))
+    λ p a b. covered_more spans i p within ∙ or_right (is_covered (take i spans) p) (is_within s p) (within_true s p a (omega arith))
     in
     let cases : (p : ℕ) → is_covered (take (i + 1) spans) p ≡ true → p < to =
     λ p covered. elim (or_cases (is_covered (take i spans) p) (is_within s p) (sym (covered_more spans i p within) ∙ covered)) [

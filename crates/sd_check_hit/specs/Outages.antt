@@ -15,6 +15,7 @@ use Rattle.sd_check_hit.specs.declared.outage.Outage.{Outage}
 abbrev pub net_of : Outage → Network
 net_of outage = network outage.planned.topo.now
 
+-- the plan of an outage
 abbrev pub plan_of : Outage → Plan
 plan_of outage = outage.planned.plan.now
 

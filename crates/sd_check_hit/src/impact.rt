@@ -6,7 +6,7 @@ use crate::hit_devices;
 use crate::outage::Outage;
 use sd_domain::{DomainId, Failure};
 use sd_num::NoMemory;
-use sd_plan::{DeviceList, Indexed};
+use sd_plan::{DeviceList, IndexedPlan};
 use sd_topo::Topology;
 use std::alloc::Global;
 
@@ -65,7 +65,7 @@ impl Impact {
     pub fn strike(
         &mut self,
         alloc: Global,
-        planned: Indexed<'_>,
+        planned: IndexedPlan<'_>,
         domain: DomainId,
     ) -> Result<(), NoMemory>
         requires domain { IsDomain (network planned.topo.now) domain }
@@ -81,7 +81,7 @@ impl Impact {
     }
 
     /// The domain over the plan.
-    pub fn outage<'a>(&'a self, planned: Indexed<'a>, domain: DomainId) -> Outage<'a>
+    pub fn outage<'a>(&'a self, planned: IndexedPlan<'a>, domain: DomainId) -> Outage<'a>
         requires { IsImpactOf (network planned.topo.now) planned.plan.now domain self.now }
         ensures planned { result.planned ≡ planned.entry }
         ensures domain { result.domain ≡ domain }

@@ -4,7 +4,7 @@
 ghost use Rattle.std.specs.Prelude.{◌≡◌, IfOk};
 ghost use Rattle.sd_domain.specs.Lone.{IsDomain};
 ghost use Rattle.sd_check_hit.specs.Hit.{hit_by};
-ghost use Rattle.sd_plan.specs.Indexed.{IsIndexOf};
+ghost use Rattle.sd_plan.specs.IndexedPlan.{IsIndexOf};
 ghost use Rattle.sd_topo.specs.Topologies.{network};
 
 mod impact;

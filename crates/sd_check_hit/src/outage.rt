@@ -7,12 +7,12 @@ ghost use Rattle.sd_check_hit.specs.Hit.{hit_by};
 ghost use Rattle.sd_check_hit.specs.Places.{ArePlaces};
 
 use sd_domain::{DomainId, Failure};
-use sd_plan::Indexed;
+use sd_plan::IndexedPlan;
 
 /// A fault domain over a plan, with what it fails and the devices that it hits.
 #[derive(Clone, Copy)]
 pub struct Outage<'a> {
-    pub planned: Indexed<'a>,
+    pub planned: IndexedPlan<'a>,
     pub domain: DomainId,
     /// The things of the domain.
     pub failed: &'a Failure,

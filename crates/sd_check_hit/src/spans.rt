@@ -2,7 +2,7 @@
 ghost use Rattle.std.specs.Prelude.{◌≡◌, ◌<◌, ◌≤◌, ◌++◌, length, slice_index_or, flat_map, All, OnOk, IfOk, None};
 ghost use Rattle.sd_domain.specs.Lone.{IsDomain};
 ghost use Rattle.sd_check_hit.specs.Spans as places;
-ghost use Rattle.sd_plan.specs.Indexed.{IsIndexOf, is_within, span_of};
+ghost use Rattle.sd_plan.specs.IndexedPlan.{IsIndexOf, is_within, span_of};
 ghost use Rattle.sd_topo.specs.Topologies.{network};
 
 use sd_domain::DomainId;

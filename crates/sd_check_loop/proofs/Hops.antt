@@ -1,11 +1,11 @@
 -- Which hops a device may be on, by its row.
-use Rattle.std.specs.Prelude.{◌≡◌, ℕ, ◌<◌, Bool, true, false, ◌&&◌, not, List, [], ◌∷◌, ◌++◌, length, nat_eq, Option, Some, None, option_map, option_to_list, if◌then◌else◌}
+use Rattle.std.specs.Prelude.{◌≡◌, ℕ, ◌<◌, Bool, true, false, ◌&&◌, not, List, [], ◌∷◌, ◌++◌, length, nat_eq, Option, Some, None, option_to_list, if◌then◌else◌}
 use Rattle.std.specs.List.{list_any, slice_get}
 use Rattle.std.proofs.Common.{refl, sym, ◌∙◌, subst, ◌⊎◌, inl, inr}
-use Rattle.std.proofs.lemmas.Bool.{and_parts, or_cases, or_left, or_right, eqb-true, eq-eqb}
+use Rattle.std.proofs.lemmas.Bool.{or_cases, or_left, or_right, eqb-true, eq-eqb}
 use Rattle.std.proofs.lemmas.List.Folds.{list_any-append}
 use Rattle.std.proofs.lemmas.Option.{slice_get_within}
-use Rattle.sd_num.specs.Lists.{of_some}
+use Rattle.sd_num.specs.Lists.{map_or}
 use Rattle.sd_topo.specs.Network.{Network}
 use Rattle.sd_domain.specs.declared.DomainId.{DomainId}
 use Rattle.sd_plan.specs.declared.Hop.{Hop}
@@ -14,6 +14,7 @@ use Rattle.sd_plan.specs.declared.PlanRow.{PlanRow}
 use Rattle.sd_plan.specs.Plans.{is_member, row_of, has_row, primary_of, backup_of}
 use Rattle.sd_plan.specs.Walks.{ends_walks, is_hit}
 use Rattle.sd_check_loop.specs.Loops.{same_hop, LeadsTo}
+use Rattle.sd_check_loop.proofs.Shared.{primary_row}
 
 -- the hop is there, and leads to the device
 abbrev pub IsParent : Option Hop → ℕ → Type 0
@@ -31,16 +32,6 @@ any_parent (hop ∷ hs) e some =
   where
     itself : (h : Hop) → same_hop h h ≡ true
     itself h = rw (eq-eqb h.parent h.parent refl, eq-eqb h.link h.link refl) refl
-
--- one of the hops leads where it leads
-pub parent_any : (hs : List Hop) (hop : Hop) → list_any (same_hop hop) hs ≡ true → list_any (λ h. nat_eq h.parent hop.parent) hs ≡ true
-parent_any [] hop some = some
-parent_any (h ∷ hs) hop some =
-    elim (or_cases (same_hop hop h) (list_any (same_hop hop) hs) some) [
-      | inl here ↦ or_left (nat_eq h.parent hop.parent) (list_any (λ x. nat_eq x.parent hop.parent) hs)
-          (eq-eqb h.parent hop.parent (sym (eqb-true hop.parent h.parent (and_parts (nat_eq hop.parent h.parent) (nat_eq hop.link h.link) here).0)))
-      | inr later ↦ or_right (nat_eq h.parent hop.parent) (list_any (λ x. nat_eq x.parent hop.parent) hs) (parent_any hs hop later)
-    ]
 
 -- a list of the one hop that is there
 one_parent : (o : Option Hop) (e : ℕ) → list_any (λ hop. nat_eq hop.parent e) (option_to_list o) ≡ true → IsParent o e
@@ -115,12 +106,7 @@ module _ (net : Network) (plan : Plan) (domain : DomainId) where
   pub leads_to : (d e : ℕ) → IsLed d e → LeadsTo net plan domain d e
   leads_to d e led = by_led (is_member plan d) (ends_walks plan d) (is_hit net plan domain d) (primary_of plan d) (backup_of plan d) e led
 
--- a hop is there only in a row
-primary_row : (o : Option PlanRow) (hop : Hop) → option_map (λ row. row.primary) o ≡ Some hop → of_some o false (λ row. true) ≡ true
-primary_row None hop is = cc
-primary_row (Some row) hop is = refl
-
-backup_row : (o : Option PlanRow) (hop : Hop) → of_some o None (λ row. row.backup) ≡ Some hop → of_some o false (λ row. true) ≡ true
+backup_row : (o : Option PlanRow) (hop : Hop) → map_or o None (λ row. row.backup) ≡ Some hop → map_or o false (λ row. true) ≡ true
 backup_row None hop is = cc
 backup_row (Some row) hop is = refl
 
@@ -134,7 +120,7 @@ has_backup_row plan d e parent = backup_row (row_of plan d) parent.0 parent.1
 pub row_within : (plan : Plan) (d : ℕ) → has_row plan d ≡ true → d < length plan.rows
 row_within plan d there = by (slice_get plan.rows d) refl there
   where
-    by : (o : Option (Option PlanRow)) → slice_get plan.rows d ≡ o → of_some (of_some o None (λ row. row)) false (λ row. true) ≡ true → d < length plan.rows
+    by : (o : Option (Option PlanRow)) → slice_get plan.rows d ≡ o → map_or (map_or o None (λ row. row)) false (λ row. true) ≡ true → d < length plan.rows
     by None at some = cc
     by (Some row) at some = slice_get_within plan.rows d row at
 

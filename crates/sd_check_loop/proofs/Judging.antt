@@ -5,6 +5,8 @@ use Rattle.std.proofs.Common.{refl, sym, ap, ◌∙◌, subst, arith, ◌⊎◌,
 use Rattle.std.proofs.lemmas.Bool.{and_from, and_parts, or_left, or_right, or_cases, cases_lt, cases_Bool, cond-true, cond-false, eq-eqb, both_ways, false_from_ne_true}
 use Rattle.std.proofs.lemmas.List.{get_or-map, length-map}
 use Rattle.sd_num.specs.Lists.{has, same_number}
+use Rattle.sd_num.proofs.Shared.{same_number-some}
+use Rattle.sd_num.proofs.Ascending.{rise}
 use Rattle.sd_topo.specs.Network.{Network}
 use Rattle.sd_domain.specs.declared.DomainId.{DomainId}
 use Rattle.sd_plan.specs.declared.Hop.{Hop}
@@ -21,13 +23,14 @@ use Rattle.sd_check_loop.specs.Shown.{next_endless}
 use Rattle.sd_check_loop.specs.declared.graph.Successors.{Successors}
 use Rattle.sd_check_loop.specs.declared.marking.Mark.{Mark}
 use Rattle.sd_check_loop.specs.declared.marking.Mark.TheVariants as mark
-use Rattle.sd_check_loop.proofs.Hops.{IsParent, any_parent, parent_any, IsLed, OneLeads, led, leads_to, row_within, led_row, has_primary_row, has_backup_row}
+use Rattle.sd_check_loop.proofs.Hops.{IsParent, any_parent, IsLed, OneLeads, led, leads_to, row_within, led_row, has_primary_row, has_backup_row}
 use Rattle.sd_check_loop.proofs.Least.{next_parts, next_least}
 use Rattle.sd_check_loop.proofs.Listed.{hit_ascends}
-use Rattle.sd_check_loop.proofs.Markers.{same_number-some, both_at, place_of}
-use Rattle.sd_check_loop.proofs.Places.{rise_over, place_in-some, place_in-at, passing_at, passing_has}
+use Rattle.sd_check_loop.proofs.Markers.{both_at, place_of}
+use Rattle.sd_check_loop.proofs.Places.{place_in-some, place_in-at, passing_at, passing_has}
 use Rattle.sd_check_loop.proofs.Ranks.{no_cycle}
-use Rattle.sd_check_loop.proofs.Unhit.{not_root, short_count, GoesUnhit, goes_unhit}
+use Rattle.sd_check_loop.proofs.Unhit.{short_count, GoesUnhit, goes_unhit}
+use Rattle.sd_check_loop.proofs.Shared.{parent_any, not_root}
 
 -- one place leads to another, by the successors of the first
 abbrev leads_by : Successors → ℕ → Bool
@@ -299,7 +302,7 @@ module _ (net : Network) (plan : Plan) (domain : DomainId) (fits : Fits net plan
       not_before d e i j at_d at_e order =
           let first = place_in-some hit d i at_d in
           let second = place_in-some hit e j at_e in
-          let up = rise_over hit (hit_ascends net plan domain hit is) i j order second.0 in
+          let up = rise hit (hit_ascends net plan domain hit is) i j order second.0 in
           omega (arith, up, first.1, second.1)
 
       -- where no place is endless, there is no cycle

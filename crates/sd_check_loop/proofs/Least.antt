@@ -2,13 +2,13 @@
 use Rattle.std.proofs.Common.{◌≡◌, ℕ, ◌≤◌, true, ◌⊎◌, List, min, Option, Some, None, refl, sym, ap, ◌∙◌, inl, inr, arith}
 use Rattle.std.proofs.lemmas.Bool.{or_cases, cases_lt}
 use Rattle.sd_num.specs.Lists.{same_number}
+use Rattle.sd_num.proofs.Shared.{same_number-some}
 use Rattle.sd_check_loop.specs.Graphs.{leads, successors_at}
 use Rattle.sd_check_loop.specs.Markings.{mark_at, IsMarked}
 use Rattle.sd_check_loop.specs.Shown.{endless_by, endless_at, lesser, next_endless}
 use Rattle.sd_check_loop.specs.declared.graph.Successors.{Successors}
 use Rattle.sd_check_loop.specs.declared.marking.Mark.{Mark}
 use Rattle.sd_check_loop.specs.declared.marking.Mark.TheVariants as mark
-use Rattle.sd_check_loop.proofs.Markers.{same_number-some}
 use Rattle.sd_check_loop.proofs.Searching.{leads_first, leads_second}
 
 -- a successor that is kept is there, and endless

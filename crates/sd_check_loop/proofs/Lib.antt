@@ -11,3 +11,4 @@ mod Judging
 mod Trailing
 mod Answering
 pub mod Unique
+pub mod Shared

@@ -1,10 +1,11 @@
 -- How marks change: at one place, and on the whole stack.
-use Rattle.std.proofs.Common.{suc, ◌≡◌, ◌≢◌, ℕ, ◌<◌, true, ◌⊎◌, List, [], ◌∷◌, length, get_or, set as put, nat_eq, sym, ap, ◌∙◌, inl, inr, subst, arith, get_or-set_other, get_or-set_same, Option, Some, None}
+use Rattle.std.proofs.Common.{suc, ◌≡◌, ◌≢◌, ℕ, ◌<◌, true, ◌⊎◌, List, [], ◌∷◌, length, get_or, set as put, nat_eq, sym, ap, ◌∙◌, inl, inr, subst, arith, get_or-set_other, get_or-set_same, Option, Some}
 use Rattle.std.specs.Prelude.{IfSome}
 use Rattle.std.proofs.lemmas.Bool.{cases_eq, eq-eqb, eqb-true, or_cases}
 use Rattle.std.proofs.lemmas.List.Folds.{list_any_at}
 use Rattle.std.proofs.lemmas.Option.{IfSome_then}
 use Rattle.sd_num.specs.Lists.{has, same_number}
+use Rattle.sd_num.proofs.Shared.{same_number-some}
 use Rattle.sd_check_loop.specs.Graphs.{BothAre, successors_at, leads}
 use Rattle.sd_check_loop.specs.Markings.{mark_at}
 use Rattle.sd_check_loop.specs.declared.graph.Successors.{Successors}
@@ -29,11 +30,6 @@ from_before marks x i new m within at_i =
 -- what holds of both successors
 pub both_map : {P Q : ℕ → Type 0} (s : Successors) → ((j : ℕ) → P j → Q j) → BothAre P s → BothAre Q s
 both_map s each both = (IfSome_then s.primary both.0 each, IfSome_then s.backup both.1 each)
-
--- a number is the one that is there
-pub same_number-some : (o : Option ℕ) (j : ℕ) → same_number o j ≡ true → o ≡ Some j
-same_number-some None j same = cc
-same_number-some (Some i) j same = ap Some (eqb-true i j same)
 
 if_some : (P : ℕ → Type 0) (o : Option ℕ) (j : ℕ) → o ≡ Some j → IfSome o P → P j
 if_some P o j is all = subst (λ (found : Option ℕ). IfSome found P) is all

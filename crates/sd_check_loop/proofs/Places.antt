@@ -1,11 +1,12 @@
 -- The places of numbers in a list that ascends.
-use Rattle.std.proofs.Common.{◌≡◌, ◌≢◌, ℕ, zero, suc, ◌+◌, ◌<◌, ◌≤◌, Bool, true, false, cond, ◌⊎◌, List, [], ◌∷◌, length, get_or, filter, nat_eq, nat_le, Option, Some, None, option_map, refl, sym, ap, subst, inl, inr, arith}
-use Rattle.std.proofs.lemmas.Bool.{le-leb, eq-eqb, ne_eqb, eqb-true, or_cases, or_left, or_right, cond-true, cases_lt, both_ways}
+use Rattle.std.proofs.Common.{◌≡◌, ◌≢◌, ℕ, zero, suc, ◌+◌, ◌<◌, ◌≤◌, Bool, true, false, cond, ◌⊎◌, List, [], ◌∷◌, length, get_or, filter, nat_eq, Option, Some, None, option_map, refl, sym, subst, inl, inr, arith}
+use Rattle.std.proofs.lemmas.Bool.{eq-eqb, ne_eqb, eqb-true, or_cases, or_left, or_right, cond-true, both_ways}
 use Rattle.std.proofs.lemmas.List.Elements.{All-get_or, filter_passes}
 use Rattle.std.proofs.lemmas.List.Folds.{list_any_at}
 use Rattle.sd_num.specs.Lists.{ascends, has, below}
 use Rattle.sd_num.proofs.Ascending.{tail_ascends, first_below}
-use Rattle.sd_topo.proofs.Ascending.{Rises, rising}
+use Rattle.sd_topo.proofs.Ascending.{rising}
+use Rattle.sd_topo.proofs.Lists.{ascends-rising}
 use Rattle.sd_plan.proofs.Numbered.{length-below, get_or-below}
 use Rattle.sd_check_loop.specs.Graphs.{place_in}
 
@@ -16,14 +17,6 @@ rise (x ∷ xs) up zero zero order within = absurd (omega arith)
 rise (x ∷ xs) up zero (suc j) order within = first_below x xs j up (omega arith)
 rise (x ∷ xs) up (suc i) zero order within = absurd (omega arith)
 rise (x ∷ xs) up (suc i) (suc j) order within = rise xs (tail_ascends x xs up) i j (omega arith) (omega arith)
-
--- so they do not fall
-pub rise_over : (xs : List ℕ) → ascends xs ≡ true → (i j : ℕ) → i ≤ j → j < length xs → get_or xs i 0 ≤ get_or xs j 0
-rise_over xs up i j order within =
-    elim (cases_lt i j) [
-      | inl before ↦ (let less = rise xs up i j before within in omega (arith, less))
-      | inr after ↦ (let same : i ≡ j = omega arith in let equal : get_or xs i 0 ≡ get_or xs j 0 = ap (λ (k : ℕ). get_or xs k 0) same in omega (arith, equal))
-    ]
 
 -- a place that is found
 abbrev IsPlace : List ℕ → ℕ → ℕ → Type 0
@@ -65,14 +58,6 @@ place_in-at (x ∷ xs) (suc i) up within =
     let less : x < get_or xs i 0 = first_below x xs i up (omega arith) in
     let other : nat_eq x (get_or xs i 0) ≡ false = ne_eqb x (get_or xs i 0) (λ same. omega arith) in
     rw (other, place_in-at xs i (tail_ascends x xs up) (omega arith)) refl
-
--- a rising list ascends
-ascends-rising : (a : ℕ) (xs : List ℕ) → Rises a xs → ascends xs ≡ true
-ascends-rising a [] up = refl
-ascends-rising a (x ∷ []) up = refl
-ascends-rising a (x ∷ y ∷ ys) up =
-    let next : nat_le (x + 1) y ≡ true = le-leb (x + 1) y (omega arith) in
-    rw next (ascends-rising (suc x) (y ∷ ys) up.1)
 
 -- numbers below a bound that pass a test
 module _ (test : ℕ → Bool) (bound : ℕ) where

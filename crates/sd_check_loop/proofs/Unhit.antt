@@ -11,45 +11,30 @@ use Rattle.sd_plan.specs.Plans.{is_member, is_root, is_backup_root, primary_of}
 use Rattle.sd_plan.specs.Walks.{hops, walk, ends_walks, things_of, end_of, is_hit, short_path, short_walk}
 use Rattle.sd_plan.specs.Structure.{structure_breach}
 use Rattle.sd_plan.proofs.Rules.{keeps_rules}
-
--- no more hops where the walk is to end
-abbrev cut : Bool → List Hop → List Hop
-cut b hs = elim b [ true ↦ [] | false ↦ hs ]
+use Rattle.sd_plan.proofs.Forest.{until, most_hops}
+use Rattle.sd_check_loop.proofs.Shared.{not_root}
 
 -- what follows a first hop
 abbrev after : (ℕ → Bool) → (ℕ → List Hop) → ℕ → List Hop
-after ends more e = cut (ends e) (more e)
+after ends more e = until (ends e) (more e)
 
 -- the hops from a first one on
 abbrev onward : (ℕ → Bool) → (ℕ → List Hop) → Option Hop → List Hop
 onward ends more found = elim found [ None ↦ [] | Some hop ↦ hop ∷ after ends more hop.parent ]
 
--- no more hops than are counted
-pub hops_count : (ends : ℕ → Bool) (plan : Plan) (n d : ℕ) → length (hops ends plan n d) ≤ n
-hops_count ends plan zero d = omega arith
-hops_count ends plan (suc n) d = by (primary_of plan d) (λ e. hops_count ends plan n e)
-  where
-    over : (e : ℕ) (b : Bool) → length (hops ends plan n e) ≤ n → length (cut b (hops ends plan n e)) ≤ n
-    over e true rest = omega arith
-    over e false rest = rest
-
-    by : (found : Option Hop) → ((e : ℕ) → length (hops ends plan n e) ≤ n) → length (onward ends (hops ends plan n) found) ≤ suc n
-    by None rest = omega arith
-    by (Some hop) rest = let fewer : length (after ends (hops ends plan n) hop.parent) ≤ n = over hop.parent (ends hop.parent) (rest hop.parent) in omega arith
-
 -- the walk from d comes to the root within n hops
 abbrev Comes : Plan → ℕ → ℕ → Type 0
 Comes plan n d = is_root plan (end_of d (hops (is_root plan) plan n d)) ≡ true
 
--- a walk that comes to the root in time is not cut by the count
+-- a walk that comes to the root in time is not until by the count
 stable : (plan : Plan) (n e : ℕ) → is_root plan e ≡ false → Comes plan n e → hops (ends_walks plan) plan (suc n) e ≡ hops (ends_walks plan) plan n e
 stable plan zero e other comes = absurd (both_ways (is_root plan e) other comes)
 stable plan (suc n) e other comes = by (primary_of plan e) comes (λ x. stable plan n x)
   where
     over : (x : ℕ) (root backup : Bool) → is_root plan x ≡ root
-        → is_root plan (end_of x (cut root (hops (is_root plan) plan n x))) ≡ true
+        → is_root plan (end_of x (until root (hops (is_root plan) plan n x))) ≡ true
         → (is_root plan x ≡ false → Comes plan n x → hops (ends_walks plan) plan (suc n) x ≡ hops (ends_walks plan) plan n x)
-        → cut (root || backup) (hops (ends_walks plan) plan (suc n) x) ≡ cut (root || backup) (hops (ends_walks plan) plan n x)
+        → until (root || backup) (hops (ends_walks plan) plan (suc n) x) ≡ until (root || backup) (hops (ends_walks plan) plan n x)
     over x true backup is ends rest = refl
     over x false true is ends rest = refl
     over x false false is ends rest = rest is ends
@@ -61,11 +46,7 @@ stable plan (suc n) e other comes = by (primary_of plan e) comes (λ x. stable p
     by (Some hop) ends rest =
         ap (λ (hs : List Hop). hop ∷ hs) (over hop.parent (is_root plan hop.parent) (is_backup_root plan hop.parent) refl ends (rest hop.parent))
 
--- a device that ends no walk is not the root
-pub not_root : (plan : Plan) (d : ℕ) → ends_walks plan d ≡ false → is_root plan d ≡ false
-not_root plan d other = (or_parts (is_root plan d) (is_backup_root plan d) other).0
-
--- where a device that ends no walk is cut
+-- where a device that ends no walk is until
 pub short_walk-is : (net : Network) (plan : Plan) (d : ℕ) → ends_walks plan d ≡ false → short_walk net plan d ≡ hops (ends_walks plan) plan net.params.depth d
 short_walk-is net plan d other =
     cond-false (ends_walks plan d) [] (short_path net plan d) other
@@ -76,7 +57,7 @@ pub short_count : (net : Network) (plan : Plan) (d : ℕ) → length (short_walk
 short_count net plan d =
     elim (cases_Bool (ends_walks plan d)) [
       | inl ends ↦ rw (cond-true (ends_walks plan d) [] (short_path net plan d) ends) (omega arith)
-      | inr other ↦ rw (short_walk-is net plan d other) (hops_count (ends_walks plan) plan net.params.depth d)
+      | inr other ↦ rw (short_walk-is net plan d other) (most_hops (ends_walks plan) plan net.params.depth d)
     ]
 
 -- what the step of a walk that is not hit leads to
@@ -118,9 +99,9 @@ step_at net plan domain d n hop depth other primary comes none =
         → GoesUnhit net plan domain d e
     goes e on whole free arrives =
         let here : is_root plan e ≡ false = not_root plan e on in
-        let comes_on : Comes plan n e = subst (λ (b : Bool). is_root plan (end_of e (cut b (hops (is_root plan) plan n e))) ≡ true) here arrives in
+        let comes_on : Comes plan n e = subst (λ (b : Bool). is_root plan (end_of e (until b (hops (is_root plan) plan n e))) ≡ true) here arrives in
         let rest_is : after (ends_walks plan) (hops (ends_walks plan) plan n) e ≡ hops (ends_walks plan) plan n e =
-        ap (λ (b : Bool). cut b (hops (ends_walks plan) plan n e)) on in
+        ap (λ (b : Bool). until b (hops (ends_walks plan) plan n e)) on in
         let same : hops (ends_walks plan) plan net.params.depth e ≡ hops (ends_walks plan) plan n e =
         ap (λ (m : ℕ). hops (ends_walks plan) plan m e) depth ∙ stable plan n e here comes_on in
         let short_is : short_walk net plan e ≡ hops (ends_walks plan) plan n e = short_walk-is net plan e on ∙ same in

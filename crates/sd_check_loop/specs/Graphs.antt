@@ -17,6 +17,7 @@ abbrev pub parent_place : List ℕ → Option Hop → Option ℕ
 parent_place hit None = None
 parent_place hit (Some hop) = place_in hit hop.parent
 
+-- nothing follows
 abbrev pub no_successors : Successors
 no_successors = record { primary = None; backup = None }
 

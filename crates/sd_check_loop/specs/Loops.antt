@@ -15,6 +15,7 @@ hops_of net plan domain d =
     then option_to_list (primary_of plan d) ++ (if is_hit net plan domain d then option_to_list (backup_of plan d) else [])
     else []
 
+-- the hops have the same parent and the same link
 abbrev pub same_hop : Hop → Hop → Bool
 same_hop a b = nat_eq a.parent b.parent && nat_eq a.link b.link
 
@@ -49,6 +50,7 @@ IsChain R [] = Unit {0}
 IsChain R (x ∷ []) = Unit {0}
 IsChain R (x ∷ y ∷ ys) = R x y × IsChain R (y ∷ ys)
 
+-- there is a first element, and this is so of it
 abbrev pub IsFirstOf : List ℕ → (ℕ → Type 0) → Type 0
 IsFirstOf [] P = ⊥
 IsFirstOf (x ∷ xs) P = P x

@@ -11,6 +11,7 @@ use Rattle.sd_check_loop.specs.declared.marking.Step.TheVariants as step
 abbrev pub mark_at : List Mark → ℕ → Mark
 mark_at marks i = slice_index_or marks i mark.Ending
 
+-- the place has no mark yet
 abbrev pub is_new : Mark → Bool
 is_new mark.New = true
 is_new mark.Entered = false
@@ -24,6 +25,7 @@ step_by j mark.Entered = step.Condemn
 step_by j mark.Ending = step.Finish
 step_by j mark.Endless = step.Condemn
 
+-- what is to be done about a successor, if there is one
 abbrev pub step_to : List Mark → Option ℕ → Step
 step_to marks None = step.Finish
 step_to marks (Some j) = step_by j (mark_at marks j)
@@ -34,6 +36,7 @@ first_step step.Finish other = other
 first_step (step.Enter j) other = step.Enter j
 first_step step.Condemn other = step.Condemn
 
+-- what is to be done at a place, by both of its successors
 abbrev pub step_at : List Successors → List Mark → ℕ → Step
 step_at graph marks i = first_step (step_to marks (successors_at graph i).primary) (step_to marks (successors_at graph i).backup)
 

@@ -15,6 +15,7 @@ endless_by j mark.Entered = None
 endless_by j mark.Ending = None
 endless_by j mark.Endless = Some j
 
+-- the place, if there is one and some way from it never ends
 abbrev pub endless_at : List Mark → Option ℕ → Option ℕ
 endless_at marks None = None
 endless_at marks (Some j) = endless_by j (mark_at marks j)
@@ -45,6 +46,7 @@ pub record IsCycle (hit : List ℕ) (graph : List Successors) (marks : List Mark
   pub goes_on : IsChain (IsStep hit graph marks) (lead ++ (first ∷ others) ++ first ∷ [])
   pub once : AreDifferent (lead ++ first ∷ others)
 
+-- the list is the cycle that such steps from a device come to
 abbrev pub CycleIs : List ℕ → List Successors → List Mark → ℕ → List ℕ → Type 0
 CycleIs hit graph marks begin [] = ⊥
 CycleIs hit graph marks begin (first ∷ others) = IsCycle hit graph marks begin first others
@@ -56,5 +58,6 @@ IsAnswer hit graph marks (Some cycle) =
     (begin : ℕ) × (begin < length hit) × (mark_at marks begin ≡ mark.Endless) × ((k : ℕ) → k < begin → mark_at marks k ≢ mark.Endless)
     × CycleIs hit graph marks (slice_index_or hit begin 0) cycle
 
+-- what is shown answers of the devices that are hit
 abbrev pub AnswersFor : Plan → List ℕ → Option (List ℕ) → Type 0
 AnswersFor plan hit shown = (marks : List Mark) × IsMarked (graph_of plan hit) marks × IsAnswer hit (graph_of plan hit) marks shown

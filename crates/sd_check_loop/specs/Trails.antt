@@ -8,6 +8,7 @@ use Rattle.sd_check_loop.specs.declared.graph.Successors.{Successors}
 use Rattle.sd_check_loop.specs.declared.marking.Mark.{Mark}
 use Rattle.sd_check_loop.specs.declared.marking.Mark.TheVariants as mark
 
+-- the hit device at a place
 abbrev pub device_at : List ℕ → ℕ → ℕ
 device_at hit i = slice_index_or hit i 0
 
@@ -15,6 +16,7 @@ device_at hit i = slice_index_or hit i 0
 abbrev pub passed_at : List (Option ℕ) → ℕ → Option ℕ
 passed_at passed i = slice_index_or passed i None
 
+-- the place was not passed yet
 abbrev pub is_open : Option ℕ → Bool
 is_open None = true
 is_open (Some k) = false

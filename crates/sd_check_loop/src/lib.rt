@@ -9,7 +9,7 @@ ghost use Rattle.sd_check_loop.specs.Answered.{LoopShown};
 ghost use Rattle.sd_check_loop.specs.Shown.{AnswersFor};
 ghost use Rattle.sd_domain.specs.Lone.{IsDomain};
 ghost use Rattle.sd_check_hit.specs.Outages.{net_of, plan_of};
-ghost use Rattle.sd_plan.specs.Indexed.{IsIndexOf};
+ghost use Rattle.sd_plan.specs.IndexedPlan.{IsIndexOf};
 ghost use Rattle.sd_plan.specs.Plans.{Fits};
 ghost use Rattle.sd_plan.specs.Structure.{structure_breach};
 ghost use Rattle.sd_topo.specs.Topologies.{network};
@@ -24,7 +24,7 @@ use marking::marks_of;
 use sd_check_hit::{Impact, Outage};
 use sd_domain::DomainId;
 use sd_num::NoMemory;
-use sd_plan::{DeviceList, Indexed, Plan, WalkIndex};
+use sd_plan::{DeviceList, IndexedPlan, Plan, WalkIndex};
 use sd_topo::Topology;
 use std::alloc::Global;
 
@@ -58,7 +58,7 @@ pub fn loop_breach_in(
     requires indexed { IsIndexOf (network topo.now) plan.now index.now }
     ensures { IfOk result (LoopShown (network topo.now) plan.now domain) }
 {
-    let planned = Indexed { topo, plan, index };
+    let planned = IndexedPlan { topo, plan, index };
     let mut impact = Impact::new(alloc, topo)?;
     impact.strike(alloc, planned, domain)?;
     loop_breach_of(alloc, &impact.outage(planned, domain))

@@ -3,7 +3,7 @@ use Rattle.std.specs.Prelude.{◌≡◌, ℕ, Bool, true, false, ◌&&◌, not, 
 use Rattle.std.proofs.Common.{refl, sym, ap, ◌∙◌, subst, inl, inr}
 use Rattle.std.proofs.lemmas.Bool.{and_parts, and_from, or_parts, or_left, both_ways, not-true, not_from_true, not_from_false, and_right, false_from_ne_true, eqb-true, eq-eqb}
 use Rattle.std.proofs.lemmas.Option.{same_Some}
-use Rattle.sd_num.specs.Lists.{has, of_some}
+use Rattle.sd_num.specs.Lists.{has, map_or}
 use Rattle.sd_topo.specs.Network.{Network}
 use Rattle.sd_domain.specs.Domains.{holds_device, holds_link}
 use Rattle.sd_domain.specs.declared.DomainId.{DomainId}
@@ -16,7 +16,7 @@ use Rattle.sd_num.proofs.Places.{has_cases}
 
 module _ (net : Network) (plan : Plan) (domain : DomainId) where
   -- the hop that is gone on
-  pub onward_hop : (o : Option Hop) (next : ℕ) → of_some o None (λ hop. if is_left net domain hop.link hop.parent then Some hop.parent else None) ≡ Some next
+  pub onward_hop : (o : Option Hop) (next : ℕ) → map_or o None (λ hop. if is_left net domain hop.link hop.parent then Some hop.parent else None) ≡ Some next
       → (hop : Hop) × (o ≡ Some hop) × (is_left net domain hop.link hop.parent ≡ true) × (hop.parent ≡ next)
   onward_hop None next is = cc
   onward_hop (Some hop) next is = by (is_left net domain hop.link hop.parent) refl is
@@ -34,21 +34,21 @@ module _ (net : Network) (plan : Plan) (domain : DomainId) where
       let hop : Hop = found.0 in
       let parts : (not (holds_link net domain hop.link) ≡ true) × (not (holds_device net domain hop.parent) ≡ true) =
       and_parts (not (holds_link net domain hop.link)) (not (holds_device net domain hop.parent)) found.2 in
-      subst (λ (o : Option Hop). of_some o false (λ h. nat_eq h.parent next && not (holds_link net domain h.link) && not (holds_device net domain h.parent))
+      subst (λ (o : Option Hop). map_or o false (λ h. nat_eq h.parent next && not (holds_link net domain h.link) && not (holds_device net domain h.parent))
       ≡ true) (sym found.1)
       (and_from (nat_eq hop.parent next && not (holds_link net domain hop.link)) (not (holds_device net domain hop.parent))
       (and_from (nat_eq hop.parent next) (not (holds_link net domain hop.link)) (eq-eqb hop.parent next found.3) parts.0) parts.1)
 
   -- whether a next hop goes on to a device that the chain has not
-  pub goes : Option Hop → List ℕ → Bool
-  goes o chain =
-      of_some o false (λ hop. of_some o false (λ h. nat_eq h.parent hop.parent && not (holds_link net domain h.link) && not (holds_device net domain h.parent))
+  pub goes_on_new : Option Hop → List ℕ → Bool
+  goes_on_new o chain =
+      map_or o false (λ hop. map_or o false (λ h. nat_eq h.parent hop.parent && not (holds_link net domain h.link) && not (holds_device net domain h.parent))
       && not (has chain hop.parent))
 
   -- no hop is left to go on
-  pub stops : (o : Option Hop) (chain : List ℕ) → of_some o None (λ hop. if is_left net domain hop.link hop.parent then Some hop.parent else None) ≡ None
-      → goes o chain ≡ false
-  unfolding goes
+  pub stops : (o : Option Hop) (chain : List ℕ) → map_or o None (λ hop. if is_left net domain hop.link hop.parent then Some hop.parent else None) ≡ None
+      → goes_on_new o chain ≡ false
+  unfolding goes_on_new
   stops None chain none = refl
   stops (Some hop) chain none = by (is_left net domain hop.link hop.parent) refl none
     where
@@ -66,9 +66,9 @@ module _ (net : Network) (plan : Plan) (domain : DomainId) where
 
   -- the hop that is left leads back
   pub comes_round : (o : Option Hop) (chain : List ℕ) (next : ℕ)
-      → of_some o None (λ hop. if is_left net domain hop.link hop.parent then Some hop.parent else None) ≡ Some next → has chain next ≡ true
-      → goes o chain ≡ false
-  unfolding goes
+      → map_or o None (λ hop. if is_left net domain hop.link hop.parent then Some hop.parent else None) ≡ Some next → has chain next ≡ true
+      → goes_on_new o chain ≡ false
+  unfolding goes_on_new
   comes_round None chain next is there = refl
   comes_round (Some hop) chain next is there =
       let found : (h : Hop) × (Some hop ≡ Some h) × (is_left net domain h.link h.parent ≡ true) × (h.parent ≡ next) = onward_hop (Some hop) next is in
@@ -128,19 +128,19 @@ module _ (net : Network) (plan : Plan) (domain : DomainId) where
       }
 
   -- a chain that goes no further is the one to be shown
-  follows : (chain xs : List ℕ) (here : ℕ) → turns_along net plan domain xs ≡ true → ends_with xs here → goes (next_hop plan here) chain ≡ false
+  follows : (chain xs : List ℕ) (here : ℕ) → turns_along net plan domain xs ≡ true → ends_with xs here → goes_on_new (next_hop plan here) chain ≡ false
       → follows_turns net plan domain chain xs ≡ true
-  unfolding goes
+  unfolding goes_on_new
   follows chain [] here along ends stopped = refl
   follows chain (d ∷ []) here along ends stopped =
       subst (λ x. follows_turns net plan domain chain (x ∷ []) ≡ true) (sym ends)
-      (not_from_false (of_some (next_hop plan here) false (λ hop. turns_to net plan domain here hop.parent && not (has chain hop.parent))) stopped)
+      (not_from_false (map_or (next_hop plan here) false (λ hop. turns_to net plan domain here hop.parent && not (has chain hop.parent))) stopped)
   follows chain (d ∷ e ∷ es) here along ends stopped =
       let parts : ((turns_to net plan domain d e && not (has es e)) ≡ true) × (turns_along net plan domain (e ∷ es) ≡ true) =
       and_parts (turns_to net plan domain d e && not (has es e)) (turns_along net plan domain (e ∷ es)) along in
       and_from (turns_to net plan domain d e && not (has es e)) (follows_turns net plan domain chain (e ∷ es)) parts.0
       (follows chain (e ∷ es) here parts.1 ends stopped)
 
-  pub chain_stopped : (first here : ℕ) (chain : List ℕ) → IsChainTo net plan domain first here chain → goes (next_hop plan here) chain ≡ false
+  pub chain_stopped : (first here : ℕ) (chain : List ℕ) → IsChainTo net plan domain first here chain → goes_on_new (next_hop plan here) chain ≡ false
       → IsChainOf net plan domain first chain
   chain_stopped first here chain known stopped = record { begins = known.begins; goes_on = follows chain chain here known.along known.ends stopped }

@@ -3,7 +3,7 @@ use Rattle.std.specs.Prelude.{◌≡◌, ℕ, ◌+◌, ◌<◌, Bool, true, fals
 use Rattle.std.proofs.Common.{refl, sym, ap, ◌∙◌, subst, arith, inl, inr, get_or}
 use Rattle.std.proofs.lemmas.Bool.{and_parts, and_from, cases_lt, cases_Bool, both_ways, not-true, not_from_false, false_from_ne_true, eq-eqb}
 use Rattle.std.proofs.lemmas.Option.{slice_get-get_or, slice_get_within, same_Some}
-use Rattle.sd_num.specs.Lists.{of_some}
+use Rattle.sd_num.specs.Lists.{map_or}
 use Rattle.sd_topo.specs.Network.{Network}
 use Rattle.sd_domain.specs.Domains.{holds_device, holds_link}
 use Rattle.sd_domain.specs.declared.DomainId.{DomainId}
@@ -91,7 +91,7 @@ module _ (hit : List ℕ) (passes : ℕ → ℕ → Bool) where
 
 -- a domain takes the backup or it does not
 is_lost : (o : Option Hop) (net : Network) (domain : DomainId)
-    → of_some o false (λ hop. holds_link net domain hop.link || holds_device net domain hop.parent) ≡ true
+    → map_or o false (λ hop. holds_link net domain hop.link || holds_device net domain hop.parent) ≡ true
     → (hop : Hop) × (o ≡ Some hop) × ((holds_link net domain hop.link || holds_device net domain hop.parent) ≡ true)
 is_lost None net domain lost = cc
 is_lost (Some hop) net domain lost = (hop, refl, lost)
@@ -106,9 +106,9 @@ module _ (net : Network) (plan : Plan) (domain : DomainId) (hit : List ℕ) (are
       there j d at lost =
           let is : (is_hit net plan domain d ≡ true) × (d < length net.devices) = hit_at net plan domain hit j d are at in
           let parts : ((not (holds_device net domain d) && not (ends_walks plan d)) ≡ true)
-          × (of_some (backup_of plan d) false (λ hop. holds_link net domain hop.link || holds_device net domain hop.parent) ≡ true) =
+          × (map_or (backup_of plan d) false (λ hop. holds_link net domain hop.link || holds_device net domain hop.parent) ≡ true) =
           and_parts (not (holds_device net domain d) && not (ends_walks plan d))
-          (of_some (backup_of plan d) false (λ hop. holds_link net domain hop.link || holds_device net domain hop.parent)) lost in
+          (map_or (backup_of plan d) false (λ hop. holds_link net domain hop.link || holds_device net domain hop.parent)) lost in
           let first : (not (holds_device net domain d) ≡ true) × (not (ends_walks plan d) ≡ true) =
           and_parts (not (holds_device net domain d)) (not (ends_walks plan d)) parts.0 in
           let backup : (hop : Hop) × (backup_of plan d ≡ Some hop) × ((holds_link net domain hop.link || holds_device net domain hop.parent) ≡ true) =
@@ -128,10 +128,10 @@ module _ (net : Network) (plan : Plan) (domain : DomainId) (hit : List ℕ) (are
             place.0,
             place.1,
             and_from (not (holds_device net domain d) && not (ends_walks plan d))
-                (of_some (backup_of plan d) false (λ hop. holds_link net domain hop.link || holds_device net domain hop.parent))
+                (map_or (backup_of plan d) false (λ hop. holds_link net domain hop.link || holds_device net domain hop.parent))
                 (and_from (not (holds_device net domain d)) (not (ends_walks plan d))
                 (and_parts (is_member plan d) (not (holds_device net domain d)) q.sound).1 q.no_root)
-                (subst (λ (o : Option Hop). of_some o false (λ hop. holds_link net domain hop.link || holds_device net domain hop.parent) ≡ true)
+                (subst (λ (o : Option Hop). map_or o false (λ hop. holds_link net domain hop.link || holds_device net domain hop.parent) ≡ true)
                 (sym q.has_backup) q.lost),
           )
 

@@ -15,7 +15,7 @@ use Rattle.sd_domain.specs.Domains.{holds_device, holds_link}
 use Rattle.sd_domain.specs.declared.DomainId.{DomainId}
 use Rattle.sd_plan.specs.declared.Plan.{Plan}
 use Rattle.sd_plan.specs.declared.End.{End}
-use Rattle.sd_plan.specs.Indexed.{usable_end, usable_ends, other_end}
+use Rattle.sd_plan.specs.IndexedPlan.{usable_end, usable_ends, other_end}
 use Rattle.sd_plan.specs.Plans.{Fits, is_member, is_present, is_root, is_backup_root}
 use Rattle.sd_plan.specs.Structure.{structure_breach}
 use Rattle.sd_plan.specs.Walks.{is_hit}
@@ -25,12 +25,7 @@ use Rattle.sd_check_reach.specs.Reached.{Reaches, BackupReaches, Grows, LeadsInt
 use Rattle.sd_check_reach.proofs.Closed.{joined_within_set}
 use Rattle.sd_num.proofs.Places.{has_at, at_has, has_last, has_before, has_cases, at_before, has_below, below_has}
 use Rattle.sd_check_reach.proofs.Walked.{Ends, unhit_ends}
-
--- two ways make one
-joined_on : {net : Network} {may_pass may_cross : ℕ → Bool} {d e x : ℕ} → Joined net may_pass may_cross d e → Joined net may_pass may_cross e x
-    → Joined net may_pass may_cross d x
-joined_on here rest = rest
-joined_on (over l in_range crosses joined passes more) rest = over l in_range crosses joined passes (joined_on more rest)
+use Rattle.sd_check_reach.proofs.Shared.{joined_on}
 
 module _ (net : Network) (plan : Plan) (domain : DomainId) where
   -- a sound root acts

@@ -8,3 +8,4 @@ mod Spreading
 mod Turning
 mod Walked
 pub mod Unique
+pub mod Shared

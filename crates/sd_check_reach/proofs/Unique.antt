@@ -2,7 +2,7 @@
 -- A chain is a run along next hops, and runs that begin alike are the same.
 use Rattle.std.proofs.Common.{◌≡◌, ℕ, ◌<◌, Bool, true, false, ◌&&◌, ◌||◌, not, ◌⊎◌, List, [], ◌∷◌, Option, Some, None, nat_eq, refl, sym, ap, ◌∙◌, subst, inl, inr, arith}
 use Rattle.std.proofs.lemmas.Bool.{eq-eqb, eqb-true, and_parts, or_cases, or_left, or_right, not-true, cases_lt}
-use Rattle.sd_num.specs.Lists.{has, of_some}
+use Rattle.sd_num.specs.Lists.{has, map_or}
 use Rattle.sd_num.proofs.Runs.{IsRun, SeenWith, same_run}
 use Rattle.sd_topo.specs.Network.{Network}
 use Rattle.sd_domain.specs.Domains.{holds_device, holds_link}
@@ -29,7 +29,7 @@ turned : (net : Network) (plan : Plan) (domain : DomainId) (d e : ℕ) → turns
 turned net plan domain d e turns = by (next_hop plan d) refl turns
   where
     by : (o : Option Hop) → next_hop plan d ≡ o
-        → of_some o false (λ hop. nat_eq hop.parent e && not (holds_link net domain hop.link) && not (holds_device net domain hop.parent)) ≡ true
+        → map_or o false (λ hop. nat_eq hop.parent e && not (holds_link net domain hop.link) && not (holds_device net domain hop.parent)) ≡ true
         → (hop : Hop) × (next_hop plan d ≡ Some hop) × (hop.parent ≡ e)
     by None is turns = cc
     by (Some hop) is turns =
@@ -46,12 +46,12 @@ one_turn net plan domain d e g to also =
 
 -- where the last device of a chain turns to another, this is in the chain
 ends : (net : Network) (plan : Plan) (domain : DomainId) (chain : List ℕ) (d e : ℕ)
-    → not (of_some (next_hop plan d) false (λ hop. turns_to net plan domain d hop.parent && not (has chain hop.parent))) ≡ true
+    → not (map_or (next_hop plan d) false (λ hop. turns_to net plan domain d hop.parent && not (has chain hop.parent))) ≡ true
     → turns_to net plan domain d e ≡ true → has chain e ≡ true
 ends net plan domain chain d e stops turns =
     let (hop, is, here) = turned net plan domain d e turns in
     let at : not (turns_to net plan domain d hop.parent && not (has chain hop.parent)) ≡ true =
-    subst (λ (o : Option Hop). not (of_some o false (λ hop. turns_to net plan domain d hop.parent && not (has chain hop.parent))) ≡ true) is stops
+    subst (λ (o : Option Hop). not (map_or o false (λ hop. turns_to net plan domain d hop.parent && not (has chain hop.parent))) ≡ true) is stops
     in
     let to_e : not (turns_to net plan domain d e && not (has chain e)) ≡ true =
     subst (λ (x : ℕ). not (turns_to net plan domain d x && not (has chain x)) ≡ true) here at in

@@ -4,7 +4,7 @@ use Rattle.std.specs.Option.{option_or}
 use Rattle.std.proofs.Common.{refl, sym, ◌∙◌, subst, arith, inl, inr, slice_get}
 use Rattle.std.proofs.lemmas.Bool.{and_parts, and_from, or_parts, or_left, or_right, not-false, not_from_false, cases_lt, both_ways}
 use Rattle.std.proofs.lemmas.Option.{slice_get_past}
-use Rattle.sd_num.specs.Lists.{of_some}
+use Rattle.sd_num.specs.Lists.{map_or}
 use Rattle.sd_topo.specs.Network.{Network, joins, device_numbers}
 use Rattle.sd_topo.specs.Joined.{Joined, here, over}
 use Rattle.sd_domain.specs.Domains.{holds_device, holds_link, hits}
@@ -16,13 +16,9 @@ use Rattle.sd_plan.specs.Plans.{Fits, IsHop, is_member, is_present, is_root, is_
 use Rattle.sd_plan.specs.Walks.{hops, ends_walks, things_of, end_of, is_hit}
 use Rattle.sd_plan.specs.Structure.{structure_breach, first_failing, roots_breach, row_is_right, hop_is_right, hops_are_right, links_differ, reaches_root, falls_back}
 use Rattle.sd_plan.proofs.Numbered.{both_none, none_found}
-use Rattle.sd_plan.proofs.Rules.{KeepsRules, hops_within, member_is}
+use Rattle.sd_plan.proofs.Rules.{KeepsRules, hops_within, member_is, none_mapped}
 use Rattle.sd_check_reach.specs.Reach.{is_sound, is_sound_link}
-
--- nothing is made of nothing alone
-none_mapped : {X Y : Type 0} (f : X → Y) (o : Option X) → option_map f o ≡ None → o ≡ None
-none_mapped f None none = refl
-none_mapped f (Some x) none = cc
+use Rattle.sd_check_reach.proofs.Shared.{end_ends}
 
 -- a plan without a breach keeps the fifth rule
 pub reach_rule : (net : Network) (plan : Plan) (d : ℕ) → structure_breach net plan ≡ None → d < length net.devices → reaches_root net plan d ≡ true
@@ -45,41 +41,23 @@ reach_rule net plan d structured within =
 abbrev next : (ℕ → Bool) → (ℕ → List Hop) → Option Hop → List Hop
 next ends more found = elim found [ None ↦ [] | Some hop ↦ hop ∷ (elim (ends hop.parent) [ true ↦ [] | false ↦ more hop.parent ]) ]
 
--- hops that would lead to the root end there, or at the backup root before
-end_ends : (plan : Plan) (n d : ℕ) → is_root plan (end_of d (hops (is_root plan) plan n d)) ≡ true → ends_walks plan (end_of d (hops (ends_walks plan) plan n d)) ≡ true
-end_ends plan zero d reach = or_left (is_root plan d) (is_backup_root plan d) reach
-end_ends plan (suc n) d reach = by (primary_of plan d) reach (end_ends plan n)
-  where
-    by_tests : (e : ℕ) (root backup : Bool) → is_root plan e ≡ root → is_backup_root plan e ≡ backup
-        → is_root plan (end_of e (elim root [ true ↦ [] | false ↦ hops (is_root plan) plan n e ])) ≡ true
-        → (is_root plan (end_of e (hops (is_root plan) plan n e)) ≡ true → ends_walks plan (end_of e (hops (ends_walks plan) plan n e)) ≡ true)
-        → ends_walks plan (end_of e (elim (root || backup) [ true ↦ [] | false ↦ hops (ends_walks plan) plan n e ])) ≡ true
-    by_tests e true backup root_is backup_is reach rest = or_left (is_root plan e) (is_backup_root plan e) root_is
-    by_tests e false true root_is backup_is reach rest = or_right (is_root plan e) (is_backup_root plan e) backup_is
-    by_tests e false false root_is backup_is reach rest = rest reach
-
-    by : (found : Option Hop) → is_root plan (end_of d (next (is_root plan) (hops (is_root plan) plan n) found)) ≡ true
-        → ((e : ℕ) → is_root plan (end_of e (hops (is_root plan) plan n e)) ≡ true → ends_walks plan (end_of e (hops (ends_walks plan) plan n e)) ≡ true)
-        → ends_walks plan (end_of d (next (ends_walks plan) (hops (ends_walks plan) plan n) found)) ≡ true
-    by None reach rest = or_left (is_root plan d) (is_backup_root plan d) reach
-    by (Some hop) reach rest = by_tests hop.parent (is_root plan hop.parent) (is_backup_root plan hop.parent) refl refl reach (rest hop.parent)
-
 -- k primary hops lead from d to e, none of them to the root
 Leads : Plan → ℕ → ℕ → ℕ → Type 0
 Leads plan zero d e = d ≡ e
 Leads plan (suc k) d e = (hop : Hop) × (primary_of plan d ≡ Some hop) × (is_root plan hop.parent ≡ false) × Leads plan k hop.parent e
 
 -- where a first hop is made that does not come to the root
-goes : (plan : Plan) (n e : ℕ) (root backup : Bool) → is_root plan plan.backup_root ≡ false → is_root plan e ≡ root → is_backup_root plan e ≡ backup
+leads_to_backup_root : (plan : Plan) (n e : ℕ) (root backup : Bool) → is_root plan plan.backup_root ≡ false → is_root plan e ≡ root
+    → is_backup_root plan e ≡ backup
     → end_of e (elim (root || backup) [ true ↦ [] | false ↦ hops (ends_walks plan) plan n e ]) ≡ plan.backup_root
     → (end_of e (hops (ends_walks plan) plan n e) ≡ plan.backup_root → (k : ℕ) × Leads plan k e plan.backup_root)
     → (is_root plan e ≡ false) × ((k : ℕ) × Leads plan k e plan.backup_root)
 unfolding Leads
-goes plan n e true backup other root_is backup_is ends rest =
+leads_to_backup_root plan n e true backup other root_is backup_is ends rest =
     let wrong : is_root plan e ≡ false = subst (λ x. is_root plan x ≡ false) (sym ends) other in
     absurd (both_ways (is_root plan e) wrong root_is)
-goes plan n e false true other root_is backup_is ends rest = (root_is, (0, ends))
-goes plan n e false false other root_is backup_is ends rest = (root_is, rest ends)
+leads_to_backup_root plan n e false true other root_is backup_is ends rest = (root_is, (0, ends))
+leads_to_backup_root plan n e false false other root_is backup_is ends rest = (root_is, rest ends)
 
 -- hops that end at the backup root, which is not the root, lead to it
 leads_back : (plan : Plan) (n d : ℕ) → is_root plan plan.backup_root ≡ false → end_of d (hops (ends_walks plan) plan n d) ≡ plan.backup_root
@@ -95,7 +73,7 @@ leads_back plan (suc n) d other ends = by (primary_of plan d) refl ends (leads_b
     by None is ends rest = (0, ends)
     by (Some hop) is ends rest =
         let more : (is_root plan hop.parent ≡ false) × ((k : ℕ) × Leads plan k hop.parent plan.backup_root) =
-        goes plan n hop.parent (is_root plan hop.parent) (is_backup_root plan hop.parent) other refl refl ends (rest hop.parent other) in
+        leads_to_backup_root plan n hop.parent (is_root plan hop.parent) (is_backup_root plan hop.parent) other refl refl ends (rest hop.parent other) in
         (suc more.1.0, (hop, is, more.0, more.1.1))
 
 -- the primary walk from d comes to the root within n hops
@@ -137,7 +115,7 @@ comes_back plan (suc n) other ends comes = by (primary_of plan plan.backup_root)
     by None is ends root = both_ways (is_root plan plan.backup_root) other root
     by (Some hop) is ends root =
         let more : (is_root plan hop.parent ≡ false) × ((k : ℕ) × Leads plan k hop.parent plan.backup_root) =
-        goes plan n hop.parent (is_root plan hop.parent) (is_backup_root plan hop.parent) other refl refl ends (leads_back plan n hop.parent other) in
+        leads_to_backup_root plan n hop.parent (is_root plan hop.parent) (is_backup_root plan hop.parent) other refl refl ends (leads_back plan n hop.parent other) in
         no_return plan (suc n) (suc n) more.1.0 plan.backup_root (omega arith) (hop, is, more.0, more.1.1) other comes
 
 -- sound devices and links lead from d to e, which is sound where d is
@@ -251,8 +229,8 @@ hit_device net plan domain d fits rules hit = by_root (is_root plan d) refl hit
     first_hop zero hit = cc
     first_hop (suc n) hit = by_length (suc n) (primary_of plan d) hit
 
-    has_entry : (o : Option (Option PlanRow)) (hop : Hop) → option_map (λ row. row.primary) (of_some o None (λ row. row)) ≡ Some hop
-        → of_some (of_some o None (λ row. row)) false (λ row. true) ≡ true
+    has_entry : (o : Option (Option PlanRow)) (hop : Hop) → option_map (λ row. row.primary) (map_or o None (λ row. row)) ≡ Some hop
+        → map_or (map_or o None (λ row. row)) false (λ row. true) ≡ true
     has_entry None hop is = cc
     has_entry (Some None) hop is = cc
     has_entry (Some (Some row)) hop is = refl
@@ -263,9 +241,9 @@ hit_device net plan domain d fits rules hit = by_root (is_root plan d) refl hit
       | inr past ↦
           (let beyond : length plan.rows ≤ d = omega (arith, fits.entries) in
           let none : slice_get plan.rows d ≡ None = slice_get_past plan.rows d beyond in
-          let lost : option_map (λ row. row.primary) (of_some (slice_get plan.rows d) None (λ row. row)) ≡ Some hop = is in
+          let lost : option_map (λ row. row.primary) (map_or (slice_get plan.rows d) None (λ row. row)) ≡ Some hop = is in
           let nothing : ◌≡◌ {A = Option Hop} None (Some hop) =
-          subst (λ (o : Option (Option PlanRow)). option_map (λ row. row.primary) (of_some o None (λ row. row)) ≡ Some hop) none lost in
+          subst (λ (o : Option (Option PlanRow)). option_map (λ row. row.primary) (map_or o None (λ row. row)) ≡ Some hop) none lost in
           cc)
     ]
 

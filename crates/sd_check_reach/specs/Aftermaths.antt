@@ -13,12 +13,15 @@ use Rattle.sd_check_reach.specs.declared.aftermath.Aftermath.{Aftermath}
 abbrev pub net_of : Aftermath → Network
 net_of a = outages.net_of a.outage
 
+-- the plan
 abbrev pub plan_of : Aftermath → Plan
 plan_of a = outages.plan_of a.outage
 
+-- the domain
 abbrev pub domain_of : Aftermath → DomainId
 domain_of a = a.outage.domain
 
+-- the devices that it hits
 abbrev pub hit_of : Aftermath → List ℕ
 hit_of a = a.outage.hit.now
 

@@ -1,6 +1,6 @@
 -- Hit devices that are chosen, ascending.
 use Rattle.std.specs.Prelude.{◌≡◌, ℕ, ◌<◌, Bool, true, false, ◌&&◌, ◌||◌, not, List, slice_get, Some, IsTrue, ◌⊎◌}
-use Rattle.sd_num.specs.Lists.{of_some}
+use Rattle.sd_num.specs.Lists.{map_or}
 use Rattle.sd_topo.specs.Network.{Network}
 use Rattle.sd_domain.specs.Domains.{holds_device, holds_link}
 use Rattle.sd_domain.specs.declared.DomainId.{DomainId}
@@ -20,7 +20,7 @@ pub record Chooses (hit : List ℕ) (passes : ℕ → ℕ → Bool) (k : ℕ) (c
 abbrev pub loses : Network → Plan → DomainId → ℕ → Bool
 loses net plan domain d =
     not (holds_device net domain d) && not (ends_walks plan d)
-    && of_some (backup_of plan d) false (λ hop. holds_link net domain hop.link || holds_device net domain hop.parent)
+    && map_or (backup_of plan d) false (λ hop. holds_link net domain hop.link || holds_device net domain hop.parent)
 
 -- what makes a device break the domain condition, beside that it is not cut off
 pub record IsLosing (net : Network) (plan : Plan) (domain : DomainId) (d : ℕ) : Type 0 where

@@ -1,6 +1,6 @@
 -- Chains of next hops as they are made, from their beginning on.
 use Rattle.std.specs.Prelude.{◌≡◌, ℕ, Bool, true, ◌&&◌, not, List, [], ◌∷◌, Option, Some, None, IsTrue, if◌then◌else◌}
-use Rattle.sd_num.specs.Lists.{has, of_some}
+use Rattle.sd_num.specs.Lists.{has, map_or}
 use Rattle.sd_topo.specs.Network.{Network}
 use Rattle.sd_domain.specs.declared.DomainId.{DomainId}
 use Rattle.sd_plan.specs.declared.Plan.{Plan}
@@ -9,7 +9,7 @@ use Rattle.sd_check_reach.specs.Reached.{is_left}
 
 -- where the next hop of the device leads, if the domain leaves it
 abbrev pub onward : Network → Plan → DomainId → ℕ → Option ℕ
-onward net plan domain d = of_some (next_hop plan d) None (λ hop. if is_left net domain hop.link hop.parent then Some hop.parent else None)
+onward net plan domain d = map_or (next_hop plan d) None (λ hop. if is_left net domain hop.link hop.parent then Some hop.parent else None)
 
 -- each element turns to the next, and none comes twice
 abbrev pub turns_along : Network → Plan → DomainId → List ℕ → Bool

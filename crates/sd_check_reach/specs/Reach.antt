@@ -1,6 +1,6 @@
 -- Whatever one domain fails, each sound device is cut off by it or comes to hear the acting end again.
 use Rattle.std.specs.Prelude.{◌≡◌, ℕ, ◌<◌, Bool, true, false, ◌&&◌, not, List, ◌∷◌, nat_eq, IsTrue, Option, Some, ◌⊎◌, if◌then◌else◌, [], ◌||◌}
-use Rattle.sd_num.specs.Lists.{has, of_some}
+use Rattle.sd_num.specs.Lists.{has, map_or}
 use Rattle.sd_topo.specs.Network.{Network}
 use Rattle.sd_topo.specs.Joined.{Joined}
 use Rattle.sd_domain.specs.Domains.{holds_device, holds_link}
@@ -56,6 +56,7 @@ pub record LosesBackup (net : Network) (plan : Plan) (domain : DomainId) (d : �
   pub has_backup : backup_of plan d ≡ Some backup
   pub lost : IsTrue (holds_link net domain backup.link || holds_device net domain backup.parent)
 
+-- no device breaks the domain condition under the domain
 abbrev pub DomainHolds : Network → Plan → DomainId → Type 0
 DomainHolds net plan domain = (d : ℕ) → ¬ LosesBackup net plan domain d
 
@@ -70,15 +71,16 @@ IsStarved net plan domain d = IsTrue (is_sound net plan domain d) × (¬ Fed net
 -- the next hop of d leads to e over what the domain leaves
 abbrev pub turns_to : Network → Plan → DomainId → ℕ → ℕ → Bool
 turns_to net plan domain d e =
-    of_some (next_hop plan d) false (λ hop. nat_eq hop.parent e && not (holds_link net domain hop.link) && not (holds_device net domain hop.parent))
+    map_or (next_hop plan d) false (λ hop. nat_eq hop.parent e && not (holds_link net domain hop.link) && not (holds_device net domain hop.parent))
 
 -- the chain goes on along next hops and ends before a hop over the domain, or to a device that is in the chain already
 abbrev pub follows_turns : Network → Plan → DomainId → List ℕ → List ℕ → Bool
 follows_turns net plan domain chain [] = true
 follows_turns net plan domain chain (d ∷ []) =
-    not (of_some (next_hop plan d) false (λ hop. turns_to net plan domain d hop.parent && not (has chain hop.parent)))
+    not (map_or (next_hop plan d) false (λ hop. turns_to net plan domain d hop.parent && not (has chain hop.parent)))
 follows_turns net plan domain chain (d ∷ e ∷ es) = turns_to net plan domain d e && not (has es e) && follows_turns net plan domain chain (e ∷ es)
 
+-- the list begins with the device, and has it nowhere else
 abbrev pub begins_with : List ℕ → ℕ → Bool
 begins_with [] d = false
 begins_with (e ∷ es) d = nat_eq e d && not (has es d)

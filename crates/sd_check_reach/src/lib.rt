@@ -5,7 +5,7 @@
 ghost use Rattle.std.specs.Prelude.{◌≡◌, None, IfOk};
 ghost use Rattle.sd_check_reach.specs.Answered.{DomainShown, ReachShown};
 ghost use Rattle.sd_domain.specs.Lone.{IsDomain};
-ghost use Rattle.sd_plan.specs.Indexed.{IsIndexOf};
+ghost use Rattle.sd_plan.specs.IndexedPlan.{IsIndexOf};
 ghost use Rattle.sd_plan.specs.Plans.{Fits};
 ghost use Rattle.sd_plan.specs.Structure.{structure_breach};
 ghost use Rattle.sd_topo.specs.Topologies.{network};
@@ -22,7 +22,7 @@ mod turn;
 use sd_check_hit::Impact;
 use sd_domain::DomainId;
 use sd_num::NoMemory;
-use sd_plan::{DeviceList, Indexed, Plan, WalkIndex};
+use sd_plan::{DeviceList, IndexedPlan, Plan, WalkIndex};
 use sd_topo::Topology;
 pub use search::Search;
 use std::alloc::Global;
@@ -55,7 +55,7 @@ pub fn domain_breach_in(
     requires indexed { IsIndexOf (network topo.now) plan.now index.now }
     ensures { IfOk result (DomainShown (network topo.now) plan.now domain) }
 {
-    let planned = Indexed { topo, plan, index };
+    let planned = IndexedPlan { topo, plan, index };
     let mut impact = Impact::new(alloc, topo)?;
     impact.strike(alloc, planned, domain)?;
     let mut search = Search::new(alloc, topo)?;
@@ -91,7 +91,7 @@ pub fn reach_breach_in(
     requires indexed { IsIndexOf (network topo.now) plan.now index.now }
     ensures { IfOk result (ReachShown (network topo.now) plan.now domain) }
 {
-    let planned = Indexed { topo, plan, index };
+    let planned = IndexedPlan { topo, plan, index };
     let mut impact = Impact::new(alloc, topo)?;
     impact.strike(alloc, planned, domain)?;
     let mut search = Search::new(alloc, topo)?;

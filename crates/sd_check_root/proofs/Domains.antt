@@ -1,9 +1,9 @@
 -- The lists of a domain's devices and links.
-use Rattle.std.proofs.Common.{◌≡◌, ℕ, ◌<◌, Bool, true, false, ◌||◌, List, [], ◌∷◌, length, get_or, nat_eq, All, refl, sym, ap, ◌∙◌, inl, inr}
+use Rattle.std.proofs.Common.{◌≡◌, ℕ, ◌<◌, Bool, true, false, ◌||◌, List, [], ◌∷◌, length, get_or, nat_eq, All, refl, sym, ap, ◌∙◌}
 use Rattle.std.specs.List.{list_any}
-use Rattle.std.proofs.lemmas.Bool.{cases_eq, eq-eqb, ne_eqb}
 use Rattle.std.proofs.lemmas.List.Elements.{All-nil, All-cons, All-get_or, All-same}
 use Rattle.sd_num.specs.Lists.{has, ascends}
+use Rattle.sd_num.proofs.Shared.{equal_swap, any_either, none_any}
 use Rattle.sd_topo.specs.Network.{Network}
 use Rattle.sd_topo.specs.Limits.{IsNetwork}
 use Rattle.sd_topo.specs.Places.{no_domain}
@@ -14,17 +14,9 @@ use Rattle.sd_domain.specs.Domains.{holds_device, holds_link, hits}
 use Rattle.sd_domain.specs.Lone.{IsDomain}
 use Rattle.sd_domain.specs.declared.DomainId.{DomainId}
 use Rattle.sd_domain.specs.declared.DomainId.TheVariants as domain
-use Rattle.sd_plan.specs.Indexed.{has_device, has_link}
+use Rattle.sd_plan.specs.IndexedPlan.{has_device, has_link}
+use Rattle.sd_plan.proofs.Forest.{or_none}
 use Rattle.sd_check_root.specs.Parts.{devices_in, links_in}
-
-pub same_ways : (a b : ℕ) → nat_eq a b ≡ nat_eq b a
-same_ways a b =
-    elim (cases_eq a b)
-    [ inl same ↦ (eq-eqb a b same ∙ sym (eq-eqb b a (sym same))) | inr other ↦ (ne_eqb a b other ∙ sym (ne_eqb b a (λ same. other (sym same)))) ]
-
-or_none : (t : Bool) → (t || false) ≡ t
-or_none true = refl
-or_none false = refl
 
 -- they are in range and ascend
 pub devices_within : (net : Network) (f : DomainId) → IsNetwork net → IsDomain net f → All (λ d. d < length net.devices) (devices_in net f)
@@ -52,7 +44,7 @@ pub device_listed : (net : Network) (f : DomainId) (d : ℕ) → IsDomain net f 
 device_listed net (domain.Listed k) d there =
     found_at net.domains k no_domain false (λ group. has group.devices d) there
     ∙ sym (ap (λ group. has group.devices d) (found_at net.domains k no_domain no_domain (λ group. group) there))
-device_listed net (domain.Device e) d there = same_ways e d ∙ sym (or_none (nat_eq d e))
+device_listed net (domain.Device e) d there = equal_swap e d ∙ sym (or_none (nat_eq d e))
 device_listed net (domain.Link l) d there = refl
 
 pub link_listed : (net : Network) (f : DomainId) (l : ℕ) → IsDomain net f → holds_link net f l ≡ has (links_in net f) l
@@ -60,22 +52,7 @@ link_listed net (domain.Listed k) l there =
     found_at net.domains k no_domain false (λ group. has group.links l) there
     ∙ sym (ap (λ group. has group.links l) (found_at net.domains k no_domain no_domain (λ group. group) there))
 link_listed net (domain.Device d) l there = refl
-link_listed net (domain.Link m) l there = same_ways m l ∙ sym (or_none (nat_eq l m))
-
--- either test of each
-any_either : {X : Type 0} (p q : X → Bool) (xs : List X) → list_any (λ x. p x || q x) xs ≡ (list_any p xs || list_any q xs)
-any_either p q [] = refl
-any_either p q (x ∷ xs) = ap (λ t. (p x || q x) || t) (any_either p q xs) ∙ regroup (p x) (q x) (list_any p xs) (list_any q xs)
-  where
-    regroup : (a b c d : Bool) → ((a || b) || (c || d)) ≡ ((a || c) || (b || d))
-    regroup true b c d = refl
-    regroup false true true d = refl
-    regroup false true false d = refl
-    regroup false false c d = refl
-
-none_any : {X : Type 0} (xs : List X) → list_any (λ (x : X). false) xs ≡ false
-none_any [] = refl
-none_any (x ∷ xs) = none_any xs
+link_listed net (domain.Link m) l there = equal_swap m l ∙ sym (or_none (nat_eq l m))
 
 -- the domain has one of the things where these have one of its devices or links
 pub hits_lists : (net : Network) (f : DomainId) (things : List Thing) → IsDomain net f

@@ -3,14 +3,14 @@ use Rattle.std.proofs.Common.{◌≡◌, ℕ, ◌&&◌, ◌||◌, not, [], ◌�
 use Rattle.std.specs.Option.{option_map, option_or}
 use Rattle.std.proofs.lemmas.Bool.{eqb-true, and_right}
 use Rattle.std.proofs.lemmas.Map.Views.{any-filter_same}
-use Rattle.sd_num.specs.Lists.{has, of_some}
+use Rattle.sd_num.specs.Lists.{has, map_or}
 use Rattle.sd_topo.specs.Network.{Network, device_numbers, link_numbers}
 use Rattle.sd_topo.specs.Limits.{IsNetwork}
 use Rattle.sd_topo.specs.declared.Thing.TheVariants as thing
 use Rattle.sd_domain.specs.Domains.{holds_device, holds_link}
 use Rattle.sd_domain.specs.Lone.{IsDomain}
 use Rattle.sd_domain.specs.declared.DomainId.{DomainId}
-use Rattle.sd_plan.specs.Indexed.{has_link}
+use Rattle.sd_plan.specs.IndexedPlan.{has_link}
 use Rattle.sd_plan.specs.Plans.{is_root, backup_of}
 use Rattle.sd_plan.specs.Walks.{walk, path, devices_of, links_of, on_walk}
 use Rattle.sd_plan.specs.declared.Hop.{Hop}
@@ -19,21 +19,22 @@ use Rattle.sd_check_root.specs.Parts.{devices_in, links_in}
 use Rattle.sd_check_root.specs.Roots.{fallback_devices, fallback_links, fallback_breach}
 use Rattle.sd_check_root.proofs.Domains.{device_listed, link_listed, devices_within, links_within, devices_ascend, links_ascend}
 use Rattle.sd_num.proofs.Firsts.{find_none}
-use Rattle.sd_check_root.proofs.Firsts.{find_among, find_same}
+use Rattle.sd_num.proofs.Shared.{find_same}
+use Rattle.sd_check_root.proofs.Firsts.{find_among}
 use Rattle.sd_check_root.proofs.Paths.{links_of_hops}
 
 -- its devices and its links
 fallback_device : (net : Network) (plan : Plan) (hop : Hop) (d : ℕ) → backup_of plan plan.backup_root ≡ Some hop
     → has (fallback_devices net plan) d ≡ (not (is_root plan d) && on_walk net plan hop.parent d)
 fallback_device net plan hop d is =
-    ap (λ (o : Option Hop). has (of_some o [] (λ hop. filter (λ x. not (is_root plan x)) (devices_of hop.parent (walk net plan hop.parent)))) d) is
+    ap (λ (o : Option Hop). has (map_or o [] (λ hop. filter (λ x. not (is_root plan x)) (devices_of hop.parent (walk net plan hop.parent)))) d) is
     ∙ any-filter_same (nat_eq d) (λ x. not (is_root plan x)) (not (is_root plan d)) (λ k same. ap (λ x. not (is_root plan x)) (sym (eqb-true d k same)))
     (devices_of hop.parent (walk net plan hop.parent))
 
 fallback_link : (net : Network) (plan : Plan) (hop : Hop) (l : ℕ) → backup_of plan plan.backup_root ≡ Some hop
     → has (fallback_links net plan) l ≡ (nat_eq l hop.link || has_link (path net plan hop.parent) l)
 fallback_link net plan hop l is =
-    ap (λ (o : Option Hop). has (of_some o [] (λ hop. hop.link ∷ links_of (walk net plan hop.parent))) l) is
+    ap (λ (o : Option Hop). has (map_or o [] (λ hop. hop.link ∷ links_of (walk net plan hop.parent))) l) is
     ∙ ap (λ t. nat_eq l hop.link || t) (sym (links_of_hops (walk net plan hop.parent) l))
 
 -- the least device of a domain that it needs, and the least link
@@ -89,8 +90,8 @@ no_breach net plan domain none =
     (option_map thing.Link (find (λ l. holds_link net domain l && has (fallback_links net plan) l) (link_numbers net))))
     (find_none (λ d. holds_device net domain d && has (fallback_devices net plan) d) (device_numbers net)
     (λ d. and_right (holds_device net domain d) (has (fallback_devices net plan) d)
-    (ap (λ (o : Option Hop). has (of_some o [] (λ hop. filter (λ x. not (is_root plan x)) (devices_of hop.parent (walk net plan hop.parent)))) d) none)))
+    (ap (λ (o : Option Hop). has (map_or o [] (λ hop. filter (λ x. not (is_root plan x)) (devices_of hop.parent (walk net plan hop.parent)))) d) none)))
     ∙ ap (λ o. option_map thing.Link o)
     (find_none (λ l. holds_link net domain l && has (fallback_links net plan) l) (link_numbers net)
     (λ l. and_right (holds_link net domain l) (has (fallback_links net plan) l)
-    (ap (λ (o : Option Hop). has (of_some o [] (λ hop. hop.link ∷ links_of (walk net plan hop.parent))) l) none)))
+    (ap (λ (o : Option Hop). has (map_or o [] (λ hop. hop.link ∷ links_of (walk net plan hop.parent))) l) none)))

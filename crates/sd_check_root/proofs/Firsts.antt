@@ -1,12 +1,12 @@
 -- The first number that passes a test, among numbers that ascend.
-use Rattle.std.proofs.Common.{◌≡◌, ℕ, zero, suc, ◌+◌, ◌<◌, ◌≤◌, Bool, true, false, ◌&&◌, ◌||◌, cond, List, [], ◌∷◌, length, take, drop, find, get_or, nat_eq, nat_le, Option, Some, None, All, refl, sym, ap, ◌∙◌, inl, inr, arith}
+use Rattle.std.proofs.Common.{◌≡◌, ℕ, zero, suc, ◌+◌, ◌<◌, ◌≤◌, Bool, true, false, ◌&&◌, ◌||◌, cond, List, [], ◌∷◌, find, nat_eq, nat_le, Option, Some, None, All, refl, sym, ap, ◌∙◌, inl, inr, arith}
 use Rattle.std.specs.Option.{option_or}
-use Rattle.std.proofs.lemmas.Bool.{and_parts, leb-true, eq-eqb, eqb-true, cases_lt, cases_Bool, and_left, and_right, and_from, or_cases, or_left, or_right}
-use Rattle.std.proofs.lemmas.List.Elements.{All-head, All-tail}
-use Rattle.std.proofs.lemmas.List.Folds.{find-append, list_any-append}
+use Rattle.std.proofs.lemmas.Bool.{and_parts, leb-true, eq-eqb, eqb-true, cases_lt, cases_Bool, and_left, and_right, and_from, or_cases}
+use Rattle.std.proofs.lemmas.List.Folds.{find-append}
 use Rattle.sd_num.specs.Lists.{below, has, ascends}
 use Rattle.sd_num.proofs.Ascending.{tail_ascends}
 use Rattle.sd_num.proofs.Firsts.{find_below_none}
+use Rattle.sd_num.proofs.Shared.{has_within}
 
 -- the least that passes
 first_below : (test : ℕ → Bool) (k n : ℕ) → k < n → ((x : ℕ) → x < k → test x ≡ false) → test k ≡ true → find test (below n) ≡ Some k
@@ -80,15 +80,6 @@ none_found p (x ∷ xs) e none there = by_test (λ none more. none_found p xs e 
           | inr more ↦ later none more
         ]
 
--- a number of a list is below what all are below
-has_below : (n : ℕ) (xs : List ℕ) (e : ℕ) → All (λ x. x < n) xs → has xs e ≡ true → e < n
-has_below n [] e all there = cc
-has_below n (x ∷ xs) e all there =
-    elim (or_cases (nat_eq e x) (has xs e) there) [
-      | inl here ↦ (let same = eqb-true e x here in let first = All-head (λ y. y < n) x xs all in omega arith)
-      | inr more ↦ has_below n xs e (All-tail (λ y. y < n) x xs all) more
-    ]
-
 -- of numbers that ascend, the first that passes is the least below n that is one of them and passes
 pub find_among : (p : ℕ → Bool) (xs : List ℕ) (n : ℕ) → ascends xs ≡ true → All (λ x. x < n) xs → find (λ d. has xs d && p d) (below n) ≡ find p xs
 find_among p xs n up all = by_found (find p xs) refl
@@ -101,24 +92,9 @@ find_among p xs n up all = by_found (find p xs) refl
         ])
     by_found (Some k) is =
         let least = least_found p xs k up is in
-        first_below (λ d. has xs d && p d) k n (has_below n xs k all least.there)
+        first_below (λ d. has xs d && p d) k n (has_within n xs k all least.there)
         (λ x before. elim (cases_Bool (has xs x)) [
           | inl there ↦ and_right (has xs x) (p x) (least.least x before there)
           | inr apart ↦ and_left (has xs x) (p x) apart
         ])
         (and_from (has xs k) (p k) least.there least.passes)
-
--- tests that agree find the same
-pub find_same : {X : Type 0} (p q : X → Bool) (xs : List X) → ((x : X) → p x ≡ q x) → find p xs ≡ find q xs
-find_same p q [] same = refl
-find_same p q (x ∷ xs) same = ap (λ t. cond t (Some x) (find p xs)) (same x) ∙ ap (λ o. cond (q x) (Some x) o) (find_same p q xs same)
-
--- a number below n is one of the numbers below n
-pub has-below : (n k : ℕ) → k < n → has (below n) k ≡ true
-has-below zero k within = absurd (omega arith)
-has-below (suc n) k within =
-    list_any-append (nat_eq k) (below n) (n ∷ [])
-    ∙ elim (cases_lt k n) [
-      | inl before ↦ or_left (has (below n) k) (has (n ∷ []) k) (has-below n k before)
-      | inr last ↦ or_right (has (below n) k) (has (n ∷ []) k) (or_left (nat_eq k n) false (eq-eqb k n (omega arith)))
-    ]

@@ -3,3 +3,4 @@ mod Extremes
 mod Domains
 mod Paths
 mod Fallbacks
+pub mod Shared

@@ -1,12 +1,13 @@
 -- What a path has, and the backup root of a plan that is well formed.
-use Rattle.std.proofs.Common.{◌≡◌, ℕ, zero, suc, ◌<◌, Bool, true, false, ◌&&◌, ◌||◌, not, List, [], ◌∷◌, length, map, find, Option, Some, None, option_map, nat_eq, if◌then◌else◌, refl, sym, ap, ◌∙◌, subst, inl, inr, arith}
+use Rattle.std.proofs.Common.{◌≡◌, ℕ, ◌<◌, Bool, true, false, ◌&&◌, ◌||◌, not, List, [], ◌∷◌, length, map, find, Option, Some, None, option_map, nat_eq, if◌then◌else◌, refl, sym, ap, ◌∙◌, subst, inl, inr}
 use Rattle.std.specs.List.{slice_get}
 use Rattle.std.specs.Option.{option_or}
 use Rattle.std.proofs.lemmas.Bool.{cases_eq, eq-eqb, ne_eqb, and_parts, not-false}
-use Rattle.std.proofs.lemmas.List.{length-map, length_push}
-use Rattle.sd_num.specs.Lists.{has, below, of_some}
-use Rattle.sd_topo.specs.Network.{Network, device_numbers, link_numbers, joins}
-use Rattle.sd_plan.specs.Indexed.{Indexed, IsIndexOf, carried_over, has_device, has_link}
+use Rattle.sd_num.specs.Lists.{has, map_or}
+use Rattle.sd_num.proofs.Shared.{equal_swap, first_none}
+use Rattle.sd_num.proofs.Places.{has_below}
+use Rattle.sd_topo.specs.Network.{Network, device_numbers, joins}
+use Rattle.sd_plan.specs.IndexedPlan.{has_device, has_link}
 use Rattle.sd_plan.specs.Plans.{Fits, IsHop, IsRow, is_member, is_present, primary_of, backup_of}
 use Rattle.sd_plan.specs.Structure.{structure_breach, first_failing, roots_breach, row_is_right, hop_is_right, hops_are_right}
 use Rattle.sd_plan.specs.Walks.{walk, path, things_of, links_of, on_walk}
@@ -14,25 +15,21 @@ use Rattle.sd_plan.specs.declared.Hop.{Hop}
 use Rattle.sd_plan.specs.declared.Plan.{Plan}
 use Rattle.sd_plan.specs.declared.PlanRow.{PlanRow}
 use Rattle.sd_plan.proofs.Forest.{forest_of, by_option, not_above}
-use Rattle.sd_check_root.proofs.Domains.{same_ways}
-use Rattle.sd_check_root.proofs.Firsts.{none_found, has-below}
-
--- the devices of hops
-devices_of_hops : (hs : List Hop) (a : ℕ) → has_device (things_of hs) a ≡ has (map (λ hop. hop.parent) hs) a
-devices_of_hops [] a = refl
-devices_of_hops (h ∷ hs) a = ap (λ t. t || has_device (things_of hs) a) (same_ways h.parent a) ∙ ap (λ t. nat_eq a h.parent || t) (devices_of_hops hs a)
+use Rattle.sd_plan.proofs.Rules.{none_mapped}
+use Rattle.sd_check_root.proofs.Firsts.{none_found}
+use Rattle.sd_check_root.proofs.Shared.{has_parents}
 
 -- their links
 pub links_of_hops : (hs : List Hop) (l : ℕ) → has_link (things_of hs) l ≡ has (links_of hs) l
 links_of_hops [] l = refl
-links_of_hops (h ∷ hs) l = ap (λ t. t || has_link (things_of hs) l) (same_ways h.link l) ∙ ap (λ t. nat_eq l h.link || t) (links_of_hops hs l)
+links_of_hops (h ∷ hs) l = ap (λ t. t || has_link (things_of hs) l) (equal_swap h.link l) ∙ ap (λ t. nat_eq l h.link || t) (links_of_hops hs l)
 
 -- a device is not on its own path
 not_itself : (net : Network) (plan : Plan) (d : ℕ) → Fits net plan → structure_breach net plan ≡ None → d < length net.devices
     → has_device (path net plan d) d ≡ false
 not_itself net plan d fits structured within =
     let forest = forest_of net plan fits structured in
-    devices_of_hops (walk net plan d) d
+    has_parents (walk net plan d) d
     ∙ by_option (primary_of plan d) (has (map (λ hop. hop.parent) (walk net plan d)) d ≡ false)
     (λ none. ap (λ hs. has (map (λ hop. hop.parent) hs) d) (forest.top d none))
     (λ hop is.
@@ -48,21 +45,13 @@ path_device net plan d a fits structured within =
           (subst (λ x. has_device (path net plan d) x ≡ false) (sym same) (not_itself net plan d fits structured within)
           ∙ sym (ap (λ t. not t && on_walk net plan d a) (eq-eqb a d same)))
       | inr other ↦
-          (devices_of_hops (walk net plan d) a
+          (has_parents (walk net plan d) a
           ∙ sym (ap (λ t. not t && (t || has (map (λ hop. hop.parent) (walk net plan d)) a)) (ne_eqb a d other)))
     ]
-
-first_none : {X : Type 0} (a b : Option X) → option_or a b ≡ None → a ≡ None
-first_none None b none = refl
-first_none (Some x) b none = cc
 
 rest_none : {X : Type 0} (a b : Option X) → option_or a b ≡ None → b ≡ None
 rest_none None b none = none
 rest_none (Some x) b none = cc
-
-none_mapped : {X Y : Type 0} (f : X → Y) (o : Option X) → option_map f o ≡ None → o ≡ None
-none_mapped f None none = refl
-none_mapped f (Some x) none = cc
 
 -- the backup root is a member
 pub backup_root_member : (net : Network) (plan : Plan) → structure_breach net plan ≡ None → is_member plan plan.backup_root ≡ true
@@ -85,7 +74,7 @@ backup_member net plan d hop structured within is =
     (first_none (first_failing net 3 (hops_are_right net plan)) _ after_second) in
     let right : hops_are_right net plan d ≡ true =
     not-false (hops_are_right net plan d)
-    (none_found (λ x. not (hops_are_right net plan x)) (device_numbers net) d third (has-below (length net.devices) d within))
+    (none_found (λ x. not (hops_are_right net plan x)) (device_numbers net) d third (has_below (length net.devices) d within))
     in
     let both : (hop_is_right net plan d (primary_of plan d) ≡ true) × (hop_is_right net plan d (backup_of plan d) ≡ true) =
     and_parts (hop_is_right net plan d (primary_of plan d)) (hop_is_right net plan d (backup_of plan d)) right
@@ -100,15 +89,7 @@ pub backup_within : (net : Network) (plan : Plan) (d : ℕ) (hop : Hop) → Fits
 backup_within net plan d hop fits is = by_place (slice_get plan.rows d) (λ row at. fits.rows d row at) is
   where
     by_place : (o : Option (Option PlanRow)) → ((row : Option PlanRow) → o ≡ Some row → IsRow net row)
-        → of_some (of_some o None (λ row. row)) None (λ row. row.backup) ≡ Some hop → IsHop net hop
+        → map_or (map_or o None (λ row. row)) None (λ row. row.backup) ≡ Some hop → IsHop net hop
     by_place None rows is = cc
     by_place (Some None) rows is = cc
     by_place (Some (Some row)) rows is = (rows (Some row) refl).1 hop is
-
--- as many entries as links
-pub carried_length : (net : Network) (plan : Plan) (index : Indexed) → IsIndexOf net plan index → length index.carried ≡ length net.links
-carried_length net plan index law = ap length law.carried ∙ length-map (link_numbers net) (carried_over net plan) ∙ length_below (length net.links)
-  where
-    length_below : (n : ℕ) → length (below n) ≡ n
-    length_below zero = refl
-    length_below (suc n) = length_push (below n) n ∙ rw (length_below n) (omega arith)

@@ -6,7 +6,7 @@ ghost use Rattle.sd_check_root.specs.Parts as parts;
 ghost use Rattle.sd_check_root.specs.Roots as roots;
 ghost use Rattle.sd_domain.specs.Domains as domains;
 ghost use Rattle.sd_domain.specs.Lone.{IsDomain};
-ghost use Rattle.sd_plan.specs.Indexed.{has_device, has_link};
+ghost use Rattle.sd_plan.specs.IndexedPlan.{has_device, has_link};
 ghost use Rattle.sd_plan.specs.Plans.{Fits, is_member, is_root};
 ghost use Rattle.sd_plan.specs.Structure.{structure_breach};
 ghost use Rattle.sd_plan.specs.Walks as walks;
@@ -15,12 +15,12 @@ ghost use Rattle.sd_topo.specs.Topologies.{network};
 use crate::things::{devices_in, links_in};
 use sd_domain::{DomainId, holds_device};
 use sd_num::NoMemory;
-use sd_plan::{Hop, Indexed, Plan, WalkIndex, backup_of};
+use sd_plan::{Hop, IndexedPlan, Plan, WalkIndex, backup_of};
 use sd_topo::{Thing, Topology};
 use std::alloc::Global;
 
 /// Whether the backup root's path has a device.
-fn path_has_device(planned: Indexed<'_>, d: u32) -> bool
+fn path_has_device(planned: IndexedPlan<'_>, d: u32) -> bool
     requires { d < length (network planned.topo.now).devices }
     ensures { result
         ≡ has_device
@@ -32,7 +32,7 @@ fn path_has_device(planned: Indexed<'_>, d: u32) -> bool
 }
 
 /// Whether the backup root's path has a link.
-fn path_has_link(planned: Indexed<'_>, l: u32) -> bool
+fn path_has_link(planned: IndexedPlan<'_>, l: u32) -> bool
     requires { l < length (network planned.topo.now).links }
     ensures { result
         ≡ has_link (walks.path (network planned.entry.topo.now) planned.entry.plan.now
@@ -42,7 +42,7 @@ fn path_has_link(planned: Indexed<'_>, l: u32) -> bool
 }
 
 /// Whether the walk of a device has another, which is not the root.
-fn needs_device(planned: Indexed<'_>, from: u32, d: u32) -> bool
+fn needs_device(planned: IndexedPlan<'_>, from: u32, d: u32) -> bool
     requires device { d < length (network planned.topo.now).devices }
     requires from { from < length (network planned.topo.now).devices }
     requires member { IsTrue (is_member planned.plan.now from) }
@@ -54,7 +54,7 @@ fn needs_device(planned: Indexed<'_>, from: u32, d: u32) -> bool
 }
 
 /// Whether a link is a hop's, or on the walk behind it.
-fn needs_link(planned: Indexed<'_>, hop: Hop, l: u32) -> bool
+fn needs_link(planned: IndexedPlan<'_>, hop: Hop, l: u32) -> bool
     requires link { l < length (network planned.topo.now).links }
     requires from { hop.parent < length (network planned.topo.now).devices }
     requires member { IsTrue (is_member planned.plan.now hop.parent) }
@@ -67,7 +67,7 @@ fn needs_link(planned: Indexed<'_>, hop: Hop, l: u32) -> bool
 }
 
 /// Whether the backup root's path has a device of a domain.
-fn hits_device(planned: Indexed<'_>, domain: DomainId) -> bool
+fn hits_device(planned: IndexedPlan<'_>, domain: DomainId) -> bool
     requires { IsDomain (network planned.topo.now) domain }
     ensures { result
         ≡ list_any (has_device
@@ -84,7 +84,7 @@ fn hits_device(planned: Indexed<'_>, domain: DomainId) -> bool
 }
 
 /// Whether the backup root's path has a link of a domain.
-fn hits_link(planned: Indexed<'_>, domain: DomainId) -> bool
+fn hits_link(planned: IndexedPlan<'_>, domain: DomainId) -> bool
     requires { IsDomain (network planned.topo.now) domain }
     ensures { result
         ≡ list_any (has_link
@@ -101,7 +101,7 @@ fn hits_link(planned: Indexed<'_>, domain: DomainId) -> bool
 }
 
 /// The first device of a domain that the walk of a device has, other than the root.
-fn first_device(planned: Indexed<'_>, domain: DomainId, from: u32) -> Option<u32>
+fn first_device(planned: IndexedPlan<'_>, domain: DomainId, from: u32) -> Option<u32>
     requires domain { IsDomain (network planned.topo.now) domain }
     requires range { from < length (network planned.topo.now).devices }
     requires member { IsTrue (is_member planned.plan.now from) }
@@ -119,7 +119,7 @@ fn first_device(planned: Indexed<'_>, domain: DomainId, from: u32) -> Option<u32
 }
 
 /// The first link of a domain that is a hop's, or on the walk behind it.
-fn first_link(planned: Indexed<'_>, domain: DomainId, hop: Hop) -> Option<u32>
+fn first_link(planned: IndexedPlan<'_>, domain: DomainId, hop: Hop) -> Option<u32>
     requires domain { IsDomain (network planned.topo.now) domain }
     requires from { hop.parent < length (network planned.topo.now).devices }
     requires member { IsTrue (is_member planned.plan.now hop.parent) }
@@ -137,7 +137,7 @@ fn first_link(planned: Indexed<'_>, domain: DomainId, hop: Hop) -> Option<u32>
 }
 
 /// What a domain has of what the backup root falls back on.
-fn fallback_breach(planned: Indexed<'_>, domain: DomainId) -> Option<Thing>
+fn fallback_breach(planned: IndexedPlan<'_>, domain: DomainId) -> Option<Thing>
     requires { IsDomain (network planned.topo.now) domain }
     ensures { result ≡ roots.fallback_breach
         (network planned.entry.topo.now) planned.entry.plan.now domain }
@@ -164,7 +164,7 @@ fn has_both_roots(topo: &Topology, plan: &Plan, domain: DomainId) -> bool
 }
 
 /// Whether a domain hits the backup root's path.
-fn is_hit(planned: Indexed<'_>, domain: DomainId) -> bool
+fn is_hit(planned: IndexedPlan<'_>, domain: DomainId) -> bool
     requires { IsDomain (network planned.topo.now) domain }
     ensures { result ≡ domains.hits (network planned.entry.topo.now) domain
         (walks.path (network planned.entry.topo.now) planned.entry.plan.now
@@ -176,7 +176,7 @@ fn is_hit(planned: Indexed<'_>, domain: DomainId) -> bool
 /// What of a domain takes both roots, or the backup root's path and what it falls back on: the
 /// backup root where it has both, else the least device, else the least link. It costs as much as
 /// the domain is long.
-pub fn root_breach_in(planned: Indexed<'_>, domain: DomainId) -> Option<Thing>
+pub fn root_breach_in(planned: IndexedPlan<'_>, domain: DomainId) -> Option<Thing>
     requires { IsDomain (network planned.topo.now) domain }
     ensures { result ≡ roots.root_breach
         (network planned.entry.topo.now) planned.entry.plan.now domain }
@@ -204,7 +204,7 @@ pub fn root_breach(
         ≡ roots.root_breach (network topo.now) plan.now domain) }
 {
     let index = WalkIndex::new(alloc, topo, plan)?;
-    let planned = Indexed {
+    let planned = IndexedPlan {
         topo,
         plan,
         index: &index,

@@ -1,9 +1,9 @@
 -- What is above a backup parent.
-use Rattle.std.proofs.Common.{◌≡◌, ◌≢◌, ◌<◌, ℕ, Bool, length, IfSome, true, false, ◌&&◌, ◌||◌, not, List, [], ◌∷◌, map, Option, Some, None, if◌then◌else◌, nat_eq, refl, sym, ap, subst, ◌∙◌, inl, inr}
-use Rattle.std.proofs.lemmas.Bool.{eq-eqb, ne_eqb, cases_eq, and_parts}
-use Rattle.sd_num.specs.Lists.{has, of_some}
+use Rattle.std.proofs.Common.{◌≡◌, ◌≢◌, ◌<◌, ℕ, Bool, length, IfSome, true, false, ◌&&◌, ◌||◌, not, [], ◌∷◌, map, Option, Some, None, if◌then◌else◌, sym, ap, subst, ◌∙◌}
+use Rattle.std.proofs.lemmas.Bool.{eq-eqb, ne_eqb, and_parts}
+use Rattle.sd_num.specs.Lists.{has, map_or}
 use Rattle.sd_topo.specs.Network.{Network, joins}
-use Rattle.sd_plan.specs.Indexed.{has_device}
+use Rattle.sd_plan.specs.IndexedPlan.{has_device}
 use Rattle.sd_plan.specs.Plans.{Fits, IsHop, is_member, is_backup_root, is_present, primary_of, backup_of}
 use Rattle.sd_plan.specs.Structure.{structure_breach, is_no_ancestor, hop_is_right}
 use Rattle.sd_plan.proofs.Rules.{keeps_rules, hops_within}
@@ -11,18 +11,7 @@ use Rattle.sd_checker.specs.Ancestors.{is_above}
 use Rattle.sd_plan.specs.Walks.{on_walk, epath, things_of, short_path, short_walk, devices_of, ends_walks}
 use Rattle.sd_plan.specs.declared.Hop.{Hop}
 use Rattle.sd_plan.specs.declared.Plan.{Plan}
-
-eq_swap : (x y : ℕ) → nat_eq x y ≡ nat_eq y x
-eq_swap x y =
-    elim (cases_eq x y) [
-      | inl same ↦ eq-eqb x y same ∙ sym (eq-eqb y x (sym same))
-      | inr other ↦ ne_eqb x y other ∙ sym (ne_eqb y x (λ same. other (sym same)))
-    ]
-
--- the devices among the things of hops are their parents
-pub has_parents : (hs : List Hop) (d : ℕ) → has_device (things_of hs) d ≡ has (map (λ hop. hop.parent) hs) d
-has_parents [] d = refl
-has_parents (hop ∷ hs) d = ap (λ b. b || has_device (things_of hs) d) (eq_swap hop.parent d) ∙ ap (λ b. nat_eq d hop.parent || b) (has_parents hs d)
+use Rattle.sd_check_root.proofs.Shared.{has_parents}
 
 -- a device that is no root has its short walk from its cut path
 pub above_other : (net : Network) (plan : Plan) (x d : ℕ) → ends_walks plan x ≡ false
@@ -63,7 +52,7 @@ backup_right net plan d hop fits structured within is =
 pub root_ancestor : (net : Network) (plan : Plan) (d : ℕ) (hop : Hop) → backup_of plan d ≡ Some hop → d ≡ plan.backup_root
     → is_no_ancestor net plan d ≡ not (on_walk net plan hop.parent d)
 root_ancestor net plan d hop is here =
-    ap (λ (o : Option Hop). of_some o true
+    ap (λ (o : Option Hop). map_or o true
     (λ hop. if is_backup_root plan d then not (on_walk net plan hop.parent d) else not (has (devices_of hop.parent (short_walk net plan hop.parent)) d))) is
     ∙ ap (λ (b : Bool). if b then not (on_walk net plan hop.parent d) else not (has (devices_of hop.parent (short_walk net plan hop.parent)) d))
     (eq-eqb plan.backup_root d (sym here))

@@ -1,7 +1,7 @@
 -- A plan that is accepted has no breach: no condition both holds and is broken.
 use Rattle.std.proofs.Common.{◌≡◌, ℕ, Bool, true, false, ◌&&◌, ◌||◌, List, [], ◌∷◌, ◌++◌, append_assoc, nat_eq, refl, sym, ap, ◌∙◌, subst, inl, inr}
 use Rattle.std.specs.List.{list_any}
-use Rattle.std.proofs.lemmas.Bool.{eq-eqb, eqb-true}
+use Rattle.std.proofs.lemmas.Bool.{eq-eqb, eqb-true, or_right}
 use Rattle.sd_topo.specs.Network.{Network}
 use Rattle.sd_domain.specs.declared.DomainId.{DomainId}
 use Rattle.sd_plan.specs.Walks.{end_of}
@@ -16,18 +16,14 @@ use Rattle.sd_checker.specs.declared.Breach.{Breach}
 use Rattle.sd_checker.specs.declared.Breach.TheVariants as breach
 
 -- the end of a chain is a chain
-chain_tail : (R : ℕ → ℕ → Type 0) (lead xs : List ℕ) → IsChain R (lead ++ xs) → IsChain R xs
+pub chain_tail : (R : ℕ → ℕ → Type 0) (lead xs : List ℕ) → IsChain R (lead ++ xs) → IsChain R xs
 chain_tail R [] xs chain = chain
 chain_tail R (l ∷ []) [] chain = tt
 chain_tail R (l ∷ []) (x ∷ xs) chain = chain.1
 chain_tail R (l ∷ m ∷ ms) xs chain = chain_tail R (m ∷ ms) xs chain.1
 
-same_self : (hop : Hop) → same_hop hop hop ≡ true
+pub same_self : (hop : Hop) → same_hop hop hop ≡ true
 same_self hop = ap (λ b. b && nat_eq hop.link hop.link) (eq-eqb hop.parent hop.parent refl) ∙ eq-eqb hop.link hop.link refl
-
-or_true : (a b : Bool) → b ≡ true → (a || b) ≡ true
-or_true true b is = refl
-or_true false b is = is
 
 -- the hop that leads to a device
 pick : (hs : List Hop) (e : ℕ) → list_any (λ (hop : Hop). nat_eq hop.parent e) hs ≡ true → (hop : Hop) × (hop.parent ≡ e) × (list_any (same_hop hop) hs ≡ true)
@@ -41,7 +37,7 @@ pick (h ∷ hs) e leads = by_first (nat_eq h.parent e) refl (pick hs e)
     by_first false is further =
         let rest : list_any (λ (hop : Hop). nat_eq hop.parent e) hs ≡ true = ap (λ b. b || list_any (λ (hop : Hop). nat_eq hop.parent e) hs) (sym is) ∙ leads in
         let (hop, to, found) = further rest in
-        (hop, to, or_true (same_hop hop h) (list_any (same_hop hop) hs) found)
+        (hop, to, or_right (same_hop hop h) (list_any (same_hop hop) hs) found)
 
 module _ (net : Network) (plan : Plan) (f : DomainId) where
   -- a walk along a chain

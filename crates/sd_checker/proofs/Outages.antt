@@ -2,14 +2,14 @@
 use Rattle.std.proofs.Common.{◌≡◌, Option, subst}
 use Rattle.sd_topo.specs.Topologies.{network}
 use Rattle.sd_domain.specs.declared.DomainId.{DomainId}
-use Rattle.sd_plan.specs.declared.indexed.Indexed.{Indexed}
+use Rattle.sd_plan.specs.declared.indexed.IndexedPlan.{IndexedPlan}
 use Rattle.sd_check_hit.specs.Outages.{net_of, plan_of}
 use Rattle.sd_check_hit.specs.declared.outage.Outage.{Outage}
 use Rattle.sd_checker.specs.declared.Breach.{Breach}
 use Rattle.sd_checker.specs.Findings.{Judges}
 
-pub judged_as : (outage : Outage) (planned : Indexed) (domain : DomainId) (found said : Option Breach) → outage.planned ≡ planned → outage.domain ≡ domain
+pub judged_as : (outage : Outage) (planned : IndexedPlan) (domain : DomainId) (found said : Option Breach) → outage.planned ≡ planned → outage.domain ≡ domain
     → Judges (net_of outage) (plan_of outage) found outage.domain said → Judges (network planned.topo.now) planned.plan.now found domain said
 judged_as outage planned domain found said same_plan same_domain judged =
     subst (λ (d : DomainId). Judges (network planned.topo.now) planned.plan.now found d said) same_domain
-    (subst (λ (p : Indexed). Judges (network p.topo.now) p.plan.now found outage.domain said) same_plan judged)
+    (subst (λ (p : IndexedPlan). Judges (network p.topo.now) p.plan.now found outage.domain said) same_plan judged)

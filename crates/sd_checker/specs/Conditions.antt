@@ -12,6 +12,7 @@ use Rattle.sd_check_reach.specs.Reach.{DomainHolds, ShowsDevice, ReachHolds, IsS
 use Rattle.sd_checker.specs.declared.Breach.{Breach}
 use Rattle.sd_checker.specs.declared.Breach.TheVariants as breach
 
+-- the seven conditions on a plan
 pub data Condition : Type 0 where
   structure : Condition
   ancestor : Condition
@@ -31,6 +32,7 @@ place_of loop = 5
 place_of domain = 6
 place_of reach = 7
 
+-- the condition is asked before the other one
 abbrev pub is_before : Condition → Condition → Bool
 is_before earlier later = nat_lt (place_of earlier) (place_of later)
 
@@ -42,6 +44,7 @@ OfEachDomain net P = Each P (domains net)
 abbrev pub IsFirstSuspect : Network → (DomainId → Type 0) → DomainId → Type 0
 IsFirstSuspect net P f = (k : ℕ) × (slice_get (domains net) k ≡ Some f) × ((j : ℕ) (g : DomainId) → j < k → slice_get (domains net) j ≡ Some g → P g)
 
+-- the root condition holds under the domain
 abbrev pub RootHolds : Network → Plan → DomainId → Type 0
 RootHolds net plan f = root_breach net plan f ≡ None
 

@@ -14,15 +14,18 @@ use Rattle.sd_checker.specs.declared.Breach.TheVariants.{Structure, Ancestor, Ti
 abbrev pub spaced : List (List ℕ) → List ℕ
 spaced = join_with_byte 32
 
+-- the words of a domain
 abbrev pub domain_words : Network → DomainId → List (List ℕ)
 domain_words net (domain.Listed k) = codes "listed" ∷ domain_name net k ∷ []
 domain_words net (domain.Device d) = codes "device" ∷ device_name net d ∷ []
 domain_words net (domain.Link l) = codes "link" ∷ link_name net l ∷ []
 
+-- the words of a device or of a link
 abbrev pub thing_words : Network → Thing → List (List ℕ)
 thing_words net (thing.Device d) = codes "device" ∷ device_name net d ∷ []
 thing_words net (thing.Link l) = codes "link" ∷ link_name net l ∷ []
 
+-- the words of a breach
 abbrev pub breach_words : Network → Breach → List (List ℕ)
 breach_words net (Structure rule d) = codes "structure" ∷ decimal rule ∷ codes "device" ∷ device_name net d ∷ []
 breach_words net (Ancestor d) = codes "ancestor" ∷ codes "device" ∷ device_name net d ∷ []

@@ -5,11 +5,11 @@ ghost use Rattle.sd_plan.specs.Plans as plans;
 ghost use Rattle.sd_plan.specs.Structure as structure;
 ghost use Rattle.sd_topo.specs.Topologies.{network};
 
-use sd_plan::{Indexed, backup_of};
+use sd_plan::{IndexedPlan, backup_of};
 
 /// Whether a device is on the short walk of a member: its walk cut at the first of backup root and
 /// root, also where that is the member itself.
-fn is_on_short_walk(planned: Indexed<'_>, x: u32, d: u32) -> bool
+fn is_on_short_walk(planned: IndexedPlan<'_>, x: u32, d: u32) -> bool
     requires device { d < length (network planned.topo.now).devices }
     requires range { x < length (network planned.topo.now).devices }
     requires member { IsTrue (plans.is_member planned.plan.now x) }
@@ -25,7 +25,7 @@ fn is_on_short_walk(planned: Indexed<'_>, x: u32, d: u32) -> bool
 }
 
 /// Whether a device is not above its backup parent, if it has one.
-fn is_no_ancestor(planned: Indexed<'_>, d: u32) -> bool
+fn is_no_ancestor(planned: IndexedPlan<'_>, d: u32) -> bool
     requires device { d < length (network planned.topo.now).devices }
     ensures { result ≡ structure.is_no_ancestor
         (network planned.entry.topo.now) planned.entry.plan.now d }
@@ -41,7 +41,7 @@ fn is_no_ancestor(planned: Indexed<'_>, d: u32) -> bool
 }
 
 /// The lowest device that is above its own backup parent.
-pub(crate) fn ancestor_breach(planned: Indexed<'_>) -> Option<u32>
+pub(crate) fn ancestor_breach(planned: IndexedPlan<'_>) -> Option<u32>
     ensures { result ≡ structure.ancestor_breach
         (network planned.entry.topo.now) planned.entry.plan.now }
 {

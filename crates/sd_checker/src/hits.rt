@@ -13,7 +13,7 @@ use sd_check_hit::{Impact, Outage};
 use sd_check_loop::loop_breach_of;
 use sd_check_reach::Search;
 use sd_num::NoMemory;
-use sd_plan::Indexed;
+use sd_plan::IndexedPlan;
 use std::alloc::Global;
 
 /// The first of these conditions that a domain breaks, of those that come before the condition of
@@ -60,7 +60,10 @@ fn is_loop(breach: &Breach) -> bool
 
 /// The first breach of a plan that meets the other conditions, in the order of the conditions and
 /// then of the domains.
-pub(crate) fn hit_breach(alloc: Global, planned: Indexed<'_>) -> Result<Option<Breach>, NoMemory>
+pub(crate) fn hit_breach(
+    alloc: Global,
+    planned: IndexedPlan<'_>,
+) -> Result<Option<Breach>, NoMemory>
     requires { IsSound (network planned.topo.now) planned.plan.now }
     ensures { IfOk result (Finds (network planned.entry.topo.now) planned.entry.plan.now) }
 {

@@ -11,12 +11,15 @@ use crate::roots::first_root_breach;
 use crate::{Breach, Verdict};
 use sd_check_root::timing_breach;
 use sd_num::NoMemory;
-use sd_plan::{Indexed, Plan, WalkIndex, structure_breach};
+use sd_plan::{IndexedPlan, Plan, WalkIndex, structure_breach};
 use sd_topo::Topology;
 use std::alloc::Global;
 
 /// The first breach of a plan of right structure.
-fn breach_beyond_structure(alloc: Global, planned: Indexed<'_>) -> Result<Option<Breach>, NoMemory>
+fn breach_beyond_structure(
+    alloc: Global,
+    planned: IndexedPlan<'_>,
+) -> Result<Option<Breach>, NoMemory>
     ensures { IfOk result (Finds (network planned.entry.topo.now) planned.entry.plan.now) }
 {
     if let Some(device) = ancestor_breach(planned) {
@@ -51,7 +54,7 @@ pub fn check(alloc: Global, topo: &Topology, plan: &Plan) -> Result<Verdict, NoM
         return Ok(Verdict::Refused(Breach::Structure { rule, device }));
     }
     let index = WalkIndex::new(alloc, topo, plan)?;
-    let planned = Indexed {
+    let planned = IndexedPlan {
         topo,
         plan,
         index: &index,

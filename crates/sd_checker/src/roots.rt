@@ -8,11 +8,11 @@ ghost use Rattle.sd_topo.specs.Topologies.{network};
 use crate::order::{domain_at, domain_count};
 use sd_check_root::root_breach_in;
 use sd_domain::DomainId;
-use sd_plan::Indexed;
+use sd_plan::IndexedPlan;
 use sd_topo::Thing;
 
 /// The first domain that breaks the condition, with the thing that shows it.
-pub(crate) fn first_root_breach(planned: Indexed<'_>) -> Option<(DomainId, Thing)>
+pub(crate) fn first_root_breach(planned: IndexedPlan<'_>) -> Option<(DomainId, Thing)>
     ensures { MatchOption result
         (Holds (network planned.entry.topo.now) planned.entry.plan.now condition.root)
         (λ found. Shows (network planned.entry.topo.now) planned.entry.plan.now

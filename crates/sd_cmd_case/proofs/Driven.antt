@@ -13,7 +13,7 @@ use Rattle.sd_replay.specs.History.World.{Setting}
 use Rattle.sd_replay.specs.History.Nodes.{NodeStep, steps_of}
 use Rattle.sd_replay.specs.History.Chronicle.{chronicle}
 use Rattle.sd_replay.proofs.History.Devices.{devices_run}
-use Rattle.sd_replay.specs.FleetFabric.declared.Outcome.{Outcome}
+use Rattle.sd_replay.specs.Fleet.declared.Outcome.{Outcome}
 use Rattle.sd_gen.specs.Driving.{Run, IsAccepted, IsRefused, HasHappened}
 use Rattle.sd_replay.specs.declared.Tally.{Tally}
 use Rattle.sd_replay.specs.declared.faults.ReplayFault.{ReplayFault}

@@ -1,83 +1,69 @@
 -- The plans of a case are judged, and lead to what comes after them.
-use Rattle.std.specs.Prelude.{◌≡◌, ℕ, List, [], ◌∷◌, Result, Ok, Err}
+use Rattle.std.specs.Prelude.{◌≡◌, ℕ, List, [], ◌∷◌, Result, Ok}
 use Rattle.std.proofs.Common.{subst}
 use Rattle.sd_topo.specs.Network.{Network}
 use Rattle.sd_plan.specs.declared.Absent.{Absent}
 use Rattle.sd_plan.specs.declared.Plan.{Plan}
 use Rattle.sd_planner.specs.Checker.Text.{refused_line}
 use Rattle.sd_planner.specs.Checker.declared.Breach.{Breach}
-use Rattle.sd_planner.specs.Checker.declared.Verdict.{Verdict}
 use Rattle.sd_planner.specs.Checker.declared.Verdict.TheVariants.{Accepted, Refused}
 use Rattle.sd_planner.specs.Planning.{IsPlanned}
 use Rattle.sd_planner.specs.declared.Planned.{Planned}
 use Rattle.sd_planner.specs.declared.Planned.TheVariants as planned
 use Rattle.sd_gen.specs.fabric.Fabrics.{first_absent, second_absent}
-use Rattle.sd_cmd_files.specs.Answering.{May}
-use Rattle.sd_cmd_files.specs.Reasons.{refusal_line}
-use Rattle.sd_cmd_files.specs.Writes.{Makes}
+use Rattle.sd_cmd_files.specs.Answering.{Allowed}
+use Rattle.sd_cmd_files.specs.Writes.{IsAllowed}
 use Rattle.sd_cmd_files.specs.declared.Status.{Status}
-use Rattle.sd_cmd_files.specs.declared.Status.TheVariants.{InputRefused, PlanRefused}
+use Rattle.sd_cmd_files.specs.declared.Status.TheVariants.{PlanRefused}
 use Rattle.sd_cmd_files.specs.declared.command_error.Answer.{Answer}
 use Rattle.sd_cmd_files.specs.declared.command_error.CommandError.{CommandError}
 use Rattle.sd_cmd_files.specs.declared.command_error.CommandError.TheVariants as ended
 use Rattle.sd_cmd_files.specs.planfiles.SetupError.{made_of}
-use Rattle.sd_cmd_files.specs.planfiles.PlanFiles.{AfterVerdict}
 use Rattle.sd_cmd_files.specs.planfiles.Refusing.{Nothing}
 use Rattle.sd_cmd_files.specs.declared.planfiles.setup_error.SetupError.{SetupError}
 use Rattle.sd_cmd_case.specs.Cases.{AfterBoth, AfterGreedy, IsCaseOver, IsTallied, case_tally}
 use Rattle.sd_replay.specs.Settings.{setting_over}
+use Rattle.sd_cmd_files.proofs.Shared.{makes_more, verdict_more}
 use Rattle.sd_cmd_case.specs.Planned.{AreMade, IsMade}
 
--- what was made may be written also where more may be
-pub makes_more : (Writes More : May) (made : Result Answer CommandError) → ((bytes : List ℕ) (status : Status) → Writes bytes status → More bytes status)
-    → Makes Writes made → Makes More made
-makes_more Writes More (Ok answer) more makes = more answer.text.items answer.status makes
-makes_more Writes More (Err (ended.Refused why)) more makes = more (refusal_line why) InputRefused makes
-makes_more Writes More (Err ended.Shelf) more makes = tt
-makes_more Writes More (Err ended.Memory) more makes = tt
-
-verdict_more : (net : Network) (place : ℕ) (verdict : Verdict) (Then More : May) (bytes : List ℕ) (status : Status) → (Then bytes status → More bytes status)
-    → AfterVerdict net place verdict Then bytes status
-    → AfterVerdict net place verdict More bytes status
-verdict_more net place Accepted Then More bytes status more written = more written
-verdict_more net place (Refused breach) Then More bytes status more written = written
-
 module _ (net : Network) where
-  greedy_more : (place root : ℕ) (absent : Absent) (Then More : Plan → May) (bytes : List ℕ) (status : Status)
+  greedy_more : (place root : ℕ) (absent : Absent) (Then More : Plan → Allowed) (bytes : List ℕ) (status : Status)
       → ((plan : Plan) → Then plan bytes status → More plan bytes status)
       → AfterGreedy net place root absent Then bytes status → AfterGreedy net place root absent More bytes status
   greedy_more place root absent Then More bytes status more (plan, greedy, fits, (verdict, says, written)) =
       (plan, greedy, fits, (verdict, says, verdict_more net place verdict (Then plan) (More plan) bytes status (more plan) written))
 
   -- a plan that was made leads to what comes after it
-  goes_on : (place root : ℕ) (absent : Absent) (Then : Plan → May) (plan : Plan) (bytes : List ℕ) (status : Status) → IsMade net root absent plan
+  goes_on : (place root : ℕ) (absent : Absent) (Then : Plan → Allowed) (plan : Plan) (bytes : List ℕ) (status : Status) → IsMade net root absent plan
       → Then plan bytes status → AfterGreedy net place root absent Then bytes status
   goes_on place root absent Then plan bytes status made written = (plan, made.greedy, made.fits, (Accepted, made.accepted, written))
 
   -- the line of a plan that the checker refuses
   pub plan_refused : (place root : ℕ) (absent : Absent) (what : Planned) (plan : Plan) (breach : Breach) (answer : Answer) → IsPlanned net root absent what
       → what ≡ planned.NoPlan plan breach
-      → answer.text.items ≡ refused_line net place breach → answer.status ≡ PlanRefused → Makes (AfterGreedy net place root absent Nothing) (Ok answer)
+      → answer.text.items ≡ refused_line net place breach → answer.status ≡ PlanRefused → IsAllowed (AfterGreedy net place root absent Nothing) (Ok answer)
   plan_refused place root absent what plan breach answer is same printed answered =
       let (greedy, fits, says) = subst (IsPlanned net root absent) same is in
       (plan, greedy, fits, (Refused breach, says, (printed, answered)))
 
   -- the line of the first plan, or of the second behind the first
-  pub first_refused : (early : SetupError) → Makes (AfterGreedy net 1 0 first_absent Nothing) (made_of early) → Makes (AfterBoth net Nothing) (made_of early)
+  pub first_refused : (early : SetupError) → IsAllowed (AfterGreedy net 1 0 first_absent Nothing) (made_of early)
+      → IsAllowed (AfterBoth net Nothing) (made_of early)
   first_refused early =
       makes_more (AfterGreedy net 1 0 first_absent Nothing) (AfterBoth net Nothing) (made_of early) (λ bytes status.
       greedy_more 1 0 first_absent Nothing (λ first. AfterGreedy net 2 1 second_absent (λ second. Nothing (first ∷ second ∷ []))) bytes status
       (λ plan none. absurd none))
 
-  pub second_refused : (first : Plan) (early : SetupError) → IsMade net 0 first_absent first → Makes (AfterGreedy net 2 1 second_absent Nothing) (made_of early)
-      → Makes (AfterBoth net Nothing) (made_of early)
+  pub second_refused : (first : Plan) (early : SetupError) → IsMade net 0 first_absent first
+      → IsAllowed (AfterGreedy net 2 1 second_absent Nothing) (made_of early)
+      → IsAllowed (AfterBoth net Nothing) (made_of early)
   second_refused first early made =
       makes_more (AfterGreedy net 2 1 second_absent Nothing) (AfterBoth net Nothing) (made_of early) (λ bytes status written.
       goes_on 1 0 first_absent (λ one. AfterGreedy net 2 1 second_absent (λ second. Nothing (one ∷ second ∷ []))) first bytes status made
       (greedy_more 2 1 second_absent Nothing (λ second. Nothing (first ∷ second ∷ [])) bytes status (λ plan none. absurd none) written))
 
   -- a case whose plans are not both accepted ends before its schedule
-  pub case_early : (number : ℕ) (early : SetupError) → Makes (AfterBoth net Nothing) (made_of early) → Makes (IsCaseOver net number) (made_of early)
+  pub case_early : (number : ℕ) (early : SetupError) → IsAllowed (AfterBoth net Nothing) (made_of early) → IsAllowed (IsCaseOver net number) (made_of early)
   case_early number early =
       makes_more (AfterBoth net Nothing) (IsCaseOver net number) (made_of early) (λ bytes status.
       greedy_more 1 0 first_absent (λ first. AfterGreedy net 2 1 second_absent (λ second. Nothing (first ∷ second ∷ [])))
@@ -87,7 +73,7 @@ module _ (net : Network) where
 
   -- the tally of its schedule over both plans
   pub case_told : (number : ℕ) (plans : List Plan) (made : Result Answer CommandError) → AreMade net plans
-      → Makes (IsTallied (case_tally (setting_over net plans) number)) made → Makes (IsCaseOver net number) made
+      → IsAllowed (IsTallied (case_tally (setting_over net plans) number)) made → IsAllowed (IsCaseOver net number) made
   case_told number plans made both =
       makes_more (IsTallied (case_tally (setting_over net plans) number)) (IsCaseOver net number) made (λ bytes status written.
       let of_both : IsTallied (case_tally (setting_over net (both.first ∷ both.second ∷ [])) number) bytes status =

@@ -13,7 +13,7 @@ use Rattle.sd_planner.specs.Greedy.{IsGreedy}
 use Rattle.sd_planner.proofs.Single.{same_greedy}
 use Rattle.sd_gen.specs.fabric.Fabrics.{fabric, first_absent, second_absent}
 use Rattle.sd_replay.specs.Tallies.{shows_trouble}
-use Rattle.sd_cmd_files.specs.Answering.{May}
+use Rattle.sd_cmd_files.specs.Answering.{Allowed}
 use Rattle.sd_cmd_files.specs.declared.Status.{Status}
 use Rattle.sd_cmd_files.specs.declared.Status.TheVariants.{Broken, Done}
 use Rattle.sd_cmd_files.specs.planfiles.PlanFiles.{AfterJudged, AfterVerdict}
@@ -24,20 +24,20 @@ use Rattle.sd_cmd_case.specs.OneCase.{HasOneCase}
 
 -- One answer
 
-abbrev IsOne : May → Type 0
+abbrev IsOne : Allowed → Type 0
 IsOne Writes = (bytes other : List ℕ) (status also : Status) → Writes bytes status → Writes other also → (status ≡ also) × (bytes ≡ other)
 
-verdict_one : (net : Network) (place : ℕ) (verdict : Verdict) (Then : May) → IsOne Then → IsOne (AfterVerdict net place verdict Then)
+verdict_one : (net : Network) (place : ℕ) (verdict : Verdict) (Then : Allowed) → IsOne Then → IsOne (AfterVerdict net place verdict Then)
 verdict_one net place Accepted Then one bytes other status also is too = one bytes other status also is too
 verdict_one net place (Refused breach) Then one bytes other status also (printed, answered) (printed', answered') =
     (answered ∙ sym answered', printed ∙ sym printed')
 
-judged_one : (net : Network) (place : ℕ) (plan : Plan) (Then : May) → IsOne Then → IsOne (AfterJudged net place plan Then)
+judged_one : (net : Network) (place : ℕ) (plan : Plan) (Then : Allowed) → IsOne Then → IsOne (AfterJudged net place plan Then)
 judged_one net place plan Then one bytes other status also (verdict, says, first) (verdict', says', second) =
     verdict_one net place verdict Then one bytes other status also first
     (subst (λ (v : Verdict). AfterVerdict net place v Then other also) (sym (one_verdict net plan verdict verdict' says says')) second)
 
-greedy_one : (net : Network) (place root : ℕ) (absent : Absent) (Then : Plan → May) → ((plan : Plan) → IsOne (Then plan))
+greedy_one : (net : Network) (place root : ℕ) (absent : Absent) (Then : Plan → Allowed) → ((plan : Plan) → IsOne (Then plan))
     → IsOne (AfterGreedy net place root absent Then)
 greedy_one net place root absent Then one bytes other status also (plan, greedy, fits, judged) (plan', greedy', fits', judged') =
     judged_one net place plan (Then plan) (one plan) bytes other status also judged
@@ -54,13 +54,13 @@ one_case number leaves spines =
 
 -- Plans that are accepted
 
-verdict_passed : (net : Network) (place : ℕ) (plan : Plan) (verdict : Verdict) (Then : May) (bytes : List ℕ) (status : Status) → IsAccepted net plan
+verdict_passed : (net : Network) (place : ℕ) (plan : Plan) (verdict : Verdict) (Then : Allowed) (bytes : List ℕ) (status : Status) → IsAccepted net plan
     → IsVerdict net plan verdict → AfterVerdict net place verdict Then bytes status
     → Then bytes status
 verdict_passed net place plan Accepted Then bytes status accepted says written = written
 verdict_passed net place plan (Refused breach) Then bytes status accepted says written = absurd (accepted_unbroken net plan breach accepted says)
 
-greedy_passed : (net : Network) (place root : ℕ) (absent : Absent) (Then : Plan → May) (plan : Plan) (bytes : List ℕ) (status : Status)
+greedy_passed : (net : Network) (place root : ℕ) (absent : Absent) (Then : Plan → Allowed) (plan : Plan) (bytes : List ℕ) (status : Status)
     → IsGreedy net root absent plan → IsAccepted net plan
     → AfterGreedy net place root absent Then bytes status → Then plan bytes status
 greedy_passed net place root absent Then plan bytes status greedy accepted (other, greedy', fits, (verdict, says, written)) =

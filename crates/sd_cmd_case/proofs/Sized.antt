@@ -4,19 +4,15 @@ use Rattle.std.proofs.Common.{arith, length-append}
 use Rattle.sd_num.specs.Lists.{below}
 use Rattle.sd_topo.specs.Network.{Device}
 use Rattle.sd_topo.specs.Limits.{IsNetwork}
-use Rattle.sd_topotext.proofs.Meant.{network_in_ok}
 use Rattle.sd_plan.proofs.Numbered.{length-numbered}
 use Rattle.sd_gen.specs.fabric.Fabrics.{device_named, fabric, leaf_name, spine_name}
-use Rattle.sd_gen.specs.fabric.Trees.{fabric_tree}
-use Rattle.sd_gen.proofs.fabric.Reading.{fabric_read}
+use Rattle.sd_gen.proofs.fabric.Reading.{fabric_is_network as is_network}
 use Rattle.sd_cmd_case.specs.Sizes.{IsWithin}
 use Rattle.sd_cmd_case.specs.declared.Fabric.{Fabric}
 
 pub fabric_is_network : (sizes : Fabric) → IsWithin sizes → IsNetwork (fabric sizes.leaves sizes.spines)
 fabric_is_network sizes within =
-    let some = within.some_spines in
-    network_in_ok (fabric_tree sizes.leaves sizes.spines) (fabric sizes.leaves sizes.spines)
-    (fabric_read sizes.leaves sizes.spines (omega (arith, some)) within.few_leaves within.few_spines)
+    let some = within.some_spines in is_network sizes.leaves sizes.spines (omega (arith, some)) within.few_leaves within.few_spines
 
 pub has_two_devices : (leaves spines : ℕ) → 3 ≤ spines → 2 ≤ length (fabric leaves spines).devices
 has_two_devices leaves spines some =

@@ -6,5 +6,6 @@ use Rattle.sd_gen.specs.Driving.{Run}
 use Rattle.sd_replay.specs.Replaying as replays
 use Rattle.sd_cmd_case.specs.declared.replayed.Replayed.{Replayed}
 
+-- the replay of a case stands for the run
 abbrev pub StandsFor : Replayed → Setting → Run → Type 0
 StandsFor replayed setting run = replays.StandsFor device nobody replayed.replay setting run

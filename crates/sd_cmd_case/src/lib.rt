@@ -8,19 +8,18 @@
 ghost use Rattle.std.specs.Prelude.{◌≡◌, ◌≤◌, ◌∷◌, [], IsTrue, IfErr, IfOk, length};
 ghost use Rattle.sd_topo.specs.Topologies as topologies;
 ghost use Rattle.sd_cmd_files.specs.Statuses.{is_among};
-ghost use Rattle.sd_cmd_files.specs.Writes.{Makes};
+ghost use Rattle.sd_cmd_files.specs.Writes.{IsAllowed};
 ghost use Rattle.sd_cmd_case.specs.Cases.{IsCase, IsCaseOver};
 ghost use Rattle.sd_cmd_case.specs.Sizes.{IsWithin};
 
-mod network;
 mod plans;
 mod replayed;
 mod tally;
 
-use network::fabric_topology;
 use plans::greedy_plans;
 use replayed::replay_case;
 use sd_cmd_files::{Answer, CommandError, Status};
+use sd_gen::fabric_topology;
 use sd_topo::Topology;
 use std::alloc::Global;
 
@@ -40,20 +39,20 @@ pub struct Fabric {
 /// checker refuses. The only error is out of memory.
 pub fn case(alloc: Global, number: u64, fabric: Fabric) -> Result<Answer, CommandError>
     requires { IsWithin fabric }
-    ensures makes { Makes (IsCase number fabric.leaves fabric.spines) result }
+    ensures makes { IsAllowed (IsCase number fabric.leaves fabric.spines) result }
     ensures gives { IfOk result
         (λ answer. IsTrue
         (is_among (Status.Done ∷ Status.PlanRefused ∷ Status.Broken ∷ []) answer.status)) }
     ensures only { IfErr result (λ why. why ≡ CommandError.Memory) }
 {
-    let topo = fabric_topology(alloc, fabric)?;
+    let topo = fabric_topology(alloc, fabric.leaves, fabric.spines)?;
     case_over(alloc, topo, number)
 }
 
 /// The same over a topology, which is handed on to the replay and so dropped in one place here.
 fn case_over(alloc: Global, topo: Topology, number: u64) -> Result<Answer, CommandError>
     requires { 2 ≤ length (topologies.network topo).devices }
-    ensures makes { Makes (IsCaseOver (topologies.network topo) number) result }
+    ensures makes { IsAllowed (IsCaseOver (topologies.network topo) number) result }
     ensures gives { IfOk result
         (λ answer. IsTrue
         (is_among (Status.Done ∷ Status.PlanRefused ∷ Status.Broken ∷ []) answer.status)) }

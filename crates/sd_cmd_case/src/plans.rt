@@ -1,9 +1,9 @@
 //! The two plans of a case, each judged before the next is made.
 ghost use Rattle.std.specs.Prelude.{◌≡◌, ◌≤◌, ◌<◌, length, IfErr, IfOk};
 ghost use Rattle.sd_topo.specs.Topologies.{network};
-ghost use Rattle.sd_planner.specs.PlannerPlace.Absences.{IsAbsentOf};
+ghost use Rattle.sd_planner.specs.Absences.{IsAbsentOf};
 ghost use Rattle.sd_gen.specs.fabric.Fabrics.{first_absent, second_absent};
-ghost use Rattle.sd_cmd_files.specs.Writes.{Makes};
+ghost use Rattle.sd_cmd_files.specs.Writes.{IsAllowed};
 ghost use Rattle.sd_cmd_files.specs.planfiles.SetupError.{made_of};
 ghost use Rattle.sd_cmd_files.specs.planfiles.Refusing.{Nothing};
 ghost use Rattle.sd_cmd_case.specs.Cases.{AfterBoth, AfterGreedy};
@@ -31,7 +31,7 @@ fn accepted_plan(
     requires absent { IsAbsentOf (network topo.now) absent.now }
     ensures made { IfOk result (IsMade (network topo.now) root absent.now) }
     ensures makes { IfErr result
-        (λ early. Makes (AfterGreedy (network topo.now) place root absent.now Nothing)
+        (λ early. IsAllowed (AfterGreedy (network topo.now) place root absent.now Nothing)
         (made_of early)) }
     ensures early { IfErr result IsSetupError }
 {
@@ -58,7 +58,8 @@ fn first_plan(alloc: Global, topo: &Topology) -> Result<Plan, SetupError>
     requires { 2 ≤ length (network topo.now).devices }
     ensures made { IfOk result (IsMade (network topo.now) 0 first_absent) }
     ensures makes { IfErr result
-        (λ early. Makes (AfterGreedy (network topo.now) 1 0 first_absent Nothing) (made_of early)) }
+        (λ early. IsAllowed (AfterGreedy (network topo.now) 1 0 first_absent Nothing)
+        (made_of early)) }
     ensures early { IfErr result IsSetupError }
 {
     let absent = nothing(alloc);
@@ -82,7 +83,7 @@ fn second_plan(alloc: Global, topo: &Topology) -> Result<Plan, SetupError>
     requires { 2 ≤ length (network topo.now).devices }
     ensures made { IfOk result (IsMade (network topo.now) 1 second_absent) }
     ensures makes { IfErr result
-        (λ early. Makes (AfterGreedy (network topo.now) 2 1 second_absent Nothing)
+        (λ early. IsAllowed (AfterGreedy (network topo.now) 2 1 second_absent Nothing)
         (made_of early)) }
     ensures early { IfErr result IsSetupError }
 {
@@ -95,7 +96,7 @@ pub(crate) fn greedy_plans(alloc: Global, topo: &Topology) -> Result<PlanList, S
     requires { 2 ≤ length (network topo.now).devices }
     ensures made { IfOk result (AreMade (network topo.now)) }
     ensures makes { IfErr result
-        (λ early. Makes (AfterBoth (network topo.now) Nothing) (made_of early)) }
+        (λ early. IsAllowed (AfterBoth (network topo.now) Nothing) (made_of early)) }
     ensures early { IfErr result IsSetupError }
 {
     let mut plans = PlanList::new(alloc);

@@ -2,7 +2,7 @@
 ghost use Rattle.std.specs.Prelude.{◌≡◌, ◌∷◌, [], IsTrue, IfErr, IfOk};
 ghost use Rattle.sd_topo.specs.Topologies.{network};
 ghost use Rattle.sd_cmd_files.specs.Statuses.{is_among};
-ghost use Rattle.sd_cmd_files.specs.Writes.{Makes};
+ghost use Rattle.sd_cmd_files.specs.Writes.{IsAllowed};
 ghost use Rattle.sd_cmd_case.specs.Cases.{IsTallied, case_tally};
 ghost use Rattle.sd_replay.specs.Settings.{setting_over};
 ghost use Rattle.sd_cmd_case.specs.Planned.{AreMade};
@@ -71,7 +71,7 @@ pub(crate) fn replay_case(
     number: u64,
 ) -> Result<Answer, CommandError>
     requires { AreMade (network topo) plans }
-    ensures makes { Makes
+    ensures makes { IsAllowed
         (IsTallied (case_tally (setting_over (network topo) plans) number)) result }
     ensures only { IfErr result (λ why. why ≡ CommandError.Memory) }
     ensures gives { IfOk result

@@ -1,7 +1,7 @@
 //! The line of a case.
 ghost use Rattle.std.specs.Prelude.{◌≡◌, ◌∷◌, [], IsTrue, IfErr, IfOk, string_bytes};
 ghost use Rattle.sd_cmd_files.specs.Statuses.{is_among};
-ghost use Rattle.sd_cmd_files.specs.Writes.{Makes};
+ghost use Rattle.sd_cmd_files.specs.Writes.{IsAllowed};
 ghost use Rattle.sd_cmd_case.specs.Cases as words;
 
 use sd_cmd_files::{Answer, CommandError, Status};
@@ -37,7 +37,7 @@ fn tally_status(tally: Tally) -> Status
 
 /// The line of a tally, with its status.
 pub(crate) fn tally_answer(alloc: Global, tally: Tally) -> Result<Answer, CommandError>
-    ensures makes { Makes (words.IsTallied tally) result }
+    ensures makes { IsAllowed (words.IsTallied tally) result }
     ensures only { IfErr result (λ why. why ≡ CommandError.Memory) }
     ensures gives { IfOk result
         (λ answer. IsTrue (is_among (Status.Done ∷ Status.Broken ∷ []) answer.status)) }

@@ -22,10 +22,6 @@ name_short names i within each =
     let most : length name ≤ 64 = leb-true (length name) 64 (and_parts (nat_le 1 (length name)) (nat_le (length name) 64) limits).1 in
     subst (λ (x : List ℕ). length x ≤ 64) (sym (found_at names i [] [] (λ n. n) within)) most
 
--- a bound at a place
-pub bound_is : (bounds : List (Option ℕ)) (d : ℕ) → d < length bounds → bound_at bounds d ≡ get_or bounds d None
-bound_is bounds d within = found_at bounds d None None (λ bound. bound) within
-
 pub line_is : (net : Network) (f : DomainId) (bounds : List (Option ℕ)) (d : ℕ) (kind name : List ℕ) (o : Option ℕ) → domain_words net f ≡ kind ∷ name ∷ []
     → bound_at bounds d ≡ o → line_of kind name (device_name net d) o ≡ bound_line net f bounds d
 line_is net f bounds d kind name None words is =

@@ -2,7 +2,7 @@
 use Rattle.std.specs.Prelude.{◌≡◌, ℕ, zero, suc, ◌+◌, ◌<◌, ◌≤◌, List, [], ◌∷◌, ◌++◌, length, map}
 use Rattle.std.proofs.Common.{add-one, arith, refl, sym, ap, ◌∙◌, subst, inl, inr, append_assoc, append-nil, Option, Result, Ok, Err}
 use Rattle.std.proofs.lemmas.Bool.{cases_lt}
-use Rattle.std.proofs.lemmas.List.{length-append, length-map, map-append}
+use Rattle.std.proofs.lemmas.List.{length-append, map-append}
 use Rattle.sd_num.specs.Lists.{below}
 use Rattle.sd_topo.specs.Network.{Network}
 use Rattle.sd_topo.specs.Limits.{IsNetwork}
@@ -21,7 +21,7 @@ use Rattle.sd_cmd_drill.specs.declared.kinds.Kind.{Kind}
 use Rattle.sd_cmd_drill.specs.declared.kinds.Kind.TheVariants as kind
 use Rattle.sd_outside.specs.Pieces.{Pieces, piece_of}
 use Rattle.sd_cmd_files.specs.declared.command_error.IoError.{IoError}
-use Rattle.sd_plan.proofs.Numbered.{length-below}
+use Rattle.sd_plan.proofs.Numbered.{length-numbered}
 use Rattle.sd_cmd_drill.specs.Adding.{Added, AddsLines}
 use Rattle.sd_cmd_drill.proofs.Prefixes.{HasLines, adds_on, adds_stopped, lines_both}
 
@@ -142,10 +142,6 @@ module _ (net : Network) (plan : Plan) (budget : Budget) (law : IsNetwork net) (
   has_all = let l = has_kind kind.Listed in let d = has_kind kind.Device in let k = has_kind kind.Link in
       ((l.0 ++ d.0) ++ k.0, lines_both net plan budget (L ++ D) K (l.0 ++ d.0) k.0 (lines_both net plan budget L D l.0 d.0 l.1 d.1) k.1)
 
--- how many domains there are
-named_length : {X : Type 0} (g : ℕ → X) (n : ℕ) → length (map g (below n)) ≡ n
-named_length g n = length-map (below n) g ∙ length-below n
-
 pub domains_length : (net : Network) → length (domains net) ≡ length net.domains + length net.devices + length net.links
 domains_length net =
     let l = all_of net kind.Listed in
@@ -155,8 +151,8 @@ domains_length net =
       arith,
       length-append (l ++ d) k,
       length-append l d,
-      named_length (domain_at kind.Listed) (length net.domains),
-      named_length (domain_at kind.Device)
+      length-numbered (domain_at kind.Listed) (length net.domains),
+      length-numbered (domain_at kind.Device)
           (length net.devices),
-      named_length (domain_at kind.Link) (length net.links),
+      length-numbered (domain_at kind.Link) (length net.links),
     )

@@ -7,11 +7,13 @@ use Rattle.sd_domain.specs.declared.DomainId.TheVariants as domain
 use Rattle.sd_cmd_drill.specs.declared.kinds.Kind.{Kind}
 use Rattle.sd_cmd_drill.specs.declared.kinds.Kind.TheVariants as kind
 
+-- how many domains of a kind there are
 abbrev pub count_of : Network → Kind → ℕ
 count_of net kind.Listed = length net.domains
 count_of net kind.Device = length net.devices
 count_of net kind.Link = length net.links
 
+-- the domain of a kind with this number
 abbrev pub domain_at : Kind → ℕ → DomainId
 domain_at kind.Listed number = domain.Listed number
 domain_at kind.Device number = domain.Device number

@@ -8,6 +8,7 @@ use Rattle.sd_drill.specs.declared.Budget.{Budget}
 use Rattle.sd_cmd_drill.specs.Endings.{AreEndings}
 use Rattle.sd_cmd_drill.specs.declared.writing.Room.{Room}
 
+-- the room is ready for the drill of the plan
 pub record IsRoomFor (net : Network) (plan : Plan) (room : Room) : Type 0 where
   pub drill : IsDrillOf net plan room.drill
   pub members : room.members ≡ members net plan

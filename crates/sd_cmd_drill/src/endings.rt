@@ -2,7 +2,7 @@
 //! another bound, and most domains change the bounds of few devices.
 ghost use Rattle.std.specs.Prelude.{◌≡◌, ◌≤◌, ◌<◌, ◌++◌, ◌∷◌, [], length, decimal, slice_index_or, None, Some, IfOk};
 ghost use Rattle.sd_cmd_drill.specs.Endings.{AreEndings, IsEndingOf, ending_of};
-ghost use Rattle.sd_cmd_drill.specs.declared.endings.Ending.{Ending as EndingSeen};
+ghost use Rattle.sd_cmd_drill.specs.declared.endings.CachedSuffix.{CachedSuffix as CachedSuffixSeen};
 ghost use Rattle.sd_outside.specs.Printed.{printed};
 ghost use Rattle.sd_topo.specs.Network as names;
 ghost use Rattle.sd_topo.specs.Topologies.{network};
@@ -16,7 +16,7 @@ use std::alloc::Global;
 
 /// How the line of a device ends.
 #[derive(Drop)]
-pub(crate) struct Ending {
+pub(crate) struct CachedSuffix {
     /// The bound that is printed, if one is.
     bound: Option<u128>,
     /// The name of the device, its bound and the end of the line.
@@ -55,13 +55,13 @@ fn push_bound(text: &mut LineBuffer, bound: u128)
     }
 }
 
-impl Ending {
+impl CachedSuffix {
     /// Room for an ending; none is printed.
-    fn new(alloc: Global) -> Result<Ending, NoMemory>
+    fn new(alloc: Global) -> Result<CachedSuffix, NoMemory>
         ensures { IfOk result (λ ending. ending.bound ≡ None) }
     {
         let text = LineBuffer::new(alloc)?;
-        Ok(Ending { bound: None, text })
+        Ok(CachedSuffix { bound: None, text })
     }
 
     /// What was printed last.
@@ -99,10 +99,10 @@ impl Ending {
 }
 
 /// Sees to it that the ending of a device with this bound is printed.
-pub(crate) fn show_ending(endings: &mut [Ending], topo: &Topology, d: u32, bound: u128)
+pub(crate) fn show_ending(endings: &mut [CachedSuffix], topo: &Topology, d: u32, bound: u128)
     requires device { d < length (network topo.now).devices }
     requires endings { AreEndings (network topo.now) endings.old }
-    ensures shown { (other : EndingSeen) → printed (slice_index_or endings.new d other).text
+    ensures shown { (other : CachedSuffixSeen) → printed (slice_index_or endings.new d other).text
         ≡ ending_of (names.device_name (network topo.now) d) bound }
     ensures endings { AreEndings (network topo.now) endings.new }
 {
@@ -110,7 +110,7 @@ pub(crate) fn show_ending(endings: &mut [Ending], topo: &Topology, d: u32, bound
 }
 
 /// Room for an ending of each device.
-pub(crate) fn no_endings(alloc: Global, topo: &Topology) -> Result<Vec<Ending>, NoMemory>
+pub(crate) fn no_endings(alloc: Global, topo: &Topology) -> Result<Vec<CachedSuffix>, NoMemory>
     ensures { IfOk result (λ endings. AreEndings (network topo.now) endings.items) }
 {
     let devices = topo.devices();
@@ -118,7 +118,7 @@ pub(crate) fn no_endings(alloc: Global, topo: &Topology) -> Result<Vec<Ending>, 
         return Err(NoMemory);
     };
     for _ in 0..devices {
-        let ending = Ending::new(alloc)?;
+        let ending = CachedSuffix::new(alloc)?;
         endings.push_reserved(ending);
     }
     Ok(endings)

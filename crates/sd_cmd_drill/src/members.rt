@@ -5,7 +5,7 @@ ghost use Rattle.sd_plan.specs.Plans as plans;
 ghost use Rattle.sd_topo.specs.Topologies.{network};
 
 use sd_num::{NoMemory, contains};
-use sd_plan::{DeviceList, Indexed, Plan};
+use sd_plan::{DeviceList, IndexedPlan, Plan};
 use std::alloc::Global;
 
 /// Whether a device takes part.
@@ -29,7 +29,7 @@ fn add_member(alloc: Global, members: &mut DeviceList, plan: &Plan, d: u32) -> R
 }
 
 /// The members of a plan, ascending.
-pub(crate) fn members_of(alloc: Global, planned: Indexed<'_>) -> Result<DeviceList, NoMemory>
+pub(crate) fn members_of(alloc: Global, planned: IndexedPlan<'_>) -> Result<DeviceList, NoMemory>
     ensures { IfOk result (λ members. members
         ≡ plans.members (network planned.entry.topo.now) planned.entry.plan.now) }
 {

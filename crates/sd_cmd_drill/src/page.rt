@@ -6,7 +6,7 @@ ghost use Rattle.sd_outside.specs.Printed.{printed};
 ghost use Rattle.sd_topo.specs.Network as names;
 ghost use Rattle.sd_topo.specs.Topologies.{network};
 
-use crate::endings::{Ending, no_endings, show_ending};
+use crate::endings::{CachedSuffix, no_endings, show_ending};
 use crate::lines::{Named, device_name};
 use sd_num::NoMemory;
 use sd_outside::LineBuffer;
@@ -23,7 +23,7 @@ pub(crate) struct Page {
     /// What begins the line of a device with none.
     pub(crate) nobound_front: LineBuffer,
     /// By device, how its line ends.
-    pub(crate) endings: Vec<Ending>,
+    pub(crate) endings: Vec<CachedSuffix>,
     /// All lines so far.
     pub(crate) text: Vec<u8>,
 }

@@ -24,7 +24,7 @@ use sd_domain::DomainId;
 use sd_drill::{Budget, Drill};
 use sd_num::NoMemory;
 use sd_outside::Sink;
-use sd_plan::{DeviceList, Indexed, Plan, WalkIndex};
+use sd_plan::{DeviceList, IndexedPlan, Plan, WalkIndex};
 use sd_topo::Topology;
 use std::alloc::Global;
 
@@ -38,7 +38,7 @@ struct Room {
 
 impl Room {
     /// Room for a drill of a plan.
-    fn new(alloc: Global, planned: Indexed<'_>, budget: Budget) -> Result<Room, NoMemory>
+    fn new(alloc: Global, planned: IndexedPlan<'_>, budget: Budget) -> Result<Room, NoMemory>
         requires { IsBudget budget }
         ensures room { IfOk result
             (IsRoomFor (network planned.entry.topo.now) planned.entry.plan.now) }
@@ -89,7 +89,7 @@ fn print_domain(
 /// Drills a domain and prints its lines.
 fn prepare(
     alloc: Global,
-    planned: Indexed<'_>,
+    planned: IndexedPlan<'_>,
     room: &mut Room,
     domain: DomainId,
 ) -> Result<(), NoMemory>
@@ -115,7 +115,7 @@ fn prepare(
 /// Drills a domain and writes its lines by one write.
 fn write_domain<O: Sink>(
     alloc: Global,
-    planned: Indexed<'_>,
+    planned: IndexedPlan<'_>,
     room: &mut Room,
     domain: DomainId,
     out: &mut O,
@@ -138,7 +138,7 @@ fn write_domain<O: Sink>(
 /// Drills the domains of a kind.
 fn write_kind<O: Sink>(
     alloc: Global,
-    planned: Indexed<'_>,
+    planned: IndexedPlan<'_>,
     room: &mut Room,
     kind: Kind,
     out: &mut O,
@@ -161,7 +161,7 @@ fn write_kind<O: Sink>(
 /// Drills all domains.
 fn write_domains<O: Sink>(
     alloc: Global,
-    planned: Indexed<'_>,
+    planned: IndexedPlan<'_>,
     room: &mut Room,
     out: &mut O,
 ) -> Result<(), IoError>
@@ -182,7 +182,7 @@ fn write_domains<O: Sink>(
 /// Writes the last line.
 fn write_done<O: Sink>(
     room: &mut Room,
-    planned: Indexed<'_>,
+    planned: IndexedPlan<'_>,
     out: &mut O,
 ) -> Result<Status, IoError>
     requires { IsRoomFor (network planned.topo.now) planned.plan.now room.old }
@@ -206,7 +206,7 @@ fn write_done<O: Sink>(
 /// Drills all domains, with room for what is written of them, and writes the last line.
 fn write_whole<O: Sink>(
     alloc: Global,
-    planned: Indexed<'_>,
+    planned: IndexedPlan<'_>,
     room: &mut Room,
     out: &mut O,
 ) -> Result<Status, IoError>
@@ -223,7 +223,7 @@ fn write_whole<O: Sink>(
 /// Drills an accepted plan that is indexed.
 fn drill_indexed<O: Sink>(
     alloc: Global,
-    planned: Indexed<'_>,
+    planned: IndexedPlan<'_>,
     budget: Budget,
     out: &mut O,
 ) -> Result<Status, IoError>
@@ -259,7 +259,7 @@ pub fn write_drill<O: Sink>(
 {
     match WalkIndex::new(alloc, topo, plan) {
         Ok(index) => {
-            let planned = Indexed {
+            let planned = IndexedPlan {
                 topo,
                 plan,
                 index: &index,

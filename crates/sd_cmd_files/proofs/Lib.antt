@@ -1,5 +1,6 @@
 pub mod Loading
 pub mod Keeping
+pub mod Shared
 -- Handed on: what crates above name of those below.
 pub use Rattle.sd_outside.proofs as Outside
 pub use Rattle.sd_stream.proofs as Stream

@@ -10,11 +10,11 @@ use Rattle.sd_topotext.specs.declared.fault.TopoFault.TheVariants as topo
 use Rattle.sd_plantext.specs.Gives.{Fails as PlanFails}
 use Rattle.sd_plantext.specs.declared.fault.PlanFault.{PlanFault}
 use Rattle.sd_plantext.specs.declared.fault.PlanFault.TheVariants as plan
-use Rattle.sd_cmd_files.specs.Answering.{May, After}
+use Rattle.sd_cmd_files.specs.Answering.{Allowed, After}
 use Rattle.sd_cmd_files.specs.Inputs.{in_file, refused_for}
 use Rattle.sd_cmd_files.specs.Loads.{Loads, ended_unread, ended_by_topology, ended_by_plan}
 use Rattle.sd_cmd_files.specs.Texts.{Texts, texts_of}
-use Rattle.sd_cmd_files.specs.Writes.{Makes}
+use Rattle.sd_cmd_files.specs.Writes.{IsAllowed}
 use Rattle.sd_cmd_files.specs.declared.command_error.Answer.{Answer}
 use Rattle.sd_cmd_files.specs.declared.command_error.CommandError.{CommandError}
 use Rattle.sd_cmd_files.specs.declared.command_error.FileFault.{FileFault}
@@ -75,9 +75,9 @@ plan_fails view file why read e is fails =
     subst (λ (x : CommandError). Loads view (refused_for file fault.Plan read) (Err x)) (sym is) (by_plan view file why read fails)
 
 -- a command whose file is not refused goes on with what it says
-goes_on : {T X : Type 0} (view : T → X) (says : Result X Refusal) (Then : X → May) (x : T) (made : Result Answer CommandError) → says ≡ Ok (view x)
-    → Makes (Then (view x)) made → Makes (After says Then) made
-goes_on {X = X} view says Then x made is makes = subst (λ (s : Result X Refusal). Makes (After s Then) made) (sym is) makes
+goes_on : {T X : Type 0} (view : T → X) (says : Result X Refusal) (Then : X → Allowed) (x : T) (made : Result Answer CommandError) → says ≡ Ok (view x)
+    → IsAllowed (Then (view x)) made → IsAllowed (After says Then) made
+goes_on {X = X} view says Then x made is makes = subst (λ (s : Result X Refusal). IsAllowed (After s Then) made) (sym is) makes
 
 -- what holds whatever the texts are holds where they are told
 pub told_always : {P : Type 0} (held : Option (List ℕ → Option (List ℕ))) → P → IfSome held (λ h. P)
@@ -85,12 +85,12 @@ told_always None p = tt
 told_always (Some h) p = p
 
 -- the same over texts that are told or not
-module _ {T X : Type 0} (view : T → X) (says : Texts → Result X Refusal) (Then : Texts → X → May) (held : Option (List ℕ → Option (List ℕ))) where
+module _ {T X : Type 0} (view : T → X) (says : Texts → Result X Refusal) (Then : Texts → X → Allowed) (held : Option (List ℕ → Option (List ℕ))) where
   pub told_goes_on : (x : T) (made : Result Answer CommandError) → IfSome held (λ h. Loads view (says (texts_of h)) (Ok x))
-      → IfSome held (λ h. Makes (Then (texts_of h) (view x)) made) → IfSome held (λ h. Makes (After (says (texts_of h)) (Then (texts_of h))) made)
+      → IfSome held (λ h. IsAllowed (Then (texts_of h) (view x)) made) → IfSome held (λ h. IsAllowed (After (says (texts_of h)) (Then (texts_of h))) made)
   told_goes_on x made loads makes = told held loads makes
     where
       told : (h : Option (List ℕ → Option (List ℕ))) → IfSome h (λ t. Loads view (says (texts_of t)) (Ok x))
-          → IfSome h (λ t. Makes (Then (texts_of t) (view x)) made) → IfSome h (λ t. Makes (After (says (texts_of t)) (Then (texts_of t))) made)
+          → IfSome h (λ t. IsAllowed (Then (texts_of t) (view x)) made) → IfSome h (λ t. IsAllowed (After (says (texts_of t)) (Then (texts_of t))) made)
       told None l m = tt
       told (Some t) l m = goes_on view (says (texts_of t)) (Then (texts_of t)) x made l m

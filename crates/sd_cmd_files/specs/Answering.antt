@@ -8,11 +8,11 @@ use Rattle.sd_cmd_files.specs.declared.Status.TheVariants.{InputRefused}
 use Rattle.sd_cmd_files.specs.declared.command_error.Refusal.{Refusal}
 
 -- what may be written, with its status
-abbrev pub May : Type 1
-May = List ℕ → Status → Type 0
+abbrev pub Allowed : Type 1
+Allowed = List ℕ → Status → Type 0
 
 -- what may be written for what a file says, or the line of its refusal
-abbrev pub After : {X : Type 0} → Result X Refusal → (X → May) → May
+abbrev pub After : {X : Type 0} → Result X Refusal → (X → Allowed) → Allowed
 After (Ok x) Then bytes status = Then x bytes status
 After (Err why) Then bytes status = (bytes ≡ refusal_line why) × (status ≡ InputRefused)
 
@@ -25,7 +25,7 @@ abbrev pub AtOnce : Pieces → Type 0
 AtOnce pieces = pieces ≡ piece_of (concat pieces)
 
 -- what may be written, by such writes
-abbrev pub InWrites : (Pieces → Type 0) → May → MayWrite
+abbrev pub InWrites : (Pieces → Type 0) → Allowed → MayWrite
 InWrites Cuts Answers pieces status = Answers (concat pieces) status × Cuts pieces
 
 -- behind a file: by the writes for what it says, or by one where it is refused

@@ -31,6 +31,7 @@ abbrev pub ended_by_topology : TopoFault → CommandError
 ended_by_topology topo.Memory = ended.Memory
 ended_by_topology why = ended.Refused (record { input = input.Topology; fault = fault.Topology why })
 
+-- how a fault of a plan's text ends a command: out of memory is one
 abbrev pub ended_by_plan : Input → PlanFault → CommandError
 ended_by_plan file plan.Memory = ended.Memory
 ended_by_plan file why = ended.Refused (record { input = file; fault = fault.Plan why })

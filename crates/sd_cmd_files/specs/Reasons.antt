@@ -37,6 +37,7 @@ fault_name topo.Memory = codes "Memory"
 abbrev pub at_place : Place → List ℕ
 at_place p = 32 ∷ (printed_key p.key ++ 32 ∷ decimal p.entry)
 
+-- what is printed behind the name of each fault
 abbrev pub behind_name : TopoFault → List ℕ
 behind_name topo.NotToml = []
 behind_name (topo.Missing p) = at_place p
@@ -48,6 +49,7 @@ behind_name (topo.SelfLink p) = at_place p
 behind_name (topo.Limit kind) = 32 ∷ printed_kind kind
 behind_name topo.Memory = []
 
+-- why a topology is refused: the name of the fault, and what is printed behind it
 abbrev pub topology_reason : TopoFault → List ℕ
 topology_reason why = fault_name why ++ behind_name why
 
@@ -55,6 +57,7 @@ topology_reason why = fault_name why ++ behind_name why
 abbrev pub at_plan_place : PlanPlace → List ℕ
 at_plan_place p = printed_plan_key p.key ++ 32 ∷ decimal p.entry
 
+-- why a plan is refused
 abbrev pub plan_reason : PlanFault → List ℕ
 plan_reason plan.NotJson = codes "NotJson"
 plan_reason (plan.Missing p) = codes "Missing " ++ at_plan_place p

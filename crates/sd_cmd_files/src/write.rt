@@ -3,7 +3,7 @@ ghost use Rattle.std.specs.Prelude.{◌≡◌, ◌≢◌, ◌↔◌, Err, IfErr,
 ghost use Rattle.sd_outside.specs.Causes.{RisesFor};
 ghost use Rattle.sd_outside.specs.Pieces.{piece_of};
 ghost use Rattle.sd_cmd_files.specs.Reasons as texts;
-ghost use Rattle.sd_cmd_files.specs.Writes.{Adds, WritesOnce, Tells};
+ghost use Rattle.sd_cmd_files.specs.Writes.{Adds, WritesOnce, HasOutput};
 
 use crate::Status;
 use crate::command_error::{Answer, CommandError, IoError, Refusal};
@@ -55,7 +55,8 @@ pub fn write_answer<O: Sink>(
     made: &Result<Answer, CommandError>,
     out: &mut O,
 ) -> Result<Status, IoError>
-    ensures writes { WritesOnce (Tells made.now) (O.written out.old) (O.written out.new) result }
+    ensures writes { WritesOnce (HasOutput made.now) (O.written out.old)
+        (O.written out.new) result }
     ensures shelf { result ≡ Err IoError.Shelf ↔ made.now ≡ Err CommandError.Shelf }
     ensures sink { RisesFor (result ≡ Err IoError.Sink) (O.faults out.old) (O.faults out.new) }
 {

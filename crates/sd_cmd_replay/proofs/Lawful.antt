@@ -12,7 +12,7 @@ use Rattle.sd_sched.specs.declared.Event.{Event}
 use Rattle.sd_replay.specs.History.World.{Setting}
 use Rattle.sd_replay.specs.History.Chronicle.{chronicle}
 use Rattle.sd_replay.specs.Tallies.{shows_trouble, tally_of}
-use Rattle.sd_cmd_files.specs.Answering.{May, After}
+use Rattle.sd_cmd_files.specs.Answering.{Allowed, After}
 use Rattle.sd_cmd_files.specs.Inputs.{topology_of, plan_in_file}
 use Rattle.sd_cmd_files.specs.declared.Status.{Status}
 use Rattle.sd_cmd_files.specs.declared.Status.TheVariants.{Done, Broken}
@@ -28,21 +28,21 @@ use Rattle.sd_cmd_replay.proofs.Reading.{history_tells, read_as_replay, reading_
 
 -- One answer
 
-after_one : {X : Type 0} (says : Result X Refusal) (Then : X → May) → ((x : X) → IsOne (Then x)) → IsOne (After says Then)
+after_one : {X : Type 0} (says : Result X Refusal) (Then : X → Allowed) → ((x : X) → IsOne (Then x)) → IsOne (After says Then)
 after_one (Ok x) Then one bytes other status also is too = one x bytes other status also is too
 after_one (Err why) Then one bytes other status also (printed, answered) (printed', answered') = (answered ∙ sym answered', printed ∙ sym printed')
 
-verdict_one : (net : Network) (place : ℕ) (verdict : Verdict) (Then : May) → IsOne Then → IsOne (AfterVerdict net place verdict Then)
+verdict_one : (net : Network) (place : ℕ) (verdict : Verdict) (Then : Allowed) → IsOne Then → IsOne (AfterVerdict net place verdict Then)
 verdict_one net place Accepted Then one bytes other status also is too = one bytes other status also is too
 verdict_one net place (Refused breach) Then one bytes other status also (printed, answered) (printed', answered') =
     (answered ∙ sym answered', printed ∙ sym printed')
 
-judged_one : (net : Network) (place : ℕ) (plan : Plan) (Then : May) → IsOne Then → IsOne (AfterJudged net place plan Then)
+judged_one : (net : Network) (place : ℕ) (plan : Plan) (Then : Allowed) → IsOne Then → IsOne (AfterJudged net place plan Then)
 judged_one net place plan Then one bytes other status also (verdict, says, first) (verdict', says', second) =
     verdict_one net place verdict Then one bytes other status also first
     (subst (λ (v : Verdict). AfterVerdict net place v Then other also) (sym (one_verdict net plan verdict verdict' says says')) second)
 
-plans_one : (net : Network) (place : ℕ) (front : List Plan) (texts : List (List ℕ)) (Then : List Plan → May) → ((plans : List Plan) → IsOne (Then plans))
+plans_one : (net : Network) (place : ℕ) (front : List Plan) (texts : List (List ℕ)) (Then : List Plan → Allowed) → ((plans : List Plan) → IsOne (Then plans))
     → IsOne (AfterPlans net place front texts Then)
 plans_one net place front [] Then one bytes other status also is too = one front bytes other status also is too
 plans_one net place front (text ∷ texts) Then one bytes other status also is too =
@@ -65,14 +65,14 @@ one_order topology plans schedule bytes other status also is too = one_run order
 -- Right files
 
 -- what is written of plans that were read and accepted is what comes behind them
-pub behind_plans : (net : Network) (place : ℕ) (front plans : List Plan) (texts : List (List ℕ)) (Then : List Plan → May) (bytes : List ℕ) (status : Status)
+pub behind_plans : (net : Network) (place : ℕ) (front plans : List Plan) (texts : List (List ℕ)) (Then : List Plan → Allowed) (bytes : List ℕ) (status : Status)
     → AreRead net place texts plans → Each (IsAccepted net) plans
     → AfterPlans net place front texts Then bytes status → Then (front ++ plans) bytes status
 behind_plans net place front [] [] Then bytes status read accepted written = subst (λ (ps : List Plan). Then ps bytes status) (sym (append-nil front)) written
 behind_plans net place front (plan ∷ plans) [] Then bytes status read accepted written = absurd read
 behind_plans net place front [] (text ∷ texts) Then bytes status read accepted written = absurd read
 behind_plans net place front (plan ∷ plans) (text ∷ texts) Then bytes status read accepted written =
-    let Next : Plan → May = λ p. AfterPlans net (place + 1) (front ++ p ∷ []) texts Then in
+    let Next : Plan → Allowed = λ p. AfterPlans net (place + 1) (front ++ p ∷ []) texts Then in
     let (verdict, says, told) = subst (λ (s : Result Plan Refusal). After s (λ p. AfterJudged net place p (Next p)) bytes status) read.0 written in
     subst (λ (ps : List Plan). Then ps bytes status) (append_assoc front (plan ∷ []) plans)
     (by verdict says told (behind_plans net (place + 1) (front ++ plan ∷ []) plans texts Then bytes status read.1 (λ i x is. accepted (suc i) x is)))
@@ -89,7 +89,7 @@ pub run_over : (work : Setting → Work Event) (topology : List ℕ) (plans : Li
     (status : Status) → AreLoaded topology plans setting → IsRun work topology plans schedule bytes status
     → IsOutcome (work setting) schedule bytes status
 run_over work topology plans schedule setting bytes status loaded written =
-    let Then : Network → List Plan → May = λ net accepted. IsOutcome (work (setting_over net accepted)) schedule in
+    let Then : Network → List Plan → Allowed = λ net accepted. IsOutcome (work (setting_over net accepted)) schedule in
     behind_plans setting.net 1 [] setting.plans plans (Then setting.net) bytes status loaded.plans_are loaded.accepted
     (subst (λ (s : Result Network Refusal). After s (λ net. AfterAllPlans net plans (Then net)) bytes status) loaded.topology_is written)
 

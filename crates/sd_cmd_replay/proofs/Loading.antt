@@ -14,16 +14,15 @@ use Rattle.sd_core.specs.contracts.device.DeviceNode.TheImpl.{ghosts}
 use Rattle.sd_msg.specs.declared.observer.Observer as observers
 use Rattle.sd_sched.specs.declared.Event.{Event}
 use Rattle.sd_replay.specs.History.World.{Setting}
-use Rattle.sd_cmd_files.specs.Answering.{AtOnce, InWrites, May, MayWrite, After}
+use Rattle.sd_cmd_files.specs.Answering.{AtOnce, InWrites, Allowed, MayWrite, After}
 use Rattle.sd_cmd_files.specs.Inputs.{topology_of, plan_in_file}
 use Rattle.sd_cmd_files.specs.Loads.{Loads}
 use Rattle.sd_cmd_files.specs.Reasons.{refusal_line}
 use Rattle.sd_cmd_files.specs.Statuses.{is_among}
 use Rattle.sd_cmd_files.specs.Texts.{texts_of}
-use Rattle.sd_cmd_files.specs.Writes.{Makes, Tells, WritesOnce}
+use Rattle.sd_cmd_files.specs.Writes.{IsAllowed, HasOutput, WritesOnce}
 use Rattle.sd_cmd_files.specs.declared.Status.{Status}
 use Rattle.sd_cmd_files.specs.declared.Status.TheVariants.{Done, PlanRefused, Usage, InputRefused, ShelfFault, SinkFault, Memory, Broken}
-use Rattle.sd_cmd_files.specs.declared.command_error.Answer.{Answer}
 use Rattle.sd_cmd_files.specs.declared.command_error.CommandError.{CommandError}
 use Rattle.sd_cmd_files.specs.declared.command_error.CommandError.TheVariants as ended
 use Rattle.sd_cmd_files.specs.declared.command_error.Refusal.{Refusal}
@@ -42,6 +41,7 @@ use Rattle.sd_cmd_files.proofs.work.Leaving.{leaves_more, leaves_once, once_in_s
 use Rattle.sd_cmd_files.specs.work.Works.{Work, InSteps, IsOutcome, refused_part}
 use Rattle.sd_cmd_replay.specs.Replays.{IsRun, refused_over, replay_work}
 use Rattle.sd_replay.specs.Settings.{setting_over}
+use Rattle.sd_cmd_files.proofs.Shared.{makes_more, verdict_more}
 use Rattle.sd_cmd_replay.specs.Loaded.{AreLoaded}
 use Rattle.sd_cmd_replay.specs.Writes.{RunsIn}
 use Rattle.sd_cmd_replay.specs.Early.{EndsBefore}
@@ -49,7 +49,7 @@ use Rattle.sd_cmd_replay.proofs.Cuts.{cut_before, cut_loaded}
 use Rattle.sd_cmd_replay.specs.Starting.{HasStarted}
 
 -- the texts of a shelf, where they are told
-abbrev Held : Type 0
+abbrev pub Held : Type 0
 Held = Option (List ℕ → Option (List ℕ))
 
 -- what a work makes of a text, each step by one write
@@ -63,19 +63,13 @@ plans_at names h = map (λ name. texts_of h name) names
 -- What may be written
 
 -- after a file that says the same, more may be written
-pub after_more : {X : Type 0} (says : Result X Refusal) (Then More : X → May) (bytes : List ℕ) (status : Status)
+pub after_more : {X : Type 0} (says : Result X Refusal) (Then More : X → Allowed) (bytes : List ℕ) (status : Status)
     → ((x : X) → Then x bytes status → More x bytes status) → After says Then bytes status → After says More bytes status
 after_more (Ok x) Then More bytes status more written = more x written
 after_more (Err why) Then More bytes status more written = written
 
-verdict_more : (net : Network) (place : ℕ) (verdict : Verdict) (Then More : May) (bytes : List ℕ) (status : Status) → (Then bytes status → More bytes status)
-    → AfterVerdict net place verdict Then bytes status
-    → AfterVerdict net place verdict More bytes status
-verdict_more net place Accepted Then More bytes status more written = more written
-verdict_more net place (Refused breach) Then More bytes status more written = written
-
 -- more may be written behind plans
-pub plans_more : (net : Network) (place : ℕ) (front : List Plan) (texts : List (List ℕ)) (Then More : List Plan → May) (bytes : List ℕ) (status : Status)
+pub plans_more : (net : Network) (place : ℕ) (front : List Plan) (texts : List (List ℕ)) (Then More : List Plan → Allowed) (bytes : List ℕ) (status : Status)
     → ((plans : List Plan) → Then plans bytes status → More plans bytes status)
     → AfterPlans net place front texts Then bytes status → AfterPlans net place front texts More bytes status
 plans_more net place front [] Then More bytes status more written = more front written
@@ -105,7 +99,7 @@ loaded_run : (work : Setting → Work Event) (topology : List ℕ) (plans : List
     (status : Status) → AreLoaded topology plans setting
     → IsOutcome (work setting) schedule bytes status → IsRun work topology plans schedule bytes status
 loaded_run work topology plans schedule setting bytes status loaded written =
-    let Then : Network → List Plan → May = λ net accepted. IsOutcome (work (setting_over net accepted)) schedule in
+    let Then : Network → List Plan → Allowed = λ net accepted. IsOutcome (work (setting_over net accepted)) schedule in
     subst (λ (s : Result Network Refusal). After s (λ net. AfterAllPlans net plans (Then net)) bytes status) (sym loaded.topology_is)
     (subst (λ (texts : List (List ℕ)). AfterPlans setting.net 1 [] texts (Then setting.net) bytes status) (append-nil plans)
     (through setting.net 1 [] setting.plans plans [] (Then setting.net) bytes status loaded.plans_are loaded.accepted written))
@@ -153,8 +147,8 @@ unsaid topology plans schedule bytes written = by (topology_of topology) written
 module _ (topology : List ℕ) (names : List (List ℕ)) (schedule : List ℕ) where
   -- a command that ended before its schedule
   pub early_leaves : (work : Setting → Work Event) (held : Held) (early : SetupError) (old new : Option Pieces) (result : Result Status IoError)
-      → IfSome held (λ h. Makes (EndsBefore (texts_of h topology) (plans_at names h)) (made_of early))
-      → WritesOnce (Tells (made_of early)) old new result
+      → IfSome held (λ h. IsAllowed (EndsBefore (texts_of h topology) (plans_at names h)) (made_of early))
+      → WritesOnce (HasOutput (made_of early)) old new result
       → IfSome held (λ h. LeavesAt true (RunsIn work (texts_of h topology) (plans_at names h) (texts_of h schedule)) old new result)
   early_leaves work None early old new result makes writes = tt
   early_leaves work (Some h) early old new result makes writes =
@@ -168,13 +162,14 @@ module _ (topology : List ℕ) (names : List (List ℕ)) (schedule : List ℕ) w
       (leaves_once (EndsBefore (texts_of h topology) (plans_at names h)) (made_of early) old new result makes writes))
 
   pub early_near : (held : Held) (early : SetupError) (old new : Option Pieces) (rest : Option (List ℕ)) (result : Result Status IoError)
-      → IfSome held (λ h. Makes (EndsBefore (texts_of h topology) (plans_at names h)) (made_of early)) → WritesOnce (Tells (made_of early)) old new result
+      → IfSome held (λ h. IsAllowed (EndsBefore (texts_of h topology) (plans_at names h)) (made_of early))
+      → WritesOnce (HasOutput (made_of early)) old new result
       → result ≡ Ok InputRefused
       → IfSome held
       (λ h. IfSome (refused_over (topology_of (texts_of h topology)) (plans_at names h) (texts_of h schedule)) (λ part. IsNear (Some part) rest))
   early_near None early old new rest result makes writes refused = tt
   early_near (Some h) early old new rest result makes writes refused =
-      let (bytes, tells, added) = subst (WritesOnce (Tells (made_of early)) old new) refused writes in
+      let (bytes, tells, added) = subst (WritesOnce (HasOutput (made_of early)) old new) refused writes in
       subst (λ (part : Option (List ℕ)). IfSome part (λ p. IsNear (Some p) rest))
       (sym (unsaid (texts_of h topology) (plans_at names h) (texts_of h schedule) bytes
       (told (EndsBefore (texts_of h topology) (plans_at names h)) (made_of early) bytes InputRefused makes tells)))
@@ -234,17 +229,10 @@ module _ (topology : List ℕ) (names : List (List ℕ)) (schedule : List ℕ) w
 
 -- What is made before the schedule
 
-makes_more : (Writes More : May) (made : Result Answer CommandError) → ((bytes : List ℕ) (status : Status) → Writes bytes status → More bytes status)
-    → Makes Writes made → Makes More made
-makes_more Writes More (Ok answer) more makes = more answer.text.items answer.status makes
-makes_more Writes More (Err (ended.Refused why)) more makes = more (refusal_line why) InputRefused makes
-makes_more Writes More (Err ended.Shelf) more makes = tt
-makes_more Writes More (Err ended.Memory) more makes = tt
-
 module _ (topology : List ℕ) (names : List (List ℕ)) where
   -- the line of a topology that is refused
   unloaded : {T : Type 0} (view : T → Network) (h : List ℕ → Option (List ℕ)) (why : CommandError) → Loads view (topology_of (texts_of h topology)) (Err why)
-      → Makes (EndsBefore (texts_of h topology) (plans_at names h)) (Err why)
+      → IsAllowed (EndsBefore (texts_of h topology) (plans_at names h)) (Err why)
   unloaded view h (ended.Refused why) says =
       subst (λ (s : Result Network Refusal). After s (λ net. AfterAllPlans net (plans_at names h) Nothing) (refusal_line why) InputRefused) (sym says)
       (refl, refl)
@@ -253,22 +241,22 @@ module _ (topology : List ℕ) (names : List (List ℕ)) where
 
   pub makes_unloaded : {T : Type 0} (view : T → Network) (held : Held) (why : CommandError) (early : SetupError) → early ≡ Stopped why
       → IfSome held (λ h. Loads view (topology_of (texts_of h topology)) (Err why))
-      → IfSome held (λ h. Makes (EndsBefore (texts_of h topology) (plans_at names h)) (made_of early))
+      → IfSome held (λ h. IsAllowed (EndsBefore (texts_of h topology) (plans_at names h)) (made_of early))
   makes_unloaded view None why early is says = tt
   makes_unloaded view (Some h) why early is says =
-      subst (λ (e : SetupError). Makes (EndsBefore (texts_of h topology) (plans_at names h)) (made_of e)) (sym is) (unloaded view h why says)
+      subst (λ (e : SetupError). IsAllowed (EndsBefore (texts_of h topology) (plans_at names h)) (made_of e)) (sym is) (unloaded view h why says)
 
   -- what a plan that is refused makes
   pub makes_unplanned : {T : Type 0} (view : T → Network) (held later : Held) (topo : T) (early : SetupError) → later ≡ held
       → IfSome held (λ h. Loads view (topology_of (texts_of h topology)) (Ok topo))
-      → IfSome later (λ h. Makes (AfterAllPlans (view topo) (plans_at names h) Nothing) (made_of early))
-      → IfSome held (λ h. Makes (EndsBefore (texts_of h topology) (plans_at names h)) (made_of early))
+      → IfSome later (λ h. IsAllowed (AfterAllPlans (view topo) (plans_at names h) Nothing) (made_of early))
+      → IfSome held (λ h. IsAllowed (EndsBefore (texts_of h topology) (plans_at names h)) (made_of early))
   makes_unplanned view held later topo early same says makes =
-      by held says (subst (λ (h : Held). IfSome h (λ g. Makes (AfterAllPlans (view topo) (plans_at names g) Nothing) (made_of early))) same makes)
+      by held says (subst (λ (h : Held). IfSome h (λ g. IsAllowed (AfterAllPlans (view topo) (plans_at names g) Nothing) (made_of early))) same makes)
     where
       by : (h : Held) → IfSome h (λ g. Loads view (topology_of (texts_of g topology)) (Ok topo))
-          → IfSome h (λ g. Makes (AfterAllPlans (view topo) (plans_at names g) Nothing) (made_of early))
-          → IfSome h (λ g. Makes (EndsBefore (texts_of g topology) (plans_at names g)) (made_of early))
+          → IfSome h (λ g. IsAllowed (AfterAllPlans (view topo) (plans_at names g) Nothing) (made_of early))
+          → IfSome h (λ g. IsAllowed (EndsBefore (texts_of g topology) (plans_at names g)) (made_of early))
       by None read made = tt
       by (Some g) read made =
           makes_more (AfterAllPlans (view topo) (plans_at names g) Nothing) (EndsBefore (texts_of g topology) (plans_at names g)) (made_of early)
@@ -311,7 +299,7 @@ gives_more Memory among = cc
 gives_more Broken among = refl
 
 -- of a command that ends before its schedule
-early_status : (early : SetupError) (bytes : List ℕ) (status : Status) → IsPlanRefused early → Tells (made_of early) bytes status
+early_status : (early : SetupError) (bytes : List ℕ) (status : Status) → IsPlanRefused early → HasOutput (made_of early) bytes status
     → IsTrue (is_among (Done ∷ PlanRefused ∷ InputRefused ∷ Broken ∷ []) status)
 early_status (Answered answer) bytes status refused (text, answered) = rw (answered, refused) refl
 early_status (Stopped (ended.Refused why)) bytes status refused (text, answered) = rw answered refl
@@ -319,7 +307,7 @@ early_status (Stopped ended.Shelf) bytes status refused tells = absurd tells
 early_status (Stopped ended.Memory) bytes status refused tells = absurd tells
 
 pub early_gives : (early : SetupError) (old new : Option Pieces) (result : Result Status IoError) → IsPlanRefused early
-    → WritesOnce (Tells (made_of early)) old new result
+    → WritesOnce (HasOutput (made_of early)) old new result
     → IfOk result (λ status. IsTrue (is_among (Done ∷ PlanRefused ∷ InputRefused ∷ Broken ∷ []) status))
 early_gives early old new (Ok status) refused (bytes, tells, added) = early_status early bytes status refused tells
 early_gives early old new (Err why) refused writes = tt

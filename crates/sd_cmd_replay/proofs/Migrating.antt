@@ -27,7 +27,7 @@ use Rattle.sd_replay.specs.History.Text.{bytes_of, done_bytes}
 use Rattle.sd_replay.specs.Tallies.{is_alarm, is_broken, lines_that, shows_trouble, tally_of}
 use Rattle.sd_wait.specs.Printed.{waits_line}
 use Rattle.sd_wait.specs.Waits.{tally_of as waits_of}
-use Rattle.sd_cmd_files.specs.Answering.{May, After}
+use Rattle.sd_cmd_files.specs.Answering.{Allowed, After}
 use Rattle.sd_cmd_files.specs.Inputs.{in_file, plan_in_file, topology_of}
 use Rattle.sd_cmd_files.specs.declared.Status.{Status}
 use Rattle.sd_cmd_files.specs.declared.command_error.FileFault.TheVariants as fault
@@ -167,13 +167,13 @@ module _ (v w : ℕ) (net : Network) where
       ap (λ (meaning : Option Data → Result Plan PlanFault). in_file (input.Plan place) fault.Plan (λ t. meaning (tree_of t)) text)
       (plan_of-with_version v w net)
 
-  verdict_carried : (place : ℕ) (verdict : Verdict) (Then Later : May) (bytes : List ℕ) (status : Status) → (Then bytes status → Later bytes status)
+  verdict_carried : (place : ℕ) (verdict : Verdict) (Then Later : Allowed) (bytes : List ℕ) (status : Status) → (Then bytes status → Later bytes status)
       → AfterVerdict old_net place verdict Then bytes status → AfterVerdict new_net place verdict Later bytes status
   verdict_carried place Accepted Then Later bytes status carried written = carried written
   verdict_carried place (Refused breach) Then Later bytes status carried (printed, answered) =
       (printed ∙ refused_line-with_version v w net place breach, answered)
 
-  file_carried : (place : ℕ) (says : Result Plan Refusal) (Then Later : Plan → May) (bytes : List ℕ) (status : Status)
+  file_carried : (place : ℕ) (says : Result Plan Refusal) (Then Later : Plan → Allowed) (bytes : List ℕ) (status : Status)
       → ((plan : Plan) → Then plan bytes status → Later plan bytes status)
       → After says (λ plan. AfterJudged old_net place plan (Then plan)) bytes status
       → After says (λ plan. AfterJudged new_net place plan (Later plan)) bytes status
@@ -181,12 +181,12 @@ module _ (v w : ℕ) (net : Network) where
   file_carried place (Ok plan) Then Later bytes status carried (verdict, says, told) =
       (verdict, IsVerdict-with_version v w net plan verdict says, verdict_carried place verdict (Then plan) (Later plan) bytes status (carried plan) told)
 
-  plans_carried : (place : ℕ) (front : List Plan) (texts : List (List ℕ)) (Then Later : List Plan → May) (bytes : List ℕ) (status : Status)
+  plans_carried : (place : ℕ) (front : List Plan) (texts : List (List ℕ)) (Then Later : List Plan → Allowed) (bytes : List ℕ) (status : Status)
       → ((plans : List Plan) → Then plans bytes status → Later plans bytes status)
       → AfterPlans old_net place front texts Then bytes status → AfterPlans new_net place front texts Later bytes status
   plans_carried place front [] Then Later bytes status carried written = carried front written
   plans_carried place front (text ∷ texts) Then Later bytes status carried written =
-      let Next : Plan → May = λ plan. AfterPlans new_net (place + 1) (front ++ plan ∷ []) texts Later in
+      let Next : Plan → Allowed = λ plan. AfterPlans new_net (place + 1) (front ++ plan ∷ []) texts Later in
       subst (λ (s : Result Plan Refusal). After s (λ plan. AfterJudged new_net place plan (Next plan)) bytes status) (plan_file place text)
       (file_carried place (plan_in_file old_net place text) (λ plan. AfterPlans old_net (place + 1) (front ++ plan ∷ []) texts Then) Next bytes status
       (λ plan. plans_carried (place + 1) (front ++ plan ∷ []) texts Then Later bytes status carried) written)
@@ -196,7 +196,7 @@ module _ (v w : ℕ) (net : Network) where
     run_carried : (work : Setting → Work Event) → ((read : List Plan) → AreAlike (work (setting_over old_net read)) (work (setting_over new_net read)))
         → IsRun work text plans schedule bytes status → IsRun work other plans schedule bytes status
     run_carried work same written =
-        let Then : Network → List Plan → May = λ n accepted. IsOutcome (work (setting_over n accepted)) schedule in
+        let Then : Network → List Plan → Allowed = λ n accepted. IsOutcome (work (setting_over n accepted)) schedule in
         subst (λ (s : Result Network Refusal). After s (λ n. AfterAllPlans n plans (Then n)) bytes status) (sym rereads)
         (plans_carried 1 [] plans (Then old_net) (Then new_net) bytes status
         (λ read. outcome_alike (work (setting_over old_net read)) (work (setting_over new_net read)) (same read) schedule bytes status)

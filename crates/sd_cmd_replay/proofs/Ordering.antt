@@ -2,7 +2,7 @@
 use Rattle.std.proofs.Common.{◌≡◌, ℕ, ◌-◌, ◌<◌, List, [], Option, Some, None, sym, ap, ◌∙◌, subst, length}
 use Rattle.std.proofs.Props.{props}
 use Rattle.std.proofs.Math.Logic.{∥∥₁_elim}
-use Rattle.sd_num.specs.Lists.{of_some}
+use Rattle.sd_num.specs.Lists.{map_or}
 use Rattle.sd_msg.specs.Topo.Network.{Network, device_names, name_at}
 use Rattle.sd_core.specs.declared.registers.Registers.{Registers}
 use Rattle.sd_core.specs.contracts.device.DeviceNode.TheImpl.{ghosts as device}
@@ -50,7 +50,7 @@ module _ (replay : Replay Registers ToldWaits device ghosts) (observer : ToldWai
       subst (λ (ss : List Step). latest_device (reports ss) ≡ Some d) steps
       (sym replayed.stands.told.device ∙ ap (λ (w : ToldWaits). w.device) (sym same) ∙ is) in
       called ∙ ap (λ (n : Network). device_name n d) (net_is setting replayed.run replayed.stands)
-      ∙ ap (λ (o : Option ℕ). of_some o [] (device_name setting.net)) (sym latest)
+      ∙ ap (λ (o : Option ℕ). map_or o [] (device_name setting.net)) (sym latest)
 
 -- no report, no name
 pub unnamed : (replay : Replay Registers ToldWaits device ghosts) (observer : ToldWaits) → observer ≡ replay.observer → (name : List ℕ) → observer.device ≡ None
@@ -60,7 +60,7 @@ unnamed replay observer same name is called setting events replayed =
     let steps : steps_of replayed.run ≡ chronicle setting events = chronicled ghosts setting events replay replayed in
     let latest : latest_device (reports (chronicle setting events)) ≡ None =
     subst (λ (ss : List Step). latest_device (reports ss) ≡ None) steps (sym replayed.stands.told.device ∙ ap (λ (w : ToldWaits). w.device) (sym same) ∙ is) in
-    called ∙ ap (λ (o : Option ℕ). of_some o [] (device_name setting.net)) (sym latest)
+    called ∙ ap (λ (o : Option ℕ). map_or o [] (device_name setting.net)) (sym latest)
 
 -- what is said of the lines that bear the name is said of those of the latest report
 pub waits_named : (Says : List ℕ → Type 0) (replay : Replay Registers ToldWaits device ghosts) (observer : ToldWaits)

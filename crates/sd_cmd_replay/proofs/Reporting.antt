@@ -1,7 +1,7 @@
 -- What the latest step of a history adds to commit wait.
 use Rattle.std.proofs.Common.{◌≡◌, ℕ, ◌+◌, ◌-◌, ◌<◌, List, [], ◌∷◌, ◌++◌, length, Option, Some, None, refl, sym, ap, ◌∙◌, subst, arith, append-nil, length-append}
 use Rattle.std.specs.Prelude.{option_map, option_to_list}
-use Rattle.sd_num.specs.Lists.{of_some}
+use Rattle.sd_num.specs.Lists.{map_or}
 use Rattle.sd_clock.specs.declared.Report.{Report}
 use Rattle.sd_msg.specs.Observed.{ReportAt}
 use Rattle.sd_sched.specs.declared.Event.{Event}
@@ -33,7 +33,7 @@ with_told earlier s o = reports earlier ++ option_to_list (option_map (told_of e
 
 module _ (setting : Setting) (earlier : List Step) (s : Step) where
   more_waits : (o : Option (ℕ × Report)) → length (reports earlier) < length (with_told earlier s o)
-      → of_some o [] (λ told. bytes_at (with_told earlier s o) (length (reports earlier)) (device_name setting.net told.0))
+      → map_or o [] (λ told. bytes_at (with_told earlier s o) (length (reports earlier)) (device_name setting.net told.0))
       ≡ latest_waits setting.net (with_told earlier s o)
   more_waits None more =
       absurd (no_more (length (reports earlier)) (subst (λ (l : List ReportAt). length (reports earlier) < length l) (append-nil (reports earlier)) more))
@@ -47,7 +47,7 @@ module _ (setting : Setting) (earlier : List Step) (s : Step) where
       sym
       (
       ap (λ (k : ℕ). bytes_at (reports earlier ++ x ∷ []) k (latest_name setting.net (reports earlier ++ x ∷ []))) place
-      ∙ ap (λ (d : Option ℕ). bytes_at (reports earlier ++ x ∷ []) (length (reports earlier)) (of_some d [] (device_name setting.net)))
+      ∙ ap (λ (d : Option ℕ). bytes_at (reports earlier ++ x ∷ []) (length (reports earlier)) (map_or d [] (device_name setting.net)))
       (latest_behind (reports earlier) x)
       )
     where
@@ -60,7 +60,7 @@ module _ (setting : Setting) (earlier : List Step) (s : Step) where
   more_reports more = ap (λ (waits : List ℕ). bytes_of setting (s ∷ earlier) ++ waits) (more_waits (asked_report s) more)
 
   no_waits : (o : Option (ℕ × Report)) → (length (reports earlier) < length (with_told earlier s o) → ⊥)
-      → of_some o [] (λ told. bytes_at (with_told earlier s o) (length (reports earlier)) (device_name setting.net told.0)) ≡ []
+      → map_or o [] (λ told. bytes_at (with_told earlier s o) (length (reports earlier)) (device_name setting.net told.0)) ≡ []
   no_waits None none = refl
   no_waits (Some told) none =
       absurd (none

@@ -1,8 +1,8 @@
 -- Histories over a network with another version are the same: no word on histories asks for the version.
-use Rattle.std.proofs.Common.{cond, ◌≡◌, ℕ, zero, suc, ◌+◌, Bool, true, false, List, [], ◌∷◌, ◌++◌, Option, Some, None, refl, ap, ◌∙◌, length}
-use Rattle.std.specs.Prelude.{◌&&◌, ◌||◌, not, filter, find, flat_map, nat_eq}
+use Rattle.std.proofs.Common.{◌≡◌, ℕ, zero, suc, ◌+◌, Bool, true, false, List, [], ◌∷◌, ◌++◌, Option, Some, None, refl, ap, ◌∙◌, length}
+use Rattle.std.specs.Prelude.{◌&&◌, ◌||◌, not, filter, flat_map, nat_eq}
 use Rattle.std.specs.List.{list_all, list_any}
-use Rattle.sd_num.specs.Lists.{of_some}
+use Rattle.sd_num.specs.Lists.{map_or}
 use Rattle.sd_num.specs.Texts.{text_of}
 use Rattle.sd_msg.specs.Topo.Network.{Network, device_numbers, link_numbers, joins}
 use Rattle.sd_msg.specs.Topo.Joined.{joined_within}
@@ -33,20 +33,13 @@ use Rattle.sd_replay.specs.History.Premises.{at_each, begins_orderly, breaks, br
 use Rattle.sd_replay.specs.History.Lines.{Line, Broken, LoopAlarm, RootsAlarm, Reported, IntervalAlarm, broken_lines, first_on_loop, lines_of, loop_lines, report_lines, asked_report, root_lines, roots}
 use Rattle.sd_replay.specs.History.Text.{bytes_of, line_words}
 use Rattle.std.specs.Prelude.{option_to_list, is_some}
+use Rattle.sd_num.proofs.Shared.{any_same, find_same}
 
 -- Lists whose elements are judged alike
 
 all_alike : {A : Type 0} (p q : A → Bool) (xs : List A) → ((x : A) → p x ≡ q x) → list_all p xs ≡ list_all q xs
 all_alike p q [] same = refl
 all_alike p q (x ∷ xs) same = ap (λ (b : Bool). b && list_all p xs) (same x) ∙ ap (λ (b : Bool). q x && b) (all_alike p q xs same)
-
-any_alike : {A : Type 0} (p q : A → Bool) (xs : List A) → ((x : A) → p x ≡ q x) → list_any p xs ≡ list_any q xs
-any_alike p q [] same = refl
-any_alike p q (x ∷ xs) same = ap (λ (b : Bool). b || list_any p xs) (same x) ∙ ap (λ (b : Bool). q x || b) (any_alike p q xs same)
-
-find_alike : {A : Type 0} (p q : A → Bool) (xs : List A) → ((x : A) → p x ≡ q x) → find p xs ≡ find q xs
-find_alike p q [] same = refl
-find_alike p q (x ∷ xs) same = ap (λ (b : Bool). cond b (Some x) (find p xs)) (same x) ∙ ap (λ (o : Option _). cond (q x) (Some x) o) (find_alike p q xs same)
 
 flat_alike : {A : Type 0} (f g : A → List ℕ) (xs : List A) → ((x : A) → f x ≡ g x) → flat_map f xs ≡ flat_map g xs
 flat_alike f g [] same = refl
@@ -77,7 +70,7 @@ module _ (v w : ℕ) (net : Network) where
 
   within_alike : (things : List Thing) → within_one old_net things ≡ within_one new_net things
   within_alike things =
-      find_alike (λ f. list_all (holds old_net f) things) (λ f. list_all (holds new_net f) things) (domains net)
+      find_same (λ f. list_all (holds old_net f) things) (λ f. list_all (holds new_net f) things) (domains net)
       (λ f. all_alike (holds old_net f) (holds new_net f) things (holds_alike f))
 
   joined_alike : (may_pass may_cross : ℕ → Bool) (n d x : ℕ) → joined_within old_net may_pass may_cross n d x ≡ joined_within new_net may_pass may_cross n d x
@@ -85,7 +78,7 @@ module _ (v w : ℕ) (net : Network) where
   joined_alike may_pass may_cross (suc n) d x =
       let near : ℕ → Bool = λ e. may_pass e && list_any (λ l. may_cross l && joins net l d e) (link_numbers net) in
       ap (λ (b : Bool). nat_eq d x || b)
-      (any_alike (λ e. near e && joined_within old_net may_pass may_cross n e x) (λ e. near e && joined_within new_net may_pass may_cross n e x)
+      (any_same (λ e. near e && joined_within old_net may_pass may_cross n e x) (λ e. near e && joined_within new_net may_pass may_cross n e x)
       (device_numbers net)
       (λ e. ap (λ (b : Bool). near e && b) (joined_alike may_pass may_cross n e x)))
 
@@ -115,8 +108,8 @@ module _ (v w : ℕ) (net : Network) where
     told_alike steps reference act told = by (changed act) told.answers
       where
         by : (c : Option ℕ) (a : Option Answers)
-            → of_some c [] (λ d. of_some a [] (λ x. flights_by one steps reference d x.epoch told.effect))
-            ≡ of_some c [] (λ d. of_some a [] (λ x. flights_by other steps reference d x.epoch told.effect))
+            → map_or c [] (λ d. map_or a [] (λ x. flights_by one steps reference d x.epoch told.effect))
+            ≡ map_or c [] (λ d. map_or a [] (λ x. flights_by other steps reference d x.epoch told.effect))
         by None a = refl
         by (Some d) None = refl
         by (Some d) (Some x) = sent_alike steps reference d x.epoch told.effect
@@ -193,9 +186,9 @@ module _ (v w : ℕ) (net : Network) where
     commits_alike s earlier = ap (λ (b : Bool). not (is_commit s.event) || (s.acted && b)) (by (staged one earlier))
       where
         by : (o : Option Plan)
-            → of_some o true (λ plan. list_all (is_prepared one earlier) (members old_net plan) && leaves_out_failed one earlier plan
+            → map_or o true (λ plan. list_all (is_prepared one earlier) (members old_net plan) && leaves_out_failed one earlier plan
             && leaves_out_cleanly one earlier plan)
-            ≡ of_some o true (λ plan. list_all (is_prepared other earlier) (members new_net plan) && leaves_out_failed other earlier plan
+            ≡ map_or o true (λ plan. list_all (is_prepared other earlier) (members new_net plan) && leaves_out_failed other earlier plan
             && leaves_out_cleanly other earlier plan)
         by None = refl
         by (Some plan) =
@@ -230,7 +223,7 @@ module _ (v w : ℕ) (net : Network) where
         (
         λ (b : BrokenSet). broken_lines b ++ loop_lines (first_on_loop one earlier) (first_on_loop one (s ∷ earlier))
         ++ root_lines (roots one earlier) (roots one (s ∷ earlier))
-        ++ of_some (asked_report s) [] (report_lines (reference_of s.seen.event))
+        ++ map_or (asked_report s) [] (report_lines (reference_of s.seen.event))
         )
         (breaks_alike (seen_of (s ∷ earlier)))
 

@@ -1,7 +1,7 @@
 -- What is written for a step is whole lines.
 use Rattle.std.proofs.Common.{◌≡◌, ℕ, true, List, [], ◌∷◌, Option, Some, None, refl}
 use Rattle.std.specs.Prelude.{flat_map, length}
-use Rattle.sd_num.specs.Lists.{of_some}
+use Rattle.sd_num.specs.Lists.{map_or}
 use Rattle.sd_num.specs.Texts.{text_of}
 use Rattle.sd_clock.specs.declared.Report.{Report}
 use Rattle.sd_replay.specs.History.World.{Setting}
@@ -27,7 +27,7 @@ waits_whole : (setting : Setting) (earlier : List Step) (s : Step) → are_lines
 waits_whole setting earlier s = by (asked_report s)
   where
     by : (o : Option (ℕ × Report))
-        → are_lines (of_some o [] (λ told. bytes_at (reports (s ∷ earlier)) (length (reports earlier)) (device_name setting.net told.0))) ≡ true
+        → are_lines (map_or o [] (λ told. bytes_at (reports (s ∷ earlier)) (length (reports earlier)) (device_name setting.net told.0))) ≡ true
     by None = refl
     by (Some told) = all_whole (words_of (device_name setting.net told.0)) (lines_at (reports (s ∷ earlier)) (length (reports earlier)))
 

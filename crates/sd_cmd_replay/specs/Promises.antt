@@ -8,7 +8,7 @@ use Rattle.sd_replay.specs.History.Steps.{seen_of}
 use Rattle.sd_replay.specs.History.Chronicle.{chronicle}
 use Rattle.sd_replay.specs.History.Premises.{is_honest}
 use Rattle.sd_replay.specs.History.Lines.{reports}
-use Rattle.sd_cmd_files.specs.Answering.{May}
+use Rattle.sd_cmd_files.specs.Answering.{Allowed}
 use Rattle.sd_cmd_files.specs.declared.Status.{Status}
 use Rattle.sd_cmd_files.specs.declared.Status.TheVariants.{Done, Broken}
 use Rattle.sd_cmd_files.specs.work.Works.{reading}
@@ -22,7 +22,7 @@ pub record AreRightFiles (topology : List ℕ) (plans : List (List ℕ)) (schedu
   pub unrefused : (reading (replay_work setting) schedule).refused ≡ None
 
 -- they are answered with Done, or with Broken where there was some trouble
-abbrev pub Completes : ((topology : List ℕ) (plans : List (List ℕ)) (schedule : List ℕ) → May) → Type 0
+abbrev pub Completes : ((topology : List ℕ) (plans : List (List ℕ)) (schedule : List ℕ) → Allowed) → Type 0
 Completes Writes =
     (topology : List ℕ) (plans : List (List ℕ)) (schedule : List ℕ) → AreRightFiles topology plans schedule → (bytes : List ℕ) (status : Status)
     → Writes topology plans schedule bytes status

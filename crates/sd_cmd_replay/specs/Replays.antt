@@ -1,6 +1,6 @@
 -- What `replay` and `order` write and answer for the texts of a topology, of plans and of a schedule.
 use Rattle.std.specs.Prelude.{ℕ, Bool, ◌||◌, List, [], ◌∷◌, ◌++◌, length, nat_lt, Option, None, Some, Result, Ok, Err, codes, option_map, if◌then◌else◌}
-use Rattle.sd_num.specs.Lists.{of_some}
+use Rattle.sd_num.specs.Lists.{map_or}
 use Rattle.sd_msg.specs.Topo.Network.{Network}
 use Rattle.sd_sched.specs.declared.Event.{Event}
 use Rattle.sd_sched.specs.declared.LineFault.{LineFault}
@@ -18,7 +18,7 @@ use Rattle.sd_replay.specs.Tallies.{tally_of, shows_trouble}
 use Rattle.sd_wait.specs.Waits.{tally_of as waits_of}
 use Rattle.sd_wait.specs.Printed.{bytes_at, waits_line}
 use Rattle.sd_outside.specs.Pieces.{piece_of}
-use Rattle.sd_cmd_files.specs.Answering.{May, After}
+use Rattle.sd_cmd_files.specs.Answering.{Allowed, After}
 use Rattle.sd_cmd_files.specs.Inputs.{topology_of}
 use Rattle.sd_cmd_files.specs.declared.Status.{Status}
 use Rattle.sd_cmd_files.specs.declared.Status.TheVariants.{Done, Broken}
@@ -29,6 +29,7 @@ use Rattle.sd_cmd_replay.specs.Reasons.{line_reason, apply_name}
 
 -- Reading
 
+-- the event, unless there is a fault
 abbrev pub unless_refused : Option ApplyFault → Event → Result Event (List ℕ)
 unless_refused None e = Ok e
 unless_refused (Some why) e = Err (apply_name why)
@@ -38,6 +39,7 @@ abbrev pub accepted : Setting → List Event → Result Event LineFault → Resu
 accepted setting events (Err why) = Err (line_reason why)
 accepted setting events (Ok e) = unless_refused (refusal setting (chronicle setting events) e) e
 
+-- the event of a line, if it is accepted after these events
 abbrev pub event_said : Setting → List Event → List ℕ → Result Event (List ℕ)
 event_said setting events line = accepted setting events (event_of_line line)
 
@@ -50,8 +52,9 @@ status_if trouble = if trouble then Broken else Done
 -- the lines of commit wait of the latest step, behind these
 abbrev pub waits_after : Setting → List Step → Step → List ℕ
 waits_after setting earlier s =
-    of_some (asked_report s) [] (λ told. bytes_at (reports (s ∷ earlier)) (length (reports earlier)) (device_name setting.net told.0))
+    map_or (asked_report s) [] (λ told. bytes_at (reports (s ∷ earlier)) (length (reports earlier)) (device_name setting.net told.0))
 
+-- the lines of the latest step, with those of commit wait behind them
 abbrev pub with_waits : Setting → List Step → List ℕ
 with_waits setting [] = []
 with_waits setting (s ∷ earlier) = bytes_of setting (s ∷ earlier) ++ waits_after setting earlier s
@@ -88,14 +91,16 @@ module _ (setting : Setting) where
 -- The commands
 
 -- what may be written over a topology and plans by a work over them
-abbrev pub IsRun : (Setting → Work Event) → (topology : List ℕ) (plans : List (List ℕ)) (schedule : List ℕ) → May
+abbrev pub IsRun : (Setting → Work Event) → (topology : List ℕ) (plans : List (List ℕ)) (schedule : List ℕ) → Allowed
 IsRun work topology plans schedule bytes status =
     After (topology_of topology) (λ net. AfterAllPlans net plans (λ accepted. IsOutcome (work (setting_over net accepted)) schedule)) bytes status
 
-abbrev pub IsReplay : (topology : List ℕ) (plans : List (List ℕ)) (schedule : List ℕ) → May
+-- what `replay` may write
+abbrev pub IsReplay : (topology : List ℕ) (plans : List (List ℕ)) (schedule : List ℕ) → Allowed
 IsReplay topology plans schedule bytes status = IsRun replay_work topology plans schedule bytes status
 
-abbrev pub IsOrder : (topology : List ℕ) (plans : List (List ℕ)) (schedule : List ℕ) → May
+-- what `order` may write
+abbrev pub IsOrder : (topology : List ℕ) (plans : List (List ℕ)) (schedule : List ℕ) → Allowed
 IsOrder topology plans schedule bytes status = IsRun order_work topology plans schedule bytes status
 
 -- What stands in the schedule from the line on at which it is refused, where the topology and the plans are read. `order` refuses the same lines as

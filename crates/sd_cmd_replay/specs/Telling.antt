@@ -1,6 +1,6 @@
 -- What is kept of the reports for commit wait, and what is written for the latest of them.
 use Rattle.std.specs.Prelude.{◌≡◌, ℕ, ◌-◌, List, [], ◌∷◌, length, Option, None, Some}
-use Rattle.sd_num.specs.Lists.{of_some}
+use Rattle.sd_num.specs.Lists.{map_or}
 use Rattle.sd_msg.specs.Topo.Network.{Network}
 use Rattle.sd_msg.specs.Observed.{ReportAt}
 use Rattle.sd_replay.specs.History.Text.{device_name}
@@ -21,7 +21,7 @@ pub record IsTold (kept : ToldWaits) (told : List ReportAt) : Type 0 where
 
 -- the name of the device of the latest report
 abbrev pub latest_name : Network → List ReportAt → List ℕ
-latest_name net told = of_some (latest_device told) [] (device_name net)
+latest_name net told = map_or (latest_device told) [] (device_name net)
 
 -- the lines of commit wait of the latest report
 abbrev pub latest_waits : Network → List ReportAt → List ℕ

@@ -4,7 +4,7 @@ ghost use Rattle.std.specs.Prelude.{◌≡◌, ◌≤◌, ◌↔◌, All, [], Ok
 ghost use Rattle.sd_outside.specs.Causes.{RisesFor};
 ghost use Rattle.sd_outside.specs.Shelves.{KeepsShelf};
 ghost use Rattle.sd_cmd_files.specs.Texts.{texts_of};
-ghost use Rattle.sd_cmd_files.specs.Writes.{Makes, Tells, WritesOnce};
+ghost use Rattle.sd_cmd_files.specs.Writes.{IsAllowed, HasOutput, WritesOnce};
 ghost use Rattle.sd_cmd_files.specs.planfiles.SetupError.{IsPlanRefused, made_of};
 ghost use Rattle.sd_cmd_replay.specs.Early.{EndsBefore};
 ghost use Rattle.sd_cmd_replay.specs.Starting.{HasStarted};
@@ -43,7 +43,7 @@ pub(crate) fn start<S: Shelf, V: Observer>(
         HasStarted V.Observer (texts_of held files.entry.topology.now)
         (map (λ name. texts_of held name) (map string_bytes files.entry.plans.now)) replay)) }
     ensures makes { IfErr result (λ early. IfSome (S.held shelf.old) (λ held.
-        Makes (EndsBefore (texts_of held files.entry.topology.now)
+        IsAllowed (EndsBefore (texts_of held files.entry.topology.now)
         (map (λ name. texts_of held name) (map string_bytes files.entry.plans.now)))
         (made_of early))) }
     ensures answered { IfErr result IsPlanRefused }
@@ -67,7 +67,7 @@ pub(crate) fn end_early<O: Sink>(
     early: SetupError,
     out: &mut O,
 ) -> Result<Status, IoError>
-    ensures writes { WritesOnce (Tells (made_of early)) (O.written out.old) (O.written out.new)
+    ensures writes { WritesOnce (HasOutput (made_of early)) (O.written out.old) (O.written out.new)
         result }
     ensures shelf { result ≡ Err IoError.Shelf ↔ early ≡ SetupError.Stopped CommandError.Shelf }
     ensures sink { RisesFor (result ≡ Err IoError.Sink) (O.faults out.old) (O.faults out.new) }

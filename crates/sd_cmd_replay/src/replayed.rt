@@ -25,7 +25,7 @@ use sd_msg::Observer;
 use sd_num::NoMemory;
 use sd_outside::{LineBuffer, Sink};
 use sd_replay::{Event, Replay, ReplayFault, Tally};
-use sd_sched::read_front;
+use sd_sched::read_buffered_line;
 use std::alloc::Global;
 
 /// A replay of devices, and what is written for the latest line of its schedule.
@@ -118,7 +118,7 @@ impl<V: Observer> Replayed<V> {
             → TakesFront (words.replay_work setting) events text.now
             (HasReplayed V.Observer self.new.replay setting) self.new.text.items found) }
     {
-        let Some(front) = read_front(text) else {
+        let Some(front) = read_buffered_line(text) else {
             return Ok(None);
         };
         match self.replay.step_event(alloc, &front.event) {

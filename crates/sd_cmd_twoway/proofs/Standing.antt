@@ -4,7 +4,7 @@ use Rattle.std.specs.Prelude.{filter, filter_map, flat_map, is_some, if◌then�
 use Rattle.std.specs.List.{cons_option}
 use Rattle.std.proofs.lemmas.List.{flat_map_more}
 use Rattle.std.proofs.lemmas.List.Elements.{filter-append}
-use Rattle.sd_num.specs.Lists.{below, of_some}
+use Rattle.sd_num.specs.Lists.{below, map_or}
 use Rattle.sd_outside.specs.Pieces.{Pieces, piece_of}
 use Rattle.sd_topo.specs.Network.{Network}
 use Rattle.sd_twoway.specs.Joints.{Joints, joint_at, if_on, spans_on, StandsFor as SpansStand}
@@ -42,14 +42,14 @@ module _ (net : Network) (joints : Joints) (taken : List ExchangeLine) (stands :
   joint_is l inside = stands l inside ∙ ap joint_span (same_spans net l taken)
 
   -- the lines of the links below a number, and how many these are
-  lines_are : (n : ℕ) → n ≤ length joints → lines_of net joints n ≡ flat_map (λ l. piece_of (of_some (span_after net taken l) [] (link_line net l))) (below n)
+  lines_are : (n : ℕ) → n ≤ length joints → lines_of net joints n ≡ flat_map (λ l. piece_of (map_or (span_after net taken l) [] (link_line net l))) (below n)
   lines_are zero few = refl
   lines_are (suc n) few =
-      sym (flat_map_more (λ l. piece_of (of_some (joint_at joints l) [] (link_line net l))) [] (below n) n)
-      ∙ ap (λ (pieces : Pieces). pieces ++ piece_of (of_some (joint_at joints n) [] (link_line net n))) (lines_are n (omega (arith, few)))
-      ∙ ap (λ (joint : Option (Span × ℕ)). flat_map (λ l. piece_of (of_some (span_after net taken l) [] (link_line net l))) (below n)
-      ++ piece_of (of_some joint [] (link_line net n))) (joint_is n (omega (arith, few)))
-      ∙ flat_map_more (λ l. piece_of (of_some (span_after net taken l) [] (link_line net l))) [] (below n) n
+      sym (flat_map_more (λ l. piece_of (map_or (joint_at joints l) [] (link_line net l))) [] (below n) n)
+      ∙ ap (λ (pieces : Pieces). pieces ++ piece_of (map_or (joint_at joints n) [] (link_line net n))) (lines_are n (omega (arith, few)))
+      ∙ ap (λ (joint : Option (Span × ℕ)). flat_map (λ l. piece_of (map_or (span_after net taken l) [] (link_line net l))) (below n)
+      ++ piece_of (map_or joint [] (link_line net n))) (joint_is n (omega (arith, few)))
+      ∙ flat_map_more (λ l. piece_of (map_or (span_after net taken l) [] (link_line net l))) [] (below n) n
 
   linked_are : (n : ℕ) → n ≤ length joints → filter (λ l. is_some (joint_at joints l)) (below n) ≡ filter (λ l. is_some (span_after net taken l)) (below n)
   linked_are zero few = refl

@@ -4,7 +4,7 @@ use Rattle.std.specs.Prelude.{IfErr, IsErrAnd, filter, is_some, nat_le, if◌the
 use Rattle.std.proofs.lemmas.Bool.{leb-true, leb-false}
 use Rattle.std.proofs.lemmas.List.{flat_map_more, length-append}
 use Rattle.std.proofs.lemmas.List.Elements.{filter-append}
-use Rattle.sd_num.specs.Lists.{below, of_some}
+use Rattle.sd_num.specs.Lists.{below, map_or}
 use Rattle.sd_outside.specs.Pieces.{AddsFront, AddsPieces, Pieces, piece_of}
 use Rattle.sd_outside.proofs.Adding.{adds_both, front_behind}
 use Rattle.sd_topo.specs.Network.{Network}
@@ -18,8 +18,8 @@ use Rattle.sd_cmd_twoway.specs.Tallies.{count_of, lines_of}
 
 -- the lines of the links: one more, and those below a number stand in front of those below a greater one
 pub lines_more : (net : Network) (joints : Joints) (n : ℕ)
-    → lines_of net joints (suc n) ≡ lines_of net joints n ++ piece_of (of_some (joint_at joints n) [] (link_line net n))
-lines_more net joints n = sym (flat_map_more (λ l. piece_of (of_some (joint_at joints l) [] (link_line net l))) [] (below n) n)
+    → lines_of net joints (suc n) ≡ lines_of net joints n ++ piece_of (map_or (joint_at joints n) [] (link_line net n))
+lines_more net joints n = sym (flat_map_more (λ l. piece_of (map_or (joint_at joints l) [] (link_line net l))) [] (below n) n)
 
 pub lines_front : (net : Network) (joints : Joints) (k n : ℕ) → k ≤ n → (more : Pieces) × (lines_of net joints n ≡ lines_of net joints k ++ more)
 lines_front net joints k zero few = let none : k ≡ zero = omega (arith, few) in ([], rw none refl)
@@ -29,7 +29,7 @@ lines_front net joints k (suc n) few = by (nat_le k n) refl (lines_front net joi
         → (more : Pieces) × (lines_of net joints (suc n) ≡ lines_of net joints k ++ more)
     by true fits earlier =
         let front = earlier (leb-true k n fits) in
-        let next = piece_of (of_some (joint_at joints n) [] (link_line net n)) in
+        let next = piece_of (map_or (joint_at joints n) [] (link_line net n)) in
         (front.0 ++ next, lines_more net joints n ∙ ap (λ (pieces : Pieces). pieces ++ next) front.1 ∙ append_assoc (lines_of net joints k) front.0 next)
     by false beyond earlier =
         let less : n < k = leb-false k n beyond in
@@ -38,7 +38,7 @@ lines_front net joints k (suc n) few = by (nat_le k n) refl (lines_front net joi
 
 -- the sink failed at the line of a link
 pub adds_cut : (T U : Type 0) (net : Network) (joints : Joints) (k n : ℕ) (line : List ℕ) (first before after : Option Pieces) (why : IoError) → k < n
-    → of_some (joint_at joints k) [] (link_line net k) ≡ line
+    → map_or (joint_at joints k) [] (link_line net k) ≡ line
     → why ≡ stop.Sink → AddsPieces first before (lines_of net joints k) → Adds {T = T} (piece_of line) before after (Err why)
     → Adds {T = U} (lines_of net joints n) first after (Err why)
 adds_cut T U net joints k n line first before after stop.Shelf inside is only added adds = cc
@@ -60,7 +60,7 @@ module _ (net : Network) (joints : Joints) (k : ℕ) where
   added_more joint line first before after has is written more =
       let whole : lines_of net joints (k + 1) ≡ lines_of net joints k ++ piece_of line =
       ap (lines_of net joints) one_more ∙ lines_more net joints k
-      ∙ ap (λ (j : Option (Span × ℕ)). lines_of net joints k ++ piece_of (of_some j [] (link_line net k))) has
+      ∙ ap (λ (j : Option (Span × ℕ)). lines_of net joints k ++ piece_of (map_or j [] (link_line net k))) has
       ∙ ap (λ (text : List ℕ). lines_of net joints k ++ piece_of text) is in
       subst (AddsPieces first after) (sym whole) (adds_both first before after (lines_of net joints k) (piece_of line) written more)
 
@@ -69,7 +69,7 @@ module _ (net : Network) (joints : Joints) (k : ℕ) where
   added_none first after none written =
       let same : lines_of net joints (k + 1) ≡ lines_of net joints k =
       ap (lines_of net joints) one_more ∙ lines_more net joints k
-      ∙ ap (λ (j : Option (Span × ℕ)). lines_of net joints k ++ piece_of (of_some j [] (link_line net k))) none
+      ∙ ap (λ (j : Option (Span × ℕ)). lines_of net joints k ++ piece_of (map_or j [] (link_line net k))) none
       ∙ append-nil (lines_of net joints k) in
       subst (AddsPieces first after) (sym same) written
 

@@ -13,16 +13,19 @@ use Rattle.sd_twoway.specs.declared.ExchangeLineFault.TheVariants.{UnknownWord, 
 use Rattle.sd_cmd_twoway.specs.declared.TwowayFault.{TwowayFault}
 use Rattle.sd_cmd_twoway.specs.declared.TwowayFault.TheVariants.{Line, AfterEnd, UnknownLink, Spanless}
 
+-- why a line is refused by itself
 abbrev pub exchange_line_reason : ExchangeLineFault → List ℕ
 exchange_line_reason UnknownWord = codes "UnknownWord"
 exchange_line_reason FieldCount = codes "FieldCount"
 exchange_line_reason (Number field) = codes "Number " ++ decimal field
 
+-- why an exchange has no span
 abbrev pub span_reason : ExchangeFault → List ℕ
 span_reason Backwards = codes "Backwards"
 span_reason Impossible = codes "Impossible"
 span_reason TooLarge = codes "TooLarge"
 
+-- why a line is refused
 abbrev pub reason : TwowayFault → List ℕ
 reason (Line fault) = exchange_line_reason fault
 reason AfterEnd = codes "AfterEnd"
@@ -45,6 +48,7 @@ abbrev pub behind : Network → List ExchangeLine → Result ExchangeLine Exchan
 behind net taken (Err why) = Err (Line why)
 behind net taken (Ok x) = if list_any is_end_line taken then Err AfterEnd else over_network net x
 
+-- what a line says after these, or why it is refused
 abbrev pub exchange_said : Network → List ExchangeLine → List ℕ → Result ExchangeLine TwowayFault
 exchange_said net taken line = behind net taken (exchange_line line)
 

@@ -13,6 +13,7 @@ use Rattle.sd_twoway.specs.declared.ExchangeLine.TheVariants.{Exchange as Exchan
 abbrev pub beginner : Network → (link side : ℕ) → Rates
 beginner net link side = rates_on net link (nat_eq side 0)
 
+-- the rates of the end that replied
 abbrev pub replier : Network → (link side : ℕ) → Rates
 replier net link side = rates_on net link (nat_eq side 1)
 

@@ -1,7 +1,7 @@
 -- What is kept of the lines that were taken, and for which lines it stands.
 use Rattle.std.specs.Prelude.{◌≡◌, ℕ, List, [], ◌∷◌, ◌++◌, length, filter, filter_map, flat_map, is_some, codes, decimal, Option, Some, None, Result, Ok, Err}
 use Rattle.std.specs.List.{list_any}
-use Rattle.sd_num.specs.Lists.{below, of_some}
+use Rattle.sd_num.specs.Lists.{below, map_or}
 use Rattle.sd_num.specs.Texts.{text_of}
 use Rattle.sd_outside.specs.Pieces.{Pieces, piece_of}
 use Rattle.sd_topo.specs.Network.{Network}
@@ -20,10 +20,12 @@ abbrev pub with_link : ℕ → Result Span ExchangeFault → Option (ℕ × Span
 with_link link (Ok span) = Some (link, span)
 with_link link (Err why) = None
 
+-- the span that a line adds, with its link
 abbrev pub added_by : Network → ExchangeLine → Option (ℕ × Span)
 added_by net (Exchanged link side x) = with_link link (span_over net link side x)
 added_by net End = None
 
+-- the spans that some lines add, with their links
 abbrev pub added : Network → List ExchangeLine → List (ℕ × Span)
 added net taken = filter_map (added_by net) taken
 
@@ -45,8 +47,9 @@ Takes said net taken tally (Err why) = (said ≡ Err why) × StandsFor net tally
 
 -- the lines of the first n links, by what is kept of them, each by one write, and how many these are
 abbrev pub lines_of : Network → Joints → ℕ → Pieces
-lines_of net joints n = flat_map (λ l. piece_of (of_some (joint_at joints l) [] (link_line net l))) (below n)
+lines_of net joints n = flat_map (λ l. piece_of (map_or (joint_at joints l) [] (link_line net l))) (below n)
 
+-- how many of the first n links have a line
 abbrev pub count_of : Joints → ℕ → ℕ
 count_of joints n = length (filter (λ l. is_some (joint_at joints l)) (below n))
 

@@ -1,6 +1,6 @@
 -- How a text of exchanges is read over a network, and what is written for it.
 use Rattle.std.specs.Prelude.{List, [], ◌++◌, flat_map, codes}
-use Rattle.sd_num.specs.Lists.{of_some}
+use Rattle.sd_num.specs.Lists.{map_or}
 use Rattle.sd_outside.specs.Pieces.{Pieces, piece_of}
 use Rattle.sd_topo.specs.Network.{Network, link_numbers}
 use Rattle.sd_twoway.specs.Lines.{is_end_line, span_after}
@@ -12,7 +12,7 @@ use Rattle.sd_cmd_twoway.specs.Judged.{exchange_said, told_reason}
 
 -- the lines of the links that have an exchange, by ascending number, each by one write
 abbrev pub link_pieces : Network → List ExchangeLine → Pieces
-link_pieces net taken = flat_map (λ l. piece_of (of_some (span_after net taken l) [] (link_line net l))) (link_numbers net)
+link_pieces net taken = flat_map (λ l. piece_of (map_or (span_after net taken l) [] (link_line net l))) (link_numbers net)
 
 -- nothing is written before the end of the text
 abbrev pub twoway_work : Network → Work ExchangeLine

@@ -1,7 +1,7 @@
 -- For every life whose counters never fall, the registers that its words define stand for it.
 use Rattle.std.proofs.Common.{◌≡◌, ℕ, ◌+◌, ◌≤◌, Bool, true, false, List, [], ◌∷◌, Option, Some, None, refl, subst, arith}
 use Rattle.std.specs.Prelude.{if◌then◌else◌}
-use Rattle.sd_num.specs.Lists.{of_some}
+use Rattle.sd_num.specs.Lists.{map_or}
 use Rattle.sd_plan.specs.declared.Duty.{Duty}
 use Rattle.sd_plan.specs.declared.Edge.{Edge}
 use Rattle.sd_msg.specs.declared.Message.{Message}
@@ -21,7 +21,7 @@ use Rattle.sd_core.proofs.Stands.{IsOrdered, IsDue, steps}
 
 -- the latest counter that the device was given, after this call
 abbrev latest_with : Call → ℕ → ℕ
-latest_with call before = of_some (counter_of call) before (λ counter. counter)
+latest_with call before = map_or (counter_of call) before (λ counter. counter)
 
 turned_last : (r : Registers) (counter : ℕ) (turn : Turn) → r.last ≤ counter → (turned r counter turn).0.last ≤ counter
 turned_last r counter Emit due = due
@@ -30,13 +30,13 @@ turned_last r counter Move due = omega arith
 turned_last r counter Stay due = due
 
 received_last : (r : Registers) (message : Message) (counter : ℕ) (enter : Option (Duty × Edge)) (accept : Option Edge) → r.last ≤ counter
-    → (of_some enter (of_some accept (quietly r) (λ edge. accepted r edge message counter))
+    → (map_or enter (map_or accept (quietly r) (λ edge. accepted r edge message counter))
     (λ by. accepted (entered r by.0) by.1 message counter)).0.last ≤ counter
 received_last r message counter (Some p) accept due = omega arith
 received_last r message counter None (Some edge) due = omega arith
 received_last r message counter None None due = due
 
-committed_last : (r : Registers) (counter : ℕ) (given : Option Duty) → r.last ≤ counter → (of_some given r (committed r counter)).last ≤ counter
+committed_last : (r : Registers) (counter : ℕ) (given : Option Duty) → r.last ≤ counter → (map_or given r (committed r counter)).last ≤ counter
 committed_last r counter None due = due
 committed_last r counter (Some duty) due = go (is_acting_mode r.mode)
   where

@@ -2,7 +2,7 @@
 use Rattle.std.proofs.Common.{◌≡◌, ℕ, Bool, true, false, ◌||◌, ◌&&◌, ◌-◌, not, List, [], ◌∷◌, Option, Some, None, refl, sym, subst}
 use Rattle.std.specs.Prelude.{nat_le, max, is_some, if◌then◌else◌, option_and_then}
 use Rattle.std.specs.List.{list_any}
-use Rattle.sd_num.specs.Lists.{of_some}
+use Rattle.sd_num.specs.Lists.{map_or}
 use Rattle.sd_plan.specs.declared.Duty.{Duty}
 use Rattle.sd_plan.specs.declared.Edge.{Edge}
 use Rattle.sd_msg.specs.declared.Message.{Message}
@@ -29,7 +29,7 @@ pub record Reached (past : Past) : Type 0 where
 made_reached : (making : Making) → Reached (record { making = making; did = [] })
 made_reached making = record { took_over = λ h. cc; sealed = λ h. cc; heard_last = λ h i. refl }
 
-or-more : (a b c : Bool) → (a || c) ≡ true → (a || (b || c)) ≡ true
+pub or-more : (a b c : Bool) → (a || c) ≡ true → (a || (b || c)) ≡ true
 or-more true b c h = refl
 or-more false true c h = refl
 or-more false false c h = h
@@ -58,9 +58,9 @@ tick_reached : (past : Past) (counter : ℕ) → Reached past → Reached (added
 tick_reached past counter h =
     go (emits_at past counter) (takes_over_at past counter) (moves_at past counter)
     (second_of_four (is_backup_root_now past) (has_moved past) (not (is_acting past))
-    (of_some (duty_now past) false (λ duty. nat_le duty.wait_second (counter - max (heard past) (moved_at past)))))
+    (map_or (duty_now past) false (λ duty. nat_le duty.wait_second (counter - max (heard past) (moved_at past)))))
     (third_of_four (may_move past) (not (has_moved past)) (is_sealed past)
-    (of_some (option_and_then wait_to_move (duty_now past)) false (λ wait. nat_le wait (counter - heard past))))
+    (map_or (option_and_then wait_to_move (duty_now past)) false (λ wait. nat_le wait (counter - heard past))))
   where
     go : (emits takes moves : Bool) → (takes ≡ true → has_moved past ≡ true) → (moves ≡ true → is_sealed past ≡ true)
         → Reached (added past (Tick counter) (if emits then Emitted else if takes then TookOver else if moves then Moved else Nothing))
@@ -84,7 +84,7 @@ committed_reached : (past : Past) (counter : ℕ) → Reached past → Reached (
 committed_reached past counter h = go (given_now past) (is_acting past)
   where
     go : (given : Option Duty) (acts : Bool)
-        → Reached (added past (Commit counter) (of_some given Nothing (λ duty. if acts then Recommitted duty else Committed duty)))
+        → Reached (added past (Commit counter) (map_or given Nothing (λ duty. if acts then Recommitted duty else Committed duty)))
     go None acts = record { took_over = h.took_over; sealed = h.sealed; heard_last = h.heard_last }
     go (Some duty) true = record { took_over = λ i. cc; sealed = λ i. cc; heard_last = λ i j. cc }
     go (Some duty) false = record { took_over = λ i. cc; sealed = λ i. cc; heard_last = λ i j. cc }

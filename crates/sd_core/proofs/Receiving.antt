@@ -1,7 +1,7 @@
 -- What a message makes a device do: by the words of its past, and by its registers.
 use Rattle.std.proofs.Common.{◌≡◌, ℕ, Bool, true, false, ◌&&◌, Option, Some, None, refl, ◌∙◌, ap}
 use Rattle.std.specs.Prelude.{nat_eq, if◌then◌else◌, option_map, option_and_then}
-use Rattle.sd_num.specs.Lists.{of_some}
+use Rattle.sd_num.specs.Lists.{map_or}
 use Rattle.sd_plan.specs.declared.Duty.{Duty}
 use Rattle.sd_plan.specs.declared.Edge.{Edge}
 use Rattle.sd_msg.specs.declared.Message.{Message}
@@ -20,10 +20,10 @@ transition_by None (Some edge) = Accepted edge
 transition_by None None = Nothing
 
 edge_of_mode : (acts moved : Bool) (duty : Option Duty)
-    → (if acts then None else if moved then of_some duty None (λ d. d.backup) else of_some duty None (λ d. d.primary))
-    ≡ elim (if acts then Acting else if moved then Backup else of_some duty Idle (λ d. Primary)) as (λ (mode : Mode). Option Edge) [
-      | Primary ↦ of_some duty None (λ d. d.primary)
-      | Backup ↦ of_some duty None (λ d. d.backup)
+    → (if acts then None else if moved then map_or duty None (λ d. d.backup) else map_or duty None (λ d. d.primary))
+    ≡ elim (if acts then Acting else if moved then Backup else map_or duty Idle (λ d. Primary)) as (λ (mode : Mode). Option Edge) [
+      | Primary ↦ map_or duty None (λ d. d.primary)
+      | Backup ↦ map_or duty None (λ d. d.backup)
       | _ ↦ None
     ]
 edge_of_mode true moved duty = refl
@@ -72,13 +72,13 @@ accepts past link message =
 pub receipts : (past : Past) (link : ℕ) (message : Message) (counter : ℕ)
     → transition_of past (Receive link message counter) ≡ transition_by (entering (registers_of past) link message) (accepting (registers_of past) link message)
 receipts past link message counter =
-    ap (λ transition. of_some transition (of_some (accepted_by past link message) Nothing (λ d. d)) (λ d. d)) (enters past link message)
-    ∙ ap (λ transition. of_some (option_map (λ (by : Duty × Edge). Entered by.0 by.1) (entering (registers_of past) link message))
-    (of_some transition Nothing (λ d. d)) (λ d. d)) (accepts past link message)
+    ap (λ transition. map_or transition (map_or (accepted_by past link message) Nothing (λ d. d)) (λ d. d)) (enters past link message)
+    ∙ ap (λ transition. map_or (option_map (λ (by : Duty × Edge). Entered by.0 by.1) (entering (registers_of past) link message))
+    (map_or transition Nothing (λ d. d)) (λ d. d)) (accepts past link message)
     ∙ same (entering (registers_of past) link message) (accepting (registers_of past) link message)
   where
     same : (enter : Option (Duty × Edge)) (accept : Option Edge)
-        → of_some (option_map (λ (by : Duty × Edge). Entered by.0 by.1) enter) (of_some (option_map Accepted accept) Nothing (λ d. d)) (λ d. d)
+        → map_or (option_map (λ (by : Duty × Edge). Entered by.0 by.1) enter) (map_or (option_map Accepted accept) Nothing (λ d. d)) (λ d. d)
         ≡ transition_by enter accept
     same (Some p) accept = refl
     same None (Some edge) = refl

@@ -1,12 +1,13 @@
 -- The registers go on standing for a life as a call is added to it, and send what its words say.
-use Rattle.std.proofs.Common.{◌≡◌, ℕ, ◌-◌, ◌≤◌, Bool, true, false, ◌||◌, not, Option, Some, None, refl, sym, ◌∙◌, subst, arith}
+use Rattle.std.proofs.Common.{◌≡◌, ℕ, ◌-◌, ◌≤◌, Bool, true, false, ◌||◌, not, Option, Some, None, refl, sym, ◌∙◌, ap, subst, arith}
 use Rattle.std.specs.Prelude.{is_some, nat_le, max, if◌then◌else◌}
 use Rattle.std.proofs.lemmas.Bool.{false_from_ne_true}
-use Rattle.sd_num.specs.Lists.{of_some}
+use Rattle.sd_num.specs.Lists.{map_or}
 use Rattle.sd_plan.specs.declared.Duty.{Duty}
 use Rattle.sd_plan.specs.declared.Edge.{Edge}
 use Rattle.sd_msg.specs.declared.Message.{Message}
 use Rattle.sd_core.specs.declared.Effect.{Effect}
+use Rattle.sd_core.specs.declared.Effect.TheVariants.{Quiet}
 use Rattle.sd_core.specs.declared.registers.Registers.{Registers}
 use Rattle.sd_core.specs.declared.registers.Mode.TheVariants.{Primary, Backup, Acting, Idle}
 use Rattle.sd_core.specs.declared.turns.Turn.{Turn}
@@ -41,7 +42,7 @@ later_heard last heard moved counter order due = omega (arith, order, due)
 later_moved : (last heard moved counter : ℕ) → last ≡ max heard moved → last ≤ counter → counter ≡ max heard counter
 later_moved last heard moved counter order due = omega (arith, order, due)
 
-acting_moves_not : (duty : Option Duty) (sent counter : ℕ) → of_some duty Stay (λ d. if nat_le d.period (counter - sent) then Emit else Stay) ≡ Move → ⊥
+acting_moves_not : (duty : Option Duty) (sent counter : ℕ) → map_or duty Stay (λ d. if nat_le d.period (counter - sent) then Emit else Stay) ≡ Move → ⊥
 acting_moves_not None sent counter moves = cc
 acting_moves_not (Some d) sent counter moves = go (nat_le d.period (counter - sent)) moves
   where
@@ -53,7 +54,7 @@ acting_moves_not (Some d) sent counter moves = go (nat_le d.period (counter - se
 moves_not_acting : (past : Past) (counter : ℕ) → turn_of (registers_of past) counter ≡ Move → is_acting past ≡ false
 moves_not_acting past counter moves =
     false_from_ne_true (is_acting past) (λ acts. acting_moves_not (duty_now past) (sent_at past) counter (subst (λ (a : Bool).
-    turn_of (record (registers_of past) { mode = if a then Acting else if has_moved past then Backup else of_some (duty_now past) Idle (λ duty. Primary) })
+    turn_of (record (registers_of past) { mode = if a then Acting else if has_moved past then Backup else map_or (duty_now past) Idle (λ duty. Primary) })
     counter ≡ Move) acts moves))
 
 tick_steps : (past : Past) (counter : ℕ) → IsOrdered past → last_of past ≤ counter → (turn : Turn) → turn_of (registers_of past) counter ≡ turn
@@ -61,7 +62,7 @@ tick_steps : (past : Past) (counter : ℕ) → IsOrdered past → last_of past �
 tick_steps past counter order due Emit is = record { registers = refl; effect = refl; order = order }
 tick_steps past counter order due TakeOver is =
     let acts : is_acting (added past (Tick counter) TookOver) ≡ true =
-    or_true (of_some (later_entry past) (starts_as_root past.making) (λ entry. is_commit entry.transition)) in
+    or_true (map_or (later_entry past) (starts_as_root past.making) (λ entry. is_commit entry.transition)) in
     record { registers = rw acts refl; effect = refl; order = order }
 tick_steps past counter order due Move is =
     record {
@@ -74,7 +75,7 @@ tick_steps past counter order due Stay is = record { registers = refl; effect = 
 receive_steps : (past : Past) (link : ℕ) (message : Message) (counter : ℕ) → IsOrdered past → last_of past ≤ counter
     → (enter : Option (Duty × Edge)) (accept : Option Edge)
     → Steps past (Receive link message counter)
-    (of_some enter (of_some accept (quietly (registers_of past)) (λ edge. accepted (registers_of past) edge message counter))
+    (map_or enter (map_or accept (quietly (registers_of past)) (λ edge. accepted (registers_of past) edge message counter))
     (λ by. accepted (entered (registers_of past) by.0) by.1 message counter))
     (transition_by enter accept)
 receive_steps past link message counter order due (Some p) accept =
@@ -84,7 +85,7 @@ receive_steps past link message counter order due None (Some edge) =
 receive_steps past link message counter order due None None = record { registers = refl; effect = refl; order = order }
 
 mode_acts : (acts moved : Bool) (duty : Option Duty)
-    → is_acting_mode (if acts then Acting else if moved then Backup else of_some duty Idle (λ d. Primary)) ≡ acts
+    → is_acting_mode (if acts then Acting else if moved then Backup else map_or duty Idle (λ d. Primary)) ≡ acts
 mode_acts true moved duty = refl
 mode_acts false true duty = refl
 mode_acts false false (Some duty) = refl
@@ -95,8 +96,8 @@ pub acting_is : (past : Past) → is_acting_mode (mode_of past) ≡ is_acting pa
 acting_is past = mode_acts (is_acting past) (has_moved past) (duty_now past)
 
 commit_steps : (past : Past) (counter : ℕ) → IsOrdered past → (given : Option Duty) (acts : Bool) → is_acting past ≡ acts
-    → Steps past (Commit counter) (quietly (of_some given (registers_of past) (committed (registers_of past) counter)))
-    (of_some given Nothing (λ duty. if acts then Recommitted duty else Committed duty))
+    → Steps past (Commit counter) (quietly (map_or given (registers_of past) (committed (registers_of past) counter)))
+    (map_or given Nothing (λ duty. if acts then Recommitted duty else Committed duty))
 commit_steps past counter order None acts is = record { registers = refl; effect = refl; order = order }
 commit_steps past counter order (Some duty) true is = record { registers = rw (acting_is past ∙ is, is) refl; effect = refl; order = order }
 commit_steps past counter order (Some duty) false is = record { registers = rw (acting_is past ∙ is) refl; effect = refl; order = order }
@@ -143,3 +144,12 @@ stands_after r life call h due =
 pub stood : (old r new : Registers) (result : Effect) (life : Life) (call : Call) → r ≡ old → new ≡ (called r call).0 → result ≡ (called r call).1
     → StandsFor old life → IsDue old.last (counter_of call) → Stood life call (new, result)
 stood old r new result life call same after sends h due = rw (after, sends, same) (stands_after old life call h due)
+
+-- A tick at which nothing is to be done
+
+pub rested : (old r : Registers) (counter : ℕ) → r ≡ old → turn_of r counter ≡ Stay → called old (Tick counter) ≡ (old, Quiet)
+rested old r counter same stays = subst (λ (x : Registers). called x (Tick counter) ≡ (x, Quiet)) same (ap (turned r counter) stays)
+
+pub stood_still : (old r : Registers) (life : Life) (counter : ℕ) → r ≡ old → turn_of r counter ≡ Stay → StandsFor old life → old.last ≤ counter
+    → Stood life (Tick counter) (old, Quiet)
+stood_still old r life counter same stays h due = subst (Stood life (Tick counter)) (rested old r counter same stays) (stands_after old life (Tick counter) h due)

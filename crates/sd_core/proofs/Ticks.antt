@@ -2,7 +2,7 @@
 use Rattle.std.proofs.Common.{◌≡◌, ℕ, ◌-◌, Bool, true, false, ◌&&◌, ◌||◌, not, List, [], ◌∷◌, Option, Some, None, refl, sym, ◌∙◌, ap}
 use Rattle.std.specs.Prelude.{is_some, nat_le, max, find, if◌then◌else◌, option_map, option_and_then}
 use Rattle.std.proofs.lemmas.Bool.{both_ways}
-use Rattle.sd_num.specs.Lists.{of_some, latest}
+use Rattle.sd_num.specs.Lists.{map_or, find_map_or}
 use Rattle.sd_plan.specs.declared.Duty.{Duty}
 use Rattle.sd_plan.specs.declared.Role.{Role}
 use Rattle.sd_plan.specs.declared.Role.TheVariants as role
@@ -24,29 +24,29 @@ transition_by_turn Move = Moved
 transition_by_turn Stay = Nothing
 
 -- without a later entry the duty is that of the making
-same_duty : (did : List Did) (first : Option Duty) → find takes_up did ≡ None → latest (λ x. option_map Some (taken_up x.transition)) did first ≡ first
+pub same_duty : (did : List Did) (first : Option Duty) → find takes_up did ≡ None → find_map_or (λ x. option_map Some (taken_up x.transition)) did first ≡ first
 same_duty [] first none = refl
 same_duty (x ∷ earlier) first none = go (taken_up x.transition) (same_duty earlier first) none
   where
-    go : (duty : Option Duty) → (find takes_up earlier ≡ None → latest (λ x. option_map Some (taken_up x.transition)) earlier first ≡ first)
+    go : (duty : Option Duty) → (find takes_up earlier ≡ None → find_map_or (λ x. option_map Some (taken_up x.transition)) earlier first ≡ first)
         → (if is_some duty then Some x else find takes_up earlier) ≡ None
-        → of_some (option_map Some duty) (latest (λ x. option_map Some (taken_up x.transition)) earlier first) (λ told. told) ≡ first
+        → map_or (option_map Some duty) (find_map_or (λ x. option_map Some (taken_up x.transition)) earlier first) (λ told. told) ≡ first
     go (Some duty) later none = cc
     go None later none = later none
 
 -- what a tick turns on
 record Situation (making : Making) (entry : Option Did) (duty : Option Duty) (acts moved sealed took_over : Bool) (heard moved_at last : ℕ) : Type 0 where
   first : entry ≡ None → duty ≡ first_duty making
-  acting : acts ≡ (of_some entry (starts_as_root making) (λ x. is_commit x.transition) || took_over)
+  acting : acts ≡ (map_or entry (starts_as_root making) (λ x. is_commit x.transition) || took_over)
   took : took_over ≡ true → moved ≡ true
   seal : moved ≡ true → sealed ≡ true
-  hears : of_some entry (is_some (first_duty making)) (λ x. not (is_commit x.transition)) ≡ true → moved ≡ false → last ≡ heard
+  hears : map_or entry (is_some (first_duty making)) (λ x. not (is_commit x.transition)) ≡ true → moved ≡ false → last ≡ heard
   order : last ≡ max heard moved_at
 
 abbrev lets_move : Making → Option Did → Bool
-lets_move making entry = of_some entry (is_some (first_duty making)) (λ x. not (is_commit x.transition))
+lets_move making entry = map_or entry (is_some (first_duty making)) (λ x. not (is_commit x.transition))
 
-no_wait_as_root : (making : Making) → starts_as_root making ≡ true → option_and_then wait_to_move (first_duty making) ≡ None
+pub no_wait_as_root : (making : Making) → starts_as_root making ≡ true → option_and_then wait_to_move (first_duty making) ≡ None
 no_wait_as_root (Started duty counter clock eps) acts = go duty.role acts
   where
     go : (what : Role) → elim what as (λ (x : Role). Bool) [ role.Root ↦ true | _ ↦ false ] ≡ true
@@ -61,7 +61,7 @@ no_wait_as_root (Joined rates counter clock eps) acts = cc
 -- a device that acts does not wait to move
 acting_waits_not : (making : Making) (entry : Option Did) (duty : Option Duty) (took_over moved : Bool)
     → (entry ≡ None → duty ≡ first_duty making) → (took_over ≡ true → moved ≡ true)
-    → (of_some entry (starts_as_root making) (λ x. is_commit x.transition) || took_over) ≡ true → lets_move making entry ≡ true → moved ≡ false
+    → (map_or entry (starts_as_root making) (λ x. is_commit x.transition) || took_over) ≡ true → lets_move making entry ≡ true → moved ≡ false
     → option_and_then wait_to_move duty ≡ None
 acting_waits_not making entry duty true moved first took acts lets still = absurd (both_ways moved still (took refl))
 acting_waits_not making (Some x) duty false moved first took acts lets still = go (is_commit x.transition) acts lets
@@ -78,7 +78,7 @@ acting_waits_not making None duty false moved first took acts lets still =
 
 -- a device with a duty that does not act may move
 others_may_move : (making : Making) (entry : Option Did) (duty : Duty) (took_over : Bool)
-    → (entry ≡ None → Some duty ≡ first_duty making) → (of_some entry (starts_as_root making) (λ x. is_commit x.transition) || took_over) ≡ false
+    → (entry ≡ None → Some duty ≡ first_duty making) → (map_or entry (starts_as_root making) (λ x. is_commit x.transition) || took_over) ≡ false
     → lets_move making entry ≡ true
 others_may_move making None duty took_over first acts = rw (← first refl) refl
 others_may_move making (Some x) duty took_over first acts = go (is_commit x.transition) acts
@@ -131,33 +131,33 @@ no_duty_turn false false = refl
 -- the registers decide what the words say
 decides : (making : Making) (entry : Option Did) (duty : Option Duty) (acts moved sealed took_over : Bool) (heard moved_at last sent counter : ℕ)
     → Situation making entry duty acts moved sealed took_over heard moved_at last
-    → (if acts && of_some duty false (λ d. nat_le d.period (counter - sent)) then Emitted
-    else if of_some duty false is_backup_root && moved && not acts
-    && of_some duty false (λ d. nat_le d.wait_second (counter - max heard moved_at)) then TookOver
-    else if lets_move making entry && not moved && sealed && of_some (option_and_then wait_to_move duty) false
+    → (if acts && map_or duty false (λ d. nat_le d.period (counter - sent)) then Emitted
+    else if map_or duty false is_backup_root && moved && not acts
+    && map_or duty false (λ d. nat_le d.wait_second (counter - max heard moved_at)) then TookOver
+    else if lets_move making entry && not moved && sealed && map_or (option_and_then wait_to_move duty) false
     (λ wait. nat_le wait (counter - heard)) then Moved
     else Nothing)
-    ≡ transition_by_turn (of_some duty Stay (λ d.
-    elim (if acts then Acting else if moved then Backup else of_some duty Idle (λ x. Primary)) as (λ (mode : Mode). Turn) [
+    ≡ transition_by_turn (map_or duty Stay (λ d.
+    elim (if acts then Acting else if moved then Backup else map_or duty Idle (λ x. Primary)) as (λ (mode : Mode). Turn) [
       | Acting ↦ if nat_le d.period (counter - sent) then Emit else Stay
       | Backup ↦ if sealed && is_backup_root d && nat_le d.wait_second (counter - last) then TakeOver else Stay
-      | Primary ↦ if sealed && of_some (wait_to_move d) false (λ wait. nat_le wait (counter - last)) then Move else Stay
+      | Primary ↦ if sealed && map_or (wait_to_move d) false (λ wait. nat_le wait (counter - last)) then Move else Stay
       | Idle ↦ Stay
     ]))
 decides making entry None acts moved sealed took_over heard moved_at last sent counter h = no_duty_turn acts (lets_move making entry && not moved && sealed)
 decides making entry (Some d) true moved sealed took_over heard moved_at last sent counter h =
     acting_turn (nat_le d.period (counter - sent)) (is_backup_root d) moved (lets_move making entry) sealed
     (nat_le d.wait_second (counter - max heard moved_at))
-    (of_some (wait_to_move d) false (λ wait. nat_le wait (counter - heard)))
-    (λ lets still. ap (λ wait. of_some wait false (λ w. nat_le w (counter - heard)))
+    (map_or (wait_to_move d) false (λ wait. nat_le wait (counter - heard)))
+    (λ lets still. ap (λ wait. map_or wait false (λ w. nat_le w (counter - heard)))
     (acting_waits_not making entry (Some d) took_over moved h.first h.took (sym h.acting) lets still))
 decides making entry (Some d) false true sealed took_over heard moved_at last sent counter h =
     rw h.order (backup_turn (is_backup_root d) (nat_le d.wait_second (counter - max heard moved_at)) (lets_move making entry) sealed
-    (of_some (wait_to_move d) false (λ wait. nat_le wait (counter - heard))) (h.seal refl))
+    (map_or (wait_to_move d) false (λ wait. nat_le wait (counter - heard))) (h.seal refl))
 decides making entry (Some d) false false sealed took_over heard moved_at last sent counter h =
     let lets : lets_move making entry ≡ true = others_may_move making entry d took_over h.first (sym h.acting) in
     rw (h.hears lets refl) (primary_turn (is_backup_root d) (nat_le d.wait_second (counter - max heard moved_at)) (lets_move making entry) sealed
-    (of_some (wait_to_move d) false (λ wait. nat_le wait (counter - heard))) lets)
+    (map_or (wait_to_move d) false (λ wait. nat_le wait (counter - heard))) lets)
 
 pub ticks : (past : Past) (counter : ℕ) → Reached past → last_of past ≡ max (heard past) (moved_at past)
     → transition_of past (Tick counter) ≡ transition_by_turn (turn_of (registers_of past) counter)

@@ -9,6 +9,7 @@ use Rattle.sd_core.specs.declared.Effect.TheVariants.{Quiet, Send}
 use Rattle.sd_core.specs.declared.registers.Registers.{Registers}
 use Rattle.sd_core.specs.declared.registers.Mode.TheVariants.{Idle}
 
+-- an edge whose delay bounds are within the limits
 pub record IsEdge (edge : Edge) : Type 0 where
   pub mid : edge.bounds.mid ≤ 10 ^ 12
   pub half : edge.bounds.half ≤ 10 ^ 12

@@ -1,6 +1,6 @@
 -- The rules of a device over its registers: what it decides at each call, and what it then does.
 use Rattle.std.specs.Prelude.{ℕ, ◌+◌, ◌-◌, Bool, true, false, ◌&&◌, nat_eq, nat_le, max, Option, Some, None, option_map, option_and_then, if◌then◌else◌}
-use Rattle.sd_num.specs.Lists.{of_some}
+use Rattle.sd_num.specs.Lists.{map_or}
 use Rattle.sd_plan.specs.declared.Duty.{Duty}
 use Rattle.sd_plan.specs.declared.Edge.{Edge}
 use Rattle.sd_plan.specs.declared.Role.TheVariants as role
@@ -20,17 +20,18 @@ use Rattle.sd_core.specs.Words.{wait_to_move, over_link}
 
 -- the number of the plan that the device follows, 0 where it follows none
 abbrev pub epoch_in : Registers → ℕ
-epoch_in r = of_some r.duty 0 (λ duty. duty.epoch)
+epoch_in r = map_or r.duty 0 (λ duty. duty.epoch)
 
 -- the edge to the present parent
 abbrev pub edge_in : Registers → Option Edge
 edge_in r =
     elim r.mode [
-      | Primary ↦ of_some r.duty None (λ duty. duty.primary)
-      | Backup ↦ of_some r.duty None (λ duty. duty.backup)
+      | Primary ↦ map_or r.duty None (λ duty. duty.primary)
+      | Backup ↦ map_or r.duty None (λ duty. duty.backup)
       | _ ↦ None
     ]
 
+-- a device in this mode acts as root
 abbrev pub is_acting_mode : Mode → Bool
 is_acting_mode Acting = true
 is_acting_mode _ = false
@@ -39,9 +40,11 @@ is_acting_mode _ = false
 abbrev pub follows_a_plan : Registers → Bool
 follows_a_plan r = nat_le 1 (epoch_in r)
 
+-- the present parent
 abbrev pub parent_in : Registers → Option ℕ
 parent_in r = if follows_a_plan r then option_map (λ edge. edge.parent) (edge_in r) else None
 
+-- the device acts as root
 abbrev pub acts_in : Registers → Bool
 acts_in r = if follows_a_plan r then is_acting_mode r.mode else false
 
@@ -57,9 +60,11 @@ ceiling_in r = max r.estimate.clock r.estimate.base
 abbrev pub height_in : Registers → ℕ
 height_in r = max r.stamp.term r.stamp.round
 
+-- what the device reports at a counter
 abbrev pub report_in : Registers → ℕ → Report
 report_in r counter = report_of r.rates r.estimate counter
 
+-- the mode after a start with this duty
 abbrev pub first_mode : Duty → Mode
 first_mode duty = elim duty.role [ role.Root ↦ Acting | _ ↦ Primary ]
 
@@ -90,12 +95,13 @@ made (Joined rates counter clock eps) =
       rates = rates;
     }
 
+-- the duty is that of the backup root
 abbrev pub is_backup_root : Duty → Bool
 is_backup_root duty = elim duty.role [ role.BackupRoot ↦ true | _ ↦ false ]
 
 -- so long nothing was heard on the primary parent that the device moves
 abbrev pub silence_to_move : Registers → ℕ → Duty → Bool
-silence_to_move r counter duty = of_some (wait_to_move duty) false (λ wait. nat_le wait (counter - r.last))
+silence_to_move r counter duty = map_or (wait_to_move duty) false (λ wait. nat_le wait (counter - r.last))
 
 -- what a tick does
 abbrev pub turn_with : Registers → ℕ → Duty → Turn
@@ -107,9 +113,11 @@ turn_with r counter duty =
       | Idle ↦ Stay
     ]
 
+-- what a tick at this counter is to the device: with no duty, nothing
 abbrev pub turn_of : Registers → ℕ → Turn
-turn_of r counter = of_some r.duty Stay (turn_with r counter)
+turn_of r counter = map_or r.duty Stay (turn_with r counter)
 
+-- the registers stay, and nothing is sent
 abbrev pub quietly : Registers → Registers × Effect
 quietly r = (r, Quiet)
 
@@ -117,6 +125,7 @@ quietly r = (r, Quiet)
 abbrev pub reporting : Registers → ℕ → Registers × Effect
 reporting r counter = (r, Send (message_of (epoch_in r) r.stamp (report_in r counter)))
 
+-- what a tick does, by the turn that it is
 abbrev pub turned : Registers → ℕ → Turn → Registers × Effect
 turned r counter Emit = reporting (record r { stamp = stamp r.stamp.term (r.stamp.round + 1); sent = counter }) counter
 turned r counter TakeOver = reporting (record r { mode = Acting; stamp = stamp (r.stamp.term + 1) 1; sent = counter }) counter
@@ -147,13 +156,15 @@ accepted r edge message counter =
 abbrev pub with_duty : Registers → Duty → Registers
 with_duty r duty = record r { duty = Some duty; given = None; sealed = false; rates = duty.rates }
 
+-- the registers once a duty is taken up
 abbrev pub entered : Registers → Duty → Registers
 entered r duty = record r { duty = Some duty; given = None; mode = Primary; sealed = false; rates = duty.rates }
 
+-- what a receipt does
 abbrev pub received : Registers → ℕ → Message → ℕ → Registers × Effect
 received r link message counter =
-    of_some (entering r link message)
-    (of_some (accepting r link message) (quietly r) (λ edge. accepted r edge message counter))
+    map_or (entering r link message)
+    (map_or (accepting r link message) (quietly r) (λ edge. accepted r edge message counter))
     (λ by. accepted (entered r by.0) by.1 message counter)
 
 -- it takes up a duty as root: where it acted already, its stamp goes on
@@ -169,5 +180,5 @@ called r (Tick counter) = turned r counter (turn_of r counter)
 called r (Receive link message counter) = received r link message counter
 called r (Fix counter clock eps) = quietly (record r { estimate = estimate_at clock eps counter })
 called r (Give duty) = quietly (record r { given = Some duty })
-called r (Commit counter) = quietly (of_some r.given r (committed r counter))
+called r (Commit counter) = quietly (map_or r.given r (committed r counter))
 called r Seal = quietly (record r { sealed = true })

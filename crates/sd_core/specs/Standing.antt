@@ -1,6 +1,6 @@
 -- For which lives the registers of a device stand.
 use Rattle.std.specs.Prelude.{◌≡◌, ℕ, ◌||◌, [], None, is_some, max, if◌then◌else◌}
-use Rattle.sd_num.specs.Lists.{of_some, latest}
+use Rattle.sd_num.specs.Lists.{map_or, find_map_or}
 use Rattle.sd_core.specs.declared.registers.Registers.{Registers}
 use Rattle.sd_core.specs.declared.registers.Mode.{Mode}
 use Rattle.sd_core.specs.declared.registers.Mode.TheVariants.{Primary, Backup, Acting, Idle}
@@ -13,13 +13,14 @@ use Rattle.sd_core.specs.Lives.{past_of}
 abbrev pub alone : Making → Life
 alone making = record { making = making; calls = [] }
 
+-- the mode of a device with this past
 abbrev pub mode_of : Past → Mode
-mode_of past = if is_acting past then Acting else if has_moved past then Backup else of_some (duty_now past) Idle (λ duty. Primary)
+mode_of past = if is_acting past then Acting else if has_moved past then Backup else map_or (duty_now past) Idle (λ duty. Primary)
 
 -- the counter of the latest making, accepted receipt or move
 abbrev pub last_of : Past → ℕ
 last_of past =
-    latest (λ x. if is_move x.transition || is_some (accepted_over x.transition) then counter_of x.call else None) past.did (making_counter past.making)
+    find_map_or (λ x. if is_move x.transition || is_some (accepted_over x.transition) then counter_of x.call else None) past.did (making_counter past.making)
 
 -- the registers that the words of the past define
 abbrev pub registers_of : Past → Registers

@@ -115,6 +115,11 @@ impl Node for Device {
         self.registers.tick(counter)
     }
 
+    #[inline(always)]
+    fn rests(&self, counter: u64) -> bool {
+        self.registers.rests(counter)
+    }
+
     fn on_message(&mut self, link: u32, message: Message, counter: u64) -> Effect {
         self.registers.receive(link, &message, counter)
     }

@@ -91,6 +91,11 @@ pub trait Node: Drop {
         requires height { height self.old < 2 ^ 31 }
         ensures step { steps self.old (Tick counter) result self.new }
         ensures given { given self.new ≡ given self.old }
+        // one that acts as root answers the same afterwards
+        ensures parent { acts self.old ≡ true → parent self.new ≡ parent self.old }
+        ensures acts { acts self.old ≡ true → acts self.new ≡ acts self.old }
+        ensures epoch { acts self.old ≡ true → epoch self.new ≡ epoch self.old }
+        ensures sealed { acts self.old ≡ true → sealed self.new ≡ sealed self.old }
         ensures floor { floor self.new ≤ counter }
         ensures ceiling { ceiling self.new ≤ ceiling self.old }
         ensures height { height self.new ≤ height self.old + 1 }
@@ -100,6 +105,19 @@ pub trait Node: Drop {
             → result ≡ effect_of (past_of life) (Tick counter) }
         ensures told { IsTrue tells → (life : Life) → stands self.old life
             → stands self.new (longer life (Tick counter)) };
+
+    /// Whether a tick at this counter sends nothing and leaves the node as it is. A node may answer
+    /// `false` where one does, and then is called.
+    fn rests(&self, counter: u64) -> bool
+        requires floor { floor self.now ≤ counter }
+        ensures step { IsTrue result → steps self.now (Tick counter) Effect.Quiet self.now }
+        ensures sent { IsTrue result → IsTrue tells → (life : Life) → stands self.now life
+            → Effect.Quiet ≡ effect_of (past_of life) (Tick counter) }
+        ensures told { IsTrue result → IsTrue tells → (life : Life) → stands self.now life
+            → stands self.now (longer life (Tick counter)) }
+    {
+        false
+    }
 
     /// A message that came over this link while the counter showed this.
     fn on_message(&mut self, link: u32, message: Message, counter: u64) -> Effect
@@ -113,6 +131,11 @@ pub trait Node: Drop {
         requires round { message.stamp.round < 2 ^ 31 }
         ensures step { steps self.old (Receive link message counter) result self.new }
         ensures given { (given self.new ≡ given self.old) ⊎ (given self.new ≡ None) }
+        // one that was given nothing answers the same afterwards
+        ensures parent { given self.old ≡ None → parent self.new ≡ parent self.old }
+        ensures acts { given self.old ≡ None → acts self.new ≡ acts self.old }
+        ensures epoch { given self.old ≡ None → epoch self.new ≡ epoch self.old }
+        ensures sealed { given self.old ≡ None → sealed self.new ≡ sealed self.old }
         ensures floor { floor self.new ≤ counter }
         ensures ceiling { ceiling self.new
             ≤ max (max (ceiling self.old) message.clock) message.eps + 2 ^ 41 }

@@ -21,13 +21,9 @@ pub enum Mode {
 }
 
 /// What a device keeps, as plain numbers. Counters are in ps.
+// Fields lie in this order: first what each tick and each message reads.
 #[derive(Clone, Copy, Debug, PartialEq, Eq)]
 pub struct Registers {
-    /// The duty of the plan that it follows, or none before it follows one. The period and the
-    /// waits of a duty are in picoseconds.
-    pub duty: Option<Duty>,
-    /// The duty of the next plan, where one was given to it that it has not taken up yet.
-    pub given: Option<Duty>,
     /// Whom it follows.
     pub mode: Mode,
     /// Whether it may move to its backup parent, and take over as root after that.
@@ -47,6 +43,11 @@ pub struct Registers {
     /// How far its oscillator may drift: parts per million of the time that passes, and a constant
     /// in picoseconds.
     pub rates: Rates,
+    /// The duty of the plan that it follows, or none before it follows one. The period and the
+    /// waits of a duty are in picoseconds.
+    pub duty: Option<Duty>,
+    /// The duty of the next plan, where one was given to it that it has not taken up yet.
+    pub given: Option<Duty>,
 }
 
 /// The stamp before anything was heard.

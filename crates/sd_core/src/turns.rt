@@ -1,9 +1,10 @@
 //! What a tick makes of a device: it moves to its backup, takes over, emits as the acting root, or stays as it is.
-ghost use Rattle.std.specs.Prelude.{◌≡◌, ◌≤◌, ◌<◌, ◌^◌, ◌&&◌, nat_le, false};
-ghost use Rattle.sd_num.specs.Lists.{of_some};
+ghost use Rattle.std.specs.Prelude.{◌≡◌, ◌≢◌, ◌≤◌, ◌<◌, ◌^◌, ◌&&◌, nat_le, false, IsTrue};
+ghost use Rattle.sd_num.specs.Lists.{map_or};
 ghost use Rattle.sd_plan.specs.Topo.Limits.{IsRates};
 ghost use Rattle.sd_core.specs.Words.{wait_to_move as silence_of};
 ghost use Rattle.sd_core.specs.Rules.{is_backup_root};
+ghost use Rattle.sd_core.specs.declared.turns.Turn.TheVariants.{Stay};
 
 use crate::Effect;
 use crate::registers::{Mode, Registers};
@@ -49,6 +50,16 @@ impl Registers {
             Mode::Backup if self.sealed && takes_over(duty, silence) => Turn::TakeOver,
             _ => Turn::Stay,
         }
+    }
+
+    /// Whether a tick at this counter leaves it as it is.
+    #[inline(always)]
+    pub(crate) fn rests(&self, counter: u64) -> bool
+        requires { floor_in self.now ≤ counter }
+        ensures stays { IsTrue result → turn_of self.now counter ≡ Stay }
+        ensures turns { result ≡ false → turn_of self.now counter ≢ Stay }
+    {
+        matches!(self.turn(counter), Turn::Stay)
     }
 
     /// A tick at this counter.
@@ -115,7 +126,7 @@ fn wait_to_move(duty: &Duty) -> Option<u64>
 
 /// Whether the silence is as long as the wait.
 fn is_long(wait: Option<u64>, silence: u64) -> bool
-    ensures { result ≡ of_some wait false (λ w. nat_le w silence) }
+    ensures { result ≡ map_or wait false (λ w. nat_le w silence) }
 {
     matches!(wait, Some(wait) if silence >= wait)
 }

@@ -8,7 +8,7 @@ use Rattle.sd_device_c.specs.declared.faults.Fault.{Fault}
 use Rattle.sd_device_c.specs.declared.faults.Fault.TheVariants.{NoDevice, NoDuty, RatesTooGreat, CounterFell, CounterTooGreat, ClockTooGreat, EstimateTooGreat, StampTooGreat, MessageTooGreat, NotRoot}
 use Rattle.sd_device_c.specs.Faults.{code_of}
 use Rattle.sd_device_c.specs.Owed.{OwesToMake}
-use Rattle.sd_device_c.specs.Answers.{Answers, MayStart, HasStartFault, MayGive, HasGiveFault}
+use Rattle.sd_device_c.specs.Answers.{IsAnswerFor, MayStart, HasStartFault, MayGive, HasGiveFault}
 
 pub code_names : (fault : Fault) → code_of fault ≡ 0 → ⊥
 code_names NoDevice none = omega (arith, none)
@@ -23,7 +23,7 @@ code_names MessageTooGreat none = omega (arith, none)
 code_names NotRoot none = omega (arith, none)
 
 pub answers_fault : (May : Type 0) (Has : Fault → Type 0) (answer : ℕ) (fault : Fault) → answer ≡ code_of fault → Has fault
-    → (May → ⊥) → Answers answer May Has
+    → (May → ⊥) → IsAnswerFor answer May Has
 answers_fault May Has answer fault code has may_not =
     record {
       done = (λ none. absurd (code_names fault (sym code ∙ none)), λ may. absurd (may_not may));

@@ -20,10 +20,11 @@ use Rattle.sd_device_c.specs.Faults.{code_of}
 use Rattle.sd_device_c.specs.Owed.{Owes, OwesToReport, OwesToMake}
 
 -- the answer is 0 exactly where the call may be made, and else the code of a fault that is true of it
-pub record Answers (answer : ℕ) (May : Type 0) (Has : Fault → Type 0) : Type 0 where
+pub record IsAnswerFor (answer : ℕ) (May : Type 0) (Has : Fault → Type 0) : Type 0 where
   pub done : (answer ≡ 0) ↔ May
   pub refused : answer ≢ 0 → (fault : Fault) × (answer ≡ code_of fault) × Has fault
 
+-- the struct holds a device
 abbrev pub IsDevice : PlainDevice → Type 0
 IsDevice device = (r : Registers) × Holds device r
 
@@ -37,18 +38,23 @@ Fails fault device Owed =
     ((fault ≡ NoDevice) × (IsDevice device → ⊥))
     ⊎ ((r : Registers) × Holds device r × (Owed fault r → ⊥))
 
+-- the struct holds a device that may be called so
 abbrev pub MayCall : PlainDevice → Call → Type 0
 MayCall device call = Pays device (λ fault r. Owes fault r call)
 
+-- the fault is one of this call
 abbrev pub HasFault : PlainDevice → Call → Fault → Type 0
 HasFault device call fault = Fails fault device (λ f r. Owes f r call)
 
+-- the struct holds a device that may report at this counter
 abbrev pub MayReport : PlainDevice → ℕ → Type 0
 MayReport device counter = Pays device (λ fault r. OwesToReport fault r counter)
 
+-- the fault is one of a report at this counter
 abbrev pub HasReportFault : PlainDevice → ℕ → Fault → Type 0
 HasReportFault device counter fault = Fails fault device (λ f r. OwesToReport f r counter)
 
+-- the fault says that the struct holds no device
 abbrev pub IsNoDevice : PlainDevice → Fault → Type 0
 IsNoDevice device fault = (fault ≡ NoDevice) × (IsDevice device → ⊥)
 
@@ -69,7 +75,7 @@ pub record IsMade (making : Making) (new : PlainDevice) : Type 0 where
   pub told : StandsIn new (alone making)
 
 -- what is told of the device: by its registers, and by its life
-pub record Tells {T : Type 0} (device : PlainDevice) (by_rules : Registers → T) (by_words : Past → T) (told : T) : Type 0 where
+pub record IsToldOf {T : Type 0} (device : PlainDevice) (by_rules : Registers → T) (by_words : Past → T) (told : T) : Type 0 where
   pub registers : (r : Registers) → Holds device r → told ≡ by_rules r
   pub life : (life : Life) → StandsIn device life → told ≡ by_words (past_of life)
 
@@ -82,20 +88,25 @@ MayStart plain counter clock eps =
 abbrev pub IsNoDuty : PlainDuty → Type 0
 IsNoDuty plain = (duty : Duty) → duty_from plain ≡ Some duty → IsDuty duty → ⊥
 
+-- the fault is one of this start
 abbrev pub HasStartFault : PlainDuty → (counter clock eps : ℕ) → Fault → Type 0
 HasStartFault plain counter clock eps fault =
     ((fault ≡ NoDuty) × IsNoDuty plain)
     ⊎ ((duty : Duty) × (duty_from plain ≡ Some duty) × (OwesToMake fault (Started duty counter clock eps) → ⊥))
 
+-- what a join with these rates owes holds
 abbrev pub MayJoin : PlainRates → (counter clock eps : ℕ) → Type 0
 MayJoin rates counter clock eps = (fault : Fault) → OwesToMake fault (Joined (rates_from rates) counter clock eps)
 
+-- the fault is one of this join
 abbrev pub HasJoinFault : PlainRates → (counter clock eps : ℕ) → Fault → Type 0
 HasJoinFault rates counter clock eps fault = OwesToMake fault (Joined (rates_from rates) counter clock eps) → ⊥
 
+-- it is a duty, and may be given to the device
 abbrev pub MayGive : PlainDevice → PlainDuty → Type 0
 MayGive device plain = (duty : Duty) × (duty_from plain ≡ Some duty) × MayCall device (Give duty)
 
+-- the fault is one of this give
 abbrev pub HasGiveFault : PlainDevice → PlainDuty → Fault → Type 0
 HasGiveFault device plain fault =
     ((fault ≡ NoDevice) × (IsDevice device → ⊥)) ⊎ ((fault ≡ NoDuty) × IsNoDuty plain)

@@ -3,6 +3,7 @@ use Rattle.std.specs.Prelude.{ℕ}
 use Rattle.sd_device_c.specs.declared.faults.Fault.{Fault}
 use Rattle.sd_device_c.specs.declared.faults.Fault.TheVariants.{NoDevice, NoDuty, RatesTooGreat, CounterFell, CounterTooGreat, ClockTooGreat, EstimateTooGreat, StampTooGreat, MessageTooGreat, NotRoot}
 
+-- the code of a fault
 abbrev pub code_of : Fault → ℕ
 code_of NoDevice = 1
 code_of NoDuty = 2

@@ -28,10 +28,12 @@ pub record IsSetting (clock eps : ℕ) : Type 0 where
   pub clock_fits : clock ≤ 2 ^ 60
   pub eps_fits : eps ≤ 2 ^ 60
 
+-- a duty that is given is within the limits
 abbrev pub OwesDuty : Call → Type 0
 OwesDuty (Give duty) = IsDuty duty
 OwesDuty _ = Unit {0}
 
+-- a fix sets a clock within the limits
 abbrev pub OwesSetting : Call → Type 0
 OwesSetting (Fix counter clock eps) = IsSetting clock eps
 OwesSetting _ = Unit {0}
@@ -49,10 +51,12 @@ OwesStamp r (Receive link message counter) = height_in r < 2 ^ 31
 OwesStamp r (Commit counter) = height_in r < 2 ^ 31
 OwesStamp r _ = Unit {0}
 
+-- a message that is received is within the limits
 abbrev pub OwesMessage : Call → Type 0
 OwesMessage (Receive link message counter) = IsModest message
 OwesMessage _ = Unit {0}
 
+-- a commit is made by the root of the given duty
 abbrev pub OwesRoot : Registers → Call → Type 0
 OwesRoot r (Commit counter) = option_map (λ duty. duty.role) r.given ≡ Some role.Root
 OwesRoot r _ = Unit {0}
@@ -76,14 +80,17 @@ OwesToReport CounterTooGreat r counter = counter ≤ 2 ^ 60
 OwesToReport EstimateTooGreat r counter = ceiling_in r < 2 ^ 100
 OwesToReport _ r counter = Unit {0}
 
+-- the duty of a start is within the limits
 abbrev pub OwesFirstDuty : Making → Type 0
 OwesFirstDuty (Started duty counter clock eps) = IsDuty duty
 OwesFirstDuty (Joined rates counter clock eps) = Unit {0}
 
+-- the rates of a join are within the limits
 abbrev pub OwesRates : Making → Type 0
 OwesRates (Started duty counter clock eps) = Unit {0}
 OwesRates (Joined rates counter clock eps) = IsRates rates
 
+-- the clock of a start or a join is within the limits
 abbrev pub OwesFirstSetting : Making → Type 0
 OwesFirstSetting (Started duty counter clock eps) = IsSetting clock eps
 OwesFirstSetting (Joined rates counter clock eps) = IsSetting clock eps

@@ -31,31 +31,40 @@ use Rattle.sd_device_c.specs.declared.plain.PlainDevice.{PlainDevice}
 abbrev pub flag_from : ℕ → Bool
 flag_from byte = not (nat_eq byte 0)
 
+-- the number of two halves
 abbrev pub wide_from : PlainWide → ℕ
 wide_from wide = wide.high * 2 ^ 64 + wide.low
 
+-- the rates that a struct holds
 abbrev pub rates_from : PlainRates → Rates
 rates_from rates = record { ppm = rates.ppm; grain = rates.grain }
 
+-- the stamp that a struct holds
 abbrev pub stamp_from : PlainStamp → Stamp
 stamp_from stamp = record { term = stamp.term; round = stamp.round }
 
+-- the estimate that a struct holds
 abbrev pub estimate_from : PlainEstimate → Estimate
 estimate_from estimate = record { clock = wide_from estimate.clock; base = wide_from estimate.base; at = estimate.at }
 
+-- the report that a struct holds
 abbrev pub report_from : PlainReport → Report
 report_from report = record { clock = wide_from report.clock; eps = wide_from report.eps }
 
+-- the message that a struct holds
 abbrev pub message_from : PlainMessage → Message
 message_from message =
     record { epoch = message.epoch; stamp = stamp_from message.stamp; clock = wide_from message.clock; eps = wide_from message.eps }
 
+-- the effect that a struct holds
 abbrev pub effect_from : PlainEffect → Effect
 effect_from effect = if flag_from effect.sends then Send (message_from effect.message) else Quiet
 
+-- the parent that a struct holds, if it has one
 abbrev pub parent_from : PlainParent → Option ℕ
 parent_from parent = if flag_from parent.has_parent then Some parent.parent else None
 
+-- the role of a byte, if it is one
 abbrev pub role_from : ℕ → Option Role
 role_from byte =
     if nat_eq byte 0 then Some Root
@@ -63,6 +72,7 @@ role_from byte =
     else if nat_eq byte 2 then Some Ordinary
     else None
 
+-- the mode of a byte, if it is one
 abbrev pub mode_from : ℕ → Option Mode
 mode_from byte =
     if nat_eq byte 0 then Some Primary

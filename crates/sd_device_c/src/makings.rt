@@ -3,7 +3,7 @@ ghost use Rattle.std.specs.Prelude.{◌≡◌, ◌≢◌, Some, OnOk, IfOk, IfEr
 ghost use Rattle.sd_plan.specs.declared.Duty.{Duty};
 ghost use Rattle.sd_core.specs.Calls.{Started, Joined};
 ghost use Rattle.sd_device_c.specs.Plain.{duty_from, rates_from};
-ghost use Rattle.sd_device_c.specs.Answers.{Answers, MayStart, HasStartFault, MayJoin, HasJoinFault, IsMade, IsDevice, IsNoDevice};
+ghost use Rattle.sd_device_c.specs.Answers.{IsAnswerFor, MayStart, HasStartFault, MayJoin, HasJoinFault, IsMade, IsDevice, IsNoDevice};
 
 use crate::checks::{check_rates, check_start, held, held_duty};
 use crate::faults::{DONE, Fault};
@@ -15,7 +15,7 @@ use sd_core::{Device, Node};
 /// Whether the struct holds a device that was made.
 #[unsafe(no_mangle)]
 pub extern "C" fn sundial_made(device: &PlainDevice) -> u32
-    ensures answer { Answers result (IsDevice device.now) (IsNoDevice device.now) }
+    ensures answer { IsAnswerFor result (IsDevice device.now) (IsNoDevice device.now) }
 {
     match held(device) {
         Ok(_) => DONE,
@@ -33,7 +33,7 @@ pub extern "C" fn sundial_start(
     clock: u64,
     eps: u64,
 ) -> u32
-    ensures answer { Answers result (MayStart duty.now counter clock eps)
+    ensures answer { IsAnswerFor result (MayStart duty.now counter clock eps)
         (HasStartFault duty.now counter clock eps) }
     ensures same { result ≢ 0 → device.new ≡ device.old }
     ensures made { result ≡ 0 → (first : Duty) → duty_from duty.now ≡ Some first
@@ -71,7 +71,7 @@ pub extern "C" fn sundial_join(
     clock: u64,
     eps: u64,
 ) -> u32
-    ensures answer { Answers result (MayJoin rates.now counter clock eps)
+    ensures answer { IsAnswerFor result (MayJoin rates.now counter clock eps)
         (HasJoinFault rates.now counter clock eps) }
     ensures same { result ≢ 0 → device.new ≡ device.old }
     ensures made { result ≡ 0

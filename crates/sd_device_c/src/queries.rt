@@ -6,7 +6,7 @@ ghost use Rattle.sd_core.specs.Words.{report_at, parent_now, is_acting, epoch_no
 ghost use Rattle.sd_core.specs.Lives.{past_of};
 ghost use Rattle.sd_core.specs.Rules.{report_in, parent_in, acts_in, epoch_in};
 ghost use Rattle.sd_device_c.specs.Plain.{Holds, report_from, parent_from, flag_from};
-ghost use Rattle.sd_device_c.specs.Answers.{Answers, MayReport, HasReportFault, IsDevice, IsNoDevice, Tells};
+ghost use Rattle.sd_device_c.specs.Answers.{IsAnswerFor, MayReport, HasReportFault, IsDevice, IsNoDevice, IsToldOf};
 
 use crate::checks::{check_report, held};
 use crate::faults::{DONE, Fault};
@@ -21,10 +21,10 @@ pub extern "C" fn sundial_report(
     counter: u64,
     report: &mut PlainReport,
 ) -> u32
-    ensures answer { Answers result (MayReport device.now counter)
+    ensures answer { IsAnswerFor result (MayReport device.now counter)
         (HasReportFault device.now counter) }
     ensures same { result ≢ 0 → report.new ≡ report.old }
-    ensures told { result ≡ 0 → Tells device.now (λ r. report_in r counter)
+    ensures told { result ≡ 0 → IsToldOf device.now (λ r. report_in r counter)
         (λ past. report_at past counter) (report_from report.new) }
 {
     match report_of(device, counter) {
@@ -39,7 +39,7 @@ pub extern "C" fn sundial_report(
 #[inline(always)]
 fn report_of(device: &PlainDevice, counter: u64) -> Result<PlainReport, Fault>
     ensures may { OnOk result (MayReport device.now counter) }
-    ensures ok { IfOk result (λ report. Tells device.now (λ r. report_in r counter)
+    ensures ok { IfOk result (λ report. IsToldOf device.now (λ r. report_in r counter)
         (λ past. report_at past counter) (report_from report)) }
     ensures err { IfErr result (HasReportFault device.now counter) }
 {
@@ -52,10 +52,10 @@ fn report_of(device: &PlainDevice, counter: u64) -> Result<PlainReport, Fault>
 /// The device that it follows, if it follows one.
 #[unsafe(no_mangle)]
 pub extern "C" fn sundial_parent(device: &PlainDevice, parent: &mut PlainParent) -> u32
-    ensures answer { Answers result (IsDevice device.now) (IsNoDevice device.now) }
+    ensures answer { IsAnswerFor result (IsDevice device.now) (IsNoDevice device.now) }
     ensures same { result ≢ 0 → parent.new ≡ parent.old }
     ensures told { result ≡ 0
-        → Tells device.now parent_in parent_now (parent_from parent.new) }
+        → IsToldOf device.now parent_in parent_now (parent_from parent.new) }
 {
     match held(device) {
         Ok(registers) => {
@@ -69,9 +69,9 @@ pub extern "C" fn sundial_parent(device: &PlainDevice, parent: &mut PlainParent)
 /// Whether it acts as root: 1, and else 0.
 #[unsafe(no_mangle)]
 pub extern "C" fn sundial_acts(device: &PlainDevice, acts: &mut u8) -> u32
-    ensures answer { Answers result (IsDevice device.now) (IsNoDevice device.now) }
+    ensures answer { IsAnswerFor result (IsDevice device.now) (IsNoDevice device.now) }
     ensures same { result ≢ 0 → acts.new ≡ acts.old }
-    ensures told { result ≡ 0 → Tells device.now acts_in is_acting (flag_from acts.new) }
+    ensures told { result ≡ 0 → IsToldOf device.now acts_in is_acting (flag_from acts.new) }
 {
     match held(device) {
         Ok(registers) => {
@@ -85,9 +85,9 @@ pub extern "C" fn sundial_acts(device: &PlainDevice, acts: &mut u8) -> u32
 /// The number of the plan that it follows, from 1; 0 where it follows none yet.
 #[unsafe(no_mangle)]
 pub extern "C" fn sundial_epoch(device: &PlainDevice, epoch: &mut u32) -> u32
-    ensures answer { Answers result (IsDevice device.now) (IsNoDevice device.now) }
+    ensures answer { IsAnswerFor result (IsDevice device.now) (IsNoDevice device.now) }
     ensures same { result ≢ 0 → epoch.new ≡ epoch.old }
-    ensures told { result ≡ 0 → Tells device.now epoch_in epoch_now epoch.new }
+    ensures told { result ≡ 0 → IsToldOf device.now epoch_in epoch_now epoch.new }
 {
     match held(device) {
         Ok(registers) => {

@@ -4,7 +4,7 @@ ghost use Rattle.sd_plan.specs.declared.Duty.{Duty};
 ghost use Rattle.sd_core.specs.declared.Effect.TheVariants.{Quiet};
 ghost use Rattle.sd_core.specs.Calls.{Tick, Receive, Fix, Give, Commit, Seal};
 ghost use Rattle.sd_device_c.specs.Plain.{message_from, effect_from, duty_from};
-ghost use Rattle.sd_device_c.specs.Answers.{Answers, MayCall, HasFault, IsCalled, MayGive, HasGiveFault, IsDevice};
+ghost use Rattle.sd_device_c.specs.Answers.{IsAnswerFor, MayCall, HasFault, IsCalled, MayGive, HasGiveFault, IsDevice};
 
 use crate::checks::{check_commit, check_fix, check_receipt, check_tick, held, held_duty};
 use crate::faults::{DONE, Fault};
@@ -21,7 +21,7 @@ pub extern "C" fn sundial_tick(
     counter: u64,
     effect: &mut PlainEffect,
 ) -> u32
-    ensures answer { Answers result (MayCall device.old (Tick counter))
+    ensures answer { IsAnswerFor result (MayCall device.old (Tick counter))
         (HasFault device.old (Tick counter)) }
     ensures same { result ≢ 0 → (device.new ≡ device.old) × (effect.new ≡ effect.old) }
     ensures called { result ≡ 0
@@ -61,7 +61,7 @@ pub extern "C" fn sundial_receive(
     effect: &mut PlainEffect,
 ) -> u32
     ensures answer { let call = Receive link (message_from message.now) counter in
-        Answers result (MayCall device.old call) (HasFault device.old call) }
+        IsAnswerFor result (MayCall device.old call) (HasFault device.old call) }
     ensures same { result ≢ 0 → (device.new ≡ device.old) × (effect.new ≡ effect.old) }
     ensures called { let call = Receive link (message_from message.now) counter in
         result ≡ 0 → IsCalled device.old call device.new (effect_from effect.new) }
@@ -99,7 +99,7 @@ fn receive(
 /// shows this many.
 #[unsafe(no_mangle)]
 pub extern "C" fn sundial_fix(device: &mut PlainDevice, counter: u64, clock: u64, eps: u64) -> u32
-    ensures answer { Answers result (MayCall device.old (Fix counter clock eps))
+    ensures answer { IsAnswerFor result (MayCall device.old (Fix counter clock eps))
         (HasFault device.old (Fix counter clock eps)) }
     ensures same { result ≢ 0 → device.new ≡ device.old }
     ensures called { result ≡ 0 → IsCalled device.old (Fix counter clock eps) device.new Quiet }
@@ -129,7 +129,7 @@ fn fix(device: &PlainDevice, counter: u64, clock: u64, eps: u64) -> Result<Plain
 /// A duty of the next plan, to be taken up by a commit or by a message of that plan.
 #[unsafe(no_mangle)]
 pub extern "C" fn sundial_give(device: &mut PlainDevice, duty: &PlainDuty) -> u32
-    ensures answer { Answers result (MayGive device.old duty.now)
+    ensures answer { IsAnswerFor result (MayGive device.old duty.now)
         (HasGiveFault device.old duty.now) }
     ensures same { result ≢ 0 → device.new ≡ device.old }
     ensures called { result ≡ 0 → (given : Duty) → duty_from duty.now ≡ Some given
@@ -162,7 +162,7 @@ fn give(device: &PlainDevice, duty: &PlainDuty) -> Result<PlainDevice, Fault>
 /// this many ps.
 #[unsafe(no_mangle)]
 pub extern "C" fn sundial_commit(device: &mut PlainDevice, counter: u64) -> u32
-    ensures answer { Answers result (MayCall device.old (Commit counter))
+    ensures answer { IsAnswerFor result (MayCall device.old (Commit counter))
         (HasFault device.old (Commit counter)) }
     ensures same { result ≢ 0 → device.new ≡ device.old }
     ensures called { result ≡ 0 → IsCalled device.old (Commit counter) device.new Quiet }
@@ -192,7 +192,7 @@ fn commit(device: &PlainDevice, counter: u64) -> Result<PlainDevice, Fault>
 /// From now on it may move to its backup parent.
 #[unsafe(no_mangle)]
 pub extern "C" fn sundial_seal(device: &mut PlainDevice) -> u32
-    ensures answer { Answers result (MayCall device.old Seal) (HasFault device.old Seal) }
+    ensures answer { IsAnswerFor result (MayCall device.old Seal) (HasFault device.old Seal) }
     ensures same { result ≢ 0 → device.new ≡ device.old }
     ensures called { result ≡ 0 → IsCalled device.old Seal device.new Quiet }
 {

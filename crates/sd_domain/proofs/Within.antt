@@ -15,7 +15,7 @@ use Rattle.sd_domain.specs.Things.{same_thing}
 use Rattle.sd_domain.proofs.Members.{list_all_same, contains-among, contains-insert-nat}
 
 -- things that pass the test are one thing
-same_thing-true : (x y : Thing) → same_thing x y ≡ true → x ≡ y
+pub same_thing-true : (x y : Thing) → same_thing x y ≡ true → x ≡ y
 same_thing-true (thing.Device d) (thing.Device e) same = ap thing.Device (eqb-true d e same)
 same_thing-true (thing.Device d) (thing.Link m) same = cc
 same_thing-true (thing.Link l) (thing.Device e) same = cc

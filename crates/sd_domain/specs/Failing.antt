@@ -19,6 +19,7 @@ pub record IsFailureOf (net : Network) (f : DomainId) (failed : FailedThings) : 
   pub devices : (d : ℕ) → set.contains failed.devices d ≡ holds_device net f d
   pub links : (l : ℕ) → set.contains failed.links l ≡ holds_link net f l
 
+-- that a network has a domain has at most one proof
 pub IsDomain-prop : (net : Network) (f : DomainId) → IsProp (IsDomain net f)
 IsDomain-prop net (domain.Listed k) = le_prop
 IsDomain-prop net (domain.Device e) = le_prop

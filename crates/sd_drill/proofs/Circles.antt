@@ -17,7 +17,7 @@ use Rattle.sd_checker.specs.CheckLoop.Loops.{HasNoCycle}
 use Rattle.sd_checker.specs.Verdicts.{IsAccepted}
 
 -- what is made of each number below a bound
-named : {X : Type 0} (g : ℕ → X) (n k : ℕ) → k < n → Contains (map g (below n)) (g k)
+pub named : {X : Type 0} (g : ℕ → X) (n k : ℕ) → k < n → Contains (map g (below n)) (g k)
 named g n k within =
     (k, rw (length-map (below n) g, length-below n) within, get_or-map g (below n) k 0 (g k) (rw (length-below n) within) ∙ ap g (get_or-below n k 0 within))
 

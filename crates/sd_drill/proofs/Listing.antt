@@ -1,10 +1,9 @@
 -- What is listed for a device, by how it recovers.
 use Rattle.std.specs.Prelude.{◌≡◌, ℕ, ◌+◌, ◌<◌, ◌≤◌, true, false, List, [], ◌∷◌, ◌++◌, length, Option, Some, None}
-use Rattle.std.proofs.Common.{arith, get_or, ap, sym, ◌∙◌, subst, inl, inr}
+use Rattle.std.proofs.Common.{arith, ap, sym, ◌∙◌, subst, inl, inr}
 use Rattle.std.proofs.lemmas.Bool.{both_ways, cases_lt}
 use Rattle.std.proofs.lemmas.List.{get_or_append_left, get_or_push, length_push}
 use Rattle.sd_topo.specs.Network.{Network}
-use Rattle.sd_topo.proofs.Laws.{found_at}
 use Rattle.sd_domain.specs.declared.DomainId.{DomainId}
 use Rattle.sd_plan.specs.declared.Plan.{Plan}
 use Rattle.sd_drill.specs.recovery.Reaches.{ReachesFrom, IsReachOf}
@@ -17,6 +16,7 @@ use Rattle.sd_drill.specs.Drill.{IsWorst, root_halves, source}
 use Rattle.sd_drill.specs.Times.{IsBoundOf}
 use Rattle.sd_drill.specs.declared.Budget.{Budget}
 use Rattle.sd_drill.specs.declared.times.Times.{Times}
+use Rattle.sd_drill.proofs.Shared.{bound_is}
 
 module _ (net : Network) (plan : Plan) (f : DomainId) (d : ℕ) where
   -- what is not fed has no bound
@@ -57,9 +57,6 @@ module _ (net : Network) (plan : Plan) (f : DomainId) (d : ℕ) where
         is_oldest = bound.is_growth.is_oldest;
         sum = bound.sum ∙ ap (λ (growth : ℕ). source net plan times.budget + root_halves net plan + reach.far + growth) bound.is_growth.grown;
       }
-
-pub bound_is : (xs : List (Option ℕ)) (k : ℕ) → k < length xs → bound_at xs k ≡ get_or xs k None
-bound_is xs k within = found_at xs k None None (λ bound. bound) within
 
 -- one more bound
 pub listed_more : (P : ℕ → Option ℕ → Type 0) (xs : List (Option ℕ)) (x : Option ℕ) (n : ℕ) → length xs ≡ n → ((k : ℕ) → k < n → P k (bound_at xs k)) → P n x

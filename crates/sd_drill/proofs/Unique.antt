@@ -9,8 +9,8 @@ use Rattle.sd_plan.specs.declared.Plan.{Plan}
 use Rattle.sd_drill.specs.Bounds.{AreBounds}
 use Rattle.sd_drill.specs.Printed.{IsLinesOf, AreLines, IsDrill, domain_lines, done_line}
 use Rattle.sd_drill.specs.declared.Budget.{Budget}
-use Rattle.sd_drill.proofs.Listing.{bound_is}
 use Rattle.sd_drill.proofs.Made.{one_bound}
+use Rattle.sd_drill.proofs.Shared.{bound_is}
 
 module _ (net : Network) (plan : Plan) (budget : Budget) where
   same_bounds : (f : DomainId) (xs ys : List (Option ℕ)) → AreBounds net plan budget f xs → AreBounds net plan budget f ys → xs ≡ ys

@@ -5,7 +5,8 @@ use Rattle.sd_plan.specs.Plans.{primary_of, is_root}
 use Rattle.sd_plan.specs.Walks.{hops}
 use Rattle.sd_plan.specs.declared.Hop.{Hop}
 use Rattle.sd_plan.specs.declared.Plan.{Plan}
-use Rattle.sd_plan.proofs.Walking.{hops_left}
+use Rattle.sd_plan.proofs.Walking.{hops_left, no_root}
+use Rattle.sd_plan.proofs.Steps.{less_one}
 use Rattle.sd_drill.specs.recovery.Walks.{halves}
 
 -- where a hop is made
@@ -21,18 +22,12 @@ step root found more hop is =
     by_root true = refl
     by_root false = refl
 
-less_one : (n : ℕ) → n ≡ suc n - 1
-less_one n = omega arith
-
-on_way : {X : Type 0} (b : Bool) (x y : X) → b ≡ false → (if b then x else y) ≡ y
-on_way b x y is = subst (λ (c : Bool). (if c then x else y) ≡ y) (sym is) refl
-
 -- what is left of a walk is its next hop and what is left behind it
 hops_on : (plan : Plan) (left here : ℕ) (hop : Hop) → 1 ≤ left → is_root plan here ≡ false → primary_of plan here ≡ Some hop
     → hops_left plan left here ≡ hop ∷ hops_left plan (left - 1) hop.parent
 hops_on plan zero here hop some other primary = absurd (omega (arith, some))
 hops_on plan (suc n) here hop some other primary =
-    on_way (is_root plan here) [] (hops (is_root plan) plan (suc n) here) other
+    no_root (is_root plan here) [] (hops (is_root plan) plan (suc n) here) other
     ∙ step (is_root plan) (primary_of plan here) (hops (is_root plan) plan n) hop primary
     ∙ ap (λ (m : ℕ). hop ∷ hops_left plan m hop.parent) (less_one n)
 

@@ -7,6 +7,7 @@ use Rattle.sd_plan.specs.declared.Plan.{Plan}
 use Rattle.sd_drill.specs.Drill.{IsListed}
 use Rattle.sd_drill.specs.declared.Budget.{Budget}
 
+-- the bound of a device, if it has one
 abbrev pub bound_at : List (Option ℕ) → ℕ → Option ℕ
 bound_at bounds d = at_place bounds d None (λ bound. bound)
 

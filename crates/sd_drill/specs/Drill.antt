@@ -1,6 +1,6 @@
 -- The greatest epsilon that a device can report when the things of one domain fail at once.
 use Rattle.std.specs.Prelude.{◌≡◌, ℕ, ◌+◌, ◌*◌, ◌≤◌, ◌∷◌, length, max, Option, Some, None}
-use Rattle.sd_num.specs.Lists.{of_some}
+use Rattle.sd_num.specs.Lists.{map_or}
 use Rattle.sd_topo.specs.Network.{Network, rates_of, greatest_up}
 use Rattle.sd_domain.specs.declared.DomainId.{DomainId}
 use Rattle.sd_plan.specs.declared.Plan.{Plan}
@@ -16,7 +16,7 @@ use Rattle.sd_drill.specs.declared.Budget.{Budget}
 abbrev pub root_halves : Network → Plan → ℕ
 root_halves net plan =
     max (halves net plan.backup_root (walk net plan plan.backup_root))
-    (of_some (backup_of plan plan.backup_root) 0 (λ hop. halves net plan.backup_root (hop ∷ walk net plan hop.parent)))
+    (map_or (backup_of plan plan.backup_root) 0 (λ hop. halves net plan.backup_root (hop ∷ walk net plan hop.parent)))
 
 -- for how long an acting end may be silent to all, while it takes over or devices move to where it is heard
 abbrev pub settling : Network → Plan → ℕ

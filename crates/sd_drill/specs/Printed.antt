@@ -11,6 +11,7 @@ use Rattle.sd_topo.specs.Network.{device_name}
 use Rattle.sd_drill.specs.Bounds.{AreBounds, bound_at}
 use Rattle.sd_drill.specs.declared.Budget.{Budget}
 
+-- the words of a device with its bound under a domain, or with none
 abbrev pub bound_words : Network → DomainId → ℕ → Option ℕ → List (List ℕ)
 bound_words net f d (Some w) = codes "bound" ∷ domain_words net f ++ device_name net d ∷ decimal w ∷ []
 bound_words net f d None = codes "nobound" ∷ domain_words net f ++ device_name net d ∷ []

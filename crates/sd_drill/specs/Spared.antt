@@ -9,14 +9,15 @@ use Rattle.sd_drill.specs.Drill.{IsWorst}
 use Rattle.sd_drill.specs.declared.Budget.{Budget}
 
 -- the domain neither has the device nor hits it
-abbrev pub spares : Network → Plan → DomainId → ℕ → Bool
-spares net plan f d = not (is_hit net plan f d) && not (holds_device net f d)
+abbrev pub is_spared : Network → Plan → DomainId → ℕ → Bool
+is_spared net plan f d = not (is_hit net plan f d) && not (holds_device net f d)
 
 -- what is known of a device's bound, if anything is: it is the bound under each domain that spares the device
 abbrev pub IsSparedBound : Network → Plan → Budget → ℕ → Option ℕ → Type 0
 IsSparedBound net plan budget d None = Unit {0}
-IsSparedBound net plan budget d (Some w) = (f : DomainId) → IsTrue (spares net plan f d) → IsWorst net plan budget f d w
+IsSparedBound net plan budget d (Some w) = (f : DomainId) → IsTrue (is_spared net plan f d) → IsWorst net plan budget f d w
 
+-- what is known of the bound of a device
 abbrev pub spared_at : List (Option ℕ) → ℕ → Option ℕ
 spared_at known d = slice_index_or known d None
 

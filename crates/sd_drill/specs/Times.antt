@@ -11,9 +11,9 @@ use Rattle.sd_drill.specs.Drill.{root_halves, settling, quiet, source}
 use Rattle.sd_drill.specs.Spared.{AreSparedBounds}
 use Rattle.sd_drill.specs.declared.Budget.{Budget}
 use Rattle.sd_drill.specs.declared.drill.Drill.{Drill}
-use Rattle.sd_drill.specs.declared.drill.Known.{Known}
+use Rattle.sd_drill.specs.declared.drill.BoundCache.{BoundCache}
 use Rattle.sd_drill.specs.declared.growths.Growth.{Growth}
-use Rattle.sd_drill.specs.declared.growths.Growths.{Growths}
+use Rattle.sd_drill.specs.declared.growths.GrowthCache.{GrowthCache}
 use Rattle.sd_drill.specs.declared.times.Times.{Times}
 
 -- the times of a plan, and how great they are
@@ -43,16 +43,17 @@ abbrev pub IsKnown : Network → Plan → ℕ → Option Growth → Type 0
 IsKnown net plan d None = Unit {0}
 IsKnown net plan d (Some known) = IsGrowth net plan d known.long known.growth
 
+-- what is known of the growth of a device
 abbrev pub known_at : List (Option Growth) → ℕ → Option Growth
 known_at known d = slice_index_or known d None
 
 -- there is an entry for each device, and what is known is right
-pub record AreGrowths (net : Network) (plan : Plan) (growths : Growths) : Type 0 where
+pub record AreGrowths (net : Network) (plan : Plan) (growths : GrowthCache) : Type 0 where
   pub size : length growths.known.items ≡ length net.devices
   pub each : (d : ℕ) → IsKnown net plan d (known_at growths.known.items d)
 
 -- what is known of the devices is right, and there is room for how each recovers
-pub record AreKnown (net : Network) (plan : Plan) (budget : Budget) (known : Known) : Type 0 where
+pub record AreKnown (net : Network) (plan : Plan) (budget : Budget) (known : BoundCache) : Type 0 where
   pub growths : AreGrowths net plan known.growths
   pub spared : AreSparedBounds net plan budget known.spared.known.items
   pub room : HasRecoveryRoom net known.recoveries

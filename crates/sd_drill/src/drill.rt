@@ -12,21 +12,21 @@ ghost use Rattle.sd_drill.specs.recovery.Searches.{IsReadyFor};
 
 use crate::Budget;
 use crate::bounds::WorstList;
-use crate::growths::Growths;
+use crate::growths::GrowthCache;
 use crate::recovery::{Reach, Recoveries, Recovery};
-use crate::spared::{SparedBounds, spares};
+use crate::spared::{SparedBounds, is_spared};
 use crate::times::Times;
 use sd_checker::check_hit::{Impact, Outage};
 use sd_domain::DomainId;
 use sd_num::NoMemory;
-use sd_plan::Indexed;
+use sd_plan::IndexedPlan;
 use sd_topo::Topology;
 use std::alloc::Global;
 
 /// What is known of devices from the domains before, and room for how they recover from the next.
 #[derive(Drop)]
-struct Known {
-    growths: Growths,
+struct BoundCache {
+    growths: GrowthCache,
     spared: SparedBounds,
     recoveries: Recoveries,
 }
@@ -37,13 +37,13 @@ struct Known {
 pub struct Drill {
     times: Times,
     impact: Impact,
-    known: Known,
+    known: BoundCache,
 }
 
 /// The bound of a device that comes to hear again over walks that reach so far.
 fn bound_over(
     times: Times,
-    growths: &mut Growths,
+    growths: &mut GrowthCache,
     outage: &Outage<'_>,
     d: u32,
     reach: Reach,
@@ -62,7 +62,7 @@ fn bound_over(
 /// The bound of a device that recovers so, if it has one.
 fn bound_by(
     times: Times,
-    growths: &mut Growths,
+    growths: &mut GrowthCache,
     outage: &Outage<'_>,
     d: u32,
     recovery: Recovery,
@@ -88,7 +88,7 @@ fn bound_by(
 /// The bound of a device, if it has one, by a search of how it recovers.
 fn find_bound(
     times: Times,
-    known: &mut Known,
+    known: &mut BoundCache,
     outage: &Outage<'_>,
     d: u32,
 ) -> Result<Option<u128>, NoMemory>
@@ -112,7 +112,7 @@ fn find_bound(
 /// The same of a device that the domain spares. It is known from then on.
 fn note_bound(
     times: Times,
-    known: &mut Known,
+    known: &mut BoundCache,
     outage: &Outage<'_>,
     d: u32,
 ) -> Result<Option<u128>, NoMemory>
@@ -123,7 +123,7 @@ fn note_bound(
         known.old.recoveries }
     requires device { d < length (net_of outage.now).devices }
     requires spared { IsTrue
-        (words.spares (net_of outage.now) (plan_of outage.now) outage.now.domain d) }
+        (words.is_spared (net_of outage.now) (plan_of outage.now) outage.now.domain d) }
     ensures bound { IfOk result
         (IsListed (net_of outage.now) (plan_of outage.now) times.budget outage.now.domain d) }
     ensures known { AreKnown (net_of outage.now) (plan_of outage.now) times.budget known.new }
@@ -140,7 +140,7 @@ fn note_bound(
 /// its bound is known.
 fn bound_of(
     times: Times,
-    known: &mut Known,
+    known: &mut BoundCache,
     outage: &Outage<'_>,
     d: u32,
 ) -> Result<Option<u128>, NoMemory>
@@ -157,7 +157,7 @@ fn bound_of(
         (IsReadyFor (net_of outage.now) (plan_of outage.now) outage.now.domain
         known.new.recoveries) }
 {
-    if !spares(outage, d) {
+    if !is_spared(outage, d) {
         return find_bound(times, known, outage, d);
     }
     match known.spared.get(d) {
@@ -170,7 +170,7 @@ fn bound_of(
 fn all_bounds(
     alloc: Global,
     times: Times,
-    known: &mut Known,
+    known: &mut BoundCache,
     outage: &Outage<'_>,
 ) -> Result<WorstList, NoMemory>
     requires times { AreTimes (net_of outage.now) (plan_of outage.now) times }
@@ -197,7 +197,7 @@ fn all_bounds(
 fn bounds_under(
     alloc: Global,
     times: Times,
-    known: &mut Known,
+    known: &mut BoundCache,
     outage: &Outage<'_>,
 ) -> Result<WorstList, NoMemory>
     requires times { AreTimes (net_of outage.now) (plan_of outage.now) times }
@@ -211,20 +211,20 @@ fn bounds_under(
     all_bounds(alloc, times, known, outage)
 }
 
-impl Known {
+impl BoundCache {
     ghost use Rattle.sd_plan.specs.declared.Plan.{Plan};
     ghost use Rattle.sd_drill.specs.declared.Budget.{Budget as BudgetSeen};
     ghost use Rattle.sd_topo.specs.Topologies.{network};
 
     /// Nothing is known of the devices of a topology.
-    fn new(alloc: Global, topo: &Topology) -> Result<Known, NoMemory>
+    fn new(alloc: Global, topo: &Topology) -> Result<BoundCache, NoMemory>
         ensures { IfOk result (λ known. (plan : Plan) (budget : BudgetSeen)
             → AreKnown (network topo.now) plan budget known) }
     {
-        let growths = Growths::new(alloc, topo)?;
+        let growths = GrowthCache::new(alloc, topo)?;
         let spared = SparedBounds::new(alloc, topo)?;
         let recoveries = Recoveries::new(alloc, topo)?;
-        Ok(Known {
+        Ok(BoundCache {
             growths,
             spared,
             recoveries,
@@ -238,7 +238,7 @@ impl Drill {
     ghost use Rattle.sd_topo.specs.Topologies.{network};
 
     /// A drill of a plan.
-    pub fn new(alloc: Global, planned: Indexed<'_>, budget: Budget) -> Result<Drill, NoMemory>
+    pub fn new(alloc: Global, planned: IndexedPlan<'_>, budget: Budget) -> Result<Drill, NoMemory>
         requires { IsBudget budget }
         ensures { IfOk result
             (λ drill. IsDrillOf (network planned.entry.topo.now) planned.entry.plan.now drill
@@ -246,7 +246,7 @@ impl Drill {
     {
         let times = Times::new(planned, budget);
         let impact = Impact::new(alloc, planned.topo)?;
-        let known = Known::new(alloc, planned.topo)?;
+        let known = BoundCache::new(alloc, planned.topo)?;
         Ok(Drill {
             times,
             impact,
@@ -259,7 +259,7 @@ impl Drill {
     pub fn worst(
         &mut self,
         alloc: Global,
-        planned: Indexed<'_>,
+        planned: IndexedPlan<'_>,
         domain: DomainId,
     ) -> Result<WorstList, NoMemory>
         requires drill { IsDrillOf (network planned.topo.now) planned.plan.now self.old }

@@ -3,7 +3,7 @@ ghost use Rattle.std.specs.Prelude.{◌≡◌, None, replicate, IfOk};
 
 use crate::times::Times;
 use sd_num::NoMemory;
-use sd_plan::Indexed;
+use sd_plan::IndexedPlan;
 use sd_topo::Topology;
 use std::alloc::Global;
 
@@ -18,7 +18,7 @@ pub(crate) struct Growth {
 /// Of each device, the growth that was computed last. It depends on no domain, but for how long the
 /// walks are; most domains change the walks of few devices.
 #[derive(Drop)]
-pub(crate) struct Growths {
+pub(crate) struct GrowthCache {
     known: Vec<Option<Growth>>,
 }
 
@@ -32,24 +32,24 @@ fn none_known(alloc: Global, count: u32) -> Result<Vec<Option<Growth>>, NoMemory
     }
 }
 
-impl Growths {
+impl GrowthCache {
     ghost use Rattle.std.specs.Prelude.{◌+◌, ◌≤◌, ◌<◌, length};
     ghost use Rattle.sd_drill.specs.Times.{AreGrowths, AreTimes, IsGrowth};
     ghost use Rattle.sd_plan.specs.declared.Plan.{Plan};
     ghost use Rattle.sd_topo.specs.Topologies.{network};
 
     /// Nothing is known of the devices of a topology.
-    pub(crate) fn new(alloc: Global, topo: &Topology) -> Result<Growths, NoMemory>
+    pub(crate) fn new(alloc: Global, topo: &Topology) -> Result<GrowthCache, NoMemory>
         ensures { IfOk result (λ growths. (plan : Plan)
             → AreGrowths (network topo.now) plan growths) }
     {
         let known = none_known(alloc, topo.devices())?;
-        Ok(Growths { known })
+        Ok(GrowthCache { known })
     }
 
     /// The growth of a device whose walks have so many hops at most. It is computed where the one that
     /// is known is of another length.
-    pub(crate) fn of(&mut self, times: Times, planned: Indexed<'_>, d: u32, long: u32) -> u128
+    pub(crate) fn of(&mut self, times: Times, planned: IndexedPlan<'_>, d: u32, long: u32) -> u128
         requires times { AreTimes (network planned.topo.now) planned.plan.now times }
         requires growths { AreGrowths (network planned.topo.now) planned.plan.now self.old }
         requires device { d < length (network planned.topo.now).devices }

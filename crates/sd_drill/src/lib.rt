@@ -22,7 +22,7 @@ pub use bounds::WorstList;
 pub use drill::Drill;
 use sd_domain::DomainId;
 use sd_num::NoMemory;
-use sd_plan::{Indexed, Plan, WalkIndex};
+use sd_plan::{IndexedPlan, Plan, WalkIndex};
 use sd_topo::Topology;
 use std::alloc::Global;
 
@@ -55,7 +55,7 @@ pub fn worst(
     ensures { IfOk result (AreBounds (network topo.now) plan.now budget domain) }
 {
     let index = WalkIndex::new(alloc, topo, plan)?;
-    let planned = Indexed {
+    let planned = IndexedPlan {
         topo,
         plan,
         index: &index,

@@ -7,7 +7,7 @@ ghost use Rattle.sd_drill.specs.recovery.Walks.{halves};
 ghost use Rattle.sd_topo.specs.Network as network_words;
 ghost use Rattle.sd_topo.specs.Topologies.{network};
 
-use sd_plan::{Hop, Indexed, backup_of, primary_of};
+use sd_plan::{Hop, IndexedPlan, backup_of, primary_of};
 use sd_topo::Topology;
 
 /// The half of a hop of a device.
@@ -20,7 +20,7 @@ fn half_of(topo: &Topology, d: u32, hop: Hop) -> u64
 }
 
 /// The sum of the halves along the walk of a device to the root.
-fn halves_to_root(planned: Indexed<'_>, d: u32) -> u64
+fn halves_to_root(planned: IndexedPlan<'_>, d: u32) -> u64
     requires { d < length (network planned.topo.now).devices }
     ensures is { result ≡ halves (network planned.entry.topo.now) d
         (walk (network planned.entry.topo.now) planned.entry.plan.now d) }
@@ -41,7 +41,7 @@ fn halves_to_root(planned: Indexed<'_>, d: u32) -> u64
 }
 
 /// The greatest sum of halves from the backup root to the root: over its primary, or over its backup.
-pub(crate) fn root_halves(planned: Indexed<'_>) -> u64
+pub(crate) fn root_halves(planned: IndexedPlan<'_>) -> u64
     ensures is { result ≡ words.root_halves
         (network planned.entry.topo.now) planned.entry.plan.now }
     ensures bound { result ≤ 65 * 10 ^ 12 }

@@ -16,9 +16,10 @@ pub(crate) struct SparedBounds {
 }
 
 /// Whether the domain neither has a device nor hits it.
-pub(crate) fn spares(outage: &Outage<'_>, d: u32) -> bool
+pub(crate) fn is_spared(outage: &Outage<'_>, d: u32) -> bool
     requires { d < length (net_of outage.now).devices }
-    ensures { result ≡ words.spares (net_of outage.now) (plan_of outage.now) outage.now.domain d }
+    ensures { result ≡ words.is_spared (net_of outage.now)
+        (plan_of outage.now) outage.now.domain d }
 {
     !outage.hits(d) && !outage.holds_device(d)
 }

@@ -12,7 +12,7 @@ use crate::Budget;
 use crate::ages::{ageing, oldest};
 use crate::roots::root_halves;
 use sd_checker::check_root::{greatest_up, silence_and_tick};
-use sd_plan::{Indexed, Plan};
+use sd_plan::{IndexedPlan, Plan};
 use sd_topo::Topology;
 
 /// The times of a plan and a budget, in ps.
@@ -54,7 +54,7 @@ fn held(topo: &Topology, root: u32, budget: Budget) -> u128
 
 impl Times {
     /// The times of a plan and a budget.
-    pub(crate) fn new(planned: Indexed<'_>, budget: Budget) -> Times
+    pub(crate) fn new(planned: IndexedPlan<'_>, budget: Budget) -> Times
         requires { IsBudget budget }
         ensures times { AreTimes (network planned.entry.topo.now) planned.entry.plan.now result }
         ensures budget { result.budget ≡ budget }
@@ -72,7 +72,7 @@ impl Times {
     }
 
     /// By how much the estimate of a device has grown once it hears again, over walks of so many hops.
-    pub(crate) fn growth(self, planned: Indexed<'_>, d: u32, long: u32) -> u128
+    pub(crate) fn growth(self, planned: IndexedPlan<'_>, d: u32, long: u32) -> u128
         requires times { AreTimes (network planned.topo.now) planned.plan.now self }
         requires device { d < length (network planned.topo.now).devices }
         requires long { long ≤ (network planned.topo.now).params.depth + 1 }

@@ -6,39 +6,39 @@ use Rattle.sd_msg.specs.declared.Flight.{Flight}
 use Rattle.sd_core.specs.declared.node.Node.{Ghosts}
 use Rattle.sd_sched.specs.declared.Event.{Event}
 use Rattle.sd_sched.specs.declared.Event.TheVariants as event
-use Rattle.sd_fleet_fabric.specs.History.declared.ApplyFault.{ApplyFault}
-use Rattle.sd_fleet_fabric.specs.History.declared.ApplyFault.TheVariants.{Memory}
-use Rattle.sd_fleet_fabric.specs.History.World.{Setting}
-use Rattle.sd_fleet_fabric.specs.History.Steps.{Told, Step, step_of, act_by}
-use Rattle.sd_fleet_fabric.specs.History.Steps as steps
-use Rattle.sd_fleet_fabric.specs.History.Nodes.{NodeStep, IsRun, steps_of, node_in}
-use Rattle.sd_fleet_fabric.proofs.FleetState.world.Answers.{up_stands}
-use Rattle.sd_fleet_fabric.specs.FleetState.membership.Memberships as membership
-use Rattle.sd_fleet_fabric.specs.FleetState.membership.Standing as standing
-use Rattle.sd_fleet_fabric.specs.declared.Reply.{Reply}
-use Rattle.sd_fleet_fabric.specs.declared.Outcome.{Outcome}
-use Rattle.sd_fleet_fabric.specs.Registers.{Registers}
-use Rattle.sd_fleet_fabric.specs.Causes.{refusal_in}
-use Rattle.sd_fleet_fabric.specs.Doing.{act_in, Says, may_send}
-use Rattle.sd_fleet_fabric.specs.Room.{most_sent_in}
-use Rattle.sd_fleet_fabric.specs.Outcomes.{outcome_of}
-use Rattle.sd_fleet_fabric.specs.Standing.{Stands}
-use Rattle.sd_fleet_fabric.specs.Stepping.{IsAfter, OnlyRoomGrew}
-use Rattle.sd_fleet_fabric.specs.Sound.{IsSound}
-use Rattle.sd_fleet_fabric.specs.History.Steps.{Act}
-use Rattle.sd_fleet_fabric.proofs.Admitted.{device_known}
+use Rattle.sd_fleet.specs.History.declared.ApplyFault.{ApplyFault}
+use Rattle.sd_fleet.specs.History.declared.ApplyFault.TheVariants.{Memory}
+use Rattle.sd_fleet.specs.History.World.{Setting}
+use Rattle.sd_fleet.specs.History.Steps.{Told, Step, step_of, act_by}
+use Rattle.sd_fleet.specs.History.Steps as steps
+use Rattle.sd_fleet.specs.History.Nodes.{NodeStep, IsRun, steps_of, node_in}
+use Rattle.sd_fleet.proofs.FleetState.world.Answers.{up_stands}
+use Rattle.sd_fleet.specs.FleetState.membership.Memberships as membership
+use Rattle.sd_fleet.specs.FleetState.membership.Standing as standing
+use Rattle.sd_fleet.specs.declared.Reply.{Reply}
+use Rattle.sd_fleet.specs.declared.Outcome.{Outcome}
+use Rattle.sd_fleet.specs.Registers.{Registers}
+use Rattle.sd_fleet.specs.Causes.{refusal_in}
+use Rattle.sd_fleet.specs.Doing.{act_in, MatchesTold, may_send}
+use Rattle.sd_fleet.specs.Room.{most_sent_in}
+use Rattle.sd_fleet.specs.Outcomes.{outcome_of}
+use Rattle.sd_fleet.specs.FabricStanding.{Stands}
+use Rattle.sd_fleet.specs.Stepping.{IsAfter, OnlyRoomGrew}
+use Rattle.sd_fleet.specs.Sound.{IsSound}
+use Rattle.sd_fleet.specs.History.Steps.{Act}
+use Rattle.sd_fleet.proofs.Admitted.{device_known}
 use Rattle.sd_sched.specs.Events.{device_of}
 use Rattle.sd_sched.specs.Spelled.{is_within}
-use Rattle.sd_fleet_fabric.proofs.Refused.{refusal_is}
-use Rattle.sd_fleet_fabric.proofs.Acting.{act_is}
-use Rattle.sd_fleet.specs.declared.crew.CallContext.{CallContext}
-use Rattle.sd_fleet.specs.Crew.{node_at, CanAct, Acts}
+use Rattle.sd_fleet.proofs.Refused.{refusal_is}
+use Rattle.sd_fleet.proofs.FabricActing.{act_is}
+use Rattle.sd_fleet.specs.declared.nodes.CallContext.{CallContext}
+use Rattle.sd_fleet.specs.Nodes.{node_at, CanAct, Acts}
 use Rattle.sd_fleet.specs.Calling.{IsMessage}
-use Rattle.sd_fleet.specs.Bounds.{context_of, IsCrew}
+use Rattle.sd_fleet.specs.Bounds.{context_of, AreNodes}
 use Rattle.sd_fleet.specs.Standing.{IsFault}
 use Rattle.sd_fleet.proofs.Acting.{can_act}
 use Rattle.sd_fleet.proofs.Going.{length_acts}
-use Rattle.sd_fleet.proofs.Crewing.{crew_after, crew_roomy}
+use Rattle.sd_fleet.proofs.Crewing.{nodes_after, nodes_roomy}
 use Rattle.sd_fleet.proofs.Following.{Shows, shows, next, goes_on, nodes_stand}
 
 -- Before any event
@@ -55,10 +55,10 @@ no_node zero d = refl
 no_node (suc n) zero = refl
 no_node (suc n) (suc d) = no_node n d
 
--- the crew before any event: nobody is up, nobody has a node
-pub crew_first : {N : Type 0} (g : Ghosts N) (r : Registers) (nodes : List (Option N)) (setting : Setting) → Stands r setting []
-    → length nodes ≡ length r.net.devices → ((d : ℕ) → node_at nodes d ≡ None) → IsCrew g r nodes
-crew_first {N = N} g r nodes setting stands places none =
+-- the nodes before any event: nobody is up, nobody has a node
+pub nodes_first : {N : Type 0} (g : Ghosts N) (r : Registers) (nodes : List (Option N)) (setting : Setting) → Stands r setting []
+    → length nodes ≡ length r.net.devices → ((d : ℕ) → node_at nodes d ≡ None) → AreNodes g r nodes
+nodes_first {N = N} g r nodes setting stands places none =
     record {
       places = places;
       there = λ d within up. absurd
@@ -81,9 +81,9 @@ same_refusal old new e grew =
     ap (λ (n : Network). refusal_in (record { net = n; membership = new.membership; book = new.book }) e) grew.net
     ∙ ap (λ (r : membership.Registers). refusal_in (record { net = old.net; membership = r; book = new.book }) e) grew.membership
     ∙ ap (λ (fs : List Flight). refusal_in
-    (record { net = old.net; membership = old.membership; book = record { flights = fs; last = new.book.last; room = new.book.room } }) e) grew.flights
+    (record { net = old.net; membership = old.membership; book = record { flights = fs; last = new.book.last; room = new.book.room; size = new.book.size } }) e) grew.flights
     ∙ ap (λ (n : ℕ). refusal_in
-    (record { net = old.net; membership = old.membership; book = record { flights = old.book.flights; last = n; room = new.book.room } }) e) grew.last
+    (record { net = old.net; membership = old.membership; book = record { flights = old.book.flights; last = n; room = new.book.room; size = new.book.size } }) e) grew.last
 
 pub stands_roomy : (old new : Registers) (setting : Setting) (earlier : List Step) → OnlyRoomGrew old new → Stands old setting earlier
     → Stands new setting earlier
@@ -125,9 +125,10 @@ pub memory_fault : (r : Registers) (setting : Setting) (earlier : List Step) (e 
     → most_sent_in r e ≢ 0 → IsFault Memory setting earlier e
 memory_fault r setting earlier e stands accepted some = inr (refl, sym (refusal_is setting r earlier e stands) ∙ accepted, may_send_some r e some)
 
--- the crew where only room grew
-pub crew_grown : {N : Type 0} (g : Ghosts N) (old new : Registers) (nodes : List (Option N)) → IsCrew g old nodes → OnlyRoomGrew old new → IsCrew g new nodes
-crew_grown g old new nodes crew grew = crew_roomy g old new nodes crew grew.net grew.membership grew.flights
+-- the nodes where only room grew
+pub nodes_grown : {N : Type 0} (g : Ghosts N) (old new : Registers) (nodes : List (Option N)) → AreNodes g old nodes → OnlyRoomGrew old new
+    → AreNodes g new nodes
+nodes_grown g old new nodes are_nodes grew = nodes_roomy g old new nodes are_nodes grew.net grew.membership grew.flights
 
 -- An accepted event
 
@@ -140,11 +141,11 @@ device_if r e accepted = go (device_of e) refl
 
 pub can_do : {N : Type 0} (g : Ghosts N) (r : Registers) (e : Event) (nodes given : List (Option N)) (context : CallContext) (a : Act) → given ≡ nodes
     → context ≡ context_of r e → a ≡ act_in r e
-    → IsCrew g r nodes → IsSound r → refusal_in r e ≡ None → IsTrue (is_within e) → CanAct g given context a
-can_do g r e nodes given context a same at is crew sound accepted within =
+    → AreNodes g r nodes → IsSound r → refusal_in r e ≡ None → IsTrue (is_within e) → CanAct g given context a
+can_do g r e nodes given context a same at is are_nodes sound accepted within =
     subst (λ ns. CanAct g ns context a) (sym same)
     (subst (λ (m : CallContext). CanAct g nodes m a) (sym at)
-    (subst (λ (x : Act). CanAct g nodes (context_of r e) x) (sym is) (can_act g r nodes crew sound e accepted within)))
+    (subst (λ (x : Act). CanAct g nodes (context_of r e) x) (sym is) (can_act g r nodes are_nodes sound e accepted within)))
 
 pub length_done : {N : Type 0} (g : Ghosts N) (nodes given after : List (Option N)) (context : CallContext) (a : Act) (reply : Reply) → given ≡ nodes
     → Acts g given a context reply after → length after ≡ length nodes
@@ -157,12 +158,12 @@ done g r e nodes given after context a reply same at is acts =
     subst (λ ns. Acts g ns (act_in r e) (context_of r e) reply after) same
     (subst (λ (m : CallContext). Acts g given (act_in r e) m reply after) at (subst (λ (x : Act). Acts g given x context reply after) is acts))
 
-pub crew_next : {N : Type 0} (g : Ghosts N) (r new : Registers) (e : Event) (nodes given after left : List (Option N)) (context : CallContext) (a : Act)
+pub nodes_next : {N : Type 0} (g : Ghosts N) (r new : Registers) (e : Event) (nodes given after left : List (Option N)) (context : CallContext) (a : Act)
     (reply : Reply) → given ≡ nodes → context ≡ context_of r e → a ≡ act_in r e
-    → Acts g given a context reply after → left ≡ after → IsCrew g r nodes → IsSound r → refusal_in r e ≡ None → IsAfter r e reply new → IsCrew g new left
-crew_next g r new e nodes given after left context a reply same at is acts ends crew sound accepted step =
-    subst (λ ns. IsCrew g new ns) (sym ends)
-    (crew_after g r new e reply nodes after crew sound accepted (done g r e nodes given after context a reply same at is acts) step)
+    → Acts g given a context reply after → left ≡ after → AreNodes g r nodes → IsSound r → refusal_in r e ≡ None → IsAfter r e reply new → AreNodes g new left
+nodes_next g r new e nodes given after left context a reply same at is acts ends are_nodes sound accepted step =
+    subst (λ ns. AreNodes g new ns) (sym ends)
+    (nodes_after g r new e reply nodes after are_nodes sound accepted (done g r e nodes given after context a reply same at is acts) step)
 
 -- what makes a fleet stand for one step more
 pub record GoesOn {N : Type 0} (g : Ghosts N) (new : Registers) (left : List (Option N)) (setting : Setting) (run : List (NodeStep N)) (e : Event)
@@ -178,8 +179,8 @@ pub accepted_next : {N : Type 0} (g : Ghosts N) (r new : Registers) (e : Event) 
     (reply : Reply) (outcome : Outcome) (setting : Setting) (run : List (NodeStep N))
     → given ≡ nodes → a ≡ act_in r e → Acts g given a context reply after → left ≡ after → length nodes ≡ length r.net.devices → refusal_in r e ≡ None
     → IsRun g setting run → Stands r setting (steps_of run) → ((d : ℕ) → d < length setting.net.devices → node_at nodes d ≡ node_in run d)
-    → ((told : Told) → Says reply told → Stands new setting (step_of setting (steps_of run) e told ∷ steps_of run))
-    → ((told : Told) → Says reply told → outcome ≡ outcome_of (step_of setting (steps_of run) e told))
+    → ((told : Told) → MatchesTold reply told → Stands new setting (step_of setting (steps_of run) e told ∷ steps_of run))
+    → ((told : Told) → MatchesTold reply told → outcome ≡ outcome_of (step_of setting (steps_of run) e told))
     → GoesOn g new left setting run e outcome
 accepted_next g r new e nodes given after left context a reply outcome setting run same is acts ends places accepted earlier stands kept stepped comes =
     let shown : Shows g given after (act_by setting (steps_of run) e) reply =

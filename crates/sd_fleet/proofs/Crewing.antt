@@ -1,16 +1,17 @@
--- The crew with the fabric that a step left.
+-- The nodes with the fabric that a step left.
 use Rattle.std.specs.Prelude.{◌≡◌, ◌≢◌, ℕ, ◌+◌, ◌<◌, Bool, true, false, not, List, [], ◌∷◌, ◌++◌, length, filter, slice_set, nat_eq, Option, Some, None, IfSome, Result, refl, if◌then◌else◌}
 use Rattle.std.proofs.Common.{sym, ◌∙◌, ap, subst}
 use Rattle.std.proofs.lemmas.Bool.{eqb-true, and_parts}
-use Rattle.sd_num.specs.Lists.{of_some, same_number}
+use Rattle.sd_num.specs.Lists.{map_or, same_number}
 use Rattle.sd_topo.specs.Network.{Network, Each}
 use Rattle.sd_topo.specs.declared.Thing.{Thing}
 use Rattle.sd_plan.specs.declared.End.{End}
 use Rattle.sd_plan.specs.Tables.{TableRow}
+use Rattle.sd_plan.proofs.Shared.{each_more}
 use Rattle.sd_msg.specs.declared.Flight.{Flight}
 use Rattle.sd_msg.specs.declared.Message.{Message}
 use Rattle.sd_msg.specs.declared.TakeFault.{TakeFault}
-use Rattle.sd_msg.specs.Books.{is_current, is_swept, has_number}
+use Rattle.sd_msg.specs.Books.{Size, is_current, is_swept, has_number}
 use Rattle.sd_core.specs.declared.Effect.{Effect}
 use Rattle.sd_core.specs.declared.Effect.TheVariants.{Quiet, Send}
 use Rattle.sd_core.specs.declared.node.Node.{Ghosts}
@@ -18,29 +19,29 @@ use Rattle.sd_core.specs.Limits.{IfSent}
 use Rattle.sd_sched.specs.declared.Event.{Event}
 use Rattle.sd_sched.specs.declared.Event.TheVariants as event
 use Rattle.sd_sched.specs.Events.{reference_of, device_of, message_of}
-use Rattle.sd_fleet_fabric.specs.History.Things.{failure_of}
-use Rattle.sd_fleet_fabric.specs.History.flights.Flights.{without_taken, without_swept}
-use Rattle.sd_fleet_fabric.specs.FleetState.declared.world.device.DeviceState.{DeviceState}
-use Rattle.sd_fleet_fabric.specs.FleetState.world.Registers as world
-use Rattle.sd_fleet_fabric.specs.FleetState.world.Registers.{up_at, is_open}
-use Rattle.sd_fleet_fabric.specs.FleetState.declared.membership.Answered.{Answered}
-use Rattle.sd_fleet_fabric.specs.FleetState.membership.Plans.{is_member_numbered}
-use Rattle.sd_fleet_fabric.specs.FleetState.membership.Memberships as membership
-use Rattle.sd_fleet_fabric.specs.FleetState.membership.Memberships.{staged_number, can_close_in, ends_below, registers_closed}
+use Rattle.sd_fleet.specs.History.Things.{failure_of}
+use Rattle.sd_fleet.specs.History.flights.Flights.{without_taken, without_swept}
+use Rattle.sd_fleet.specs.FleetState.declared.world.device.DeviceState.{DeviceState}
+use Rattle.sd_fleet.specs.FleetState.world.Registers as world
+use Rattle.sd_fleet.specs.FleetState.world.Registers.{up_at, is_open}
+use Rattle.sd_fleet.specs.FleetState.declared.membership.AnswerSummary.{AnswerSummary}
+use Rattle.sd_fleet.specs.FleetState.membership.Plans.{is_member_numbered}
+use Rattle.sd_fleet.specs.FleetState.membership.Memberships as membership
+use Rattle.sd_fleet.specs.FleetState.membership.Memberships.{staged_number, can_close_in, ends_below, registers_closed}
 use Rattle.sd_core.specs.Calls as calls
-use Rattle.sd_fleet_fabric.specs.History.Steps as steps
-use Rattle.sd_fleet_fabric.specs.declared.Reply.{Reply}
-use Rattle.sd_fleet_fabric.specs.Registers.{Registers}
-use Rattle.sd_fleet_fabric.specs.Sound.{IsSound}
-use Rattle.sd_fleet_fabric.specs.Causes.{refusal_in}
-use Rattle.sd_fleet_fabric.specs.Doing.{act_in, receipt}
-use Rattle.sd_fleet_fabric.specs.Sending.{flight_over, flights_over, sent_by, sent_in}
-use Rattle.sd_fleet_fabric.specs.Stepping.{IsAfter, membership_after, flights_after, closed_if_can, delivered}
-use Rattle.sd_fleet_fabric.proofs.Admitted.{device_known, message_known, message_unspent, device_up, started_member, given_member}
+use Rattle.sd_fleet.specs.History.Steps as steps
+use Rattle.sd_fleet.specs.declared.Reply.{Reply}
+use Rattle.sd_fleet.specs.Registers.{Registers}
+use Rattle.sd_fleet.specs.Sound.{IsSound}
+use Rattle.sd_fleet.specs.Causes.{refusal_in}
+use Rattle.sd_fleet.specs.Doing.{act_in, receipt}
+use Rattle.sd_fleet.specs.Sending.{flight_over, flights_over, sent_by, sent_in}
+use Rattle.sd_fleet.specs.Stepping.{IsAfter, membership_after, flights_after, closed_if_can, delivered}
+use Rattle.sd_fleet.proofs.Admitted.{device_known, message_known, message_unspent, device_up, started_member, given_member}
 use Rattle.sd_fleet.specs.Calling.{IsMessage}
-use Rattle.sd_fleet.specs.Crew.{node_at, Acts}
-use Rattle.sd_fleet.specs.Bounds.{context_of, IsKept, IsCrew}
-use Rattle.sd_fleet.proofs.Eaches.{each_more, each_mono, each_kept, each_joined}
+use Rattle.sd_fleet.specs.Nodes.{node_at, Acts}
+use Rattle.sd_fleet.specs.Bounds.{context_of, IsKept, AreNodes}
+use Rattle.sd_fleet.proofs.Eaches.{each_mono, each_kept, each_joined}
 use Rattle.sd_fleet.proofs.Acting.{flight_found, row_there}
 use Rattle.sd_fleet.proofs.Going.{message_later, acts_other, some_at, length_acts, acts_sent, actor_in}
 use Rattle.sd_fleet.proofs.Keeping.{happened, state_named, state_other, kept_named, kept_other}
@@ -61,8 +62,8 @@ sent_each : (old : Registers) (e : Event) (reply : Reply) (events : ℕ) → IfS
     → Each (λ f. IsMessage events f.message) (sent_in old e reply)
 sent_each old e reply events sent = by (device_of e) reply.answers reply.effect sent
   where
-    by : (o : Option ℕ) (a : Option Answered) (effect : Effect) → IfSent effect (IsMessage events)
-        → Each (λ f. IsMessage events f.message) (of_some o [] (λ d. of_some a [] (λ x. sent_by old (reference_of e) d x.epoch effect)))
+    by : (o : Option ℕ) (a : Option AnswerSummary) (effect : Effect) → IfSent effect (IsMessage events)
+        → Each (λ f. IsMessage events f.message) (map_or o [] (λ d. map_or a [] (λ x. sent_by old (reference_of e) d x.epoch effect)))
     by None a effect sent' = λ i x at. cc
     by (Some d) None effect sent' = λ i x at. cc
     by (Some d) (Some a) Quiet sent' = λ i x at. cc
@@ -94,82 +95,82 @@ messages_after old e reply events each sent =
 not_none : {N : Type 0} (o : Option N) (x : N) → o ≡ Some x → o ≢ None
 not_none o x some none = cc
 
-module _ {N : Type 0} (g : Ghosts N) (old : Registers) (e : Event) (reply : Reply) (nodes after : List (Option N)) (crew : IsCrew g old nodes)
+module _ {N : Type 0} (g : Ghosts N) (old : Registers) (e : Event) (reply : Reply) (nodes after : List (Option N)) (are_nodes : AreNodes g old nodes)
     (sound : IsSound old) where
   placed_there : (d : ℕ) (x : N) → d < length old.net.devices → after ≡ slice_set nodes d (Some x) → node_at after d ≢ None
-  placed_there d x within placed = not_none (node_at after d) x (some_at nodes after d x (subst (λ (k : ℕ). d < k) (sym crew.places) within) placed)
+  placed_there d x within placed = not_none (node_at after d) x (some_at nodes after d x (subst (λ (k : ℕ). d < k) (sym are_nodes.places) within) placed)
 
   stays_there : (d : ℕ) → d < length old.net.devices → after ≡ nodes → up_at old.membership.world d ≡ true → node_at after d ≢ None
-  stays_there d within same up = subst (λ (ns : List (Option N)). node_at ns d ≢ None) (sym same) (crew.there d within up)
+  stays_there d within same up = subst (λ (ns : List (Option N)). node_at ns d ≢ None) (sym same) (are_nodes.there d within up)
 
   other_there : (d : ℕ) → d < length old.net.devices → same_number (device_of e) d ≡ false → Acts g nodes (act_in old e) (context_of old e) reply after
       → up_at (happened old e reply).membership.world d ≡ true → node_at after d ≢ None
   other_there d within other acts up =
       subst (λ (o : Option N). o ≢ None) (sym (acts_other g nodes after (act_in old e) (context_of old e) reply d acts (actor_in old e d other)))
-      (crew.there d within (sym (ap (λ (s : DeviceState). s.up) (state_other g old e reply nodes after crew sound d other)) ∙ up))
+      (are_nodes.there d within (sym (ap (λ (s : DeviceState). s.up) (state_other g old e reply nodes after are_nodes sound d other)) ∙ up))
 
-there_named : {N : Type 0} (g : Ghosts N) (old : Registers) (e : Event) (reply : Reply) (nodes after : List (Option N)) → IsCrew g old nodes → IsSound old
+there_named : {N : Type 0} (g : Ghosts N) (old : Registers) (e : Event) (reply : Reply) (nodes after : List (Option N)) → AreNodes g old nodes → IsSound old
     → refusal_in old e ≡ None
     → Acts g nodes (act_in old e) (context_of old e) reply after
     → IfSome (device_of e) (λ d. up_at (happened old e reply).membership.world d ≡ true → node_at after d ≢ None)
-there_named g old (event.Start reference d counter clock eps) reply nodes after crew sound accepted acts =
+there_named g old (event.Start reference d counter clock eps) reply nodes after are_nodes sound accepted acts =
     let e = event.Start reference d counter clock eps in
     let (row, at) = row_there old.membership.plans old.membership.world.epoch d (started_member old e accepted d refl) in
-    let made = subst (λ (o : Option TableRow). Acts g nodes (of_some o steps.Passes (λ row. steps.Makes d (calls.Started row.duty counter clock eps)))
+    let made = subst (λ (o : Option TableRow). Acts g nodes (map_or o steps.Passes (λ row. steps.Makes d (calls.Started row.duty counter clock eps)))
     (context_of old e) reply after) at acts in
-    λ up. placed_there g old e reply nodes after crew sound d made.node (device_known old e accepted d refl) made.placed
-there_named g old (event.Join reference d counter clock eps) reply nodes after crew sound accepted acts =
+    λ up. placed_there g old e reply nodes after are_nodes sound d made.node (device_known old e accepted d refl) made.placed
+there_named g old (event.Join reference d counter clock eps) reply nodes after are_nodes sound accepted acts =
     let e = event.Join reference d counter clock eps in
-    λ up. placed_there g old e reply nodes after crew sound d acts.node (device_known old e accepted d refl) acts.placed
-there_named g old (event.Tick reference d counter) reply nodes after crew sound accepted acts =
+    λ up. placed_there g old e reply nodes after are_nodes sound d acts.node (device_known old e accepted d refl) acts.placed
+there_named g old (event.Tick reference d counter) reply nodes after are_nodes sound accepted acts =
     let e = event.Tick reference d counter in
-    λ up. placed_there g old e reply nodes after crew sound d acts.node (device_known old e accepted d refl) acts.placed
-there_named g old (event.Recv reference d counter message) reply nodes after crew sound accepted acts =
+    λ up. placed_there g old e reply nodes after are_nodes sound d acts.node (device_known old e accepted d refl) acts.placed
+there_named g old (event.Recv reference d counter message) reply nodes after are_nodes sound accepted acts =
     let e = event.Recv reference d counter message in
     let (f, at) =
     flight_found old.book.last old.book.flights message reference (message_known old e accepted message refl)
     (message_unspent old e accepted message refl) in
     let called = subst (λ (o : Result Flight TakeFault). Acts g nodes (receipt o d counter) (context_of old e) reply after) at acts in
-    λ up. placed_there g old e reply nodes after crew sound d called.node (device_known old e accepted d refl) called.placed
-there_named g old (event.Lose reference message) reply nodes after crew sound accepted acts = tt
-there_named g old (event.FailDevice reference d) reply nodes after crew sound accepted acts =
+    λ up. placed_there g old e reply nodes after are_nodes sound d called.node (device_known old e accepted d refl) called.placed
+there_named g old (event.Lose reference message) reply nodes after are_nodes sound accepted acts = tt
+there_named g old (event.FailDevice reference d) reply nodes after are_nodes sound accepted acts =
     let e = event.FailDevice reference d in
     let down : up_at (happened old e reply).membership.world d ≡ false =
-    ap (λ (s : DeviceState). s.up) (state_named g old e reply nodes after crew sound d (device_known old e accepted d refl) refl) in
+    ap (λ (s : DeviceState). s.up) (state_named g old e reply nodes after are_nodes sound d (device_known old e accepted d refl) refl) in
     λ up. cc
-there_named g old (event.FailLink reference l) reply nodes after crew sound accepted acts = tt
-there_named g old (event.Fix reference d counter clock eps) reply nodes after crew sound accepted acts =
+there_named g old (event.FailLink reference l) reply nodes after are_nodes sound accepted acts = tt
+there_named g old (event.Fix reference d counter clock eps) reply nodes after are_nodes sound accepted acts =
     let e = event.Fix reference d counter clock eps in
-    λ up. placed_there g old e reply nodes after crew sound d acts.node (device_known old e accepted d refl) acts.placed
-there_named g old (event.Ask reference d counter) reply nodes after crew sound accepted acts =
+    λ up. placed_there g old e reply nodes after are_nodes sound d acts.node (device_known old e accepted d refl) acts.placed
+there_named g old (event.Ask reference d counter) reply nodes after are_nodes sound accepted acts =
     let e = event.Ask reference d counter in
-    λ up. stays_there g old e reply nodes after crew sound d (device_known old e accepted d refl) acts.1 (device_up old e accepted d refl refl)
-there_named g old (event.Stage reference) reply nodes after crew sound accepted acts = tt
-there_named g old (event.Give reference d) reply nodes after crew sound accepted acts =
+    λ up. stays_there g old e reply nodes after are_nodes sound d (device_known old e accepted d refl) acts.1 (device_up old e accepted d refl refl)
+there_named g old (event.Stage reference) reply nodes after are_nodes sound accepted acts = tt
+there_named g old (event.Give reference d) reply nodes after are_nodes sound accepted acts =
     let e = event.Give reference d in
     let parts = and_parts (is_open old.membership.world.window) (is_member_numbered old.membership.plans (staged_number old.membership) d)
     (given_member old e accepted d refl) in
     let (row, at) = row_there old.membership.plans (staged_number old.membership) d parts.1 in
     let called =
-    subst (λ (o : Option TableRow). Acts g nodes (of_some o steps.Passes (λ row. steps.Calls d (calls.Give row.duty))) (context_of old e) reply after) at
+    subst (λ (o : Option TableRow). Acts g nodes (map_or o steps.Passes (λ row. steps.Calls d (calls.Give row.duty))) (context_of old e) reply after) at
     acts in
-    λ up. placed_there g old e reply nodes after crew sound d called.node (device_known old e accepted d refl) called.placed
-there_named g old (event.Commit reference d counter) reply nodes after crew sound accepted acts =
+    λ up. placed_there g old e reply nodes after are_nodes sound d called.node (device_known old e accepted d refl) called.placed
+there_named g old (event.Commit reference d counter) reply nodes after are_nodes sound accepted acts =
     let e = event.Commit reference d counter in
-    λ up. placed_there g old e reply nodes after crew sound d acts.node (device_known old e accepted d refl) acts.placed
-there_named g old (event.Seal reference d) reply nodes after crew sound accepted acts =
+    λ up. placed_there g old e reply nodes after are_nodes sound d acts.node (device_known old e accepted d refl) acts.placed
+there_named g old (event.Seal reference d) reply nodes after are_nodes sound accepted acts =
     let e = event.Seal reference d in
-    λ up. placed_there g old e reply nodes after crew sound d acts.node (device_known old e accepted d refl) acts.placed
-there_named g old (event.MendDevice reference d) reply nodes after crew sound accepted acts =
+    λ up. placed_there g old e reply nodes after are_nodes sound d acts.node (device_known old e accepted d refl) acts.placed
+there_named g old (event.MendDevice reference d) reply nodes after are_nodes sound accepted acts =
     let e = event.MendDevice reference d in
     let known = device_known old e accepted d refl in
     let same : up_at (happened old e reply).membership.world d ≡ up_at old.membership.world d =
-    ap (λ (s : DeviceState). s.up) (state_named g old e reply nodes after crew sound d known refl) in
-    λ up. stays_there g old e reply nodes after crew sound d known acts.1 (sym same ∙ up)
-there_named g old (event.MendLink reference l) reply nodes after crew sound accepted acts = tt
-there_named g old (event.End reference) reply nodes after crew sound accepted acts = tt
+    ap (λ (s : DeviceState). s.up) (state_named g old e reply nodes after are_nodes sound d known refl) in
+    λ up. stays_there g old e reply nodes after are_nodes sound d known acts.1 (sym same ∙ up)
+there_named g old (event.MendLink reference l) reply nodes after are_nodes sound accepted acts = tt
+there_named g old (event.End reference) reply nodes after are_nodes sound accepted acts = tt
 
--- The crew
+-- The nodes
 
 -- what holds of the named device and of each other one
 at_each : (P : ℕ → Type 0) (o : Option ℕ) (d : ℕ) → IfSome o P → (same_number o d ≡ false → P d) → P d
@@ -180,71 +181,72 @@ at_each P (Some m) d named other = by (nat_eq m d) refl
     by true here = subst P (eqb-true m d here) named
     by false apart = other apart
 
-crew_happened : {N : Type 0} (g : Ghosts N) (old : Registers) (e : Event) (reply : Reply) (nodes after : List (Option N)) → IsCrew g old nodes → IsSound old
+nodes_happened : {N : Type 0} (g : Ghosts N) (old : Registers) (e : Event) (reply : Reply) (nodes after : List (Option N)) → AreNodes g old nodes → IsSound old
     → refusal_in old e ≡ None
-    → Acts g nodes (act_in old e) (context_of old e) reply after → IsCrew g (happened old e reply) after
-crew_happened {N = N} g old e reply nodes after crew sound accepted acts =
+    → Acts g nodes (act_in old e) (context_of old e) reply after → AreNodes g (happened old e reply) after
+nodes_happened {N = N} g old e reply nodes after are_nodes sound accepted acts =
     record {
-      places = length_acts g nodes after (act_in old e) (context_of old e) reply acts ∙ crew.places;
+      places = length_acts g nodes after (act_in old e) (context_of old e) reply acts ∙ are_nodes.places;
       there =
           λ d within.
           at_each (λ d. up_at (happened old e reply).membership.world d ≡ true
-          → node_at after d ≢ None) (device_of e) d (there_named g old e reply nodes after crew sound accepted acts)
-          (λ other. other_there g old e reply nodes after crew sound d within other acts);
+          → node_at after d ≢ None) (device_of e) d (there_named g old e reply nodes after are_nodes sound accepted acts)
+          (λ other. other_there g old e reply nodes after are_nodes sound d within other acts);
       kept =
           λ d n at.
           at_each (λ d. (n : N) → node_at after d ≡ Some n → IsKept g (happened old e reply) d n) (device_of e) d
-          (kept_named g old e reply nodes after crew sound accepted acts)
-          (λ other. kept_other g old e reply nodes after crew sound d other acts) n at;
-      messages = messages_after old e reply old.membership.world.events crew.messages (acts_sent g nodes after (act_in old e) (context_of old e) reply acts);
+          (kept_named g old e reply nodes after are_nodes sound accepted acts)
+          (λ other. kept_other g old e reply nodes after are_nodes sound d other acts) n at;
+      messages = messages_after old e reply old.membership.world.events are_nodes.messages (acts_sent g nodes after (act_in old e) (context_of old e) reply acts);
     }
 
 -- a window that closes changes nothing of it
-crew_closed : {N : Type 0} (g : Ghosts N) (r : Registers) (nodes : List (Option N)) (last room : ℕ) (b : Bool) → IsCrew g r nodes
-    → IsCrew g (record {
+nodes_closed : {N : Type 0} (g : Ghosts N) (r : Registers) (nodes : List (Option N)) (last room : ℕ) (size : Size) (b : Bool)
+    → AreNodes g r nodes
+    → AreNodes g (record {
       net = r.net;
       membership = if b then registers_closed r.membership else r.membership;
-      book = record { flights = r.book.flights; last = last; room = room };
+      book = record { flights = r.book.flights; last = last; room = room; size = size };
     }) nodes
-crew_closed g r nodes last room true crew =
+nodes_closed g r nodes last room size true are_nodes =
     record {
-      places = crew.places;
-      there = crew.there;
-      kept = λ d n at. (let kept = crew.kept d n at in record { numbers = kept.numbers; given = kept.given; duty = kept.duty });
-      messages = crew.messages;
+      places = are_nodes.places;
+      there = are_nodes.there;
+      kept = λ d n at. (let kept = are_nodes.kept d n at in record { numbers = kept.numbers; answers = kept.answers; duty = kept.duty });
+      messages = are_nodes.messages;
     }
-crew_closed g r nodes last room false crew =
+nodes_closed g r nodes last room size false are_nodes =
     record {
-      places = crew.places;
-      there = crew.there;
-      kept = λ d n at. (let kept = crew.kept d n at in record { numbers = kept.numbers; given = kept.given; duty = kept.duty });
-      messages = crew.messages;
+      places = are_nodes.places;
+      there = are_nodes.there;
+      kept = λ d n at. (let kept = are_nodes.kept d n at in record { numbers = kept.numbers; answers = kept.answers; duty = kept.duty });
+      messages = are_nodes.messages;
     }
 
--- the crew with what the step left
-pub crew_after : {N : Type 0} (g : Ghosts N) (old new : Registers) (e : Event) (reply : Reply) (nodes after : List (Option N)) → IsCrew g old nodes
+-- the nodes with what the step left
+pub nodes_after : {N : Type 0} (g : Ghosts N) (old new : Registers) (e : Event) (reply : Reply) (nodes after : List (Option N)) → AreNodes g old nodes
     → IsSound old → refusal_in old e ≡ None
-    → Acts g nodes (act_in old e) (context_of old e) reply after → IsAfter old e reply new → IsCrew g new after
-crew_after g old new e reply nodes after crew sound accepted acts is =
+    → Acts g nodes (act_in old e) (context_of old e) reply after → IsAfter old e reply new → AreNodes g new after
+nodes_after g old new e reply nodes after are_nodes sound accepted acts is =
     let closed =
-    crew_closed g (happened old e reply) after new.book.last new.book.room (can_close_in (membership_after old e reply))
-    (crew_happened g old e reply nodes after crew sound accepted acts) in
-    subst (λ (net : Network). IsCrew g (record { net = net; membership = new.membership; book = new.book }) after) (sym is.net)
-    (subst (λ (r : membership.Registers). IsCrew g (record { net = old.net; membership = r; book = new.book }) after) (sym is.membership)
-    (subst (λ (fs : List Flight). IsCrew g
+    nodes_closed g (happened old e reply) after new.book.last new.book.room new.book.size (can_close_in (membership_after old e reply))
+    (nodes_happened g old e reply nodes after are_nodes sound accepted acts) in
+    subst (λ (net : Network). AreNodes g (record { net = net; membership = new.membership; book = new.book }) after) (sym is.net)
+    (subst (λ (r : membership.Registers). AreNodes g (record { net = old.net; membership = r; book = new.book }) after) (sym is.membership)
+    (subst (λ (fs : List Flight). AreNodes g
     (record {
       net = old.net;
       membership = closed_if_can (membership_after old e reply);
-      book = record { flights = fs; last = new.book.last; room = new.book.room };
+      book = record { flights = fs; last = new.book.last; room = new.book.room; size = new.book.size };
     }) after) (sym is.flights) closed))
 
 -- so it is where only room grew
-pub crew_roomy : {N : Type 0} (g : Ghosts N) (old new : Registers) (nodes : List (Option N)) → IsCrew g old nodes → new.net ≡ old.net
-    → new.membership ≡ old.membership → new.book.flights ≡ old.book.flights → IsCrew g new nodes
-crew_roomy g old new nodes crew net same flights =
-    let roomy = crew_closed g old nodes new.book.last new.book.room false crew in
-    subst (λ (n : Network). IsCrew g (record { net = n; membership = new.membership; book = new.book }) nodes) (sym net)
-    (subst (λ (r : membership.Registers). IsCrew g (record { net = old.net; membership = r; book = new.book }) nodes) (sym same)
-    (subst (λ (fs : List Flight). IsCrew g
-    (record { net = old.net; membership = old.membership; book = record { flights = fs; last = new.book.last; room = new.book.room } }) nodes)
+pub nodes_roomy : {N : Type 0} (g : Ghosts N) (old new : Registers) (nodes : List (Option N)) → AreNodes g old nodes → new.net ≡ old.net
+    → new.membership ≡ old.membership → new.book.flights ≡ old.book.flights → AreNodes g new nodes
+nodes_roomy g old new nodes are_nodes net same flights =
+    let roomy = nodes_closed g old nodes new.book.last new.book.room new.book.size false are_nodes in
+    subst (λ (n : Network). AreNodes g (record { net = n; membership = new.membership; book = new.book }) nodes) (sym net)
+    (subst (λ (r : membership.Registers). AreNodes g (record { net = old.net; membership = r; book = new.book }) nodes) (sym same)
+    (subst (λ (fs : List Flight). AreNodes g
+    (record { net = old.net; membership = old.membership; book = record { flights = fs; last = new.book.last; room = new.book.room; size = new.book.size } }) nodes)
     (sym flights) roomy))

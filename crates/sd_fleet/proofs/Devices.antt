@@ -1,5 +1,5 @@
 -- A fleet of devices stands for the chronicle of its events.
-use Rattle.sd_fleet_fabric.proofs.History.Devices.{devices_run, devices_have_history}
+use Rattle.sd_fleet.proofs.History.Devices.{devices_run, devices_have_history}
 use Rattle.sd_fleet.specs.Devices.{DevicesKeepChronicle}
 
 pub devices_keep_chronicle : DevicesKeepChronicle

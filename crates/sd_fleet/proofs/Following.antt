@@ -2,7 +2,7 @@
 use Rattle.std.specs.Prelude.{◌≡◌, ℕ, ◌<◌, Bool, true, false, List, ◌∷◌, length, slice_set, nat_eq, Option, Some, None, option_and_then, refl, if◌then◌else◌}
 use Rattle.std.proofs.Common.{sym, ◌∙◌, ap, subst}
 use Rattle.std.proofs.lemmas.Bool.{eqb-true}
-use Rattle.sd_num.specs.Lists.{of_some, same_number}
+use Rattle.sd_num.specs.Lists.{map_or, same_number}
 use Rattle.sd_core.specs.declared.node.Node.{Ghosts}
 use Rattle.sd_sched.specs.declared.Event.{Event}
 use Rattle.sd_sched.specs.declared.Event.TheVariants as event
@@ -11,36 +11,36 @@ use Rattle.sd_core.specs.Calls as calls
 use Rattle.sd_plan.specs.declared.Plan.{Plan}
 use Rattle.sd_plan.specs.Duties.{duty_of}
 use Rattle.sd_msg.specs.declared.Flight.{Flight}
-use Rattle.sd_fleet_fabric.specs.History.World.{Setting, staged, staged_epoch}
-use Rattle.sd_fleet_fabric.specs.History.Steps as steps
-use Rattle.sd_fleet_fabric.specs.History.Steps.{Calls, Passes, seen_of, flight_numbered, Told, tells_nothing, tells_made, tells_called, Step, changed, act_by, step_of}
-use Rattle.sd_fleet_fabric.specs.History.Lives.{tells_report}
-use Rattle.sd_fleet_fabric.specs.History.Nodes.{answers_of, NodeStep, steps_of, node_in, addressed, Allows, IsRun}
-use Rattle.sd_fleet_fabric.specs.History.Steps.{Act}
-use Rattle.sd_fleet_fabric.specs.declared.Reply.{Reply}
-use Rattle.sd_fleet_fabric.specs.Registers.{Registers}
-use Rattle.sd_fleet_fabric.specs.Causes.{refusal_in}
-use Rattle.sd_fleet_fabric.specs.Doing.{Says}
-use Rattle.sd_fleet_fabric.specs.Standing.{Stands}
-use Rattle.sd_fleet_fabric.proofs.Acting as fabric
-use Rattle.sd_fleet.specs.declared.crew.CallContext.{CallContext}
-use Rattle.sd_fleet.specs.Crew.{node_at, Acts}
+use Rattle.sd_fleet.specs.History.World.{Setting, staged, staged_epoch}
+use Rattle.sd_fleet.specs.History.Steps as steps
+use Rattle.sd_fleet.specs.History.Steps.{Calls, Passes, seen_of, flight_numbered, Told, tells_nothing, tells_made, tells_called, Step, changed, act_by, step_of}
+use Rattle.sd_fleet.specs.History.Lives.{tells_report}
+use Rattle.sd_fleet.specs.History.Nodes.{answers_of, NodeStep, steps_of, node_in, addressed, Allows, IsRun}
+use Rattle.sd_fleet.specs.History.Steps.{Act}
+use Rattle.sd_fleet.specs.declared.Reply.{Reply}
+use Rattle.sd_fleet.specs.Registers.{Registers}
+use Rattle.sd_fleet.specs.Causes.{refusal_in}
+use Rattle.sd_fleet.specs.Doing.{MatchesTold}
+use Rattle.sd_fleet.specs.FabricStanding.{Stands}
+use Rattle.sd_fleet.proofs.FabricActing as fabric
+use Rattle.sd_fleet.specs.declared.nodes.CallContext.{CallContext}
+use Rattle.sd_fleet.specs.Nodes.{node_at, Acts}
 use Rattle.sd_fleet.proofs.Going.{set_other, some_at}
 
 -- what the device told, and the node that is left, as the kind of node allows
 pub record Shows {N : Type 0} (g : Ghosts N) (nodes after : List (Option N)) (a : steps.Act) (reply : Reply) : Type 0 where
   pub told : Told
   pub node : Option N
-  pub says : Says reply told
+  pub says : MatchesTold reply told
   pub allowed : Allows g (option_and_then (node_at nodes) (addressed a)) a told node
-  pub left : (d : ℕ) → d < length nodes → node_at after d ≡ of_some (if same_number (changed a) d then Some node else None) (node_at nodes d) (λ x. x)
+  pub left : (d : ℕ) → d < length nodes → node_at after d ≡ map_or (if same_number (changed a) d then Some node else None) (node_at nodes d) (λ x. x)
 
 -- the nodes where one is placed
 left_placed : {N : Type 0} (nodes after : List (Option N)) (m d : ℕ) (x : N) → d < length nodes → after ≡ slice_set nodes m (Some x)
-    → node_at after d ≡ of_some (if nat_eq m d then Some (Some x) else None) (node_at nodes d) (λ y. y)
+    → node_at after d ≡ map_or (if nat_eq m d then Some (Some x) else None) (node_at nodes d) (λ y. y)
 left_placed nodes after m d x within placed = by (nat_eq m d) refl
   where
-    by : (b : Bool) → nat_eq m d ≡ b → node_at after d ≡ of_some (if b then Some (Some x) else None) (node_at nodes d) (λ y. y)
+    by : (b : Bool) → nat_eq m d ≡ b → node_at after d ≡ map_or (if b then Some (Some x) else None) (node_at nodes d) (λ y. y)
     by true here = some_at nodes after d x within (subst (λ (k : ℕ). after ≡ slice_set nodes k (Some x)) (eqb-true m d here) placed)
     by false apart = set_other nodes after m d (Some x) placed apart
 
@@ -104,7 +104,7 @@ named_only setting earlier (event.Join reference m counter clock eps) d is = cc
 named_only setting earlier (event.Tick reference m counter) d is = is
 named_only setting earlier (event.Recv reference m counter message) d is = by (flight_numbered earlier message) is
   where
-    by : (o : Option Flight) → addressed (of_some o Passes (λ f. Calls m (calls.Receive f.link f.message counter))) ≡ Some d → Some m ≡ Some d
+    by : (o : Option Flight) → addressed (map_or o Passes (λ f. Calls m (calls.Receive f.link f.message counter))) ≡ Some d → Some m ≡ Some d
     by None is' = cc
     by (Some f) is' = is'
 named_only setting earlier (event.Lose reference message) d is = cc
@@ -115,7 +115,7 @@ named_only setting earlier (event.Ask reference m counter) d is = is
 named_only setting earlier (event.Stage reference) d is = cc
 named_only setting earlier (event.Give reference m) d is = by (staged setting (seen_of earlier)) is
   where
-    by : (o : Option Plan) → addressed (of_some o Passes (λ plan. Calls m (calls.Give (duty_of setting.net plan (staged_epoch (seen_of earlier)) m)))) ≡ Some d
+    by : (o : Option Plan) → addressed (map_or o Passes (λ plan. Calls m (calls.Give (duty_of setting.net plan (staged_epoch (seen_of earlier)) m)))) ≡ Some d
         → Some m ≡ Some d
     by None is' = cc
     by (Some plan) is' = is'
@@ -150,4 +150,4 @@ module _ {N : Type 0} (g : Ghosts N) (setting : Setting) (run : List (NodeStep N
   pub nodes_stand : (d : ℕ) → d < length setting.net.devices → node_at after d ≡ node_in (next ∷ run) d
   nodes_stand d within =
       shown.left d (subst (λ (n : ℕ). d < n) (sym places) within)
-      ∙ ap (λ (o : Option N). of_some (if same_number (changed (act_by setting (steps_of run) e)) d then Some shown.node else None) o (λ x. x)) (kept d within)
+      ∙ ap (λ (o : Option N). map_or (if same_number (changed (act_by setting (steps_of run) e)) d then Some shown.node else None) o (λ x. x)) (kept d within)

@@ -3,7 +3,7 @@ use Rattle.std.specs.Prelude.{◌≡◌, ℕ, ◌+◌, ◌<◌, ◌≤◌, false
 use Rattle.std.proofs.Common.{sym, ◌∙◌, ap, subst, arith}
 use Rattle.std.proofs.lemmas.Bool.{eqb-false}
 use Rattle.std.proofs.lemmas.List.{get_or-set_same, get_or-set_other, length-set}
-use Rattle.sd_num.specs.Lists.{of_some, same_number}
+use Rattle.sd_num.specs.Lists.{map_or, same_number}
 use Rattle.sd_plan.specs.Tables.{TableRow}
 use Rattle.sd_msg.specs.declared.Flight.{Flight}
 use Rattle.sd_msg.specs.declared.Message.{Message}
@@ -13,18 +13,18 @@ use Rattle.sd_core.specs.Limits.{IfSent}
 use Rattle.sd_sched.specs.declared.Event.{Event}
 use Rattle.sd_sched.specs.declared.Event.TheVariants as event
 use Rattle.sd_sched.specs.Events.{device_of}
-use Rattle.sd_fleet_fabric.specs.FleetState.membership.Plans.{row_numbered}
-use Rattle.sd_fleet_fabric.specs.FleetState.membership.Memberships.{staged_number}
+use Rattle.sd_fleet.specs.FleetState.membership.Plans.{row_numbered}
+use Rattle.sd_fleet.specs.FleetState.membership.Memberships.{staged_number}
 use Rattle.sd_core.specs.Calls as calls
-use Rattle.sd_fleet_fabric.specs.History.Steps.{Act}
-use Rattle.sd_fleet_fabric.specs.History.Steps as steps
-use Rattle.sd_fleet_fabric.specs.declared.Reply.{Reply}
-use Rattle.sd_fleet_fabric.specs.Registers.{Registers}
-use Rattle.sd_fleet_fabric.specs.Causes.{flight_at}
-use Rattle.sd_fleet_fabric.specs.Doing.{act_in, receipt}
-use Rattle.sd_fleet.specs.declared.crew.CallContext.{CallContext}
+use Rattle.sd_fleet.specs.History.Steps.{Act}
+use Rattle.sd_fleet.specs.History.Steps as steps
+use Rattle.sd_fleet.specs.declared.Reply.{Reply}
+use Rattle.sd_fleet.specs.Registers.{Registers}
+use Rattle.sd_fleet.specs.Causes.{flight_at}
+use Rattle.sd_fleet.specs.Doing.{act_in, receipt}
+use Rattle.sd_fleet.specs.declared.nodes.CallContext.{CallContext}
 use Rattle.sd_fleet.specs.Calling.{IsNode, IsMessage}
-use Rattle.sd_fleet.specs.Crew.{node_at, Acts}
+use Rattle.sd_fleet.specs.Nodes.{node_at, Acts}
 
 -- Numbers
 
@@ -88,7 +88,7 @@ acts_sent g nodes new steps.Passes context reply acts = subst (λ (x : Reply). I
 pub actor_in : (r : Registers) (e : Event) (d : ℕ) → same_number (device_of e) d ≡ false → same_number (actor (act_in r e)) d ≡ false
 actor_in r (event.Start reference m counter clock eps) d other = by (row_numbered r.membership.plans r.membership.world.epoch m)
   where
-    by : (o : Option TableRow) → same_number (actor (of_some o steps.Passes (λ row. steps.Makes m (calls.Started row.duty counter clock eps)))) d ≡ false
+    by : (o : Option TableRow) → same_number (actor (map_or o steps.Passes (λ row. steps.Makes m (calls.Started row.duty counter clock eps)))) d ≡ false
     by None = refl
     by (Some row) = other
 actor_in r (event.Join reference m counter clock eps) d other = other
@@ -106,7 +106,7 @@ actor_in r (event.Ask reference m counter) d other = other
 actor_in r (event.Stage reference) d other = refl
 actor_in r (event.Give reference m) d other = by (row_numbered r.membership.plans (staged_number r.membership) m)
   where
-    by : (o : Option TableRow) → same_number (actor (of_some o steps.Passes (λ row. steps.Calls m (calls.Give row.duty)))) d ≡ false
+    by : (o : Option TableRow) → same_number (actor (map_or o steps.Passes (λ row. steps.Calls m (calls.Give row.duty)))) d ≡ false
     by None = refl
     by (Some row) = other
 actor_in r (event.Commit reference m counter) d other = other

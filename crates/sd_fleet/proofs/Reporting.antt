@@ -5,20 +5,20 @@ use Rattle.sd_msg.specs.Clock.declared.Report.{Report}
 use Rattle.sd_core.specs.declared.node.Node.{Ghosts}
 use Rattle.sd_sched.specs.declared.Event.{Event}
 use Rattle.sd_sched.specs.declared.Event.TheVariants as event
-use Rattle.sd_fleet_fabric.specs.FleetState.membership.Memberships as membership
+use Rattle.sd_fleet.specs.FleetState.membership.Memberships as membership
 use Rattle.sd_topo.specs.Network.{Network}
-use Rattle.sd_fleet_fabric.specs.History.Steps.{Act}
-use Rattle.sd_fleet_fabric.specs.declared.Reply.{Reply}
-use Rattle.sd_fleet_fabric.specs.declared.Outcome.{Outcome}
-use Rattle.sd_fleet_fabric.specs.Registers.{Registers}
-use Rattle.sd_fleet_fabric.specs.Causes.{refusal_in}
-use Rattle.sd_fleet_fabric.specs.Doing.{act_in, Tells}
-use Rattle.sd_fleet_fabric.specs.Room.{most_sent_in}
-use Rattle.sd_fleet_fabric.specs.Stepping.{OnlyRoomGrew, outcome_in, report_in}
-use Rattle.sd_fleet_fabric.proofs.Keeping.{sent_room}
-use Rattle.sd_fleet.specs.declared.crew.CallContext.{CallContext}
+use Rattle.sd_fleet.specs.History.Steps.{Act}
+use Rattle.sd_fleet.specs.declared.Reply.{Reply}
+use Rattle.sd_fleet.specs.declared.Outcome.{Outcome}
+use Rattle.sd_fleet.specs.Registers.{Registers}
+use Rattle.sd_fleet.specs.Causes.{refusal_in}
+use Rattle.sd_fleet.specs.Doing.{act_in, IsReplyTo}
+use Rattle.sd_fleet.specs.Room.{most_sent_in}
+use Rattle.sd_fleet.specs.Stepping.{OnlyRoomGrew, outcome_in, report_in}
+use Rattle.sd_fleet.proofs.FabricKeeping.{sent_room}
+use Rattle.sd_fleet.specs.declared.nodes.CallContext.{CallContext}
 use Rattle.sd_fleet.specs.Calling.{rise, IsLimited}
-use Rattle.sd_fleet.specs.Crew.{Acts, AsksAt}
+use Rattle.sd_fleet.specs.Nodes.{Acts, AsksAt}
 
 -- Reports
 
@@ -63,7 +63,7 @@ same_most old new e grew =
     forget e' = refl
 
 -- no more is sent than there was room for
-pub sent_most : (r : Registers) (e : Event) (reply : Reply) (outcome : Outcome) → refusal_in r e ≡ None → Tells e reply → outcome ≡ outcome_in r e reply
+pub sent_most : (r : Registers) (e : Event) (reply : Reply) (outcome : Outcome) → refusal_in r e ≡ None → IsReplyTo e reply → outcome ≡ outcome_in r e reply
     → outcome.sent ≤ most_sent_in r e
 sent_most r e reply outcome accepted tells comes =
     let room = sent_room r e reply accepted tells in

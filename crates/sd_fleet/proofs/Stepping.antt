@@ -10,33 +10,33 @@ use Rattle.sd_sched.specs.declared.Event.{Event}
 use Rattle.sd_sched.specs.declared.Event.TheVariants as event
 use Rattle.sd_sched.specs.Spelled.{is_within}
 use Rattle.sd_topo.specs.Network.{Network}
-use Rattle.sd_fleet_fabric.specs.FleetState.membership.Memberships as membership
-use Rattle.sd_fleet_fabric.specs.History.Steps as steps
-use Rattle.sd_fleet_fabric.specs.History.World.{Setting}
-use Rattle.sd_fleet_fabric.specs.History.Nodes.{NodeStep, IsRun, steps_of, node_in}
-use Rattle.sd_fleet_fabric.specs.declared.Reply.{Reply}
-use Rattle.sd_fleet_fabric.specs.declared.Outcome.{Outcome}
-use Rattle.sd_fleet_fabric.specs.Registers.{Registers, kept}
-use Rattle.sd_fleet_fabric.specs.Room.{ends_in}
-use Rattle.sd_fleet_fabric.specs.Sound.{IsSound}
-use Rattle.sd_fleet_fabric.specs.Causes.{refusal_in, flight_at}
-use Rattle.sd_fleet_fabric.specs.Doing.{act_in, receipt, Tells}
-use Rattle.sd_fleet_fabric.specs.Standing.{Stands}
-use Rattle.sd_fleet_fabric.specs.Stepping.{IsAfter, IsWithout, outcome_in}
-use Rattle.sd_fleet_fabric.proofs.Stepping.{stands_next}
-use Rattle.sd_fleet_fabric.proofs.Outcoming.{outcome_is}
-use Rattle.sd_fleet.specs.declared.crew.CallContext.{CallContext}
-use Rattle.sd_fleet.specs.Crew.{node_at, CanAct, CallsAt, Acts}
-use Rattle.sd_fleet.specs.Bounds.{IsCrew, context_of}
+use Rattle.sd_fleet.specs.FleetState.membership.Memberships as membership
+use Rattle.sd_fleet.specs.History.Steps as steps
+use Rattle.sd_fleet.specs.History.World.{Setting}
+use Rattle.sd_fleet.specs.History.Nodes.{NodeStep, IsRun, steps_of, node_in}
+use Rattle.sd_fleet.specs.declared.Reply.{Reply}
+use Rattle.sd_fleet.specs.declared.Outcome.{Outcome}
+use Rattle.sd_fleet.specs.Registers.{Registers, kept}
+use Rattle.sd_fleet.specs.Room.{ends_in}
+use Rattle.sd_fleet.specs.Sound.{IsSound}
+use Rattle.sd_fleet.specs.Causes.{refusal_in, flight_at}
+use Rattle.sd_fleet.specs.Doing.{act_in, receipt, IsReplyTo}
+use Rattle.sd_fleet.specs.FabricStanding.{Stands}
+use Rattle.sd_fleet.specs.Stepping.{IsAfter, IsWithout, outcome_in}
+use Rattle.sd_fleet.proofs.FabricStepping.{stands_next}
+use Rattle.sd_fleet.proofs.Outcoming.{outcome_is}
+use Rattle.sd_fleet.specs.declared.nodes.CallContext.{CallContext}
+use Rattle.sd_fleet.specs.Nodes.{node_at, CanAct, CallsAt, Acts}
+use Rattle.sd_fleet.specs.Bounds.{AreNodes, context_of}
 use Rattle.sd_fleet.proofs.Applying.{GoesOn, can_do, accepted_next}
 
 pub goes_further : {N : Type 0} (g : Ghosts N) (r new : Registers) (e : Event) (nodes given after left : List (Option N)) (context : CallContext)
-    (reply : Reply) (outcome : Outcome) → given ≡ nodes → Acts g given (act_in r e) context reply after → left ≡ after → IsCrew g r nodes
-    → refusal_in r e ≡ None → Tells e reply → IsAfter r e reply new → outcome ≡ outcome_in r e reply → (setting : Setting) (run : List (NodeStep N))
+    (reply : Reply) (outcome : Outcome) → given ≡ nodes → Acts g given (act_in r e) context reply after → left ≡ after → AreNodes g r nodes
+    → refusal_in r e ≡ None → IsReplyTo e reply → IsAfter r e reply new → outcome ≡ outcome_in r e reply → (setting : Setting) (run : List (NodeStep N))
     → IsRun g setting run → Stands r setting (steps_of run) → ((d : ℕ) → d < length setting.net.devices → node_at nodes d ≡ node_in run d)
     → GoesOn g new left setting run e outcome
-goes_further g r new e nodes given after left context reply outcome same acts ends crew accepted tells step comes setting run earlier stands kept =
-    accepted_next g r new e nodes given after left context (act_in r e) reply outcome setting run same refl acts ends crew.places accepted earlier stands kept
+goes_further g r new e nodes given after left context reply outcome same acts ends are_nodes accepted tells step comes setting run earlier stands kept =
+    accepted_next g r new e nodes given after left context (act_in r e) reply outcome setting run same refl acts ends are_nodes.places accepted earlier stands kept
     (λ told says. stands_next setting r (steps_of run) stands e reply told accepted says tells new step)
     (λ told says. comes ∙ outcome_is setting r (steps_of run) stands e reply told accepted says tells)
 
@@ -45,20 +45,20 @@ pub context_few : (r : Registers) (e : Event) (context : CallContext) → contex
 context_few r e context at sound = subst (λ (m : CallContext). m.events ≤ 2 ^ 26) (sym at) sound.events
 
 pub can_tick : {N : Type 0} (g : Ghosts N) (r : Registers) (reference d counter : ℕ) (nodes given : List (Option N)) (context : CallContext) → given ≡ nodes
-    → context ≡ context_of r (event.Tick 0 d 0) → IsCrew g r nodes → IsSound r → refusal_in r (event.Tick reference d counter) ≡ None
+    → context ≡ context_of r (event.Tick 0 d 0) → AreNodes g r nodes → IsSound r → refusal_in r (event.Tick reference d counter) ≡ None
     → IsTrue (is_within (event.Tick reference d counter)) → CanAct g given context (steps.Calls d (calls.Tick counter))
-can_tick g r reference d counter nodes given context same at crew sound accepted within =
-    can_do g r (event.Tick reference d counter) nodes given context (steps.Calls d (calls.Tick counter)) same at refl crew sound accepted within
+can_tick g r reference d counter nodes given context same at are_nodes sound accepted within =
+    can_do g r (event.Tick reference d counter) nodes given context (steps.Calls d (calls.Tick counter)) same at refl are_nodes sound accepted within
 
 -- A receipt
 
 pub can_receive : {N : Type 0} (g : Ghosts N) (r : Registers) (reference d counter message : ℕ) (f : Flight) (nodes given : List (Option N))
-    (context : CallContext) → given ≡ nodes → context ≡ context_of r (event.Tick 0 d 0) → flight_at r message ≡ Ok f → IsCrew g r nodes → IsSound r
+    (context : CallContext) → given ≡ nodes → context ≡ context_of r (event.Tick 0 d 0) → flight_at r message ≡ Ok f → AreNodes g r nodes → IsSound r
     → refusal_in r (event.Recv reference d counter message) ≡ None → IsTrue (is_within (event.Recv reference d counter message))
     → CanAct g given context (steps.Calls d (calls.Receive f.link f.message counter))
-can_receive g r reference d counter message f nodes given context same at found crew sound accepted within =
+can_receive g r reference d counter message f nodes given context same at found are_nodes sound accepted within =
     can_do g r (event.Recv reference d counter message) nodes given context (steps.Calls d (calls.Receive f.link f.message counter)) same at
-    (sym (ap (λ o. receipt o d counter) found)) crew sound accepted within
+    (sym (ap (λ o. receipt o d counter) found)) are_nodes sound accepted within
 
 -- the flight is there for its receiver
 pub for_receiver : (look : Result Flight TakeFault) (reference d : ℕ) → IsOkAnd look (λ f. (reference ≤ f.last) × (f.receiver ≡ d))

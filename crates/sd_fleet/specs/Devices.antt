@@ -2,10 +2,10 @@
 use Rattle.std.specs.Prelude.{◌≡◌, List}
 use Rattle.sd_core.specs.declared.registers.Registers.{Registers}
 use Rattle.sd_core.specs.contracts.device.DeviceNode.TheImpl.{ghosts}
-use Rattle.sd_fleet_fabric.specs.History.World.{Setting}
-use Rattle.sd_fleet_fabric.specs.History.Steps.{Step, events_of}
-use Rattle.sd_fleet_fabric.specs.History.Chronicle.{chronicle, IsHistory}
-use Rattle.sd_fleet_fabric.specs.History.Nodes.{NodeStep, steps_of}
+use Rattle.sd_fleet.specs.History.World.{Setting}
+use Rattle.sd_fleet.specs.History.Steps.{Step, events_of}
+use Rattle.sd_fleet.specs.History.Chronicle.{chronicle, IsHistory}
+use Rattle.sd_fleet.specs.History.Nodes.{NodeStep, steps_of}
 use Rattle.sd_fleet.specs.declared.fleet.Fleet.{Fleet}
 use Rattle.sd_fleet.specs.Standing.{StandsFor}
 

@@ -2,21 +2,21 @@
 use Rattle.std.specs.Prelude.{◌≡◌, ◌⊎◌, ℕ, ◌<◌, ◌≤◌, List, ◌∷◌, length, Some, None, IsTrue}
 use Rattle.sd_core.specs.declared.node.Node.{Ghosts}
 use Rattle.sd_sched.specs.declared.Event.{Event}
-use Rattle.sd_fleet_fabric.specs.History.declared.ApplyFault.{ApplyFault}
-use Rattle.sd_fleet_fabric.specs.History.declared.ApplyFault.TheVariants.{Memory}
-use Rattle.sd_fleet_fabric.specs.History.World.{Setting}
-use Rattle.sd_fleet_fabric.specs.History.Steps.{Step}
-use Rattle.sd_fleet_fabric.specs.History.Refusals.{refusal}
-use Rattle.sd_fleet_fabric.specs.History.Nodes.{NodeStep, IsRun, steps_of, node_in}
-use Rattle.sd_fleet_fabric.specs.declared.Outcome.{Outcome}
-use Rattle.sd_fleet_fabric.specs.Registers.{Registers}
-use Rattle.sd_fleet_fabric.specs.Causes.{refusal_in}
-use Rattle.sd_fleet_fabric.specs.Room.{most_sent_in}
-use Rattle.sd_fleet_fabric.specs.Doing.{may_send}
-use Rattle.sd_fleet_fabric.specs.Outcomes.{outcome_of}
-use Rattle.sd_fleet_fabric.specs.Standing as fabric
+use Rattle.sd_fleet.specs.History.declared.ApplyFault.{ApplyFault}
+use Rattle.sd_fleet.specs.History.declared.ApplyFault.TheVariants.{Memory}
+use Rattle.sd_fleet.specs.History.World.{Setting}
+use Rattle.sd_fleet.specs.History.Steps.{Step}
+use Rattle.sd_fleet.specs.History.Refusals.{refusal}
+use Rattle.sd_fleet.specs.History.Nodes.{NodeStep, IsRun, steps_of, node_in}
+use Rattle.sd_fleet.specs.declared.Outcome.{Outcome}
+use Rattle.sd_fleet.specs.Registers.{Registers}
+use Rattle.sd_fleet.specs.Causes.{refusal_in}
+use Rattle.sd_fleet.specs.Room.{most_sent_in}
+use Rattle.sd_fleet.specs.Doing.{may_send}
+use Rattle.sd_fleet.specs.Outcomes.{outcome_of}
+use Rattle.sd_fleet.specs.FabricStanding as fabric
 use Rattle.sd_fleet.specs.declared.fleet.Fleet.{Fleet}
-use Rattle.sd_fleet.specs.Crew.{node_at}
+use Rattle.sd_fleet.specs.Nodes.{node_at}
 
 -- The fleet keeps what the words on histories say of the run, and the nodes that the run made of its devices.
 pub record StandsFor {N : Type 0} (g : Ghosts N) (fleet : Fleet N g) (setting : Setting) (run : List (NodeStep N)) : Type 0 where

@@ -4,23 +4,23 @@ ghost use Rattle.sd_topo.specs.Topologies.{network};
 ghost use Rattle.sd_sched.specs.Events.{device_of};
 ghost use Rattle.sd_sched.specs.declared.Event.TheVariants as events_of;
 ghost use Rattle.sd_sched.specs.Spelled.{is_within};
-ghost use Rattle.sd_fleet_fabric.specs.History.World.{Setting, is_up as is_up_seen, is_counted as is_counted_seen};
-ghost use Rattle.sd_fleet_fabric.specs.History.Steps.{seen_of, parent_in, acts_in};
-ghost use Rattle.sd_fleet_fabric.specs.History.Nodes.{NodeStep, steps_of};
-ghost use Rattle.sd_fleet_fabric.specs.History.Refusals.{refusal as refusal_of};
-ghost use Rattle.sd_fleet_fabric.specs.History.flights.Flights.{look_in};
-ghost use Rattle.sd_fleet_fabric.specs.FleetState.world.Registers.{is_open};
-ghost use Rattle.sd_fleet_fabric.specs.FleetState.membership.Plans.{AreSound};
-ghost use Rattle.sd_fleet_fabric.specs.Causes.{refusal_in};
-ghost use Rattle.sd_fleet_fabric.specs.Room.{most_sent_of, most_sent_in};
-ghost use Rattle.sd_fleet_fabric.specs.Sound.{IsSound};
-ghost use Rattle.sd_fleet_fabric.specs.Stepping.{OnlyRoomGrew};
+ghost use Rattle.sd_fleet.specs.History.World.{Setting, is_up as is_up_seen, is_counted as is_counted_seen};
+ghost use Rattle.sd_fleet.specs.History.Steps.{seen_of, parent_in, acts_in};
+ghost use Rattle.sd_fleet.specs.History.Nodes.{NodeStep, steps_of};
+ghost use Rattle.sd_fleet.specs.History.Refusals.{refusal as refusal_of};
+ghost use Rattle.sd_fleet.specs.History.flights.Flights.{look_in};
+ghost use Rattle.sd_fleet.specs.FleetState.world.Registers.{is_open};
+ghost use Rattle.sd_fleet.specs.FleetState.membership.Plans.{AreSound};
+ghost use Rattle.sd_fleet.specs.Causes.{refusal_in};
+ghost use Rattle.sd_fleet.specs.Room.{most_sent_of, most_sent_in};
+ghost use Rattle.sd_fleet.specs.Sound.{IsSound};
+ghost use Rattle.sd_fleet.specs.Stepping.{OnlyRoomGrew, outcome_resting};
 ghost use Rattle.sd_fleet.specs.Calling.{IsLimited};
-ghost use Rattle.sd_fleet.specs.Bounds.{IsCrew, context_of};
+ghost use Rattle.sd_fleet.specs.Bounds.{AreNodes, context_of};
 
-use crate::crew::{CallContext, perform, step_at, unanswered};
+use crate::nodes::{CallContext, perform, rests_at, step_at, unanswered};
+use crate::{ApplyFault, Call, Fabric, Outcome};
 use sd_core::Node;
-use sd_fleet_fabric::{ApplyFault, Call, Fabric, Outcome};
 use sd_msg::{Flight, TakeFault};
 use sd_num::NoMemory;
 use sd_plan::Plan;
@@ -37,7 +37,7 @@ pub struct Fleet<N: Node> {
     fabric: Fabric,
     /// By device, since it was last made; one that failed stays until it is made again.
     nodes: Vec<Option<N>>,
-    ghost crew: { IsCrew N.Node fabric nodes.items },
+    ghost are_nodes: { AreNodes N.Node fabric nodes.items },
 }
 
 /// A place without a node for each device.
@@ -222,6 +222,28 @@ impl<N: Node> Fleet<N> {
             } => self.receive(reference, device, counter, message, outcome),
             _ => self.happen_any(event, outcome),
         }
+    }
+
+    /// A tick at which the device rests happens, if it is one: the device sends nothing and stays as
+    /// it is. It is for `apply` where it is another, is refused, or a window is open.
+    // Nothing is written but the time.
+    #[inline(always)]
+    pub fn rest(&mut self, reference: u64, d: u32, counter: u64) -> bool
+        requires within { IsTrue (is_within (events_of.Tick reference d counter)) }
+        ensures accepted { IsTrue result → (setting : Setting) (run : List (NodeStep N))
+            → StandsFor N.Node self.old setting run
+            → IsAccepted N.Node self.new setting run (events_of.Tick reference d counter)
+            (outcome_resting self.old.fabric d) }
+        ensures same { result ≡ false → self.new ≡ self.old }
+    {
+        if !self.fabric.admits_tick(reference, d, counter) {
+            return false;
+        }
+        if !rests_at(&self.nodes, d, counter) {
+            return false;
+        }
+        self.fabric.rest(reference, d, counter);
+        true
     }
 
     /// A tick happens while no window is open.

@@ -10,15 +10,15 @@ ghost use Rattle.sd_sched.specs.declared.Event.TheVariants as events_of;
 ghost use Rattle.sd_history.specs.World.{Setting};
 ghost use Rattle.sd_fleet_state.specs.world.Registers.{is_open, HasNamed};
 ghost use Rattle.sd_fleet_state.specs.membership.Plans.{AreSound, AreTables, IsNumber, root_numbered, row_numbered, is_member_numbered};
-ghost use Rattle.sd_fleet_state.specs.membership.Memberships.{IsSound, live_at, is_of, is_in_force, is_in_staged, is_counted_at, ends_below, is_current_number, can_close_in, answers_after, registers_after, registers_closed};
+ghost use Rattle.sd_fleet_state.specs.membership.Memberships.{IsSound, live_at, is_of, is_in_force, is_in_staged, is_counted_at, ends_below, is_current_number, can_close_in, answers_after, registers_after, registers_resting, registers_closed};
 ghost use Rattle.sd_fleet_state.specs.membership.Counts.{seen_by};
 ghost use Rattle.sd_fleet_state.specs.membership.Standing.{Stands};
 
 mod plans;
 mod settled_count;
 
-use crate::membership::plans::{Numbered, is_member, number_all};
-use crate::membership::settled_count::{SettledCount, Sight};
+use crate::membership::plans::{NumberedPlan, is_member, number_all};
+use crate::membership::settled_count::{MemberStates, SettledCount};
 use crate::world::World;
 use sd_num::NoMemory;
 use sd_plan::{Duty, End, Plan};
@@ -30,7 +30,7 @@ use std::marker::Model;
 /// What a device answers when it is asked of itself, once it was made or called.
 // In this order its fields have no gaps between them: it is copied at nearly every event.
 #[derive(Clone, Copy, Debug, PartialEq, Eq)]
-pub struct Answered {
+pub struct AnswerSummary {
     pub parent: Option<u32>,
     pub acts: bool,
     pub sealed: bool,
@@ -45,10 +45,10 @@ pub struct Answered {
 #[derive(Drop)]
 pub struct Membership {
     /// By number, from 1.
-    plans: Vec<Numbered>,
+    plans: Vec<NumberedPlan>,
     world: World,
     /// By device, since it was last made or called.
-    answers: Vec<Option<Answered>>,
+    answers: Vec<Option<AnswerSummary>>,
     /// Of the staged plan.
     settled_count: SettledCount,
 }
@@ -66,7 +66,7 @@ impl Model for Membership {
 }
 
 /// No device answered.
-fn no_answers(alloc: Global, count: u32) -> Result<Vec<Option<Answered>>, NoMemory>
+fn no_answers(alloc: Global, count: u32) -> Result<Vec<Option<AnswerSummary>>, NoMemory>
     ensures { IfOk result (λ answers. answers.items ≡ replicate count None) }
 {
     match vec![in alloc; None; count as usize] {
@@ -76,7 +76,11 @@ fn no_answers(alloc: Global, count: u32) -> Result<Vec<Option<Answered>>, NoMemo
 }
 
 /// What the named device answers from now on, where it is told.
-fn note_answers(answers: &mut [Option<Answered>], device: Option<u32>, told: &Option<Answered>)
+fn note_answers(
+    answers: &mut [Option<AnswerSummary>],
+    device: Option<u32>,
+    told: &Option<AnswerSummary>,
+)
     requires { IfSome device (λ d. d < length answers.old) }
     ensures { answers.new ≡ answers_after device told.now answers.old }
 {
@@ -125,11 +129,11 @@ impl Membership {
     }
 
     /// What the device answers, where it is up.
-    pub fn answered(&self, d: u32) -> Option<Answered>
+    pub fn answered(&self, d: u32) -> Option<AnswerSummary>
         requires { d < length self.now.answers }
         ensures { result ≡ live_at self.now d }
     {
-        self.sight().answered(d)
+        self.member_states().answered(d)
     }
 
     /// Whether the device is up and follows the plan with this number.
@@ -201,7 +205,7 @@ impl Membership {
 
     /// The next event, with which the window does not close, and what its device answers from then
     /// on where it was made or called.
-    pub fn observe(&mut self, event: &Event, answers: &Option<Answered>)
+    pub fn observe(&mut self, event: &Event, answers: &Option<AnswerSummary>)
         requires room { self.old.world.events < 2 ^ 63 }
         requires named { HasNamed self.old.world event.now }
         requires stage { is_stage event.now ≡ true → self.old.world.epoch < length self.old.plans }
@@ -209,7 +213,7 @@ impl Membership {
         ensures sound { IsSound self.new }
     {
         let device = event.device();
-        let others = Sight {
+        let others = MemberStates {
             plans: &self.plans,
             world: &self.world,
             answers: &self.answers,
@@ -217,7 +221,7 @@ impl Membership {
         .others(self.settled_count, device);
         self.world.observe(event);
         note_answers(&mut self.answers, device, answers);
-        self.settled_count = Sight {
+        self.settled_count = MemberStates {
             plans: &self.plans,
             world: &self.world,
             answers: &self.answers,
@@ -227,7 +231,7 @@ impl Membership {
 
     /// A tick or a receipt while no window is open, and what its device answers from then on.
     #[inline(always)]
-    pub fn note_call(&mut self, reference: u64, d: u32, counter: u64, answers: &Answered)
+    pub fn note_call(&mut self, reference: u64, d: u32, counter: u64, answers: &AnswerSummary)
         requires room { self.old.world.events < 2 ^ 63 }
         requires range { d < length self.old.answers }
         requires closed { is_open self.old.world.window ≡ false }
@@ -240,6 +244,21 @@ impl Membership {
     {
         self.world.note_call(reference, d, counter);
         self.answers[d as usize] = Some(*answers);
+    }
+
+    /// A tick or a receipt while no window is open, after which its device answers as before.
+    #[inline(always)]
+    pub fn note_rest(&mut self, reference: u64, d: u32, counter: u64)
+        requires room { self.old.world.events < 2 ^ 63 }
+        requires range { d < length self.old.answers }
+        requires closed { is_open self.old.world.window ≡ false }
+        ensures tick { self.new
+            ≡ registers_resting self.old (events_of.Tick reference d counter) }
+        ensures receipt { (message : ℕ) → self.new
+            ≡ registers_resting self.old (events_of.Recv reference d counter message) }
+        ensures sound { IsSound self.new }
+    {
+        self.world.note_call(reference, d, counter);
     }
 
     /// Whether the open window can close: it has its commit, some member of the staged plan is up,
@@ -261,11 +280,11 @@ impl Membership {
     }
 
     /// What a count looks at.
-    fn sight(&self) -> Sight<'_>
-        ensures sight { seen_by result ≡ self.now }
+    fn member_states(&self) -> MemberStates<'_>
+        ensures member_states { seen_by result ≡ self.now }
         ensures sound { IsSound self.now }
     {
-        Sight {
+        MemberStates {
             plans: &self.plans,
             world: &self.world,
             answers: &self.answers,

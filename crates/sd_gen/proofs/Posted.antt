@@ -11,9 +11,10 @@ use Rattle.sd_fleet.specs.History.Accepted.{AreSteps}
 use Rattle.sd_fleet.specs.History.flights.Flights.{AreNumberedOn, look_in}
 use Rattle.sd_fleet.proofs.History.flights.Sending.{step_numbered, counted}
 use Rattle.sd_fleet.proofs.History.flights.Counts.{numbers_few}
-use Rattle.sd_fleet.specs.FleetFabric.declared.Outcome.{Outcome}
-use Rattle.sd_fleet.specs.FleetFabric.Outcomes.{outcome_of, first_number}
+use Rattle.sd_fleet.specs.declared.Outcome.{Outcome}
+use Rattle.sd_fleet.specs.Outcomes.{outcome_of, first_number}
 use Rattle.sd_fleet.specs.History.Nodes.{steps_of}
+use Rattle.sd_fleet.proofs.Shared.{sent_reach, number_at}
 use Rattle.sd_gen.proofs.arrivals.Widening.{stands_wider}
 use Rattle.sd_gen.specs.declared.driven.Driven.{Ghosts}
 use Rattle.sd_gen.specs.declared.driver.Driver.{Driver}
@@ -22,7 +23,7 @@ use Rattle.sd_gen.specs.Driving.{Run}
 use Rattle.sd_gen.specs.Posting.{posted}
 use Rattle.sd_gen.specs.Standing.{StandsTo, StandsFor}
 use Rattle.sd_gen.proofs.Each.{each_take_more, each_reaching, steps_stay}
-use Rattle.sd_gen.proofs.Sent.{seen_reach, sent_found, sent_then, among_at, number_at}
+use Rattle.sd_gen.proofs.Sent.{sent_found, sent_then, among_at}
 use Rattle.sd_gen.proofs.Trying.{are_steps}
 
 -- a draft with the first of the messages posted, of those that reach
@@ -57,13 +58,14 @@ first_given n (f ∷ fs) is some = is.0
 
 module _ {D : Type 0} (g : Ghosts D) (setting : Setting) (x : Draft) (s : Step) (earlier : List Step) (steps : x.steps ≡ s ∷ earlier)
     (is : AreSteps setting (s ∷ earlier)) where
-  pub more : (old new : Driver D) (i number reference : ℕ) → i < length s.sent → number ≡ flight_count earlier + 1 + i → reference ≡ reference_of s.seen.event
+  pub posts_one_more : (old new : Driver D) (i number reference : ℕ) → i < length s.sent → number ≡ flight_count earlier + 1 + i
+      → reference ≡ reference_of s.seen.event
       → StandsTo g old setting (with_first i s x) (flight_count earlier + i)
       → ((y : Draft) (top : ℕ) → top < number → ((f : Flight) → look_in y.steps number ≡ Ok f → (f.sent_at ≡ reference) × (f.number ≡ number))
       → StandsTo g old setting y top
       → StandsTo g new setting (posted (look_in y.steps number) y) number)
       → StandsTo g new setting (with_first (i + 1) s x) (flight_count earlier + (i + 1))
-  more old new i number reference within is_number is_reference stands posts =
+  posts_one_more old new i number reference within is_number is_reference stands posts =
       let f : Flight = get_or s.sent i any_flight in
       let among = among_at s.sent i any_flight within in
       let y : Draft = with_first i s x in
@@ -125,7 +127,7 @@ posting_goes g r old new outcome reference number n from within next before one 
     let its : number ≡ flight_count earlier + 1 + (number - outcome.first_sent) = omega (arith, from, some.0) in
     let more_of : n ≡ number - outcome.first_sent + 1 = omega (arith, from, next) in
     subst (λ (k : ℕ). StandsTo g new setting (with_first k s x) (flight_count earlier + k)) (sym more_of)
-    (more g setting x s earlier steps is old new (number - outcome.first_sent) number reference some.1 its in_time
+    (posts_one_more g setting x s earlier steps is old new (number - outcome.first_sent) number reference some.1 its in_time
     (before setting x s earlier steps comes in_time stands) (one setting))
 
 take_whole : {A : Type 0} (xs : List A) (n : ℕ) → length xs ≤ n → take n xs ≡ xs
@@ -153,7 +155,7 @@ posting_ends g old new outcome reference number from upto end posts setting x s 
     let top : flight_count earlier + length s.sent ≡ flight_count (s ∷ earlier) = omega (arith, all) in
     let draft : with_first (length s.sent) s x ≡ each with_message s.seen.sent x =
     ap (λ fs. each (λ f. when f.reaches (with_message f)) fs x) (take_whole s.sent (length s.sent) (omega arith))
-    ∙ sym (each_reaching s.sent x) ∙ ap (λ fs. each with_message fs x) (sym (seen_reach setting s earlier is)) in
+    ∙ sym (each_reaching s.sent x) ∙ ap (λ fs. each with_message fs x) (sym (sent_reach setting s earlier is)) in
     let same : (each with_message s.seen.sent x).steps ≡ s ∷ earlier =
     ap (λ (y : Draft). y.steps) (sym draft) ∙ steps_stay (take (length s.sent) s.sent) x ∙ steps in
     subst (λ (k : ℕ). StandsTo g new setting (each with_message s.seen.sent x) k) (top ∙ ap flight_count (sym same))

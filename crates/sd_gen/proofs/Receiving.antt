@@ -26,10 +26,11 @@ pub begins : {D : Type 0} (g : Ghosts D) (r : Driver D) (setting : Setting) (mom
     → StillTo g r setting moment n (receive_up_to setting moment n x)
 begins g r setting moment n x stands = record { draft = x; stands = stands; rest = refl }
 
-pub goes : {D : Type 0} (g : Ghosts D) (old new : Driver D) (setting : Setting) (moment n : ℕ) (meant : Draft) → StillTo g old setting moment (suc n) meant
+pub receives_one_more : {D : Type 0} (g : Ghosts D) (old new : Driver D) (setting : Setting) (moment n : ℕ) (meant : Draft)
+    → StillTo g old setting moment (suc n) meant
     → ((x : Draft) → StandsFor g old setting x → ReceivesNext g new setting x (next_by moment x.waiting) true) → StillTo g new setting moment n meant
 unfolding receive_up_to
-goes g old new setting moment n meant still one = by (next_by moment still.draft.waiting) (one still.draft still.stands) still.rest
+receives_one_more g old new setting moment n meant still one = by (next_by moment still.draft.waiting) (one still.draft still.stands) still.rest
   where
     by : (o : Option Arrival) → ReceivesNext g new setting still.draft o true → go_on setting o (receive_up_to setting moment n) still.draft ≡ meant
         → StillTo g new setting moment n meant

@@ -9,7 +9,7 @@ use Rattle.sd_fleet.specs.History.declared.ApplyFault.TheVariants.{Memory}
 use Rattle.sd_fleet.specs.History.World.{Setting}
 use Rattle.sd_fleet.specs.History.Steps.{events_of}
 use Rattle.sd_fleet.specs.History.Nodes.{steps_of}
-use Rattle.sd_fleet.specs.FleetFabric.declared.Outcome.{Outcome}
+use Rattle.sd_fleet.specs.declared.Outcome.{Outcome}
 use Rattle.sd_fleet.specs.Standing as fleets
 use Rattle.sd_gen.specs.Driving.{Run, IsAccepted, IsRefused}
 use Rattle.sd_gen.specs.Recording.{StandsFor}

@@ -17,16 +17,12 @@ use Rattle.sd_fleet.specs.History.Steps.{Step, flight_count}
 use Rattle.sd_fleet.specs.History.Open.{unspent}
 use Rattle.sd_fleet.specs.History.Accepted.{AreSteps}
 use Rattle.sd_fleet.proofs.History.Among.{Among, first, later}
-use Rattle.sd_fleet.specs.History.flights.Flights.{AreNumberedOn, left_by, without_taken, without_swept, look_in}
+use Rattle.sd_fleet.specs.History.flights.Flights.{left_by, without_taken, without_swept, look_in}
 use Rattle.sd_fleet.proofs.History.flights.Finds.{finds, within, past_all, find_passing}
 use Rattle.sd_fleet.proofs.History.flights.Sending.{step_numbered, counted, was_sent}
 use Rattle.sd_fleet.proofs.History.flights.Numbers.{step_given, unspent_given}
 use Rattle.sd_fleet.proofs.History.flights.Looks.{look_is}
 use Rattle.sd_fleet.proofs.History.flights.Leaving.{unspent_after}
-
--- the messages that are seen are those that reach
-pub seen_reach : (setting : Setting) (s : Step) (earlier : List Step) → AreSteps setting (s ∷ earlier) → s.seen.sent ≡ filter (λ f. f.reaches) s.sent
-seen_reach setting s earlier is = ap (λ (x : Step). x.seen.sent) is.2 ∙ sym (ap (λ (x : Step). filter (λ f. f.reaches) x.sent) is.2)
 
 -- what an event leaves ascends as before
 swept_numbered : (x : Option Thing) (floor top : ℕ) (fs : List Flight) → AreNumbered floor top fs → AreNumbered floor top (without_swept x fs)
@@ -91,9 +87,3 @@ pub among_at : (fs : List Flight) (i : ℕ) (d : Flight) → i < length fs → A
 among_at [] i d h = absurd (omega arith)
 among_at (f ∷ fs) zero d h = first
 among_at (f ∷ fs) (suc i) d h = later (among_at fs i d (omega arith))
-
--- and its number
-pub number_at : (n : ℕ) (fs : List Flight) (i : ℕ) (d : Flight) → AreNumberedOn n fs → i < length fs → (get_or fs i d).number ≡ n + i
-number_at n [] i d is h = absurd (omega arith)
-number_at n (f ∷ fs) zero d is h = let same = is.0 in omega (arith, same)
-number_at n (f ∷ fs) (suc i) d is h = let rest = number_at (n + 1) fs i d is.1 (omega arith) in omega (arith, rest)

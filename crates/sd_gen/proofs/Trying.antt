@@ -13,8 +13,8 @@ use Rattle.sd_fleet.specs.History.Nodes.{NodeStep, IsRun, steps_of}
 use Rattle.sd_fleet.specs.History.Accepted.{AreSteps}
 use Rattle.sd_fleet.proofs.History.Devices.{devices_tell}
 use Rattle.sd_fleet.proofs.History.Accepting.{run_is_accepted}
-use Rattle.sd_fleet.specs.FleetFabric.declared.Outcome.{Outcome}
-use Rattle.sd_fleet.specs.FleetFabric.Outcomes.{outcome_of}
+use Rattle.sd_fleet.specs.declared.Outcome.{Outcome}
+use Rattle.sd_fleet.specs.Outcomes.{outcome_of}
 use Rattle.sd_gen.specs.declared.driven.Driven.{Ghosts}
 use Rattle.sd_gen.specs.declared.driver.Driver.{Driver}
 use Rattle.sd_gen.specs.Drafts.{Draft, each, with_message, unless_refused, try}

@@ -4,3 +4,4 @@ mod Naming
 mod Building
 mod Paging
 pub mod Reading
+mod Tables

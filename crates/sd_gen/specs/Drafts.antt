@@ -27,6 +27,7 @@ seeded number = pcg32_of_seed (pcg32_seed 16 number)
 abbrev pub word_of : Lcg → ℕ
 word_of g = (pcg32 g).0
 
+-- the generator behind the word that is drawn next
 abbrev pub behind_word : Lcg → Lcg
 behind_word g = (pcg32 g).1
 
@@ -53,6 +54,7 @@ abbrev pub each : {A : Type 0} → (A → Draft → Draft) → List A → Draft 
 each f [] x = x
 each f (a ∷ more) x = each f more (f a x)
 
+-- f, where it is so
 abbrev pub when : Bool → (Draft → Draft) → Draft → Draft
 when false f x = x
 when true f x = f x
@@ -95,9 +97,11 @@ module _ (setting : Setting) where
   abbrev pub without_message : ℕ → Draft → Draft
   without_message n x = record { rng = x.rng; leads = x.leads; steps = x.steps; waiting = without n x.waiting }
 
+  -- the draft after the receipt of the message
   abbrev pub receive : Arrival → Draft → Draft
   receive w x = try (Recv w.moment w.receiver (counter_at x w.receiver w.moment) w.number) (without_message w.number x)
 
+  -- what comes after the receipt of the message, if there is one
   abbrev pub go_on : Option Arrival → (Draft → Draft) → Draft → Draft
   go_on None next x = x
   go_on (Some w) next x = next (receive w x)
@@ -121,6 +125,7 @@ module _ (setting : Setting) where
   abbrev pub with_failure : ℕ → Draft → Draft
   with_failure k x = when (nat_eq k 21) (λ y. try (FailDevice 1025000000 0) (receive_until 1025000000 y)) x
 
+  -- each device that is up ticks
   abbrev pub with_ticks : ℕ → Draft → Draft
   with_ticks r x = try_each_up (λ d. Tick r d (counter_at x d r)) x
 
@@ -146,9 +151,11 @@ module _ (setting : Setting) where
   abbrev pub with_end : ℕ → ℕ → Draft → Draft
   with_end k r x = when (nat_eq k 200) (λ y. try (End r) (try_each_up (λ d. Ask r d (counter_at y d r)) y)) x
 
+  -- the draft after round k, which is at this reference
   abbrev pub round_at : ℕ → ℕ → Draft → Draft
   round_at k r x = with_end k r (with_ask k r (with_seals k r (with_renewal k r (with_ticks r (receive_until r (with_failure k x))))))
 
+  -- the draft after round k
   abbrev pub round : ℕ → Draft → Draft
   round k x = round_at k (reference_of_round k) x
 
@@ -168,6 +175,7 @@ module _ (setting : Setting) where
   abbrev pub start_of : ℕ → Event
   start_of d = Start 0 d 0 0 (if nat_eq d 0 then 500 else 1000000)
 
+  -- all devices start
   abbrev pub with_starts : Draft → Draft
   with_starts x = each (λ d y. try (start_of d) y) (device_numbers setting.net) x
 

@@ -8,9 +8,10 @@ use Rattle.sd_fleet.specs.History.World.{Setting}
 use Rattle.sd_fleet.specs.History.Steps.{events_of}
 use Rattle.sd_fleet.specs.History.Nodes.{NodeStep, IsRun, steps_of}
 use Rattle.sd_fleet.specs.History.Refusals.{refusal}
-use Rattle.sd_fleet.specs.FleetFabric.declared.Outcome.{Outcome}
-use Rattle.sd_fleet.specs.FleetFabric.Outcomes.{outcome_of}
+use Rattle.sd_fleet.specs.declared.Outcome.{Outcome}
+use Rattle.sd_fleet.specs.Outcomes.{outcome_of}
 
+-- a run of devices as the rules say
 abbrev pub Run : Type 0
 Run = List (NodeStep Registers)
 

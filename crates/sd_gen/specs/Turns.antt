@@ -18,8 +18,10 @@ event_by turn.Ask r leads d = Ask r d (counter_by (slice_index leads d) r)
 abbrev pub failed : Setting → Draft → Draft
 failed setting y = try setting (FailDevice 1025000000 0) (receive_until setting 1025000000 y)
 
+-- the draft once the next plan is staged, given and committed
 abbrev pub renewed : Setting → ℕ → Draft → Draft
 renewed setting r y = try setting (Commit r 1 (counter_at y 1 r)) (try_each_up setting (λ d. Give r d) (try setting (Stage r) y))
 
+-- the draft once each device is asked and the schedule ends
 abbrev pub ended : Setting → ℕ → Draft → Draft
 ended setting r y = try setting (End r) (try_each_up setting (λ d. Ask r d (counter_at y d r)) y)

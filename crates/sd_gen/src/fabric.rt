@@ -1,4 +1,4 @@
-//! The network of leaves and spines that a generated case has, as a text.
+//! The network of leaves and spines that a generated case has: as a topology, and as a text.
 ghost use Rattle.std.specs.Prelude.{◌≡◌, ◌≤◌, false, Some, IfOk};
 ghost use Rattle.toml.specs.Text.{IsDocumentText};
 ghost use Rattle.sd_topotext.specs.Reading.{tree_of};
@@ -8,12 +8,15 @@ ghost use Rattle.sd_gen.specs.fabric.Trees.{fabric_tree};
 mod arrays;
 mod names;
 mod pages;
+mod parts;
+mod topology;
 mod values;
 
 use arrays::devices_value;
 use pages::{add_links, add_racks, add_tables, front_text};
 use sd_num::NoMemory;
 use std::alloc::Global;
+pub use topology::fabric_topology;
 
 /// The text of a network in which each leaf has a link to each spine, printed with `toml`: a
 /// topology of version 1 with devices `s0`, `s1` and so on, then `l0`, `l1` and so on, a link

@@ -24,7 +24,7 @@ mod rounds;
 mod turns;
 
 // Handed on to crates above.
-pub use crate::fabric::fabric_text;
+pub use crate::fabric::{fabric_text, fabric_topology};
 pub use driven::Driven;
 use driver::Driver;
 pub use list::EventList;

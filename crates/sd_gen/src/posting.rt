@@ -3,7 +3,7 @@ ghost use Rattle.std.specs.Prelude.{◌≡◌, ◌≤◌, ◌<◌, ◌^◌, ℕ,
 ghost use Rattle.sd_core.specs.Msg.declared.Flight.{Flight};
 ghost use Rattle.sd_sched.specs.Events.{reference_of};
 ghost use Rattle.sd_sched.specs.Spelled.{is_within};
-ghost use Rattle.sd_fleet.specs.FleetFabric.Outcomes.{outcome_of};
+ghost use Rattle.sd_fleet.specs.Outcomes.{outcome_of};
 ghost use Rattle.sd_fleet.specs.History.World.{Setting};
 ghost use Rattle.sd_fleet.specs.History.Steps.{Step, flight_count};
 ghost use Rattle.sd_fleet.specs.History.flights.Flights.{look_in};

@@ -2,7 +2,7 @@
 use Rattle.std.specs.Prelude.{◌≡◌, ℕ, ◌≤◌, Bool, true, false, ◌&&◌, ◌||◌, not, List, [], ◌∷◌, nat_eq, Option, Some, None, is_some, option_map, refl, if◌then◌else◌}
 use Rattle.std.proofs.Common.{arith, sym, ◌∙◌, ap, subst}
 use Rattle.std.proofs.lemmas.Bool.{eqb-true, eq-eqb, not-false}
-use Rattle.sd_sched.specs.Num.Lists.{of_some, same_number}
+use Rattle.sd_sched.specs.Num.Lists.{map_or, same_number}
 use Rattle.sd_core.specs.Topo.Network.{rates_of}
 use Rattle.sd_core.specs.Topo.declared.Thing.TheVariants as thing
 use Rattle.sd_core.specs.Plan.declared.Plan.{Plan}
@@ -40,7 +40,7 @@ registers_in steps d = option_map registers_of (past_in steps d)
 
 -- a step with the registers of the device that it changed
 abbrev with_registers : List Step → Step → NodeStep Registers
-with_registers earlier s = record { step = s; node = of_some (changed s.act) None (registers_in (s ∷ earlier)) }
+with_registers earlier s = record { step = s; node = map_or (changed s.act) None (registers_in (s ∷ earlier)) }
 
 -- the run of a chronicle
 abbrev run_of : List Step → List (NodeStep Registers)
@@ -53,12 +53,12 @@ steps_are (s ∷ earlier) = ap (λ steps. s ∷ steps) (steps_are earlier)
 
 node_when : (steps : List Step) (o : Option Registers) (m d : ℕ) (q : Option Past → Option Past) (b : Bool) → nat_eq m d ≡ b
     → (b ≡ true → o ≡ option_map registers_of (q (past_in steps d)))
-    → of_some (if b then Some o else None) (registers_in steps d) (λ told. told) ≡ option_map registers_of (if b then q (past_in steps d) else past_in steps d)
+    → map_or (if b then Some o else None) (registers_in steps d) (λ told. told) ≡ option_map registers_of (if b then q (past_in steps d) else past_in steps d)
 node_when steps o m d q true equal is = is refl
 node_when steps o m d q false equal is = refl
 
 nodes_by : (steps : List Step) (s : Step) (act : Act) (d : ℕ) → s.act ≡ act
-    → of_some (if same_number (changed act) d then Some (of_some (changed act) None (registers_in (s ∷ steps))) else None) (registers_in steps d) (λ told. told)
+    → map_or (if same_number (changed act) d then Some (map_or (changed act) None (registers_in (s ∷ steps))) else None) (registers_in steps d) (λ told. told)
     ≡ option_map registers_of (past_after act d (past_in steps d))
 nodes_by steps s (Makes m making) d is =
     node_when steps (registers_in (s ∷ steps) m) m d (λ p. Some (new_past making)) (nat_eq m d) refl
@@ -77,7 +77,7 @@ nodes_by steps s Passes d is = refl
 nodes_are : (steps : List Step) (d : ℕ) → node_in (run_of steps) d ≡ registers_in steps d
 nodes_are [] d = refl
 nodes_are (s ∷ earlier) d =
-    ap (λ o. of_some (if same_number (changed s.act) d then Some (of_some (changed s.act) None (registers_in (s ∷ earlier))) else None) o (λ told. told))
+    ap (λ o. map_or (if same_number (changed s.act) d then Some (map_or (changed s.act) None (registers_in (s ∷ earlier))) else None) o (λ told. told))
     (nodes_are earlier d)
     ∙ nodes_by earlier s s.act d refl
 
@@ -92,7 +92,7 @@ up_is_made setting (e ∷ earlier) d up =
     (is_some (past_after (act_by setting steps e) d (past_in steps d)))
     (makes_past setting steps e d (past_in steps d)) (kept_past (act_by setting steps e) d (past_in steps d)) (up_is_made setting earlier d) up
 
-started_by : (m f n : Bool) (dev : Option ℕ) (up : ℕ → Bool) (d : ℕ) → (not (m || f || n) && of_some dev false (λ x. not (up x))) ≡ false
+started_by : (m f n : Bool) (dev : Option ℕ) (up : ℕ → Bool) (d : ℕ) → (not (m || f || n) && map_or dev false (λ x. not (up x))) ≡ false
     → (m || f || n) ≡ false → dev ≡ Some d → up d ≡ true
 started_by m f n None up d ok none named = cc
 started_by m f n (Some x) up d ok none named =
@@ -114,7 +114,7 @@ is_there setting history e d none calls_ named =
 -- What the kind allows
 
 allows_made : (steps : List Step) (s : Step) (m : ℕ) (by : Making) → s.act ≡ Makes m by → HasDuties IsOfAPlan (new_past by)
-    → IsMade device by (told_by steps (Makes m by)) (of_some (changed (Makes m by)) None (registers_in (s ∷ steps)))
+    → IsMade device by (told_by steps (Makes m by)) (map_or (changed (Makes m by)) None (registers_in (s ∷ steps)))
 allows_made steps s m by is duties =
     record {
       node = made by;
@@ -157,7 +157,7 @@ module _ (setting : Setting) (history : List Event) (going : RunGoes (run_of (ch
         there = nodes_are steps m ∙ ap (option_map registers_of) has;
         stepped = pair_is (called (registers_of past) call) (registers_of (after past call)) (effect_of past call) stood.stands.are stood.sends;
         tells =
-            ap (λ p. of_some p tells_nothing (λ q. tells_called (effect_of q call) (answers_by (after q call)))) has
+            ap (λ p. map_or p tells_nothing (λ q. tells_called (effect_of q call) (answers_by (after q call)))) has
             ∙ ap (tells_called (effect_of past call))
             (sym (answers_are (after past call) (duties_after IsOfAPlan past call lives.duties gives)
             (subst IsIdleAlone stood.stands.are (idle_after (registers_of past) call idle))));
@@ -212,18 +212,18 @@ module _ (setting : Setting) (history : List Event) (going : RunGoes (run_of (ch
 
   -- what the kind of devices allows of an act
   abbrev IsAllowed : Step → Act → Type 0
-  IsAllowed s act = Allows device (node_before (run_of steps) act) act (told_by steps act) (of_some (changed act) None (registers_in (s ∷ steps)))
+  IsAllowed s act = Allows device (node_before (run_of steps) act) act (told_by steps act) (map_or (changed act) None (registers_in (s ∷ steps)))
 
   allows_give : (s : Step) (r d : ℕ) (o : Option Plan)
-      → s.act ≡ of_some o Passes (λ plan. Calls d (calls.Give (duty_of setting.net plan (staged_epoch (seen_of steps)) d)))
+      → s.act ≡ map_or o Passes (λ plan. Calls d (calls.Give (duty_of setting.net plan (staged_epoch (seen_of steps)) d)))
       → refusal setting steps (event.Give r d) ≡ None
-      → IsAllowed s (of_some o Passes (λ plan. Calls d (calls.Give (duty_of setting.net plan (staged_epoch (seen_of steps)) d))))
+      → IsAllowed s (map_or o Passes (λ plan. Calls d (calls.Give (duty_of setting.net plan (staged_epoch (seen_of steps)) d))))
   allows_give s r d None is none = (refl, refl)
   allows_give s r d (Some plan) is none =
       allows_called (event.Give r d) s d (calls.Give (duty_of setting.net plan (staged_epoch (seen_of steps)) d)) is none refl refl refl refl (omega arith)
 
-  allows_receipt : (s : Step) (r d c n : ℕ) (o : Option Flight) → s.act ≡ of_some o Passes (λ f. Calls d (calls.Receive f.link f.message c))
-      → refusal setting steps (event.Recv r d c n) ≡ None → IsAllowed s (of_some o Passes (λ f. Calls d (calls.Receive f.link f.message c)))
+  allows_receipt : (s : Step) (r d c n : ℕ) (o : Option Flight) → s.act ≡ map_or o Passes (λ f. Calls d (calls.Receive f.link f.message c))
+      → refusal setting steps (event.Recv r d c n) ≡ None → IsAllowed s (map_or o Passes (λ f. Calls d (calls.Receive f.link f.message c)))
   allows_receipt s r d c n None is none = (refl, refl)
   allows_receipt s r d c n (Some f) is none = allows_called (event.Recv r d c n) s d (calls.Receive f.link f.message c) is none refl refl refl refl tt
 

@@ -3,7 +3,7 @@
 use Rattle.std.specs.Prelude.{◌≡◌, ℕ, ◌<◌, Bool, true, false, ◌||◌, List, [], ◌∷◌, length, nat_eq, nat_le, Option, Some, None, is_some, option_map, refl, if◌then◌else◌}
 use Rattle.std.proofs.Common.{ap, subst}
 use Rattle.std.proofs.lemmas.Bool.{leb-false, eqb-true}
-use Rattle.sd_sched.specs.Num.Lists.{of_some}
+use Rattle.sd_sched.specs.Num.Lists.{map_or}
 use Rattle.sd_core.specs.Topo.Network.{rates_of}
 use Rattle.sd_core.specs.Topo.declared.Thing.TheVariants as thing
 use Rattle.sd_core.specs.Plan.Duties.{duty_of}
@@ -25,10 +25,10 @@ pub named_is_known : (setting : Setting) (steps : List Step) (e : Event) (d : �
     → d < length setting.net.devices
 named_is_known setting steps e d none named = go (device_of e) named (none_holds (causes setting steps e) _ none first)
   where
-    go : (o : Option ℕ) → o ≡ Some d → of_some o false (λ x. nat_le (length setting.net.devices) x) ≡ false → d < length setting.net.devices
+    go : (o : Option ℕ) → o ≡ Some d → map_or o false (λ x. nat_le (length setting.net.devices) x) ≡ false → d < length setting.net.devices
     go None same h = cc
     go (Some x) same h =
-        subst (λ n. n < length setting.net.devices) (ap (λ o. of_some o x (λ z. z)) same) (leb-false (length setting.net.devices) x h)
+        subst (λ n. n < length setting.net.devices) (ap (λ o. map_or o x (λ z. z)) same) (leb-false (length setting.net.devices) x h)
 
 made_named : (e : Event) (d : ℕ) → makes d e ≡ true → device_of e ≡ Some d
 made_named (event.Start r m c clock eps) d made = by (nat_eq m d) refl made
@@ -40,7 +40,7 @@ made_named (event.Join r m c clock eps) d made = ap Some (eqb-true m d made)
 made_named _ d made = cc
 
 -- a device that is up was made with this event, or was up before
-pub up_case : (m f : Bool) (before : Bool) → of_some (if m then Some true else if f then Some false else None) before (λ x. x) ≡ true
+pub up_case : (m f : Bool) (before : Bool) → map_or (if m then Some true else if f then Some false else None) before (λ x. x) ≡ true
     → (m ≡ false → before ≡ true)
 up_case true f before h = λ e. cc
 up_case false true before h = cc
@@ -108,7 +108,7 @@ makes_past setting steps (event.MendLink r l) d p makes_ = cc
 makes_past setting steps (event.End r) d p makes_ = cc
 
 pub up_by : (m f up : Bool) (p q : Bool) → (m ≡ true → q ≡ true) → (p ≡ true → q ≡ true) → (up ≡ true → p ≡ true)
-    → of_some (if m then Some true else if f then Some false else None) up (λ told. told) ≡ true → q ≡ true
+    → map_or (if m then Some true else if f then Some false else None) up (λ told. told) ≡ true → q ≡ true
 up_by true f up p q making kept rest is = making refl
 up_by false true up p q making kept rest is = cc
 up_by false false up p q making kept rest is = kept (rest is)

@@ -3,9 +3,9 @@
 -- A proof by events goes through the sixteen kinds once (event_goes, allows_event, event_step). For a receipt and for a give it goes on by
 -- cases of the flight, or of the staged plan, as a variable, since act_by waits for it. An example whose two sides both compute compares them
 -- at great cost: it is stated as a test that computes to true, or with a literal on one side.
-mod Base
+pub mod Base
 mod Rows
-mod Windows
+pub mod Windows
 pub mod Bridges
 pub mod Tellings
 pub mod Accepting
@@ -21,5 +21,6 @@ pub mod Happening
 mod DeviceKind
 mod OtherNodes
 pub mod flights
+pub mod Shared
 -- Handed on: what crates above name of those below.
 pub use Rattle.sd_core.proofs as Core

@@ -2,7 +2,7 @@
 use Rattle.std.specs.Prelude.{◌≡◌, ℕ, Bool, true, false, ◌&&◌, nat_eq, Option, Some, None, option_map, option_and_then, refl, if◌then◌else◌}
 use Rattle.std.proofs.Common.{◌∙◌, ap, subst}
 use Rattle.std.proofs.lemmas.Bool.{eqb-true}
-use Rattle.sd_sched.specs.Num.Lists.{of_some}
+use Rattle.sd_sched.specs.Num.Lists.{map_or}
 use Rattle.sd_core.specs.Topo.Network.{Network, rates_of, bounds_of}
 use Rattle.sd_core.specs.Plan.declared.Hop.{Hop}
 use Rattle.sd_core.specs.Plan.declared.Plan.{Plan}
@@ -67,19 +67,19 @@ own_parent : (net : Network) (d : ℕ) (past : Past) → OwnPast net d past → 
 own_parent net d past own true m e same = cc
 own_parent net d past own false true e same = of_backup (duty_now past) refl same
   where
-    of_backup : (u : Option Duty) → duty_now past ≡ u → of_some u None (λ duty. duty.backup) ≡ Some e → OwnEdge net d e
+    of_backup : (u : Option Duty) → duty_now past ≡ u → map_or u None (λ duty. duty.backup) ≡ Some e → OwnEdge net d e
     of_backup None is same' = cc
     of_backup (Some duty) is same' = (own.duties.duty duty is).backup e same'
 own_parent net d past own false false e same = of_primary (duty_now past) refl same
   where
-    of_primary : (u : Option Duty) → duty_now past ≡ u → of_some u None (λ duty. duty.primary) ≡ Some e → OwnEdge net d e
+    of_primary : (u : Option Duty) → duty_now past ≡ u → map_or u None (λ duty. duty.primary) ≡ Some e → OwnEdge net d e
     of_primary None is same' = cc
     of_primary (Some duty) is same' = (own.duties.duty duty is).primary e same'
 
 entered_over : (net : Network) (d link : ℕ) (g : Option Duty) (message : Message) (rest : Transition) (edge : Edge)
     → ((u : Duty) → g ≡ Some u → OwnDuty net d u) → (accepted_over rest ≡ Some edge → OwnLink net d link edge)
     → accepted_over
-    (of_some (option_and_then
+    (map_or (option_and_then
     (λ duty. if nat_eq duty.epoch message.epoch then option_map (Entered duty) (option_and_then (over_link link) duty.primary) else None) g) rest
     (λ transition. transition)) ≡ Some edge
     → OwnLink net d link edge
@@ -87,18 +87,18 @@ entered_over net d link None message rest edge own others same = others same
 entered_over net d link (Some v) message rest edge own others same = in_epoch (nat_eq v.epoch message.epoch) same
   where
     by_edge : (o : Option Edge) → option_and_then (over_link link) v.primary ≡ o
-        → accepted_over (of_some (option_map (Entered v) o) rest (λ transition. transition)) ≡ Some edge → OwnLink net d link edge
+        → accepted_over (map_or (option_map (Entered v) o) rest (λ transition. transition)) ≡ Some edge → OwnLink net d link edge
     by_edge None is e = others e
     by_edge (Some x) is e = own_over net d link v.primary edge (own v refl).primary (is ∙ e)
 
     in_epoch : (b : Bool)
-        → accepted_over (of_some (if b then option_map (Entered v) (option_and_then (over_link link) v.primary) else None) rest (λ transition. transition))
+        → accepted_over (map_or (if b then option_map (Entered v) (option_and_then (over_link link) v.primary) else None) rest (λ transition. transition))
         ≡ Some edge → OwnLink net d link edge
     in_epoch true e = by_edge (option_and_then (over_link link) v.primary) refl e
     in_epoch false e = others e
 
 accepted_own : (net : Network) (d link : ℕ) (b : Bool) (o : Option Edge) (edge : Edge) → (o ≡ Some edge → OwnLink net d link edge)
-    → accepted_over (of_some (if b then option_map Accepted o else None) Nothing (λ transition. transition)) ≡ Some edge → OwnLink net d link edge
+    → accepted_over (map_or (if b then option_map Accepted o else None) Nothing (λ transition. transition)) ≡ Some edge → OwnLink net d link edge
 accepted_own net d link true None edge own same = cc
 accepted_own net d link true (Some e) edge own same = own same
 accepted_own net d link false o edge own same = cc
@@ -106,7 +106,7 @@ accepted_own net d link false o edge own same = cc
 pub accepts_own : (net : Network) (d : ℕ) (past : Past) (link : ℕ) (message : Message) (counter : ℕ) (edge : Edge) → OwnPast net d past
     → accepted_over (transition_of past (Receive link message counter)) ≡ Some edge → OwnLink net d link edge
 accepts_own net d past link message counter edge own same =
-    entered_over net d link (given_now past) message (of_some (accepted_by past link message) Nothing (λ transition. transition)) edge own.duties.given
+    entered_over net d link (given_now past) message (map_or (accepted_by past link message) Nothing (λ transition. transition)) edge own.duties.given
     (λ e. accepted_own net d link (nat_eq (epoch_now past) message.epoch && is_newer message.stamp (stamp_now past))
     (option_and_then (over_link link) (parent_edge past)) edge
     (λ same'. own_over net d link (parent_edge past) edge (λ x found. own_parent net d past own (is_acting past) (has_moved past) x found) same') e) same
@@ -117,7 +117,7 @@ pub own_after : (net : Network) (d : ℕ) (past : Past) (call : Call) → OwnPas
 own_after net d past call own gives = record { first = own.first; duties = duties_after (OwnDuty net d) past call own.duties gives }
 
 rates_by : (net : Network) (d : ℕ) (past : Past) → OwnPast net d past → (o : Option Duty) → duty_now past ≡ o
-    → of_some o (first_rates past.making) (λ duty. duty.rates) ≡ rates_of net d
+    → map_or o (first_rates past.making) (λ duty. duty.rates) ≡ rates_of net d
 rates_by net d past own None is = own.first
 rates_by net d past own (Some u) is = (own.duties.duty u is).rates
 

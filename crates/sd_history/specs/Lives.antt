@@ -6,9 +6,11 @@ use Rattle.sd_core.specs.Calls as calls
 use Rattle.sd_core.specs.Living.{Life}
 use Rattle.sd_history.specs.Steps.{Act, Told, Step, Makes, Calls, Asks, Passes}
 
+-- a device that is asked tells this report
 abbrev pub tells_report : Report → Told
 tells_report report = record { effect = Quiet; answers = None; report = Some report }
 
+-- the life of a device after an act
 abbrev pub life_after : Act → ℕ → Option Life → Option Life
 life_after (Makes e making) d before = if nat_eq e d then Some (record { making = making; calls = [] }) else before
 life_after (Calls e call) d before = if nat_eq e d then option_map (λ life. record { making = life.making; calls = call ∷ life.calls }) before else before

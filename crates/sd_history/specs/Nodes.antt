@@ -4,7 +4,7 @@
 -- fleet owes its nodes besides (floors, ceilings and heights of their numbers) is no part of a run: refusals and the limits of fields give it.
 -- A node does not say of which plan a given duty is, so a fleet has to know it: it is the plan of the latest give.
 use Rattle.std.specs.Prelude.{◌≡◌, ℕ, List, [], ◌∷◌, map, Option, Some, None, option_and_then, if◌then◌else◌}
-use Rattle.sd_sched.specs.Num.Lists.{same_number, latest}
+use Rattle.sd_sched.specs.Num.Lists.{same_number, find_map_or}
 use Rattle.sd_core.specs.Clock.declared.Report.{Report}
 use Rattle.sd_core.specs.declared.Effect.{Effect}
 use Rattle.sd_core.specs.declared.node.Node.{Ghosts}
@@ -30,7 +30,7 @@ steps_of run = map (λ x. x.step) run
 
 -- the node of a device, since it was last made or called
 abbrev pub node_in : {N : Type 0} → List (NodeStep N) → ℕ → Option N
-node_in run d = latest (λ x. if same_number (changed x.step.act) d then Some x.node else None) run None
+node_in run d = find_map_or (λ x. if same_number (changed x.step.act) d then Some x.node else None) run None
 
 -- the device that an act calls or asks
 abbrev pub addressed : Act → Option ℕ
@@ -50,6 +50,7 @@ pub record IsMade {N : Type 0} (g : Ghosts N) (making : Making) (told : Told) (a
   pub tells : told ≡ tells_made (answers_of g node)
   pub left : after ≡ Some node
 
+-- a node was there, was called and tells what its kind allows
 pub record IsCalled {N : Type 0} (g : Ghosts N) (before : Option N) (call : Call) (told : Told) (after : Option N) : Type 0 where
   pub old : N
   pub node : N
@@ -59,6 +60,7 @@ pub record IsCalled {N : Type 0} (g : Ghosts N) (before : Option N) (call : Call
   pub tells : told ≡ tells_called effect (answers_of g node)
   pub left : after ≡ Some node
 
+-- a node was there, was asked and tells what its kind allows
 pub record IsAsked {N : Type 0} (g : Ghosts N) (before : Option N) (counter : ℕ) (told : Told) (after : Option N) : Type 0 where
   pub node : N
   pub report : Report

@@ -2,7 +2,7 @@
 -- orderly renewal.
 use Rattle.std.specs.Prelude.{ℕ, ◌+◌, ◌-◌, Bool, true, false, ◌&&◌, ◌||◌, not, List, [], ◌∷◌, ◌++◌, length, filter, filter_map, flat_map, map, nat_eq, nat_le, nat_lt, Some, None, is_some, option_map, option_to_list, if◌then◌else◌}
 use Rattle.std.specs.List.{list_any, list_all}
-use Rattle.sd_sched.specs.Num.Lists.{below, has, of_some, same_number, latest, leading}
+use Rattle.sd_sched.specs.Num.Lists.{below, has, map_or, same_number, find_map_or, leading}
 use Rattle.sd_core.specs.Topo.Network.{rates_of, delay_of, device_numbers, link_numbers}
 use Rattle.sd_core.specs.Topo.Joined.{joined_within}
 use Rattle.sd_core.specs.Topo.declared.Thing.{Thing}
@@ -25,6 +25,7 @@ at_each test (s ∷ earlier) = at_each test earlier && test s earlier
 
 -- Start: the clock that a start, join or fix sets is within its uncertainty.
 
+-- the premise on starts holds
 abbrev pub start_holds : List Seen → Bool
 start_holds seen = list_all (λ s. sets_true_clock s.event) seen
 
@@ -42,11 +43,12 @@ readings (s ∷ earlier) d =
 -- the event's reading keeps the rates with each earlier reading of its life
 abbrev pub reads_honestly : Setting → Seen → List Seen → Bool
 reads_honestly setting s earlier =
-    of_some (device_of s.event) true (λ d.
-    of_some (counter_of s.event) true (λ c.
+    map_or (device_of s.event) true (λ d.
+    map_or (counter_of s.event) true (λ c.
     makes d s.event
     || list_all (keeps_reading (rates_of setting.net d) (reference_of s.event, c)) (readings earlier d)))
 
+-- the premise on drift holds
 abbrev pub drift_holds : Setting → List Seen → Bool
 drift_holds setting seen = at_each (reads_honestly setting) seen
 
@@ -58,9 +60,11 @@ is_in_time setting reference f =
     let delay = delay_of setting.net f.link f.receiver in
     nat_le delay.min (reference - f.sent_at) && nat_le (reference - f.sent_at) delay.max
 
+-- the flight that was received, if one was, arrived within the bounds of its link
 abbrev pub arrives_in_time : Setting → Seen → Bool
-arrives_in_time setting s = of_some s.taken true (is_in_time setting (reference_of s.event))
+arrives_in_time setting s = map_or s.taken true (is_in_time setting (reference_of s.event))
 
+-- the premise on delays holds
 abbrev pub delay_holds : Setting → List Seen → Bool
 delay_holds setting seen = list_all (arrives_in_time setting) seen
 
@@ -69,7 +73,7 @@ delay_holds setting seen = list_all (arrives_in_time setting) seen
 -- the reference of the device's latest tick, start or join
 abbrev pub latest_tick : List Seen → ℕ → ℕ
 latest_tick seen d =
-    latest (λ s. if same_number (ticked s.event) d || makes d s.event then Some (reference_of s.event) else None) seen 0
+    find_map_or (λ s. if same_number (ticked s.event) d || makes d s.event then Some (reference_of s.event) else None) seen 0
 
 -- the device is a member of the plan in force or of the staged one
 abbrev pub is_current_member : Setting → List Seen → ℕ → Bool
@@ -80,6 +84,7 @@ abbrev pub first_reference : List Seen → Seen → ℕ
 first_reference [] s = reference_of s.event
 first_reference (x ∷ earlier) s = first_reference earlier x
 
+-- at this event no tick is overdue, of members that are up and of those that were not started yet
 abbrev pub ticks_in_time : Setting → Seen → List Seen → Bool
 ticks_in_time setting s earlier =
     list_all (λ d. not (is_up earlier d && is_current_member setting earlier d)
@@ -87,6 +92,7 @@ ticks_in_time setting s earlier =
     && list_all (λ d. not (is_untouched earlier d)
     || nat_le (reference_of s.event) (first_reference earlier s + setting.net.params.tick)) (members setting.net (plan_numbered setting 1))
 
+-- the premise on ticks holds
 abbrev pub tick_holds : Setting → List Seen → Bool
 tick_holds setting seen = at_each (ticks_in_time setting) seen
 
@@ -100,8 +106,9 @@ reaching_flights seen = flat_map (λ s. s.sent) seen
 abbrev pub seen_since_sending : List Seen → ℕ → List Seen
 seen_since_sending seen n = leading (λ s. not (list_any (λ f. nat_eq f.number n) s.sent)) seen
 
+-- the flight with this number was received
 abbrev pub was_received : List Seen → ℕ → Bool
-was_received seen n = list_any (λ s. of_some s.taken false (λ f. nat_eq f.number n)) seen
+was_received seen n = list_any (λ s. map_or s.taken false (λ f. nat_eq f.number n)) seen
 
 -- some event lies past the flight's due
 abbrev pub is_overdue : List Seen → Flight → Bool
@@ -124,6 +131,7 @@ spoils (s ∷ earlier) f =
 abbrev pub spoiled_rounds : List Seen → List Stamp
 spoiled_rounds seen = map (λ f. f.message.stamp) (filter (spoils seen) (reaching_flights seen))
 
+-- the stamp is of this round of this term
 abbrev pub is_round : Stamp → ℕ → ℕ → Bool
 is_round stamp term round = nat_eq stamp.term term && nat_eq stamp.round round
 
@@ -131,6 +139,7 @@ is_round stamp term round = nat_eq stamp.term term && nat_eq stamp.round round
 abbrev pub all_from : List Stamp → ℕ → ℕ → ℕ → Bool
 all_from rounds term round k = list_all (λ i. list_any (λ other. is_round other term (round + i)) rounds) (below k)
 
+-- the premise on losses holds
 abbrev pub loss_holds : Setting → List Seen → Bool
 loss_holds setting seen =
     let rounds = spoiled_rounds seen in
@@ -142,9 +151,11 @@ loss_holds setting seen =
 abbrev pub failures_since_closing : List Seen → List Thing
 failures_since_closing seen = filter_map (λ s. failure_of s.event) (leading (λ s. not s.closed) seen)
 
+-- what failed since the closing lies within one domain, with what this event fails
 abbrev pub fails_within_one : Setting → Seen → List Seen → Bool
 fails_within_one setting s earlier = is_some (within_one setting.net (option_to_list (failure_of s.event) ++ failures_since_closing earlier))
 
+-- the premise on failures in one domain holds
 abbrev pub domain_holds : Setting → List Seen → Bool
 domain_holds setting seen = at_each (fails_within_one setting) seen
 
@@ -153,7 +164,7 @@ domain_holds setting seen = at_each (fails_within_one setting) seen
 -- the open window gave the device its duty, and since its latest join where it joined in the window
 abbrev pub was_given : List Seen → ℕ → Bool
 was_given seen d =
-    of_some (window seen) false (λ w. list_any (λ s. same_number (given s.event) d) (leading (λ s. not (same_number (joined s.event) d)) w))
+    map_or (window seen) false (λ w. list_any (λ s. same_number (given s.event) d) (leading (λ s. not (same_number (joined s.event) d)) w))
 
 -- no device that is up and left out by the plan is joined to the plan's root through devices that are up and links that are not failed
 abbrev pub leaves_out_cleanly : Setting → List Seen → Plan → Bool
@@ -174,7 +185,7 @@ abbrev pub commits_orderly : Setting → Seen → List Seen → Bool
 commits_orderly setting s earlier =
     not (is_commit s.event)
     || (s.acted
-    && of_some (staged setting earlier) true (λ plan.
+    && map_or (staged setting earlier) true (λ plan.
     list_all (is_prepared setting earlier) (members setting.net plan)
     && leaves_out_failed setting earlier plan
     && leaves_out_cleanly setting earlier plan))
@@ -187,7 +198,7 @@ has_seal seen = in_window (λ s. is_seal s.event) seen
 abbrev pub seals_orderly : Setting → Seen → List Seen → Bool
 seals_orderly setting s earlier =
     not (is_seal s.event) || has_seal earlier
-    || of_some (staged setting earlier) true (λ plan.
+    || map_or (staged setting earlier) true (λ plan.
     list_all (λ d. not (is_up earlier d) || has_entered earlier d) (members setting.net plan))
 
 -- the open window has a mend
@@ -202,8 +213,9 @@ fails_orderly s earlier = not (is_some (failure_of s.event)) || not (has_mend ea
 abbrev pub begins_orderly : Setting → Seen → List Seen → Bool
 begins_orderly setting s earlier =
     not (is_some (started s.event) && list_any (λ x. is_stage x.event) earlier)
-    && of_some (joined s.event) true (λ d. not (is_member (in_force setting earlier) d && is_untouched earlier d))
+    && map_or (joined s.event) true (λ d. not (is_member (in_force setting earlier) d && is_untouched earlier d))
 
+-- the premise on renewals holds
 abbrev pub renew_holds : Setting → List Seen → Bool
 renew_holds setting seen =
     at_each (λ s earlier. commits_orderly setting s earlier && seals_orderly setting s earlier && fails_orderly s earlier && begins_orderly setting s earlier)

@@ -2,7 +2,7 @@
 -- newest comes first. Nothing here says what kind of device it is: its words are what the devices told.
 use Rattle.std.specs.Prelude.{ℕ, ◌+◌, ◌*◌, Bool, false, ◌&&◌, not, List, ◌∷◌, length, find, filter, flat_map, map, sum_by, nat_eq, nat_le, Option, Some, None, option_map, option_and_then, if◌then◌else◌, []}
 use Rattle.std.specs.List.{list_all}
-use Rattle.sd_sched.specs.Num.Lists.{of_some, same_number, latest}
+use Rattle.sd_sched.specs.Num.Lists.{map_or, same_number, find_map_or}
 use Rattle.sd_core.specs.Topo.Network.{delay_of, rates_of}
 use Rattle.sd_core.specs.Plan.declared.Duty.{Duty}
 use Rattle.sd_core.specs.Plan.declared.End.{End}
@@ -42,6 +42,7 @@ pub record Told : Type 0 where
   pub answers : Option Answers
   pub report : Option Report
 
+-- a device tells nothing
 abbrev pub tells_nothing : Told
 tells_nothing = record { effect = Quiet; answers = None; report = None }
 
@@ -49,6 +50,7 @@ tells_nothing = record { effect = Quiet; answers = None; report = None }
 abbrev pub tells_made : Answers → Told
 tells_made answers = record { effect = Quiet; answers = Some answers; report = None }
 
+-- a device that was called tells what it sends, and what it answers from then on
 abbrev pub tells_called : Effect → Answers → Told
 tells_called effect answers = record { effect = effect; answers = Some answers; report = None }
 
@@ -78,18 +80,21 @@ changed Passes = None
 
 -- what a device answers since it was last made or called
 abbrev pub answers_in : List Step → ℕ → Option Answers
-answers_in steps d = latest (λ s. if same_number (changed s.act) d then Some s.told.answers else None) steps None
+answers_in steps d = find_map_or (λ s. if same_number (changed s.act) d then Some s.told.answers else None) steps None
 
 -- what a device that is up answers
 abbrev pub live_answers : List Step → ℕ → Option Answers
 live_answers steps d = if is_up (seen_of steps) d then answers_in steps d else None
 
+-- the present parent of a device that is up
 abbrev pub parent_in : List Step → ℕ → Option ℕ
 parent_in steps d = option_and_then (λ a. a.parent) (live_answers steps d)
 
+-- the device is up and acts as root
 abbrev pub acts_in : List Step → ℕ → Bool
-acts_in steps d = of_some (live_answers steps d) false (λ a. a.acts)
+acts_in steps d = map_or (live_answers steps d) false (λ a. a.acts)
 
+-- the epoch of a device that is up
 abbrev pub epoch_in : List Step → ℕ → Option ℕ
 epoch_in steps d = option_map (λ a. a.epoch) (live_answers steps d)
 
@@ -99,7 +104,7 @@ given_in steps d = option_and_then (λ a. option_map (λ duty. duty.epoch) a.giv
 
 -- the device is of the plan with this number, and is sealed
 abbrev pub has_settled : List Step → ℕ → ℕ → Bool
-has_settled steps epoch d = of_some (live_answers steps d) false (λ a. nat_eq a.epoch epoch && a.sealed)
+has_settled steps epoch d = map_or (live_answers steps d) false (λ a. nat_eq a.epoch epoch && a.sealed)
 
 -- Messages
 
@@ -107,6 +112,7 @@ has_settled steps epoch d = of_some (live_answers steps d) false (λ a. nat_eq a
 abbrev pub flights : List Step → List Flight
 flights steps = flat_map (λ s. s.sent) steps
 
+-- the flight with this number, if one was sent
 abbrev pub flight_numbered : List Step → ℕ → Option Flight
 flight_numbered steps n = find (λ f. nat_eq f.number n) (flights steps)
 
@@ -138,7 +144,7 @@ flights_to setting steps reference sender message number (downstream ∷ others)
 -- the downstream ends of a device in the plan with this number, and none where that plan is neither in force nor staged. The number is the
 -- one that the device answers after the call, whatever number its message carries.
 abbrev pub ends_at : Setting → List Step → ℕ → ℕ → List End
-ends_at setting steps epoch d = of_some (current_plan setting (seen_of steps) epoch) [] (λ plan. ends_of setting.net plan d)
+ends_at setting steps epoch d = map_or (current_plan setting (seen_of steps) epoch) [] (λ plan. ends_of setting.net plan d)
 
 -- what a device sends, over its ends in the plan that it then follows
 abbrev pub flights_by : Setting → List Step → ℕ → ℕ → ℕ → Effect → List Flight
@@ -149,7 +155,7 @@ flights_by setting steps reference d epoch (Send message) =
 -- the flights of a step whose device told this
 abbrev pub flights_of : Setting → List Step → ℕ → Act → Told → List Flight
 flights_of setting steps reference act told =
-    of_some (changed act) [] (λ d. of_some told.answers [] (λ a. flights_by setting steps reference d a.epoch told.effect))
+    map_or (changed act) [] (λ d. map_or told.answers [] (λ a. flights_by setting steps reference d a.epoch told.effect))
 
 -- Events
 
@@ -160,10 +166,10 @@ act_by setting steps (event.Start reference device counter clock eps) =
 act_by setting steps (event.Join reference device counter clock eps) = Makes device (calls.Joined (rates_of setting.net device) counter clock eps)
 act_by setting steps (event.Tick reference device counter) = Calls device (calls.Tick counter)
 act_by setting steps (event.Recv reference device counter message) =
-    of_some (flight_numbered steps message) Passes (λ f. Calls device (calls.Receive f.link f.message counter))
+    map_or (flight_numbered steps message) Passes (λ f. Calls device (calls.Receive f.link f.message counter))
 act_by setting steps (event.Fix reference device counter clock eps) = Calls device (calls.Fix counter clock eps)
 act_by setting steps (event.Give reference device) =
-    of_some (staged setting (seen_of steps)) Passes (λ plan. Calls device (calls.Give (duty_of setting.net plan (staged_epoch (seen_of steps)) device)))
+    map_or (staged setting (seen_of steps)) Passes (λ plan. Calls device (calls.Give (duty_of setting.net plan (staged_epoch (seen_of steps)) device)))
 act_by setting steps (event.Commit reference device counter) = Calls device (calls.Commit counter)
 act_by setting steps (event.Seal reference device) = Calls device calls.Seal
 act_by setting steps (event.Ask reference device counter) = Asks device counter
@@ -175,7 +181,7 @@ act_by setting steps _ = Passes
 abbrev pub can_close : Setting → List Step → Bool
 can_close setting steps =
     has_commit (seen_of steps)
-    && of_some (staged setting (seen_of steps)) false (λ plan.
+    && map_or (staged setting (seen_of steps)) false (λ plan.
     let present = filter (is_up (seen_of steps)) (members setting.net plan) in
     nat_le 1 (length present) && list_all (has_settled steps (staged_epoch (seen_of steps))) present)
 
@@ -187,7 +193,7 @@ taken_by steps e = option_and_then (flight_numbered steps) (received e)
 
 -- the event named a device that acted as root
 abbrev pub acted_by : List Step → Event → Bool
-acted_by steps e = of_some (device_of e) false (acts_in steps)
+acted_by steps e = map_or (device_of e) false (acts_in steps)
 
 -- a step before it is known which device entered the staged plan with it and whether the window closed
 abbrev pub first_step : Setting → List Step → Event → Told → Step
@@ -209,8 +215,9 @@ has_turned steps s d =
 
 -- the device that entered the staged plan with the step
 abbrev pub activated_by : List Step → Step → Option ℕ
-activated_by steps s = of_some (device_of s.seen.event) None (λ d. if has_turned steps s d then Some d else None)
+activated_by steps s = map_or (device_of s.seen.event) None (λ d. if has_turned steps s d then Some d else None)
 
+-- the step, with the device that enters the staged plan and whether the window closes
 abbrev pub complete : Setting → List Step → Step → Step
 complete setting steps s =
     record {

@@ -7,16 +7,16 @@ use Rattle.std.proofs.lemmas.List.Elements.{All-push, All-set, All-get_or, All-h
 use Rattle.sd_topo.specs.declared.Thing.{Thing}
 use Rattle.sd_msg.specs.declared.Flight.{Flight}
 use Rattle.sd_msg.specs.declared.spent.Spent.{Spent}
-use Rattle.sd_msg.specs.Books.{AreNumbered, has_number, without, with_sent, is_swept, is_current}
+use Rattle.sd_msg.specs.Books.{Size, AreNumbered, has_number, without, with_sent, is_swept, is_current, is_within}
 use Rattle.sd_msg.specs.Marks.{mark_of}
-use Rattle.sd_msg.specs.Spent.{is_spared, is_left, is_known, as_spent, AreKept}
+use Rattle.sd_msg.specs.Spent.{is_spared, is_left, as_spent, size_of, AreKept}
 use Rattle.sd_msg.proofs.Numbered.{floor_low, numbered_filter}
 use Rattle.sd_msg.proofs.Rows.{row_numbered, row_push, row_spent}
 use Rattle.sd_msg.proofs.Finding.{beyond, first_is_other, without_none}
-use Rattle.sd_msg.proofs.Filters.{passing_last, failing_last, both}
+use Rattle.sd_msg.proofs.Filters.{passing_last, failing_last, filter_and}
 
-abbrev IsKnown : Spent → Flight → Type 0
-IsKnown spent f = is_known spent f ≡ true
+abbrev IsWithin : Spent → Flight → Type 0
+IsWithin spent f = is_within (size_of spent) f ≡ true
 
 -- they ascend by number
 pub numbered : (last : ℕ) (spent : Spent) (fs : List Flight) → AreKept last spent fs → AreNumbered 0 last fs
@@ -26,18 +26,23 @@ numbered last spent fs h = row_numbered 0 last fs h.row (omega (arith, h.count))
 pub seen_numbered : (test : Flight → Bool) (last : ℕ) (spent : Spent) (fs : List Flight) → AreKept last spent fs → AreNumbered 0 last (filter test fs)
 seen_numbered test last spent fs h = numbered_filter 0 last test fs (numbered last spent fs h)
 
+-- a flight over one of the links, to one of the devices
+pub inside : (size : Size) (f : Flight) → f.link < size.links → f.receiver < size.devices → is_within size f ≡ true
+inside size f link receiver =
+    and_from (nat_lt f.link size.links) (nat_lt f.receiver size.devices) (lt-ltb f.link size.links link) (lt-ltb f.receiver size.devices receiver)
+
 one_more : (m last : ℕ) → m ≤ last → m ≤ last + 1
 one_more m last low = omega (arith, low)
 
 -- a flight is added
-pub pushed : (last : ℕ) (spent : Spent) (fs : List Flight) (f : Flight) → AreKept last spent fs → f.number ≡ last + 1 → is_known spent f ≡ true
+pub pushed : (last : ℕ) (spent : Spent) (fs : List Flight) (f : Flight) → AreKept last spent fs → f.number ≡ last + 1 → is_within (size_of spent) f ≡ true
     → AreKept (last + 1) spent (fs ++ f ∷ [])
-pushed last spent fs f h next known =
+pushed last spent fs f h next inside =
     let long : length (fs ++ f ∷ []) ≡ length fs + 1 = length-append fs (f ∷ []) in
     record {
       count = omega (arith, h.count, long);
       row = row_push last fs f next h.row;
-      known = All-push (IsKnown spent) fs f h.known known;
+      within = All-push (IsWithin spent) fs f h.within inside;
       links = λ k. one_more (mark_of spent.links k) last (h.links k);
       receivers = λ k. one_more (mark_of spent.receivers k) last (h.receivers k);
     }
@@ -56,19 +61,15 @@ new_left last spent fs f reaches h next late =
     (and_from (nat_le spent.reference f.last) (nat_lt (mark_of spent.links f.link) f.number) (le-leb spent.reference f.last late) link_passes) receiver_passes)
 
 -- and seen last then
-pub seen_pushed : (last : ℕ) (old mid new : Spent) (before fs : List Flight) (f : Flight) → AreKept last new fs → f.number ≡ last + 1
-    → new.reference ≡ mid.reference → mid.reference ≤ f.last
-    → filter (is_left mid) fs ≡ filter (is_left old) before → ((g : Flight) → is_left new g ≡ is_left mid g)
+pub seen_pushed : (last : ℕ) (old new : Spent) (before fs : List Flight) (f : Flight) → AreKept last new fs → f.number ≡ last + 1
+    → new.reference ≤ f.last → filter (is_left new) fs ≡ filter (is_left old) before
     → filter (is_left new) (fs ++ f ∷ []) ≡ with_sent (filter (is_left old) before) f
-seen_pushed last old mid new before fs f h next reference late seen left = by f.reaches refl
+seen_pushed last old new before fs f h next late seen = by f.reaches refl
   where
-    seen_too : filter (is_left new) fs ≡ filter (is_left old) before
-    seen_too = filter_agree (is_left new) (is_left mid) left fs ∙ seen
-
     by : (b : Bool) → f.reaches ≡ b
         → filter (is_left new) (fs ++ f ∷ []) ≡ cond b (filter (is_left old) before ++ f ∷ []) (filter (is_left old) before)
-    by true reaches = passing_last (is_left new) fs f (new_left last new fs f reaches h next (omega (arith, reference, late))) ∙ ap (λ gs. gs ++ f ∷ []) seen_too
-    by false reaches = failing_last (is_left new) fs f (ap (λ b. b && is_spared new f) reaches) ∙ seen_too
+    by true reaches = passing_last (is_left new) fs f (new_left last new fs f reaches h next late) ∙ ap (λ gs. gs ++ f ∷ []) seen
+    by false reaches = failing_last (is_left new) fs f (ap (λ b. b && is_spared new f) reaches) ∙ seen
 
 -- Without the first
 
@@ -78,7 +79,7 @@ kept_rest last spent (f ∷ fs) h =
     record {
       count = omega (arith, h.count);
       row = h.row.1;
-      known = All-tail (IsKnown spent) f fs h.known;
+      within = All-tail (IsWithin spent) f fs h.within;
       links = h.links;
       receivers = h.receivers;
     }
@@ -93,19 +94,19 @@ seen_rest spent (g ∷ fs) f is gone = rw (subst (λ x. is_left spent x ≡ fals
 pub seen_purged : (old new : Spent) (reference : ℕ) (fs : List Flight) → ((f : Flight) → is_left new f ≡ (is_left old f && is_current reference f))
     → filter (is_left new) fs ≡ filter (is_current reference) (filter (is_left old) fs)
 seen_purged old new reference fs left = filter_agree (is_left new) (λ f. is_left old f && is_current reference f) left fs
-    ∙ both (is_left old) (is_current reference) fs
+    ∙ filter_and (is_left old) (is_current reference) fs
 
-module _ (last : ℕ) (old new : Spent) (thing : Thing) (left : (f : Flight) → is_known old f ≡ true → f.number ≤ last
+module _ (last : ℕ) (old new : Spent) (thing : Thing) (left : (f : Flight) → is_within (size_of old) f ≡ true → f.number ≤ last
     → is_left new f ≡ (is_left old f && not (is_swept thing f))) where
-  each_left : (floor : ℕ) (fs : List Flight) → AreNumbered floor last fs → All (IsKnown old) fs
+  each_left : (floor : ℕ) (fs : List Flight) → AreNumbered floor last fs → All (IsWithin old) fs
       → filter (is_left new) fs ≡ filter (λ f. is_left old f && not (is_swept thing f)) fs
-  each_left floor [] h known = refl
-  each_left floor (f ∷ fs) h known =
-      ap (λ b. cond b (f ∷ filter (is_left new) fs) (filter (is_left new) fs)) (left f (All-head (IsKnown old) f fs known) (floor_low f.number last fs h.1))
-      ∙ ap (λ gs. cond (is_left old f && not (is_swept thing f)) (f ∷ gs) gs) (each_left f.number fs h.1 (All-tail (IsKnown old) f fs known))
+  each_left floor [] h within = refl
+  each_left floor (f ∷ fs) h within =
+      ap (λ b. cond b (f ∷ filter (is_left new) fs) (filter (is_left new) fs)) (left f (All-head (IsWithin old) f fs within) (floor_low f.number last fs h.1))
+      ∙ ap (λ gs. cond (is_left old f && not (is_swept thing f)) (f ∷ gs) gs) (each_left f.number fs h.1 (All-tail (IsWithin old) f fs within))
 
   pub seen_swept : (fs : List Flight) → AreKept last old fs → filter (is_left new) fs ≡ filter (λ f. not (is_swept thing f)) (filter (is_left old) fs)
-  seen_swept fs h = each_left 0 fs (numbered last old fs h) h.known ∙ both (is_left old) (λ f. not (is_swept thing f)) fs
+  seen_swept fs h = each_left 0 fs (numbered last old fs h) h.within ∙ filter_and (is_left old) (λ f. not (is_swept thing f)) fs
 
 -- A flight that is spent in its place
 
@@ -116,7 +117,7 @@ kept_spent last spent fs i f h within is =
     record {
       count = subst (λ n. n ≤ last) (sym (length-set fs i (as_spent f))) h.count;
       row = row_spent last fs i f h.row within is;
-      known = All-set (IsKnown spent) fs i (as_spent f) (subst (IsKnown spent) (sym (is f)) (All-get_or (IsKnown spent) fs i f within h.known)) h.known;
+      within = All-set (IsWithin spent) fs i (as_spent f) (subst (IsWithin spent) (sym (is f)) (All-get_or (IsWithin spent) fs i f within h.within)) h.within;
       links = h.links;
       receivers = h.receivers;
     }

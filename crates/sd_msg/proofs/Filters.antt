@@ -22,9 +22,9 @@ agree_each p q (f ∷ fs) same =
     ∙ ap (λ gs. cond (q f) (f ∷ gs) gs) (agree_each p q fs (λ k d within. same (suc k) d (omega arith)))
 
 -- both tests at once
-pub both : (p q : Flight → Bool) (fs : List Flight) → filter (λ f. p f && q f) fs ≡ filter q (filter p fs)
-both p q [] = refl
-both p q (f ∷ fs) = by (p f) (q f) refl (both p q fs)
+pub filter_and : (p q : Flight → Bool) (fs : List Flight) → filter (λ f. p f && q f) fs ≡ filter q (filter p fs)
+filter_and p q [] = refl
+filter_and p q (f ∷ fs) = by (p f) (q f) refl (filter_and p q fs)
   where
     by : (a b : Bool) → q f ≡ b → filter (λ g. p g && q g) fs ≡ filter q (filter p fs)
         → cond (a && b) (f ∷ filter (λ g. p g && q g) fs) (filter (λ g. p g && q g) fs) ≡ filter q (cond a (f ∷ filter p fs) (filter p fs))

@@ -1,17 +1,20 @@
 -- What the fields of a book stand for.
-use Rattle.std.specs.Prelude.{◌-◌, min, filter}
+use Rattle.std.specs.Prelude.{◌-◌, filter}
 use Rattle.std.specs.VecDeque.{deque_len, deque_capacity}
 use Rattle.sd_msg.specs.Books.{Book}
-use Rattle.sd_msg.specs.Spent.{is_left, AreKept, room_of}
+use Rattle.sd_msg.specs.Spent.{is_left, AreKept, size_of}
 use Rattle.sd_msg.specs.declared.book.FlightBook.TheInside.{Inside}
 
+-- the book that the fields stand for
 abbrev pub book_seen : Inside → Book
 book_seen b =
     record {
       flights = filter (is_left b.spent) b.flights.items;
       last = b.last;
-      room = min (deque_capacity b.flights - deque_len b.flights) (room_of b.spent);
+      room = deque_capacity b.flights - deque_len b.flights;
+      size = size_of b.spent;
     }
 
+-- the fields stand for a book
 abbrev pub IsBook : Inside → Type 0
 IsBook b = AreKept b.last b.spent b.flights.items

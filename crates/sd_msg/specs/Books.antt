@@ -1,16 +1,27 @@
 -- The flights that are on their way, and what each call on them finds.
-use Rattle.std.specs.Prelude.{ℕ, ◌<◌, ◌≤◌, Bool, ◌&&◌, List, [], ◌∷◌, ◌++◌, find, filter, not, nat_eq, nat_le, ok_or, Result, Ok, Err, if◌then◌else◌}
+use Rattle.std.specs.Prelude.{ℕ, ◌<◌, ◌≤◌, Bool, ◌&&◌, List, [], ◌∷◌, ◌++◌, find, filter, not, nat_eq, nat_le, nat_lt, ok_or, Result, Ok, Err, if◌then◌else◌}
 use Rattle.sd_topo.specs.declared.Thing.{Thing}
 use Rattle.sd_topo.specs.declared.Thing.TheVariants.{Device, Link}
 use Rattle.sd_msg.specs.declared.Flight.{Flight}
 use Rattle.sd_msg.specs.declared.TakeFault.{TakeFault}
 use Rattle.sd_msg.specs.declared.TakeFault.TheVariants as fault
 
--- what is seen of a book: the flights that are not spent, by ascending number, the last number given, and for how many more flights there is room
+-- how many devices and links there are
+pub record Size : Type 0 where
+  pub devices : ℕ
+  pub links : ℕ
+
+-- what is seen of a book: the flights that are not spent, by ascending number, the last number given, for how many more flights there is room,
+-- and for how many devices and links the book is
 pub record Book : Type 0 where
   pub flights : List Flight
   pub last : ℕ
   pub room : ℕ
+  pub size : Size
+
+-- the flight goes over one of the links, to one of the devices
+abbrev pub is_within : Size → Flight → Bool
+is_within size f = nat_lt f.link size.links && nat_lt f.receiver size.devices
 
 -- the numbers ascend from above the floor up to the top
 abbrev pub AreNumbered : ℕ → ℕ → List Flight → Type 0
@@ -21,6 +32,7 @@ AreNumbered floor top (f ∷ fs) = (floor < f.number) × AreNumbered f.number to
 abbrev pub AreGiven : Book → Type 0
 AreGiven book = AreNumbered 0 book.last book.flights
 
+-- the flight has this number
 abbrev pub has_number : ℕ → Flight → Bool
 has_number number f = nat_eq f.number number
 
@@ -42,6 +54,7 @@ abbrev pub dismissed : Result Flight TakeFault → Result (Unit {0}) TakeFault
 dismissed (Ok f) = Ok tt
 dismissed (Err e) = Err e
 
+-- the flights but for the one with this number
 abbrev pub without : ℕ → List Flight → List Flight
 without number flights = filter (λ f. not (has_number number f)) flights
 

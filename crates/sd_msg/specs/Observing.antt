@@ -4,9 +4,11 @@ use Rattle.sd_clock.specs.declared.Report.{Report}
 use Rattle.sd_msg.specs.Observed.{ReportAt}
 use Rattle.sd_msg.specs.declared.SeenReport.{SeenReport}
 
+-- a report with its line, its device and its reference time
 abbrev pub report_at : ℕ → ℕ → ℕ → Report → ReportAt
 report_at line device reference report = record { line = line; device = device; reference = reference; report = report }
 
+-- a kept report, as an observer is told of it
 abbrev pub as_seen : SeenReport → ReportAt
 as_seen s = report_at s.line s.device s.reference s.report
 

@@ -1,9 +1,9 @@
 -- Which of the flights that are kept are spent.
-use Rattle.std.specs.Prelude.{◌≡◌, ℕ, ◌+◌, ◌≤◌, Bool, true, false, ◌&&◌, List, [], ◌∷◌, All, length, min, nat_le, nat_lt}
+use Rattle.std.specs.Prelude.{◌≡◌, ℕ, ◌+◌, ◌≤◌, Bool, true, false, ◌&&◌, List, [], ◌∷◌, All, length, nat_le, nat_lt}
 use Rattle.sd_msg.specs.declared.Flight.{Flight}
 use Rattle.sd_msg.specs.declared.spent.Spent.{Spent}
-use Rattle.sd_msg.specs.Marks as marks
-use Rattle.sd_msg.specs.Marks.{mark_of, is_entered}
+use Rattle.sd_msg.specs.Books.{Size, is_within}
+use Rattle.sd_msg.specs.Marks.{mark_of, count_of}
 
 -- it has not ended, and neither its link nor its receiver was swept since it was sent
 abbrev pub is_spared : Spent → Flight → Bool
@@ -13,9 +13,9 @@ is_spared spent f = nat_le spent.reference f.last && nat_lt (mark_of spent.links
 abbrev pub is_left : Spent → Flight → Bool
 is_left spent f = f.reaches && is_spared spent f
 
--- its link and its receiver are entered
-abbrev pub is_known : Spent → Flight → Bool
-is_known spent f = is_entered spent.links f.link && is_entered spent.receivers f.receiver
+-- for how many devices and links there are marks
+abbrev pub size_of : Spent → Size
+size_of spent = record { devices = count_of spent.receivers; links = count_of spent.links }
 
 -- a flight as it stays in its place once it was taken or lost
 abbrev pub as_spent : Flight → Flight
@@ -26,14 +26,10 @@ abbrev pub IsRow : ℕ → List Flight → Type 0
 IsRow last [] = Unit {0}
 IsRow last (f ∷ fs) = (f.number + length fs ≡ last) × IsRow last fs
 
--- The flights have the last numbers that were given, one by one, and are known. No mark is beyond the last number.
+-- The flights have the last numbers that were given, one by one, and there are marks for them. No mark is beyond the last number.
 pub record AreKept (last : ℕ) (spent : Spent) (flights : List Flight) : Type 0 where
   pub count : length flights ≤ last
   pub row : IsRow last flights
-  pub known : All (λ f. is_known spent f ≡ true) flights
+  pub within : All (λ f. is_within (size_of spent) f ≡ true) flights
   pub links : (key : ℕ) → mark_of spent.links key ≤ last
   pub receivers : (key : ℕ) → mark_of spent.receivers key ≤ last
-
--- for how many more flights there is room
-abbrev pub room_of : Spent → ℕ
-room_of spent = min (marks.room_of spent.links) (marks.room_of spent.receivers)

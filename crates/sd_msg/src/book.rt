@@ -14,7 +14,7 @@ use std::marker::Model;
 
 /// The flights that are on their way, by ascending number. Each takes the next number when it is
 /// sent, from 1 on; a flight is spent when it is taken, lost, swept or purged, or at once where it
-/// does not reach. Only `ready` takes memory.
+/// does not reach. Only `new` and `ready` take memory.
 ///
 /// Each number has a place behind the one before, also that of a flight which does not reach: so the
 /// place of a number is told by how many were given after it. A flight that is taken or lost is spent
@@ -47,17 +47,20 @@ impl Model for FlightBook {
 }
 
 impl FlightBook {
-    /// A book with no flights, of which no number was given.
-    pub fn new(alloc: Global) -> FlightBook
-        ensures given { AreGiven result }
-        ensures flights { result.flights ≡ [] }
-        ensures last { result.last ≡ 0 }
+    /// A book with no flights, of which no number was given, for so many devices and links.
+    pub fn new(alloc: Global, devices: u32, links: u32) -> Result<FlightBook, NoMemory>
+        ensures given { IfOk result AreGiven }
+        ensures flights { IfOk result (λ b. b.flights ≡ []) }
+        ensures last { IfOk result (λ b. b.last ≡ 0) }
+        ensures devices { IfOk result (λ b. b.size.devices ≡ devices) }
+        ensures links { IfOk result (λ b. b.size.links ≡ links) }
     {
-        FlightBook {
+        let spent = Spent::new(alloc, devices, links)?;
+        Ok(FlightBook {
             flights: VecDeque::new(alloc),
             last: 0,
-            spent: Spent::new(alloc),
-        }
+            spent,
+        })
     }
 
     /// Makes room for some more flights.
@@ -67,8 +70,8 @@ impl FlightBook {
         ensures grows { self.old.room ≤ self.new.room }
         ensures flights { self.new.flights ≡ self.old.flights }
         ensures last { self.new.last ≡ self.old.last }
+        ensures size { self.new.size ≡ self.old.size }
     {
-        self.spent.ready(count)?;
         if count <= room(&self.flights) {
             return Ok(());
         }
@@ -89,15 +92,17 @@ impl FlightBook {
     pub fn send(&mut self, flight: Flight) -> u64
         requires room { 1 ≤ self.old.room }
         requires numbers { self.old.last < 2 ^ 64 - 1 }
+        requires link { flight.link < self.old.size.links }
+        requires receiver { flight.receiver < self.old.size.devices }
         ensures given { AreGiven self.new }
         ensures number { result ≡ self.old.last + 1 }
         ensures flights { self.new.flights
             ≡ with_sent self.old.flights (record flight { number = result }) }
         ensures last { self.new.last ≡ result }
+        ensures size { self.new.size ≡ self.old.size }
         ensures room { self.old.room ≤ self.new.room + 1 }
     {
         reopen(&mut self.flights, self.last, &mut self.spent, flight.last);
-        self.spent.enter(&flight);
         let number = self.last + 1;
         self.last = number;
         self.flights.push_back_reserved(Flight { number, ..flight });
@@ -133,6 +138,7 @@ impl FlightBook {
         ensures flights { self.new.flights
             ≡ (if is_ok result then without number self.old.flights else self.old.flights) }
         ensures last { self.new.last ≡ self.old.last }
+        ensures size { self.new.size ≡ self.old.size }
         ensures room { self.old.room ≤ self.new.room }
     {
         let (place, flight) = flight_for(&self.flights, self.last, &self.spent, number, device)?;
@@ -151,6 +157,7 @@ impl FlightBook {
         ensures flights { self.new.flights
             ≡ (if is_some taken.new then without number self.old.flights else self.old.flights) }
         ensures last { self.new.last ≡ self.old.last }
+        ensures size { self.new.size ≡ self.old.size }
         ensures room { self.old.room ≤ self.new.room }
     {
         match flight_for(&self.flights, self.last, &self.spent, number, device) {
@@ -169,6 +176,7 @@ impl FlightBook {
         ensures flights { self.new.flights
             ≡ (if is_ok result then without number self.old.flights else self.old.flights) }
         ensures last { self.new.last ≡ self.old.last }
+        ensures size { self.new.size ≡ self.old.size }
         ensures room { self.old.room ≤ self.new.room }
     {
         let (place, _) = flight_left(&self.flights, self.last, &self.spent, number)?;
@@ -181,6 +189,7 @@ impl FlightBook {
         ensures given { AreGiven self.new }
         ensures flights { self.new.flights ≡ filter (λ f. not (is_swept thing f)) self.old.flights }
         ensures last { self.new.last ≡ self.old.last }
+        ensures size { self.new.size ≡ self.old.size }
         ensures room { self.old.room ≤ self.new.room }
     {
         self.spent.sweep(thing, self.last);
@@ -191,6 +200,7 @@ impl FlightBook {
         ensures given { AreGiven self.new }
         ensures flights { self.new.flights ≡ filter (is_current reference) self.old.flights }
         ensures last { self.new.last ≡ self.old.last }
+        ensures size { self.new.size ≡ self.old.size }
         ensures room { self.old.room ≤ self.new.room }
     {
         self.spent.purge(reference);

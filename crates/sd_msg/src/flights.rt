@@ -2,7 +2,7 @@
 ghost use Rattle.std.specs.Prelude.{◌≡◌, ℕ, ◌+◌, ◌-◌, ◌<◌, ◌≤◌, List, filter, length, Ok, Err, IfOk, IfErr, slice_index_or, slice_set};
 ghost use Rattle.std.specs.VecDeque.{deque_len, deque_capacity};
 ghost use Rattle.sd_msg.specs.Books.{found, for_device, without};
-ghost use Rattle.sd_msg.specs.Spent.{is_left, as_spent, AreKept, IsRow, room_of};
+ghost use Rattle.sd_msg.specs.Spent.{is_left, as_spent, AreKept, IsRow, size_of};
 
 use crate::spent::Spent;
 use crate::{Flight, TakeFault};
@@ -170,7 +170,7 @@ pub(crate) fn reopen(flights: &mut VecDeque<Flight>, number: u64, spent: &mut Sp
     ensures kept { AreKept number spent.new flights.new.items }
     ensures len { deque_len flights.new ≡ deque_len flights.old }
     ensures capacity { deque_capacity flights.new ≡ deque_capacity flights.old }
-    ensures room { room_of spent.new ≡ room_of spent.old }
+    ensures size { size_of spent.new ≡ size_of spent.old }
 {
     if spent.reference <= last {
         return;

@@ -1,6 +1,6 @@
 //! Which of the flights that are kept are spent.
-ghost use Rattle.std.specs.Prelude.{◌≡◌, ◌≤◌, ◌+◌, ◌&&◌, ℕ, List, [], not, true, OnOk};
-ghost use Rattle.sd_msg.specs.Books.{is_current, is_swept};
+ghost use Rattle.std.specs.Prelude.{◌≡◌, ◌≤◌, ◌&&◌, ℕ, List, [], not, true, IfOk};
+ghost use Rattle.sd_msg.specs.Books.{is_current, is_swept, is_within};
 
 use crate::Flight;
 use crate::marks::Marks;
@@ -20,29 +20,21 @@ pub(crate) struct Spent {
 }
 
 impl Spent {
-    ghost use Rattle.sd_msg.specs.Spent.{is_left, is_known, AreKept, room_of};
+    ghost use Rattle.sd_msg.specs.Spent.{is_left, size_of, AreKept};
 
     /// None is spent.
-    pub fn new(alloc: Global) -> Spent
-        ensures { (last : ℕ) → AreKept last result [] }
+    pub fn new(alloc: Global, devices: u32, links: u32) -> Result<Spent, NoMemory>
+        ensures kept { IfOk result (λ s. (last : ℕ) → AreKept last s []) }
+        ensures devices { IfOk result (λ s. (size_of s).devices ≡ devices) }
+        ensures links { IfOk result (λ s. (size_of s).links ≡ links) }
     {
-        Spent {
+        let links = Marks::new(alloc, links)?;
+        let receivers = Marks::new(alloc, devices)?;
+        Ok(Spent {
             reference: 0,
-            links: Marks::new(alloc),
-            receivers: Marks::new(alloc),
-        }
-    }
-
-    /// Makes room for some more flights.
-    pub fn ready(&mut self, count: usize) -> Result<(), NoMemory>
-        ensures left { (f : Flight) → is_left self.new f ≡ is_left self.old f }
-        ensures kept { (last : ℕ) (flights : List Flight) → AreKept last self.old flights
-            → AreKept last self.new flights }
-        ensures room { OnOk result (count ≤ room_of self.new) }
-        ensures grows { room_of self.old ≤ room_of self.new }
-    {
-        self.links.ready(count)?;
-        self.receivers.ready(count)
+            links,
+            receivers,
+        })
     }
 
     /// Whether the flight is not spent.
@@ -56,27 +48,13 @@ impl Spent {
             && self.receivers.is_below(flight.receiver, flight.number)
     }
 
-    /// A flight comes to those that are kept.
-    pub fn enter(&mut self, flight: &Flight)
-        requires { 1 ≤ room_of self.old }
-        ensures left { (f : Flight) → is_left self.new f ≡ is_left self.old f }
-        ensures known { is_known self.new flight.now ≡ true }
-        ensures kept { (last : ℕ) (flights : List Flight) → AreKept last self.old flights
-            → AreKept last self.new flights }
-        ensures reference { self.new.reference ≡ self.old.reference }
-        ensures room { room_of self.old ≤ room_of self.new + 1 }
-    {
-        self.links.enter(flight.link);
-        self.receivers.enter(flight.receiver);
-    }
-
     /// Spends the flights whose `last` is less than the reference.
     pub fn purge(&mut self, reference: u64)
         ensures left { (f : Flight)
             → is_left self.new f ≡ (is_left self.old f && is_current reference f) }
         ensures kept { (last : ℕ) (flights : List Flight) → AreKept last self.old flights
             → AreKept last self.new flights }
-        ensures room { room_of self.new ≡ room_of self.old }
+        ensures size { size_of self.new ≡ size_of self.old }
     {
         self.reference = self.reference.max(reference);
     }
@@ -88,18 +66,18 @@ impl Spent {
         ensures kept { (number : ℕ) (flights : List Flight) → AreKept number self.old flights
             → AreKept number self.new flights }
         ensures reference { self.new.reference ≤ last }
-        ensures room { room_of self.new ≡ room_of self.old }
+        ensures size { size_of self.new ≡ size_of self.old }
     {
         self.reference = self.reference.min(last);
     }
 
     /// Spends the flights over that link or to that device, of those with numbers up to the last.
     pub fn sweep(&mut self, thing: Thing, last: u64)
-        ensures left { (f : Flight) → is_known self.old f ≡ true → f.number ≤ last
+        ensures left { (f : Flight) → is_within (size_of self.old) f ≡ true → f.number ≤ last
             → is_left self.new f ≡ (is_left self.old f && not (is_swept thing f)) }
         ensures kept { (flights : List Flight) → AreKept last self.old flights
             → AreKept last self.new flights }
-        ensures room { room_of self.old ≤ room_of self.new }
+        ensures size { size_of self.new ≡ size_of self.old }
     {
         match thing {
             Thing::Device(d) => self.receivers.set(d, last),

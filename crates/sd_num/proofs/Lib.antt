@@ -5,3 +5,4 @@ pub mod Places
 pub mod Ascending
 pub mod Firsts
 pub mod Runs
+pub mod Shared

@@ -2,7 +2,7 @@
 use Rattle.std.proofs.Common.{◌≡◌, ◌≢◌, ℕ, zero, suc, ◌+◌, ◌<◌, ◌≤◌, inl, inr, true, List, [], ◌∷◌, length, map, flat_map, get_or, All, nat_eq, Option, Some, None, refl, sym, ap, ◌∙◌, subst, arith, false}
 use Rattle.std.proofs.lemmas.Bool.{cases_Bool, cases_eq, or_cases, or_right, eq-eqb, ne_eqb, eqb-true, false_from_ne_true}
 use Rattle.std.proofs.lemmas.List.Elements.{All-filter, filter_passes}
-use Rattle.sd_num.specs.Lists.{below, of_some}
+use Rattle.sd_num.specs.Lists.{below, map_or}
 use Rattle.sd_topo.specs.Network.{Network, device_numbers}
 use Rattle.sd_plan.specs.Plans.{primary_of}
 use Rattle.sd_plan.specs.Walks.{on_walk}
@@ -18,9 +18,9 @@ child_hop : (plan : Plan) (d c : ℕ) → is_child plan d c ≡ true → (hop : 
 child_hop plan d c child =
     by_option (primary_of plan c) ((hop : Hop) × (primary_of plan c ≡ Some hop) × (hop.parent ≡ d))
     (λ none. absurd (no_hop (primary_of plan c) none child))
-    (λ hop is. (hop, is, eqb-true hop.parent d (subst (λ (o : Option Hop). of_some o false (λ hop. nat_eq hop.parent d) ≡ true) is child)))
+    (λ hop is. (hop, is, eqb-true hop.parent d (subst (λ (o : Option Hop). map_or o false (λ hop. nat_eq hop.parent d) ≡ true) is child)))
   where
-    no_hop : (o : Option Hop) → o ≡ None → of_some o false (λ hop. nat_eq hop.parent d) ≡ true → ⊥
+    no_hop : (o : Option Hop) → o ≡ None → map_or o false (λ hop. nat_eq hop.parent d) ≡ true → ⊥
     no_hop None none child = cc
     no_hop (Some hop) none child = cc
 
@@ -52,7 +52,7 @@ child_towards net plan forest d = climb net plan forest
             | inl same ↦ (
               x,
               within,
-              subst (λ (o : Option Hop). of_some o false (λ hop. nat_eq hop.parent d) ≡ true) (sym is)
+              subst (λ (o : Option Hop). map_or o false (λ hop. nat_eq hop.parent d) ≡ true) (sym is)
                   (eq-eqb hop.parent d same),
               on_itself net plan x,
             )

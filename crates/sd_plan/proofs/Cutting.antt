@@ -4,28 +4,24 @@ use Rattle.std.specs.List.{slice_get}
 use Rattle.std.proofs.lemmas.Option.{slice_get-get_or}
 use Rattle.sd_plan.specs.IndexView.{IsSomeBelow}
 use Rattle.std.proofs.lemmas.Bool.{or_cases, or_left, or_right, and_left, and_right, not_from_true, not_from_false, not-true, eqb-true, eq-eqb, ne_eqb, cases_eq, cases_Bool, false_from_ne_true}
-use Rattle.sd_num.specs.Lists.{has, of_some}
+use Rattle.sd_num.specs.Lists.{has, map_or}
 use Rattle.sd_topo.specs.Network.{Network, Each}
 use Rattle.sd_plan.specs.Plans.{is_member, is_root, is_backup_root, primary_of}
 use Rattle.sd_plan.specs.Walks.{hops, walk, epath, path, things_of, on_walk, ends_walks}
-use Rattle.sd_plan.specs.Indexed.{Indexed, IsIndexOf, goes_over, carried_over, has_device, has_link, stands_below, is_cut_before}
+use Rattle.sd_plan.specs.IndexedPlan.{IndexedPlan, IsIndexOf, goes_over, carried_over, has_device, has_link, stands_below, is_cut_before}
 use Rattle.sd_plan.specs.declared.Hop.{Hop}
 use Rattle.sd_plan.specs.declared.Plan.{Plan}
 use Rattle.sd_plan.proofs.Numbered.{none_found, found_passes, get_or-numbered, length-numbered}
-use Rattle.sd_plan.proofs.Forest.{IsForest, IsStep, forest_of, by_option, climb, other_walk, on_top, on_up, on_itself, on_member, not_above, one_above, one_over_link, hop_over}
+use Rattle.sd_plan.proofs.Forest.{IsForest, IsStep, forest_of, by_option, climb, other_walk, on_top, on_up, on_itself, on_member, not_above, one_above, one_over_link, hop_over, until}
 
 -- hops cut at the first that leads to an end
 abbrev cut : (ℕ → Bool) → List Hop → List Hop
 cut ends [] = []
 cut ends (h ∷ hs) = h ∷ (elim (ends h.parent) [ true ↦ [] | false ↦ cut ends hs ])
 
--- nothing at an end
-abbrev stop : Bool → List Hop → List Hop
-stop b hs = elim b [ true ↦ [] | false ↦ hs ]
-
 -- a hop and those that follow it
 abbrev begin : (ℕ → Bool) → Option Hop → (ℕ → List Hop) → List Hop
-begin ends found more = elim found [ None ↦ [] | Some h ↦ h ∷ stop (ends h.parent) (more h.parent) ]
+begin ends found more = elim found [ None ↦ [] | Some h ↦ h ∷ until (ends h.parent) (more h.parent) ]
 
 -- the hops to either root are those to the root, cut
 cut_hops : (plan : Plan) (n d : ℕ) → hops (ends_walks plan) plan n d ≡ cut (ends_walks plan) (hops (is_root plan) plan n d)
@@ -33,7 +29,7 @@ cut_hops plan zero d = refl
 cut_hops plan (suc n) d = by_hop (λ p. cut_hops plan n p) (primary_of plan d)
   where
     by_root : ((p : ℕ) → hops (ends_walks plan) plan n p ≡ cut (ends_walks plan) (hops (is_root plan) plan n p)) → (root backup : Bool) (p : ℕ)
-        → stop (root || backup) (hops (ends_walks plan) plan n p) ≡ stop (root || backup) (cut (ends_walks plan) (stop root (hops (is_root plan) plan n p)))
+        → until (root || backup) (hops (ends_walks plan) plan n p) ≡ until (root || backup) (cut (ends_walks plan) (until root (hops (is_root plan) plan n p)))
     by_root more true backup p = refl
     by_root more false true p = refl
     by_root more false false p = more p
@@ -226,7 +222,7 @@ devices_before net plan forest a inside = climb net plan forest
 at_child : (net : Network) (plan : Plan) → IsForest net plan → (l child d : ℕ) (hop : Hop) → child < length net.devices → goes_over plan l child ≡ true
     → d < length net.devices → primary_of plan d ≡ Some hop → nat_eq hop.link l ≡ nat_eq d child
 at_child net plan forest l child d hop there goes within is =
-    let goes_d : goes_over plan l d ≡ nat_eq hop.link l = ap (λ o. of_some o false (λ hop. nat_eq hop.link l)) is in
+    let goes_d : goes_over plan l d ≡ nat_eq hop.link l = ap (λ o. map_or o false (λ hop. nat_eq hop.link l)) is in
     elim (cases_eq d child) [
       | inl same ↦ (sym goes_d ∙ subst (λ x. goes_over plan l x ≡ true) (sym same) goes ∙ sym (eq-eqb d child same))
       | inr other ↦
@@ -354,7 +350,7 @@ link_off net plan forest l nobody = climb net plan forest (λ d. has_link (thing
     (λ d within none. ap (λ hs. has_link (things_of hs) l) (forest.top d none))
     (λ d hop within is step above.
     ap (λ hs. has_link (things_of hs) l) step.walk
-    ∙ ap (λ b. b || has_link (things_of (walk net plan hop.parent)) l) (sym (ap (λ o. of_some o false (λ hop. nat_eq hop.link l)) is) ∙ nobody d within)
+    ∙ ap (λ b. b || has_link (things_of (walk net plan hop.parent)) l) (sym (ap (λ o. map_or o false (λ hop. nat_eq hop.link l)) is) ∙ nobody d within)
     ∙ above)
 
 -- nor on a cut one
@@ -374,7 +370,7 @@ cut_link_off plan (h ∷ hs) l off = by_test (cut_link_off plan hs l) (nat_eq h.
     by_test after false off = by_end after (ends_walks plan h.parent) off
 
 -- the numbers of an index say what the walks do
-below_is : (net : Network) (plan : Plan) (index : Indexed) → IsIndexOf net plan index → (d a : ℕ) → d < length net.devices → a < length net.devices
+below_is : (net : Network) (plan : Plan) (index : IndexedPlan) → IsIndexOf net plan index → (d a : ℕ) → d < length net.devices → a < length net.devices
     → is_member plan d ≡ true
     → (stands_below index d a && not (is_cut_before index d a)) ≡ (on_walk net plan d a && not (cut_off net plan d a))
 below_is net plan index law d a within inside member =
@@ -397,7 +393,7 @@ below_is net plan index law d a within inside member =
     ]
 
 -- by these numbers, whether a cut path has a device
-pub has_device_by : (net : Network) (plan : Plan) (index : Indexed) (d a : ℕ) → IsIndexOf net plan index → d < length index.spans → a < length index.spans
+pub has_device_by : (net : Network) (plan : Plan) (index : IndexedPlan) (d a : ℕ) → IsIndexOf net plan index → d < length index.spans → a < length index.spans
     → is_member plan d ≡ true → not (is_root plan d) ≡ true
     → (not (nat_eq d a) && (stands_below index d a && not (is_cut_before index d a))) ≡ has_device (epath net plan d) a
 has_device_by net plan index d a law within inside member other =
@@ -410,14 +406,15 @@ has_device_by net plan index d a law within inside member other =
     ∙ sym (ap (λ things. has_device things a) (cut_path net plan d (not-true (is_root plan d) other)))
 
 -- what an index says that a link carries
-carried_is : (net : Network) (plan : Plan) (index : Indexed) (l : ℕ) → IsIndexOf net plan index → l < length index.carried
+carried_is : (net : Network) (plan : Plan) (index : IndexedPlan) (l : ℕ) → IsIndexOf net plan index → l < length index.carried
     → get_or index.carried l None ≡ carried_over net plan l
 carried_is net plan index l law within =
     let size : length index.carried ≡ length net.links = ap length law.carried ∙ length-numbered (carried_over net plan) (length net.links) in
     ap (λ xs. get_or xs l None) law.carried ∙ get_or-numbered (carried_over net plan) (length net.links) l None (omega arith)
 
 -- whether a cut path has a link that carries a device
-pub has_link_by : (net : Network) (plan : Plan) (index : Indexed) (d l child : ℕ) → IsIndexOf net plan index → d < length index.spans → l < length index.carried
+pub has_link_by : (net : Network) (plan : Plan) (index : IndexedPlan) (d l child : ℕ) → IsIndexOf net plan index → d < length index.spans
+    → l < length index.carried
     → get_or index.carried l None ≡ Some child
     → is_member plan d ≡ true → not (is_root plan d) ≡ true
     → ((nat_eq d child || not (nat_eq child index.backup_root)) && (stands_below index d child && not (is_cut_before index d child)))
@@ -433,7 +430,8 @@ has_link_by net plan index d l child law within link is member other =
     ∙ sym (ap (λ things. has_link things l) (cut_path net plan d (not-true (is_root plan d) other)))
 
 -- it has none that carries nobody
-pub has_no_link_by : (net : Network) (plan : Plan) (index : Indexed) (d l : ℕ) → IsIndexOf net plan index → d < length index.spans → l < length index.carried
+pub has_no_link_by : (net : Network) (plan : Plan) (index : IndexedPlan) (d l : ℕ) → IsIndexOf net plan index → d < length index.spans
+    → l < length index.carried
     → get_or index.carried l None ≡ None
     → not (is_root plan d) ≡ true → false ≡ has_link (epath net plan d) l
 has_no_link_by net plan index d l law within link is other =
@@ -446,7 +444,7 @@ has_no_link_by net plan index d l law within link is other =
     ∙ cut_link_off plan (walk net plan d) l (link_off net plan forest l none d (omega arith)))
 
 -- whether a whole path has a link that carries a device
-pub walk_link_by : (net : Network) (plan : Plan) (index : Indexed) (d l child : ℕ) → IsIndexOf net plan index → d < length index.spans
+pub walk_link_by : (net : Network) (plan : Plan) (index : IndexedPlan) (d l child : ℕ) → IsIndexOf net plan index → d < length index.spans
     → l < length index.carried → get_or index.carried l None ≡ Some child
     → is_member plan d ≡ true → stands_below index d child ≡ has_link (path net plan d) l
 walk_link_by net plan index d l child law within link is member =
@@ -457,7 +455,8 @@ walk_link_by net plan index d l child law within link is member =
     law.below d child first found.0 member ∙ link_on net plan forest l child found.0 found.1 d first
 
 -- it has none that carries nobody
-pub walk_no_link_by : (net : Network) (plan : Plan) (index : Indexed) (d l : ℕ) → IsIndexOf net plan index → d < length index.spans → l < length index.carried
+pub walk_no_link_by : (net : Network) (plan : Plan) (index : IndexedPlan) (d l : ℕ) → IsIndexOf net plan index → d < length index.spans
+    → l < length index.carried
     → get_or index.carried l None ≡ None
     → false ≡ has_link (path net plan d) l
 walk_no_link_by net plan index d l law within link is =

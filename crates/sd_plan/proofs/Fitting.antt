@@ -8,15 +8,16 @@ use Rattle.sd_plan.specs.Examples.{IsFabric, fabric_plan, hop, row}
 use Rattle.sd_plan.specs.Plans.{Fits, IsHop, IsRow}
 use Rattle.sd_plan.specs.Structure.{structure_breach}
 use Rattle.sd_plan.specs.Tables.{table_of}
-use Rattle.sd_plan.specs.Indexed.{Indexed, IsIndexOf, carried_over}
+use Rattle.sd_plan.specs.IndexedPlan.{IndexedPlan, IsIndexOf, carried_over}
 use Rattle.sd_plan.proofs.Numbered.{length-numbered}
 use Rattle.sd_plan.proofs.TableLaws.{length-table}
 use Rattle.sd_plan.specs.declared.Hop.{Hop}
 use Rattle.sd_plan.specs.declared.PlanRow.{PlanRow}
 
 -- a row whose two hops are there
-both : (net : Network) (primary backup : Hop) → IsHop net primary → IsHop net backup → IsRow net (Some (record { primary = primary; backup = Some backup }))
-both net primary backup one two = (one, λ h is. subst (λ (found : Option Hop). IfSome found (IsHop net)) is two)
+pub is_row_of_two : (net : Network) (primary backup : Hop) → IsHop net primary → IsHop net backup
+    → IsRow net (Some (record { primary = primary; backup = Some backup }))
+is_row_of_two net primary backup one two = (one, λ h is. subst (λ (found : Option Hop). IfSome found (IsHop net)) is two)
 
 -- a hop below given bounds
 within : (net : Network) (parent link devices links : ℕ) → length net.devices ≡ devices → length net.links ≡ links → parent < devices → link < links
@@ -39,13 +40,13 @@ fabric_fits net fabric =
     let six : length net.links ≡ 6 = fabric.links in
     let is : (parent link : ℕ) → parent < 5 → link < 6 → IsHop net (hop parent link) = λ parent link p l. within net parent link 5 6 five six p l in
     let second : IsRow net (row (hop 2 3) (Some (hop 3 4))) =
-    both net (hop 2 3) (hop 3 4) (is 2 3 (omega arith) (omega arith)) (is 3 4 (omega arith) (omega arith)) in
+    is_row_of_two net (hop 2 3) (hop 3 4) (is 2 3 (omega arith) (omega arith)) (is 3 4 (omega arith) (omega arith)) in
     let third : IsRow net (row (hop 0 0) (Some (hop 1 3))) =
-    both net (hop 0 0) (hop 1 3) (is 0 0 (omega arith) (omega arith)) (is 1 3 (omega arith) (omega arith)) in
+    is_row_of_two net (hop 0 0) (hop 1 3) (is 0 0 (omega arith) (omega arith)) (is 1 3 (omega arith) (omega arith)) in
     let fourth : IsRow net (row (hop 0 1) (Some (hop 1 4))) =
-    both net (hop 0 1) (hop 1 4) (is 0 1 (omega arith) (omega arith)) (is 1 4 (omega arith) (omega arith)) in
+    is_row_of_two net (hop 0 1) (hop 1 4) (is 0 1 (omega arith) (omega arith)) (is 1 4 (omega arith) (omega arith)) in
     let fifth : IsRow net (row (hop 0 2) (Some (hop 1 5))) =
-    both net (hop 0 2) (hop 1 5) (is 0 2 (omega arith) (omega arith)) (is 1 5 (omega arith) (omega arith)) in
+    is_row_of_two net (hop 0 2) (hop 1 5) (is 0 2 (omega arith) (omega arith)) (is 1 5 (omega arith) (omega arith)) in
     record {
       root = omega arith;
       backup_root = omega arith;
@@ -66,9 +67,9 @@ pub fabric_rows : (net : Network) (epoch : ℕ) → IsFabric net → length (tab
 fabric_rows net epoch is = length-table net fabric_plan epoch ∙ is.devices
 
 -- its index has a span for each device
-pub fabric_spans : (net : Network) (index : Indexed) → IsIndexOf net fabric_plan index → IsFabric net → length index.spans ≡ 5
+pub fabric_spans : (net : Network) (index : IndexedPlan) → IsIndexOf net fabric_plan index → IsFabric net → length index.spans ≡ 5
 fabric_spans net index law is = law.spans ∙ is.devices
 
 -- and perhaps a device for each link
-pub fabric_carried : (net : Network) (index : Indexed) → IsIndexOf net fabric_plan index → IsFabric net → length index.carried ≡ 6
+pub fabric_carried : (net : Network) (index : IndexedPlan) → IsIndexOf net fabric_plan index → IsFabric net → length index.carried ≡ 6
 fabric_carried net index law is = ap length law.carried ∙ length-numbered (carried_over net fabric_plan) (length net.links) ∙ is.links

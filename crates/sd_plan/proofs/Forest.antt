@@ -3,12 +3,12 @@ use Rattle.std.proofs.Common.{◌≡◌, ℕ, zero, suc, ◌<◌, ◌≤◌, ◌
 use Rattle.std.specs.List.{list_any}
 use Rattle.std.proofs.lemmas.Bool.{and_parts, or_cases, or_right, eqb-true, eq-eqb, cases_Bool, cases_lt, false_from_ne_true, not-true}
 use Rattle.std.proofs.lemmas.Option.{slice_get_past}
-use Rattle.sd_num.specs.Lists.{has, of_some}
+use Rattle.sd_num.specs.Lists.{has, map_or}
 use Rattle.sd_topo.specs.Network.{Network, joins, link_of}
 use Rattle.sd_plan.specs.Plans.{Fits, is_member, is_present, is_root, has_row, row_of, primary_of, backup_of}
 use Rattle.sd_plan.specs.Walks.{hops, walk, end_of, devices_of, on_walk}
 use Rattle.sd_plan.specs.Structure.{structure_breach, hop_is_right}
-use Rattle.sd_plan.specs.Indexed.{goes_over}
+use Rattle.sd_plan.specs.IndexedPlan.{goes_over}
 use Rattle.sd_plan.specs.declared.Hop.{Hop}
 use Rattle.sd_plan.specs.declared.Plan.{Plan}
 use Rattle.sd_plan.specs.declared.PlanRow.{PlanRow}
@@ -80,11 +80,11 @@ follow ends plan (suc n) d hop other is right =
     by_end false is right = sym (enough ends plan n hop.parent is right)
 
 -- a row has its primary hop
-hop_of_row : (row : Option PlanRow) → of_some row false (λ row. true) ≡ true → (hop : Hop) × (option_map (λ row. row.primary) row ≡ Some hop)
+hop_of_row : (row : Option PlanRow) → map_or row false (λ row. true) ≡ true → (hop : Hop) × (option_map (λ row. row.primary) row ≡ Some hop)
 hop_of_row None there = cc
 hop_of_row (Some row) there = (row.primary, refl)
 
-row_of_hop : (row : Option PlanRow) (hop : Hop) → option_map (λ row. row.primary) row ≡ Some hop → of_some row false (λ row. true) ≡ true
+row_of_hop : (row : Option PlanRow) (hop : Hop) → option_map (λ row. row.primary) row ≡ Some hop → map_or row false (λ row. true) ≡ true
 row_of_hop None hop is = cc
 row_of_hop (Some row) hop is = refl
 
@@ -129,7 +129,7 @@ forest_of net plan fits structured =
       top = λ d none. no_walk (is_root plan d) (is_root plan) plan net.params.depth d none;
       hop = λ d within member other. hop_of_row (row_of plan d)
           (row_there (is_member plan d) (is_root plan d) (has_row plan d) (rules.rows d within) member other);
-      outside = λ d past. ap (λ o. option_map (λ row. row.primary) (of_some o None (λ row. row))) (slice_get_past plan.rows d (omega (arith, fits.entries)));
+      outside = λ d past. ap (λ o. option_map (λ row. row.primary) (map_or o None (λ row. row))) (slice_get_past plan.rows d (omega (arith, fits.entries)));
       root = fits.root;
       member = rules.root;
     }
@@ -173,7 +173,7 @@ climb net plan forest P top up d within = within_height net plan forest P top up
         let long = ap length step.walk in
         up d hop within is step (within_height net plan forest P top up n hop.parent step.within (omega arith)))
 
-or_none : (b : Bool) → (b || false) ≡ b
+pub or_none : (b : Bool) → (b || false) ≡ b
 or_none true = refl
 or_none false = refl
 
@@ -294,9 +294,9 @@ pub hop_over : (plan : Plan) (l d : ℕ) → goes_over plan l d ≡ true → (ho
 hop_over plan l d goes =
     by_option (primary_of plan d) ((hop : Hop) × (primary_of plan d ≡ Some hop) × (hop.link ≡ l))
     (λ none. absurd (no_hop (primary_of plan d) none goes))
-    (λ hop is. (hop, is, eqb-true hop.link l (subst (λ (o : Option Hop). of_some o false (λ hop. nat_eq hop.link l) ≡ true) is goes)))
+    (λ hop is. (hop, is, eqb-true hop.link l (subst (λ (o : Option Hop). map_or o false (λ hop. nat_eq hop.link l) ≡ true) is goes)))
   where
-    no_hop : (o : Option Hop) → o ≡ None → of_some o false (λ hop. nat_eq hop.link l) ≡ true → ⊥
+    no_hop : (o : Option Hop) → o ≡ None → map_or o false (λ hop. nat_eq hop.link l) ≡ true → ⊥
     no_hop None none goes = cc
     no_hop (Some hop) none goes = cc
 
@@ -332,7 +332,7 @@ one_over_link net plan forest l c d first second one two =
         omega arith
 
 -- nothing behind an end
-abbrev until : Bool → List Hop → List Hop
+abbrev pub until : Bool → List Hop → List Hop
 until b hs = elim b [ true ↦ [] | false ↦ hs ]
 
 until_most : (n : ℕ) (b : Bool) (hs : List Hop) → length hs ≤ n → length (until b hs) ≤ n
@@ -340,7 +340,7 @@ until_most n true hs most = omega arith
 until_most n false hs most = most
 
 -- hops are as many as asked for at most
-most_hops : (ends : ℕ → Bool) (plan : Plan) (n d : ℕ) → length (hops ends plan n d) ≤ n
+pub most_hops : (ends : ℕ → Bool) (plan : Plan) (n d : ℕ) → length (hops ends plan n d) ≤ n
 most_hops ends plan zero d = omega arith
 most_hops ends plan (suc n) d = by_hop (primary_of plan d) (λ p. most_hops ends plan n p)
   where

@@ -1,17 +1,17 @@
 -- The order, spans and lists that were made are an index of the plan.
-use Rattle.std.proofs.Common.{◌≡◌, ℕ, ◌+◌, ◌-◌, ◌<◌, ◌≤◌, inl, inr, Bool, true, false, ◌&&◌, List, [], ◌∷◌, length, map, get_or, nat_le, nat_lt, Option, Some, None, ◌⊎◌, take, flat_map, replicate, IsTrue, refl, sym, ap, ◌∙◌, subst, arith}
+use Rattle.std.proofs.Common.{◌≡◌, ℕ, ◌+◌, ◌-◌, ◌<◌, ◌≤◌, inl, inr, Bool, true, false, ◌&&◌, List, [], ◌∷◌, length, map, get_or, nat_le, nat_lt, Option, Some, None, ◌⊎◌, flat_map, replicate, IsTrue, refl, sym, ap, ◌∙◌, subst, arith}
 use Rattle.std.specs.List.{slice_get, slice_range}
 use Rattle.std.proofs.lemmas.Bool.{cases_Bool, and_parts, and_right, le-leb, lt-ltb, le-ltb, leb-true, ltb-true, false_from_ne_true}
-use Rattle.std.proofs.lemmas.List.{length-replicate, get_or-replicate, length-take, length-drop}
+use Rattle.std.proofs.lemmas.List.{length-replicate, get_or-replicate}
 use Rattle.std.proofs.lemmas.Option.{slice_get_within, slice_get-get_or, get_or_from_slice_get}
-use Rattle.std.proofs.lemmas.Slice.{between_is}
 use Rattle.sd_num.specs.Lists.{below, has}
+use Rattle.sd_num.proofs.Shared.{part_length}
 use Rattle.sd_topo.specs.Network.{Network, device_numbers, link_numbers, Each}
 use Rattle.sd_plan.specs.Plans.{Fits, is_member}
 use Rattle.sd_plan.specs.Structure.{structure_breach}
 use Rattle.sd_plan.specs.Walks.{on_walk}
 use Rattle.sd_plan.specs.Joining.{part_of, AreJoined}
-use Rattle.sd_plan.specs.Indexed.{IsIndexOf, no_span, is_within, goes_over, carried_over, usable_ends}
+use Rattle.sd_plan.specs.IndexedPlan.{IsIndexOf, no_span, is_within, goes_over, carried_over, usable_ends}
 use Rattle.sd_plan.specs.IndexView.{IsSomeBelow}
 use Rattle.sd_plan.specs.Subtrees.{children, listed, subtree, IsWithin, IsSpan, ArePlaced}
 use Rattle.sd_plan.specs.declared.End.{End}
@@ -54,12 +54,6 @@ root_room net plan lists depth fits structured are same =
     (λ x. once (on_walk net plan x plan.root) (times x (subtree lists depth plan.root))
     (times_below net plan forest lists are depth plan.root x within fits.root))
     (λ x there. on_inside net plan forest x plan.root fits.root (sym (has_below net plan forest lists are depth plan.root x within fits.root) ∙ there))
-
--- as many as stand between two places
-part_length : (xs : List ℕ) (from to : ℕ) → to ≤ length xs → length (slice_range xs from to) ≡ to - from
-part_length xs from to within =
-    let long = length-take to xs in
-    ap length (between_is xs from to) ∙ length-drop from (take to xs) ∙ ap (λ n. n - from) (omega (arith, long))
 
 -- what was placed
 record HasPlaces (net : Network) (plan : Plan) (lists : List (List ℕ)) (order : List ℕ) (spans : List Span) : Type 0 where

@@ -6,21 +6,23 @@ use Rattle.std.proofs.lemmas.List.{get_or-replicate, length-replicate, take_all,
 use Rattle.std.proofs.lemmas.List.Elements.{filter-append}
 use Rattle.std.proofs.lemmas.List.Folds.{find-append}
 use Rattle.sd_num.specs.Lists.{below, has}
+use Rattle.sd_num.proofs.Firsts.{find_below_none}
 use Rattle.sd_topo.specs.Network.{Network, device_numbers, link_numbers, link_of}
 use Rattle.sd_topo.specs.Limits.{IsNetwork}
 use Rattle.sd_topo.specs.Places.{is_end_of}
 use Rattle.sd_topo.specs.declared.LinkEntry.{LinkEntry}
 use Rattle.sd_topo.proofs.Laws.{link_law}
 use Rattle.sd_plan.specs.Plans.{Fits, IsHop, is_member, is_present, primary_of}
-use Rattle.sd_plan.specs.Indexed.{goes_over, usable_end, other_end}
+use Rattle.sd_plan.specs.IndexedPlan.{goes_over, usable_end, other_end}
 use Rattle.sd_plan.specs.Subtrees.{is_child, children_before, child_below, HasParentBelow}
 use Rattle.sd_plan.specs.Usable.{usable_before, usable_below}
 use Rattle.sd_plan.specs.declared.Hop.{Hop}
 use Rattle.sd_plan.specs.declared.End.{End}
 use Rattle.sd_plan.specs.declared.Plan.{Plan}
 use Rattle.sd_plan.proofs.Forest.{IsForest, one_over_link}
-use Rattle.sd_plan.proofs.Numbered.{numbered_is, get_or-numbered, length-numbered, filtered_more, find_none}
+use Rattle.sd_plan.proofs.Numbered.{numbered_is, get_or-numbered, length-numbered, filtered_more}
 use Rattle.sd_plan.proofs.Steps.{primary_within}
+use Rattle.sd_plan.proofs.Over.{over as end_to}
 
 -- lists by number, each with a little more
 pub rows_grown : {X : Type 0} (f : ℕ → List X) (g : ℕ → List X) (add : ℕ → List X) (count : ℕ) (old new : List (List X)) → length new ≡ length old
@@ -86,7 +88,7 @@ carried_grown net plan forest d old new within same before each =
     by_test l true over =
         sym
         (ap (λ o. option_or o (Some d))
-        (find_none (goes_over plan l) d (λ x less.
+        (find_below_none (goes_over plan l) d (λ x less.
         false_from_ne_true (goes_over plan l x) (λ also. (let equal = one_over_link net plan forest l x d (omega arith) within also over in omega arith)))))
     by_test l false other = last (find (goes_over plan l) (below d))
 
@@ -102,10 +104,6 @@ pub all_struck : (absent : List ℕ) (i count : ℕ) (flags : List Bool) → len
     → ((k : ℕ) → k < count → get_or flags k true ≡ not (has (take i absent) k)) → flags ≡ map (λ x. not (has absent x)) (below count)
 all_struck absent i count flags past size each =
     numbered_is (λ x. not (has absent x)) count true flags size (λ k within. each k within ∙ ap (λ xs. not (has xs k)) (take_all i absent past))
-
--- an end over a link
-abbrev end_to : ℕ → ℕ → End
-end_to l c = record { link = l; device = c }
 
 -- what is usable over a link with two ends
 usable_over : (net : Network) (plan : Plan) (l d : ℕ) → (link_of net l).end_a ≢ (link_of net l).end_b → is_present plan l ≡ true

@@ -6,7 +6,8 @@ use Rattle.std.proofs.lemmas.List.{length_push, map_push, get_or_append_left, ge
 use Rattle.std.proofs.lemmas.List.Elements.{filter_map-append}
 use Rattle.std.proofs.lemmas.List.Folds.{find-append}
 use Rattle.std.proofs.lemmas.Option.{slice_get-get_or}
-use Rattle.sd_num.specs.Lists.{below, of_some, at_place}
+use Rattle.sd_num.specs.Lists.{below, map_or, at_place}
+use Rattle.sd_num.proofs.Firsts.{find_below_none}
 
 -- as many as the bound
 pub length-below : (n : ℕ) → length (below n) ≡ n
@@ -33,7 +34,7 @@ get_or-numbered f n k e within = get_or-map f (below n) k 0 e (rw (length-below 
 -- the same, with its default
 pub at-numbered : {X Y : Type 0} (f : ℕ → X) (n k : ℕ) (e : Y) (g : X → Y) → k < n → at_place (map f (below n)) k e g ≡ g (f k)
 at-numbered f n k e g within =
-    ap (λ o. of_some o e g) (slice_get-get_or (map f (below n)) k (f k) (rw (length-numbered f n) within))
+    ap (λ o. map_or o e g) (slice_get-get_or (map f (below n)) k (f k) (rw (length-numbered f n) within))
     ∙ ap g (get_or-numbered f n k (f k) within)
 
 -- a list that has these elements is this list
@@ -50,12 +51,6 @@ numbered_more f n = rw add-one (map_push f (below n) n)
 -- one more number of those of which h gives something
 pub filtered_more : {X : Type 0} (h : ℕ → Option X) (n : ℕ) → filter_map h (below (n + 1)) ≡ filter_map h (below n) ++ filter_map h (n ∷ [])
 filtered_more h n = rw add-one (filter_map-append h (below n) (n ∷ []))
-
--- where no number below n passes there is none
-pub find_none : (test : ℕ → Bool) (n : ℕ) → ((x : ℕ) → x < n → test x ≡ false) → find test (below n) ≡ None
-find_none test zero fails = refl
-find_none test (suc n) fails =
-    find-append test (below n) (n ∷ []) ∙ rw (find_none test n (λ x before. fails x (omega arith)), fails n (omega arith)) refl
 
 -- neither of two options has anything
 pub both_none : {X : Type 0} (a b : Option X) → option_or a b ≡ None → (a ≡ None) × (b ≡ None)
@@ -101,7 +96,7 @@ find_only test (suc n) b within only =
           rw (find_only test n b before (λ c within passes. only c (omega arith) passes), other) (by_test (test b)))
       | inr last ↦
           (let same : b ≡ n = omega arith in
-          let none = find_none test n (λ c within. false_from_ne_true (test c) (λ passes. (let equal = only c (omega arith) passes in omega arith))) in
+          let none = find_below_none test n (λ c within. false_from_ne_true (test c) (λ passes. (let equal = only c (omega arith) passes in omega arith))) in
           rw (none, same) refl)
     ]
   where

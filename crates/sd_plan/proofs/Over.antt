@@ -1,7 +1,8 @@
 -- What lies below the ends of a link.
-use Rattle.std.proofs.Common.{◌≡◌, ◌≢◌, ℕ, ◌+◌, ◌<◌, Bool, true, false, ◌&&◌, ◌||◌, ◌⊎◌, cond, List, [], ◌∷◌, ◌++◌, length, map, filter_map, get_or, Option, Some, None, option_map, Result, Ok, Err, OnOk, refl, sym, ap, ◌∙◌, inl, inr, arith, append_assoc, nat_eq, replicate}
+use Rattle.std.proofs.Common.{◌≡◌, ◌≢◌, ℕ, ◌+◌, ◌<◌, Bool, true, false, ◌&&◌, ◌||◌, ◌⊎◌, cond, List, [], ◌∷◌, ◌++◌, length, map, filter_map, get_or, Option, Some, None, option_map, refl, sym, ap, ◌∙◌, inl, inr, arith, append_assoc, nat_eq, replicate}
 use Rattle.std.proofs.lemmas.List.{get_or-replicate, length-replicate}
 use Rattle.std.proofs.lemmas.Bool.{and_parts, or_cases, eqb-true, eq-eqb, ne_eqb, cases_eq, false_from_ne_true}
+use Rattle.sd_num.proofs.Firsts.{find_below_none}
 use Rattle.sd_topo.specs.Network.{Network, joins, link_of, device_numbers}
 use Rattle.sd_topo.specs.Limits.{IsNetwork}
 use Rattle.sd_topo.proofs.Laws.{link_law}
@@ -10,7 +11,7 @@ use Rattle.sd_plan.specs.Duties.{leads_to, follows_over}
 use Rattle.sd_plan.specs.Tables.{end_over, ends_before, end_below}
 use Rattle.sd_plan.specs.declared.End.{End}
 use Rattle.sd_plan.specs.declared.Plan.{Plan}
-use Rattle.sd_plan.proofs.Numbered.{numbered_is, get_or-numbered, length-numbered, filtered_more, find_none, find_only}
+use Rattle.sd_plan.proofs.Numbered.{numbered_is, get_or-numbered, length-numbered, filtered_more, find_only}
 use Rattle.sd_plan.proofs.Rules.{KeepsRules, both_led}
 
 -- who follows a device over a link is joined to it by this
@@ -29,7 +30,7 @@ ends_are a b c d joined =
     ]
 
 -- an end over a link
-abbrev over : ℕ → ℕ → End
+abbrev pub over : ℕ → ℕ → End
 over l c = record { link = l; device = c }
 
 -- an end that is there or not, as a list
@@ -58,7 +59,7 @@ one_over net plan l d a b apart first second ends = by_side (cases_eq d a) (case
     none nobody =
         one_filtered (end_over net plan d) (λ x. None) l
         (ap (option_map (over l))
-        (find_none (follows_over plan d l) (length net.devices) (λ x within. false_from_ne_true (follows_over plan d l x) (nobody x within))))
+        (find_below_none (follows_over plan d l) (length net.devices) (λ x within. false_from_ne_true (follows_over plan d l x) (nobody x within))))
 
     alone : (t : Bool) → cond t (over l b ∷ []) [] ≡ cond t (over l b ∷ []) [] ++ []
     alone true = refl
@@ -105,11 +106,6 @@ rows_more net plan l rows some all law rules within before some_size all_size fi
     ∙ ap (λ xs. xs ++ end_below plan l (link_of net l).end_b (link_of net l).end_a d)
     (first d (omega arith) ∙ ap (λ xs. xs ++ end_below plan l (link_of net l).end_a (link_of net l).end_b d) was)
     ∙ sym (ends_more net plan l d law rules within))
-
--- what holds where a result is one holds of what follows
-pub on_ok : {T E P Q : Type 0} (r : Result T E) → (P → Q) → OnOk r P → OnOk r Q
-on_ok (Ok x) f p = f p
-on_ok (Err e) f p = tt
 
 -- before the first link nothing lies below any device
 pub none_before : (net : Network) (plan : Plan) (count : ℕ) → count ≡ length net.devices

@@ -3,7 +3,7 @@ use Rattle.std.proofs.Common.{◌≡◌, ◌≢◌, ℕ, ◌<◌, Bool, true, fa
 use Rattle.std.specs.Option.{option_or}
 use Rattle.std.specs.List.{slice_get}
 use Rattle.std.proofs.lemmas.Bool.{and_parts, not-true, not-false, eqb-true, ne_eqb}
-use Rattle.sd_num.specs.Lists.{of_some}
+use Rattle.sd_num.specs.Lists.{map_or}
 use Rattle.sd_topo.specs.Network.{Network, device_numbers, joins}
 use Rattle.sd_topo.proofs.Laws.{joined_end}
 use Rattle.sd_plan.specs.Plans.{Fits, IsHop, IsRow, is_member, is_root, has_row, is_present, primary_of, backup_of}
@@ -22,7 +22,7 @@ pub record KeepsRules (net : Network) (plan : Plan) : Type 0 where
   pub reaches : (d : ℕ) → d < length net.devices → reaches_root net plan d ≡ true
 
 -- nothing is made of nothing alone
-none_mapped : {X Y : Type 0} (f : X → Y) (o : Option X) → option_map f o ≡ None → o ≡ None
+pub none_mapped : {X Y : Type 0} (f : X → Y) (o : Option X) → option_map f o ≡ None → o ≡ None
 none_mapped f None none = refl
 none_mapped f (Some x) none = cc
 
@@ -94,15 +94,15 @@ hops_within net plan d fits = by_place (slice_get plan.rows d) (λ row at. fits.
     by_backup (Some hop) each = each hop refl
 
     by_place : (o : Option (Option PlanRow)) → ((row : Option PlanRow) → o ≡ Some row → IsRow net row)
-        → IfSome (option_map (λ row. row.primary) (of_some o None (λ row. row))) (IsHop net)
-        × IfSome (of_some (of_some o None (λ row. row)) None (λ row. row.backup)) (IsHop net)
+        → IfSome (option_map (λ row. row.primary) (map_or o None (λ row. row))) (IsHop net)
+        × IfSome (map_or (map_or o None (λ row. row)) None (λ row. row.backup)) (IsHop net)
     by_place None rows = (tt, tt)
     by_place (Some None) rows = (tt, tt)
     by_place (Some (Some row)) rows = let both = rows (Some row) refl in (both.0, by_backup row.backup both.1)
 
 -- a hop leads to a device only over a link that joins them
 led : (net : Network) (plan : Plan) (c d l : ℕ) (hop : Option Hop) → hop_is_right net plan c hop ≡ true
-    → of_some hop false (λ h. nat_eq h.parent d && nat_eq h.link l) ≡ true → joins net l c d ≡ true
+    → map_or hop false (λ h. nat_eq h.parent d && nat_eq h.link l) ≡ true → joins net l c d ≡ true
 led net plan c d l None right leads = cc
 led net plan c d l (Some h) right leads =
     let (parent, link) = and_parts (nat_eq h.parent d) (nat_eq h.link l) leads in
@@ -111,8 +111,8 @@ led net plan c d l (Some h) right leads =
 
 -- so does each hop of a device
 pub both_led : (net : Network) (plan : Plan) (d l c : ℕ) → KeepsRules net plan → c < length net.devices
-    → ((of_some (primary_of plan c) false (λ h. nat_eq h.parent d && nat_eq h.link l) ≡ true) → joins net l c d ≡ true)
-    × ((of_some (backup_of plan c) false (λ h. nat_eq h.parent d && nat_eq h.link l) ≡ true) → joins net l c d ≡ true)
+    → ((map_or (primary_of plan c) false (λ h. nat_eq h.parent d && nat_eq h.link l) ≡ true) → joins net l c d ≡ true)
+    × ((map_or (backup_of plan c) false (λ h. nat_eq h.parent d && nat_eq h.link l) ≡ true) → joins net l c d ≡ true)
 both_led net plan d l c rules within =
     let (primary, backup) = and_parts (hop_is_right net plan c (primary_of plan c)) (hop_is_right net plan c (backup_of plan c)) (rules.hops c within) in
     (λ leads. led net plan c d l (primary_of plan c) primary leads, λ leads. led net plan c d l (backup_of plan c) backup leads)

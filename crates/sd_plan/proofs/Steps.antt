@@ -1,7 +1,7 @@
 -- One step along primary parents.
 use Rattle.std.proofs.Common.{◌≡◌, append_assoc, ℕ, zero, suc, ◌-◌, ◌≤◌, ◌++◌, Bool, true, false, List, [], ◌∷◌, Option, None, Some, refl, ap, ◌∙◌, sym, subst, arith, slice_get}
 use Rattle.std.specs.Prelude.{option_map, IfSome}
-use Rattle.sd_num.specs.Lists.{of_some}
+use Rattle.sd_num.specs.Lists.{map_or}
 use Rattle.sd_topo.specs.Network.{Network, Each}
 use Rattle.sd_topo.specs.declared.Thing.{Thing}
 use Rattle.sd_topo.specs.declared.Thing.TheVariants as thing
@@ -21,7 +21,7 @@ step ends found more hop is other =
     (subst (λ (over : Bool). things_of (hop ∷ (elim over [ true ↦ [] | false ↦ more hop.parent ])) ≡ (thing.Link hop.link ∷ thing.Device hop.parent ∷ [])
     ++ things_of (more hop.parent)) (sym other) refl)
 
-less_one : (n : ℕ) → n ≡ suc n - 1
+pub less_one : (n : ℕ) → n ≡ suc n - 1
 less_one n = omega arith
 
 -- a hop that ends nothing is followed by the hops of its parent
@@ -35,7 +35,7 @@ goes_on ends plan (suc n) here hop some primary other =
 
 -- the hop of the entry of a device
 entry_within : (net : Network) (entry : Option (Option PlanRow)) (hop : Hop) → ((row : Option PlanRow) → entry ≡ Some row → IsRow net row)
-    → option_map (λ row. row.primary) (of_some entry None (λ row. row)) ≡ Some hop → IsHop net hop
+    → option_map (λ row. row.primary) (map_or entry None (λ row. row)) ≡ Some hop → IsHop net hop
 entry_within net None hop each is = subst (λ (found : Option Hop). IfSome found (IsHop net)) is tt
 entry_within net (Some None) hop each is = subst (λ (found : Option Hop). IfSome found (IsHop net)) is tt
 entry_within net (Some (Some row)) hop each is = subst (λ (found : Option Hop). IfSome found (IsHop net)) is (each (Some row) refl).0

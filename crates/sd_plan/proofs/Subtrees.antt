@@ -8,7 +8,7 @@ use Rattle.std.proofs.lemmas.List.Folds.{length-flat_map-take}
 use Rattle.std.proofs.lemmas.Grind.{flat_map-append}
 use Rattle.std.proofs.lemmas.Slice.{between_is, between_to_end}
 use Rattle.sd_num.specs.Lists.{has}
-use Rattle.sd_plan.specs.Indexed.{no_span}
+use Rattle.sd_plan.specs.IndexedPlan.{no_span}
 use Rattle.sd_plan.specs.Subtrees.{listed, subtree, IsWithin, IsSpan, ArePlaced}
 use Rattle.sd_plan.specs.declared.index.Span.{Span}
 

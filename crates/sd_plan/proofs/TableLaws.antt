@@ -1,6 +1,6 @@
 -- What a plan's table has: for those who ask it.
 use Rattle.std.proofs.Common.{◌≡◌, ℕ, ◌<◌, Bool, true, false, length, Some, None, option_map, if◌then◌else◌, refl, ap, ◌∙◌}
-use Rattle.sd_num.specs.Lists.{of_some}
+use Rattle.sd_num.specs.Lists.{map_or}
 use Rattle.sd_topo.specs.Network.{Network}
 use Rattle.sd_plan.specs.Plans.{is_member}
 use Rattle.sd_plan.specs.Duties.{duty_of, ends_of}
@@ -18,10 +18,10 @@ row_at-table net plan epoch d within = at-numbered (table_row net plan epoch) (l
 
 -- just the members have rows
 pub has_row_at-table : (net : Network) (plan : Plan) (epoch d : ℕ) → d < length net.devices → has_row_at (table_of net plan epoch) d ≡ is_member plan d
-has_row_at-table net plan epoch d within = ap (λ o. of_some o false (λ row. true)) (row_at-table net plan epoch d within) ∙ by_test (is_member plan d)
+has_row_at-table net plan epoch d within = ap (λ o. map_or o false (λ row. true)) (row_at-table net plan epoch d within) ∙ by_test (is_member plan d)
   where
     by_test : (b : Bool)
-        → of_some (option_map (λ duty. record { duty = duty; downstream = ends_of net plan d }) (if b then Some (duty_of net plan epoch d) else None)) false
+        → map_or (option_map (λ duty. record { duty = duty; downstream = ends_of net plan d }) (if b then Some (duty_of net plan epoch d) else None)) false
         (λ (row : TableRow). true) ≡ b
     by_test true = refl
     by_test false = refl

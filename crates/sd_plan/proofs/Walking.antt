@@ -4,6 +4,7 @@ use Rattle.sd_plan.specs.Plans.{primary_of, is_root}
 use Rattle.sd_plan.specs.Walks.{hops, end_of}
 use Rattle.sd_plan.specs.declared.Hop.{Hop}
 use Rattle.sd_plan.specs.declared.Plan.{Plan}
+use Rattle.sd_plan.proofs.Steps.{less_one}
 
 -- the hops that are left of a walk at a device
 abbrev pub hops_left : Plan → ℕ → ℕ → List Hop
@@ -22,10 +23,7 @@ step root found more here hop is =
     by_root true = refl
     by_root false = refl
 
-less_one : (n : ℕ) → n ≡ suc n - 1
-less_one n = omega arith
-
-no_root : {X : Type 0} (b : Bool) (x y : X) → b ≡ false → (if b then x else y) ≡ y
+pub no_root : {X : Type 0} (b : Bool) (x y : X) → b ≡ false → (if b then x else y) ≡ y
 no_root b x y is = subst (λ (c : Bool). (if c then x else y) ≡ y) (sym is) refl
 
 pub walks_on : (plan : Plan) (left here : ℕ) (hop : Hop) → 1 ≤ left → is_root plan here ≡ false → primary_of plan here ≡ Some hop

@@ -1,6 +1,6 @@
 -- The rows that the fields of a table stand for.
 use Rattle.std.proofs.Common.{◌≡◌, ℕ, ◌<◌, true, false, List, [], length, map, get_or, Option, Some, None, option_map, is_some, refl, sym, ap, ◌∙◌, arith}
-use Rattle.sd_num.specs.Lists.{below, of_some}
+use Rattle.sd_num.specs.Lists.{below, map_or}
 use Rattle.sd_topo.specs.Network.{Network, device_numbers}
 use Rattle.sd_plan.specs.Duties.{ends_of}
 use Rattle.sd_plan.specs.Joining.{part_of, AreJoined}
@@ -26,11 +26,11 @@ same_length net plan epoch duties rows told below =
     ∙ sym (ap length told)
 
 -- duties and joined rows are the table
-pub whole : (net : Network) (plan : Plan) (epoch : ℕ) (duties : List (Option Duty)) (rows : List (List End)) (ends : List End) (offsets : List ℕ)
+pub table_is_joined : (net : Network) (plan : Plan) (epoch : ℕ) (duties : List (Option Duty)) (rows : List (List End)) (ends : List End) (offsets : List ℕ)
     → duties ≡ map (told_of net plan epoch) (device_numbers net) → rows ≡ map (ends_of net plan) (device_numbers net)
     → AreJoined rows (length rows) ends offsets
     → map (row_seen duties ends offsets) (below (length duties)) ≡ table_of net plan epoch
-whole net plan epoch duties rows ends offsets told down joined =
+table_is_joined net plan epoch duties rows ends offsets told down joined =
     let count : length duties ≡ length net.devices = ap length told ∙ length-numbered (told_of net plan epoch) (length net.devices) in
     let sizes = same_length net plan epoch duties rows told down in
     numbered_is (table_row net plan epoch) (length net.devices) None (map (row_seen duties ends offsets) (below (length duties)))
@@ -58,7 +58,7 @@ seen_length table duties ends offsets view = ap length (sym view) ∙ length-num
 pub row_within : (table : List (Option TableRow)) (d : ℕ) → has_row_at table d ≡ true → d < length table
 row_within table d there = by_place (slice_get table d) refl there
   where
-    by_place : (o : Option (Option TableRow)) → slice_get table d ≡ o → of_some (of_some o None (λ row. row)) false (λ row. true) ≡ true → d < length table
+    by_place : (o : Option (Option TableRow)) → slice_get table d ≡ o → map_or (map_or o None (λ row. row)) false (λ row. true) ≡ true → d < length table
     by_place None at there = cc
     by_place (Some row) at there = slice_get_within table d row at
 
@@ -67,9 +67,9 @@ pub has_row-seen : (table : List (Option TableRow)) (duties : List (Option Duty)
     → map (row_seen duties ends offsets) (below (length duties)) ≡ table → d < length duties → told ≡ get_or duties d told → is_some told ≡ has_row_at table d
 has_row-seen table duties ends offsets d told view within is =
     ap is_some (get_or_read duties d told within is None) ∙ by_duty (get_or duties d None)
-    ∙ sym (ap (λ o. of_some o false (λ row. true)) (seen_at table duties ends offsets d view within))
+    ∙ sym (ap (λ o. map_or o false (λ row. true)) (seen_at table duties ends offsets d view within))
   where
-    by_duty : (o : Option Duty) → is_some o ≡ of_some (with_ends (part_of ends offsets d) o) false (λ row. true)
+    by_duty : (o : Option Duty) → is_some o ≡ map_or (with_ends (part_of ends offsets d) o) false (λ row. true)
     by_duty None = refl
     by_duty (Some duty) = refl
 

@@ -2,11 +2,12 @@
 use Rattle.std.specs.Prelude.{ℕ, ◌<◌, length, map, Option, Some, None}
 use Rattle.sd_num.specs.Lists.{below}
 use Rattle.sd_topo.specs.Network.{Each}
-use Rattle.sd_plan.specs.Indexed.{Indexed}
+use Rattle.sd_plan.specs.IndexedPlan.{IndexedPlan}
 use Rattle.sd_plan.specs.Joining.{part_of, AreOrdered}
 use Rattle.sd_plan.specs.declared.index.WalkIndex.TheInside.{Inside}
 
-abbrev pub index_seen : Inside → Indexed
+-- the index that the fields stand for
+abbrev pub index_seen : Inside → IndexedPlan
 index_seen w =
     record {
       order = w.order.items;

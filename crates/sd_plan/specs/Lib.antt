@@ -2,7 +2,7 @@ pub mod Cuts
 pub mod Duties
 pub mod Examples
 pub mod IndexView
-pub mod Indexed
+pub mod IndexedPlan
 pub mod Joining
 pub mod Plans
 pub mod Props

@@ -1,20 +1,21 @@
 -- Trees by lists of children: who lies below whom, and where they stand in an order.
 use Rattle.std.specs.Prelude.{◌≡◌, ℕ, zero, suc, ◌<◌, ◌≤◌, Bool, true, false, List, [], ◌∷◌, ◌++◌, length, filter, flat_map, nat_eq, slice_index_or, slice_range, All, IfSome, if◌then◌else◌}
-use Rattle.sd_num.specs.Lists.{below, has, of_some}
+use Rattle.sd_num.specs.Lists.{below, has, map_or}
 use Rattle.sd_topo.specs.Network.{Network}
 use Rattle.sd_plan.specs.Plans.{primary_of}
-use Rattle.sd_plan.specs.Indexed.{no_span}
+use Rattle.sd_plan.specs.IndexedPlan.{no_span}
 use Rattle.sd_plan.specs.declared.Plan.{Plan}
 use Rattle.sd_plan.specs.declared.index.Span.{Span}
 
 -- d is the primary parent of c
 abbrev pub is_child : Plan → ℕ → ℕ → Bool
-is_child plan d c = of_some (primary_of plan c) false (λ hop. nat_eq hop.parent d)
+is_child plan d c = map_or (primary_of plan c) false (λ hop. nat_eq hop.parent d)
 
 -- the devices below a number whose primary parent is d, ascending
 abbrev pub children_before : Plan → ℕ → ℕ → List ℕ
 children_before plan n d = filter (is_child plan d) (below n)
 
+-- the devices whose primary parent is d, ascending
 abbrev pub children : Network → Plan → ℕ → List ℕ
 children net plan d = children_before plan (length net.devices) d
 

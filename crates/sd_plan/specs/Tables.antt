@@ -1,6 +1,6 @@
 -- The table of a plan: what each member is told, and which ends lie below it.
 use Rattle.std.specs.Prelude.{ℕ, ◌<◌, IsTrue, length, Bool, true, false, List, [], ◌∷◌, map, filter_map, find, nat_eq, ◌&&◌, Option, Some, None, option_map, if◌then◌else◌}
-use Rattle.sd_num.specs.Lists.{below, at_place, of_some}
+use Rattle.sd_num.specs.Lists.{below, at_place, map_or}
 use Rattle.sd_topo.specs.Network.{Network, device_numbers, link_of}
 use Rattle.sd_topo.specs.Places.{is_end_of}
 use Rattle.sd_plan.specs.Plans.{is_member}
@@ -33,7 +33,7 @@ row_at table d = at_place table d None (λ row. row)
 
 -- there is one
 abbrev pub has_row_at : List (Option TableRow) → ℕ → Bool
-has_row_at table d = of_some (row_at table d) false (λ row. true)
+has_row_at table d = map_or (row_at table d) false (λ row. true)
 
 -- the end below a device over a link, if some device follows it over this
 abbrev pub end_over : Network → Plan → ℕ → ℕ → Option End

@@ -3,7 +3,7 @@ use Rattle.std.specs.Prelude.{ℕ, ◌&&◌, List, [], ◌∷◌, filter_map, na
 use Rattle.sd_num.specs.Lists.{below}
 use Rattle.sd_topo.specs.Network.{Network}
 use Rattle.sd_plan.specs.Plans.{is_member}
-use Rattle.sd_plan.specs.Indexed.{usable_end}
+use Rattle.sd_plan.specs.IndexedPlan.{usable_end}
 use Rattle.sd_plan.specs.declared.Plan.{Plan}
 use Rattle.sd_plan.specs.declared.End.{End}
 

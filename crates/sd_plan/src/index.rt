@@ -6,8 +6,8 @@ ghost use Rattle.sd_plan.specs.Plans as plans;
 ghost use Rattle.sd_plan.specs.Plans.{Fits, is_member};
 ghost use Rattle.sd_plan.specs.Structure.{structure_breach};
 ghost use Rattle.sd_plan.specs.Walks as walks;
-ghost use Rattle.sd_plan.specs.Indexed as indexed;
-ghost use Rattle.sd_plan.specs.Indexed.{IsIndexOf, span_of, has_device, has_link};
+ghost use Rattle.sd_plan.specs.IndexedPlan as indexed;
+ghost use Rattle.sd_plan.specs.IndexedPlan.{IsIndexOf, span_of, has_device, has_link};
 ghost use Rattle.sd_plan.specs.declared.Plan.{Plan as PlanSeen};
 
 mod carried;
@@ -52,9 +52,9 @@ pub struct WalkIndex {
 }
 
 impl Model for WalkIndex {
-    ghost use Rattle.sd_plan.specs.Indexed.{Indexed};
+    ghost use Rattle.sd_plan.specs.IndexedPlan.{IndexedPlan};
 
-    ghost Value = { Indexed };
+    ghost Value = { IndexedPlan };
 
     ghost use Rattle.sd_plan.specs.IndexView.{index_seen, IsIndex};
 

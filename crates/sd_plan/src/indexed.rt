@@ -2,14 +2,14 @@
 ghost use Rattle.std.proofs.Props.{props};
 ghost use Rattle.sd_topo.specs.Topologies.{network};
 ghost use Rattle.sd_plan.specs.Props.{IsRow-prop};
-ghost use Rattle.sd_plan.specs.Indexed.{IsIndexOf};
+ghost use Rattle.sd_plan.specs.IndexedPlan.{IsIndexOf};
 
 use crate::{Plan, WalkIndex};
 use sd_topo::Topology;
 
 /// A topology, a plan of right structure that fits it, and the index of the plan's walks.
 #[derive(Clone, Copy)]
-pub struct Indexed<'a> {
+pub struct IndexedPlan<'a> {
     pub topo: &'a Topology,
     pub plan: &'a Plan,
     pub index: &'a WalkIndex,

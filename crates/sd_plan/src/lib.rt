@@ -13,7 +13,7 @@ mod table;
 pub use flags::present;
 pub use hops::{backup_of, primary_of};
 pub use index::{Span, WalkIndex};
-pub use indexed::Indexed;
+pub use indexed::IndexedPlan;
 pub use lists::{DeviceList, RowList, ThingList, empty_lists};
 pub use paths::{epath, path};
 use sd_num::{Bounds, Rates};

@@ -12,19 +12,16 @@ use Rattle.sd_topo.specs.Places.{domain_of}
 use Rattle.sd_plan.specs.declared.Absent.{Absent}
 use Rattle.sd_plan.specs.declared.Hop.{Hop}
 use Rattle.sd_plan.specs.Walks.{links_of}
-use Rattle.sd_planner_place.specs.declared.placement.Placed.{Placed}
-use Rattle.sd_planner_place.specs.Spreading.{placed_at}
-use Rattle.sd_planner_place.specs.Trees.{Grows}
+use Rattle.sd_plan.proofs.Forest.{or_none}
+use Rattle.sd_planner.specs.declared.placement.Placed.{Placed}
+use Rattle.sd_planner.specs.Spreading.{placed_at}
+use Rattle.sd_planner.specs.Trees.{Grows}
 use Rattle.sd_planner.specs.Climbs.{way_up}
 use Rattle.sd_planner.specs.Flags.{is_set, AreSet}
 use Rattle.sd_planner.specs.Things.{AddsAll, meets, met_device, met_link, parents_of}
 use Rattle.sd_planner.specs.declared.backups.things.Things.{Things}
-use Rattle.sd_planner_place.proofs.Growing.{found_own}
+use Rattle.sd_planner.proofs.Growing.{found_own}
 use Rattle.sd_planner.proofs.Trees.{stands, behind, way_step, way_none}
-
-pub or_false : (t : Bool) → (t || false) ≡ t
-or_false true = refl
-or_false false = refl
 
 or_assoc : (a b c : Bool) → ((a || b) || c) ≡ (a || (b || c))
 or_assoc true b c = refl
@@ -62,12 +59,12 @@ met_none net others old =
     record {
       device_size = refl;
       link_size = refl;
-      device = λ x. sym (or_false (is_set old.devices.items x));
-      link = λ x. sym (or_false (is_set old.links.items x));
+      device = λ x. sym (or_none (is_set old.devices.items x));
+      link = λ x. sym (or_none (is_set old.links.items x));
     }
 
 any_more : (test : ℕ → Bool) (n : ℕ) → list_any test (below (n + 1)) ≡ (list_any test (below n) || test n)
-any_more test n = rw add-one (list_any-append test (below n) (n ∷ []) ∙ ap (λ t. list_any test (below n) || t) (or_false (test n)))
+any_more test n = rw add-one (list_any-append test (below n) (n ∷ []) ∙ ap (λ t. list_any test (below n) || t) (or_none (test n)))
 
 -- a domain that has nothing of the others
 pub met_same : (net : Network) (others old new : Things) (n : ℕ) → AddsAll (met_device net others n) (met_link net others n) old new
@@ -82,12 +79,12 @@ met_same net others old new n so_far not_met =
           ∙ ap (λ t. is_set old.devices.items x || t)
           (sym
           (any_more (λ k. meets net others k && has (domain_of net k).devices x) n
-          ∙ ap (λ t. met_device net others n x || (t && has (domain_of net n).devices x)) not_met ∙ or_false (met_device net others n x)));
+          ∙ ap (λ t. met_device net others n x || (t && has (domain_of net n).devices x)) not_met ∙ or_none (met_device net others n x)));
       link = λ x.
           so_far.link x
           ∙ ap (λ t. is_set old.links.items x || t)
           (sym (any_more (λ k. meets net others k && has (domain_of net k).links x) n
-          ∙ ap (λ t. met_link net others n x || (t && has (domain_of net n).links x)) not_met ∙ or_false (met_link net others n x)));
+          ∙ ap (λ t. met_link net others n x || (t && has (domain_of net n).links x)) not_met ∙ or_none (met_link net others n x)));
     }
 
 -- a domain that has something of them
@@ -194,6 +191,6 @@ way_done list own here old new so_far over =
     record {
       device_size = so_far.device_size;
       link_size = so_far.link_size;
-      device = λ x. sym (ap (λ hops. is_set new.devices.items x || has (parents_of hops) x) over ∙ or_false (is_set new.devices.items x)) ∙ so_far.device x;
-      link = λ x. sym (ap (λ hops. is_set new.links.items x || has (links_of hops) x) over ∙ or_false (is_set new.links.items x)) ∙ so_far.link x;
+      device = λ x. sym (ap (λ hops. is_set new.devices.items x || has (parents_of hops) x) over ∙ or_none (is_set new.devices.items x)) ∙ so_far.device x;
+      link = λ x. sym (ap (λ hops. is_set new.links.items x || has (links_of hops) x) over ∙ or_none (is_set new.links.items x)) ∙ so_far.link x;
     }

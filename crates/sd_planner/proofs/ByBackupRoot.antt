@@ -7,11 +7,11 @@ use Rattle.sd_plan.specs.Domain.Domains.{domains, holds_device, holds_link, hits
 use Rattle.sd_plan.specs.declared.Hop.{Hop}
 use Rattle.sd_plan.specs.declared.Absent.{Absent}
 use Rattle.sd_plan.specs.Walks.{things_of, devices_of, links_of}
-use Rattle.sd_planner_place.specs.Usable.{hops_from}
-use Rattle.sd_planner_place.specs.declared.placement.Placed.{Placed}
-use Rattle.sd_planner_place.specs.Spreading.{placed_at}
-use Rattle.sd_planner_place.specs.Placing.{backup_root_of, placed}
-use Rattle.sd_planner_place.specs.Trees.{Grows}
+use Rattle.sd_planner.specs.Usable.{hops_from}
+use Rattle.sd_planner.specs.declared.placement.Placed.{Placed}
+use Rattle.sd_planner.specs.Spreading.{placed_at}
+use Rattle.sd_planner.specs.Placing.{backup_root_of, placed}
+use Rattle.sd_planner.specs.Trees.{Grows}
 use Rattle.sd_planner.specs.Climbs.{way_up}
 use Rattle.sd_planner.specs.Flags.{is_set}
 use Rattle.sd_planner.specs.Serving.{walk_up, are_walks_joined, serves, serves_backup_root, backup_for}

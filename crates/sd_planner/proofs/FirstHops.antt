@@ -1,9 +1,10 @@
 -- The first hop of a device that passes a test, found by going over its neighbours.
 use Rattle.std.proofs.Common.{◌≡◌, ℕ, ◌+◌, ◌<◌, ◌≤◌, Bool, true, false, List, length, map, take, find, get_or, Some, None, option_map, sym, ap, ◌∙◌}
+use Rattle.sd_num.proofs.Firsts.{find_more, find_here, find_all}
 use Rattle.sd_plan.specs.declared.Hop.{Hop}
-use Rattle.sd_planner_place.specs.declared.present.Neighbour.{Neighbour}
-use Rattle.sd_planner_place.specs.Usable.{hop_to}
-use Rattle.sd_planner_place.proofs.Firsts.{find_here, find_more, find_all, find_mapped}
+use Rattle.sd_planner.specs.declared.present.Neighbour.{Neighbour}
+use Rattle.sd_planner.specs.Usable.{hop_to}
+use Rattle.sd_planner.proofs.Firsts.{find_mapped}
 
 -- no hop to one of these neighbours passes
 abbrev pub NonePasses : (Hop → Bool) → List Neighbour → Type 0

@@ -3,15 +3,16 @@ use Rattle.std.proofs.Common.{◌≡◌, ℕ, ◌<◌, Bool, true, false, ◌&&�
 use Rattle.std.specs.List.{list_any}
 use Rattle.std.proofs.lemmas.Bool.{and_parts, ltb-true, lt-ltb, cases_lt}
 use Rattle.std.proofs.lemmas.List.{get_or_past}
-use Rattle.sd_num.specs.Lists.{below, has, of_some}
+use Rattle.sd_num.specs.Lists.{below, has, map_or}
 use Rattle.sd_topo.specs.Network.{Network, Domain}
 use Rattle.sd_topo.specs.Places.{domain_of, no_domain}
 use Rattle.sd_plan.specs.Domain.Domains.{holds_device, holds_link}
 use Rattle.sd_plan.specs.Domain.declared.DomainId.TheVariants.{Listed}
 use Rattle.sd_plan.specs.declared.Hop.{Hop}
+use Rattle.sd_plan.specs.Subtrees.{listed}
 use Rattle.sd_planner.specs.Serving.{hits_hop, are_joined}
 use Rattle.sd_planner.specs.Flags.{is_set, AreSet}
-use Rattle.sd_planner.specs.Listed.{Lists, listed, ListUnder, AreListed}
+use Rattle.sd_planner.specs.Listed.{Lists, ListUnder, AreListed}
 use Rattle.sd_planner.specs.Surveys.{AreClear, AreJoining}
 use Rattle.sd_planner.proofs.Members.{any-map, any_among}
 
@@ -19,14 +20,14 @@ use Rattle.sd_planner.proofs.Members.{any-map, any_among}
 pub device_listed : (net : Network) (k d : ℕ) → holds_device net (Listed k) d ≡ has (domain_of net k).devices d
 device_listed net k d = by_place (slice_get net.domains k)
   where
-    by_place : (o : Option Domain) → of_some o false (λ l. has l.devices d) ≡ has (of_some o no_domain (λ l. l)).devices d
+    by_place : (o : Option Domain) → map_or o false (λ l. has l.devices d) ≡ has (map_or o no_domain (λ l. l)).devices d
     by_place None = refl
     by_place (Some l) = refl
 
 pub link_listed : (net : Network) (k l : ℕ) → holds_link net (Listed k) l ≡ has (domain_of net k).links l
 link_listed net k d = by_place (slice_get net.domains k)
   where
-    by_place : (o : Option Domain) → of_some o false (λ l. has l.links d) ≡ has (of_some o no_domain (λ l. l)).links d
+    by_place : (o : Option Domain) → map_or o false (λ l. has l.links d) ≡ has (map_or o no_domain (λ l. l)).links d
     by_place None = refl
     by_place (Some l) = refl
 

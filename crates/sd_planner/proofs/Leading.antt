@@ -3,11 +3,11 @@ use Rattle.std.proofs.Common.{◌≡◌, ℕ, zero, suc, ◌+◌, ◌<◌, Bool,
 use Rattle.std.proofs.lemmas.Bool.{cases_lt}
 use Rattle.std.proofs.lemmas.Option.{same_Some}
 use Rattle.std.proofs.lemmas.List.{length-set, get_or-set_same, get_or-set_other}
-use Rattle.sd_num.specs.Lists.{of_some}
+use Rattle.sd_num.specs.Lists.{map_or}
 use Rattle.sd_topo.specs.Network.{Network}
 use Rattle.sd_plan.specs.declared.Absent.{Absent}
-use Rattle.sd_planner_place.specs.declared.placement.Placed.{Placed}
-use Rattle.sd_planner_place.specs.Trees.{Grows}
+use Rattle.sd_planner.specs.declared.placement.Placed.{Placed}
+use Rattle.sd_planner.specs.Trees.{Grows}
 use Rattle.sd_planner.specs.Climbs.{leads_over}
 use Rattle.sd_planner.specs.Flags.{is_set, AreOver}
 use Rattle.sd_planner.proofs.Trees.{behind, over_step, over_first}
@@ -24,11 +24,11 @@ module _ (net : Network) (root : ℕ) (absent : Absent) (list : List Placed) (tr
 
   -- what is seen at a device
   pub seen : (i : ℕ) (p : Placed) (flags : List Bool) (answer : Bool) → slice_get list i ≡ Some p → AreOver devices links list i flags
-      → answer ≡ (is_set devices p.device || of_some p.hop false (λ hop. is_set links hop.link || is_set flags hop.parent))
+      → answer ≡ (is_set devices p.device || map_or p.hop false (λ hop. is_set links hop.link || is_set flags hop.parent))
       → answer ≡ leads_over (is_set devices) (is_set links) list p.device
   seen zero p flags answer at so_far is =
       is
-      ∙ ap (λ o. is_set devices p.device || of_some o false (λ hop. is_set links hop.link || is_set flags hop.parent)) (ap (λ q. q.hop) (tree.first p at))
+      ∙ ap (λ o. is_set devices p.device || map_or o false (λ hop. is_set links hop.link || is_set flags hop.parent)) (ap (λ q. q.hop) (tree.first p at))
       ∙ plain (is_set devices p.device)
       ∙ sym (over_first net root absent list tree (is_set devices) (is_set links) p at)
     where
@@ -38,7 +38,7 @@ module _ (net : Network) (root : ℕ) (absent : Absent) (list : List Placed) (tr
   seen (suc i) p flags answer at so_far is =
       let b = behind net root absent list tree (suc i) p (omega arith) at in
       is
-      ∙ ap (λ o. is_set devices p.device || of_some o false (λ hop. is_set links hop.link || is_set flags hop.parent)) b.has_hop
+      ∙ ap (λ o. is_set devices p.device || map_or o false (λ hop. is_set links hop.link || is_set flags hop.parent)) b.has_hop
       ∙ ap (λ t. is_set devices p.device || (is_set links b.hop.link || t))
       (ap (is_set flags) (sym b.leads) ∙ so_far.each b.place b.parent b.earlier b.at ∙ ap (leads_over (is_set devices) (is_set links) list) b.leads)
       ∙ regroup (is_set devices p.device) (is_set links b.hop.link) (leads_over (is_set devices) (is_set links) list b.hop.parent)
@@ -46,7 +46,7 @@ module _ (net : Network) (root : ℕ) (absent : Absent) (list : List Placed) (tr
 
   -- one device more
   pub over_more : (i : ℕ) (p : Placed) (flags : List Bool) (answer : Bool) → slice_get list i ≡ Some p → AreOver devices links list i flags
-      → answer ≡ (is_set devices p.device || of_some p.hop false (λ hop. is_set links hop.link || is_set flags hop.parent))
+      → answer ≡ (is_set devices p.device || map_or p.hop false (λ hop. is_set links hop.link || is_set flags hop.parent))
       → AreOver devices links list (i + 1) (set flags p.device answer)
   over_more i p flags answer at so_far is =
       let size : length flags ≡ length devices = so_far.size in

@@ -4,7 +4,7 @@ use Rattle.std.proofs.lemmas.Bool.{cases_lt}
 use Rattle.std.proofs.lemmas.Option.{same_Some, slice_get_within, slice_get-get_or}
 use Rattle.std.proofs.lemmas.Nat.{le-div, div_below}
 use Rattle.std.proofs.Math.Nat.{mul-le-mul_right, mul-le-mul_left}
-use Rattle.sd_num.specs.Lists.{least, of_some}
+use Rattle.sd_num.specs.Lists.{least, map_or}
 use Rattle.sd_num.specs.Numbers.{low, grow}
 use Rattle.sd_num.specs.declared.Rates.{Rates}
 use Rattle.sd_topo.specs.Network.{Network, Device, rates_of, no_rates}
@@ -115,10 +115,10 @@ least_is net long wait law all =
     record {
       enough =
           low_of_all net.devices long wait law.devices.0
-          (λ k v at. subst (λ (r : Rates). long ≤ low r wait) (ap (λ o. of_some o no_rates (λ device. device.rates)) at)
+          (λ k v at. subst (λ (r : Rates). long ≤ low r wait) (ap (λ o. map_or o no_rates (λ device. device.rates)) at)
           (all.enough wait (omega arith) k (slice_get_within net.devices k v at)));
       least = λ y there. all.least y (λ k within.
           (let d = get_or net.devices k no_device in
           let at : slice_get net.devices k ≡ Some d = slice_get-get_or net.devices k no_device within in
-          subst (λ (r : Rates). long ≤ low r y) (sym (ap (λ o. of_some o no_rates (λ device. device.rates)) at)) (all_of_low net.devices long y there k d at)));
+          subst (λ (r : Rates). long ≤ low r y) (sym (ap (λ o. map_or o no_rates (λ device. device.rates)) at)) (all_of_low net.devices long y there k d at)));
     }

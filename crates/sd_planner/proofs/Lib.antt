@@ -1,3 +1,24 @@
+-- How devices are placed, then backups, waits and the plan.
+mod Flags
+mod Over
+mod Turned
+pub mod Adjacency
+pub mod Lists
+pub mod Walks
+pub mod Rings
+pub mod Places
+pub mod Queue
+pub mod Turning
+pub mod Sweeping
+pub mod Ringwise
+pub mod SpreadGrowing
+pub mod Firsts
+pub mod Elements
+mod Finding
+mod Sets
+mod Waiters
+pub mod Growing
+mod Steps
 pub mod Versions
 mod Members
 mod Setting
@@ -5,7 +26,7 @@ mod Trees
 mod Leading
 mod Listing
 mod Walking
-mod Placing
+mod FoundDevices
 mod Joining
 mod Serving
 mod FirstHops

@@ -3,12 +3,10 @@ use Rattle.std.proofs.Common.{◌≡◌, ℕ, ◌+◌, ◌<◌, ◌≤◌, Bool,
 use Rattle.std.proofs.lemmas.Bool.{cases_lt, cases_eq, lt-ltb, le-ltb, ne_eqb, eq-eqb}
 use Rattle.std.proofs.lemmas.List.{get_or-set_same, get_or-set_other, take_more}
 use Rattle.sd_num.specs.Lists.{has}
-use Rattle.sd_planner.specs.Listed.{listed, ListUnder}
-use Rattle.sd_planner.proofs.Setting.{has_more}
-
-plain : (t : Bool) → (t || false) ≡ t
-plain true = refl
-plain false = refl
+use Rattle.sd_num.proofs.Places.{has_more}
+use Rattle.sd_plan.specs.Subtrees.{listed}
+use Rattle.sd_plan.proofs.Forest.{or_none}
+use Rattle.sd_planner.specs.Listed.{ListUnder}
 
 -- a thing more has the domain
 pub thing_more : (lists old : List (List ℕ)) (more : List ℕ) (domain : ℕ) (things : List ℕ) (i : ℕ) → i < length things → get_or things i 0 < length lists
@@ -30,7 +28,7 @@ thing_more lists old more domain things i within inside so_far pushed x k =
       | inr apart ↦
           ap (λ xs. has xs k) (get_or-set_other lists y x more [] apart) ∙ so_far x k
           ∙ sym (ap (λ t. has (listed old x) k || (nat_eq k domain && t))
-          (taken ∙ ap (λ t. has (take i things) x || t) (ne_eqb x y apart) ∙ plain (has (take i things) x)))
+          (taken ∙ ap (λ t. has (take i things) x || t) (ne_eqb x y apart) ∙ or_none (has (take i things) x)))
     ]
   where
     joined : (a e t : Bool) → ((a || (e && t)) || e) ≡ (a || (e && (t || true)))
@@ -49,7 +47,7 @@ domain_more f n old new things under are added x k =
       | inl before ↦
           ap (λ t. (t && has (f k) x) || (nat_eq k n && has things x)) (lt-ltb k n before)
           ∙ ap (λ t. has (f k) x || (t && has things x)) (ne_eqb k n (λ same. omega arith))
-          ∙ plain (has (f k) x)
+          ∙ or_none (has (f k) x)
           ∙ sym (ap (λ t. t && has (f k) x) (lt-ltb k (n + 1) (omega arith)))
       | inr later ↦
           ap (λ t. (t && has (f k) x) || (nat_eq k n && has things x)) (le-ltb k n later)

@@ -1,19 +1,12 @@
 -- Tests that elements of lists pass, by what the lists have.
-use Rattle.std.proofs.Common.{◌≡◌, ℕ, zero, suc, ◌<◌, Bool, true, false, ◌&&◌, ◌||◌, List, [], ◌∷◌, map, nat_eq, nat_lt, All, Some, slice_get, refl, sym, ap, ◌∙◌, arith, inl, inr}
+use Rattle.std.proofs.Common.{◌≡◌, ℕ, zero, suc, ◌<◌, Bool, true, false, ◌&&◌, ◌||◌, List, [], ◌∷◌, map, nat_eq, nat_lt, Some, slice_get, refl, sym, ap, ◌∙◌, arith, inl, inr}
 use Rattle.std.specs.List.{list_any}
 use Rattle.std.proofs.lemmas.Bool.{or_left, or_right, or_cases, and_parts, and_from, cases_lt, eqb-true, eq-eqb, ltb-true, lt-ltb}
-use Rattle.std.proofs.lemmas.List.Elements.{All-head, All-tail}
 use Rattle.std.proofs.lemmas.List.Folds.{list_any-append}
 use Rattle.sd_num.specs.Lists.{below, has}
 use Rattle.sd_num.proofs.Places.{has_at}
-use Rattle.sd_planner_place.proofs.Elements.{any_at}
-
--- two tests that imply each other
-pub same_test : (a b : Bool) → (a ≡ true → b ≡ true) → (b ≡ true → a ≡ true) → a ≡ b
-same_test true true there back = refl
-same_test true false there back = sym (there refl)
-same_test false true there back = back refl
-same_test false false there back = refl
+use Rattle.sd_num.proofs.Shared.{same_from_both}
+use Rattle.sd_planner.proofs.Lists.{has_any}
 
 -- where it is
 pub record IsPassed {X : Type 0} (p : X → Bool) (xs : List X) : Type 0 where
@@ -29,10 +22,6 @@ passed p (y ∷ ys) any = elim (or_cases (p y) (list_any p ys) any) [
   | inr later ↦ (let more = passed p ys later in record { place = suc more.place; element = more.element; at = more.at; passes = more.passes })
 ]
 
--- of numbers
-pub any_has : (p : ℕ → Bool) (xs : List ℕ) (x : ℕ) → has xs x ≡ true → p x ≡ true → list_any p xs ≡ true
-any_has p xs x there passes = let h = passed (nat_eq x) xs there in any_at p xs h.place h.element h.at (ap p (sym (eqb-true x h.element h.passes)) ∙ passes)
-
 pub record IsHad (p : ℕ → Bool) (xs : List ℕ) : Type 0 where
   pub element : ℕ
   pub there : has xs element ≡ true
@@ -41,18 +30,13 @@ pub record IsHad (p : ℕ → Bool) (xs : List ℕ) : Type 0 where
 pub had : (p : ℕ → Bool) (xs : List ℕ) → list_any p xs ≡ true → IsHad p xs
 had p xs any = let h = passed p xs any in record { element = h.element; there = has_at xs h.place h.element h.at; passes = h.passes }
 
--- tests that agree
-pub any_same : {X : Type 0} (p q : X → Bool) (xs : List X) → ((x : X) → p x ≡ q x) → list_any p xs ≡ list_any q xs
-any_same p q [] same = refl
-any_same p q (x ∷ xs) same = ap (λ t. t || list_any p xs) (same x) ∙ ap (λ t. q x || t) (any_same p q xs same)
-
 pub any-map : {X Y : Type 0} (f : X → Y) (p : Y → Bool) (xs : List X) → list_any p (map f xs) ≡ list_any (λ x. p (f x)) xs
 any-map f p [] = refl
 any-map f p (x ∷ xs) = ap (λ t. p (f x) || t) (any-map f p xs)
 
 -- numbers below a bound
 pub has_below : (n k : ℕ) → has (below n) k ≡ nat_lt k n
-has_below n k = same_test (has (below n) k) (nat_lt k n) (there n) (back n)
+has_below n k = same_from_both (has (below n) k) (nat_lt k n) (there n) (back n)
   where
     there : (m : ℕ) → has (below m) k ≡ true → nat_lt k m ≡ true
     there zero had = cc
@@ -76,7 +60,7 @@ pub any_among : (p q : ℕ → Bool) (xs ys : List ℕ) (n : ℕ) (inside other 
     → ((k : ℕ) → has xs k ≡ (nat_lt k n && inside k)) → ((k : ℕ) → has ys k ≡ (nat_lt k n && other k))
     → ((k : ℕ) → k < n → p k ≡ (q k && (inside k || other k)))
     → list_any p (below n) ≡ (list_any q xs || list_any q ys)
-any_among p q xs ys n inside other first second is = same_test (list_any p (below n)) (list_any q xs || list_any q ys) there back
+any_among p q xs ys n inside other first second is = same_from_both (list_any p (below n)) (list_any q xs || list_any q ys) there back
   where
     there : list_any p (below n) ≡ true → (list_any q xs || list_any q ys) ≡ true
     there any =
@@ -85,13 +69,13 @@ any_among p q xs ys n inside other first second is = same_test (list_any p (belo
         let parts = and_parts (q h.element) (inside h.element || other h.element) (sym (is h.element (ltb-true h.element n less)) ∙ h.passes) in
         elim (or_cases (inside h.element) (other h.element) parts.1) [
           | inl one ↦ or_left (list_any q xs) (list_any q ys)
-              (any_has q xs h.element (first h.element ∙ and_from (nat_lt h.element n) (inside h.element) less one) parts.0)
+              (has_any q xs h.element (first h.element ∙ and_from (nat_lt h.element n) (inside h.element) less one) parts.0)
           | inr two ↦ or_right (list_any q xs) (list_any q ys)
-              (any_has q ys h.element (second h.element ∙ and_from (nat_lt h.element n) (other h.element) less two) parts.0)
+              (has_any q ys h.element (second h.element ∙ and_from (nat_lt h.element n) (other h.element) less two) parts.0)
         ]
 
     from : (k : ℕ) → nat_lt k n ≡ true → q k ≡ true → (inside k || other k) ≡ true → list_any p (below n) ≡ true
-    from k less passes held = any_has p (below n) k (has_below n k ∙ less) (is k (ltb-true k n less) ∙ and_from (q k) (inside k || other k) passes held)
+    from k less passes held = has_any p (below n) k (has_below n k ∙ less) (is k (ltb-true k n less) ∙ and_from (q k) (inside k || other k) passes held)
 
     back : (list_any q xs || list_any q ys) ≡ true → list_any p (below n) ≡ true
     back any = elim (or_cases (list_any q xs) (list_any q ys) any) [
@@ -103,13 +87,4 @@ any_among p q xs ys n inside other first second is = same_test (list_any p (belo
           (let h = had q ys two in
           let parts = and_parts (nat_lt h.element n) (other h.element) (sym (second h.element) ∙ h.there) in
           from h.element parts.0 h.passes (or_right (inside h.element) (other h.element) parts.1))
-    ]
-
--- what all of a list pass one of it passes
-pub had_within : (bound : ℕ) (xs : List ℕ) (x : ℕ) → All (λ y. y < bound) xs → has xs x ≡ true → x < bound
-had_within bound [] x all there = cc
-had_within bound (y ∷ ys) x all there =
-    elim (or_cases (nat_eq x y) (has ys x) there) [
-      | inl here ↦ (let same = eqb-true x y here in let first = All-head (λ z. z < bound) y ys all in omega arith)
-      | inr more ↦ had_within bound ys x (All-tail (λ z. z < bound) y ys all) more
     ]

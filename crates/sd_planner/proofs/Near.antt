@@ -5,7 +5,9 @@ use Rattle.std.proofs.lemmas.Bool.{or_left, or_right, or_cases, and_parts, and_f
 use Rattle.std.proofs.lemmas.List.{length-replicate}
 use Rattle.std.proofs.lemmas.Option.{slice_get_within}
 use Rattle.std.proofs.lemmas.List.Folds.{list_any-append}
+use Rattle.std.proofs.lemmas.Map.Keys.{any_passes_from_place}
 use Rattle.sd_num.specs.Lists.{below, has}
+use Rattle.sd_num.proofs.Shared.{any_same, same_from_both}
 use Rattle.sd_topo.specs.Network.{Network, device_numbers, link_numbers}
 use Rattle.sd_topo.specs.Places.{domain_of}
 use Rattle.sd_plan.specs.Domain.Domains.{domains, holds_device, holds_link, hits}
@@ -13,29 +15,25 @@ use Rattle.sd_plan.specs.Domain.declared.DomainId.{DomainId}
 use Rattle.sd_plan.specs.Domain.declared.DomainId.TheVariants as domain
 use Rattle.sd_plan.specs.declared.Hop.{Hop}
 use Rattle.sd_plan.specs.Walks.{things_of, devices_of, links_of}
-use Rattle.sd_planner_place.specs.declared.placement.Placed.{Placed}
-use Rattle.sd_planner_place.proofs.Elements.{any_at}
+use Rattle.sd_plan.proofs.Forest.{or_none}
+use Rattle.sd_planner.specs.declared.placement.Placed.{Placed}
 use Rattle.sd_planner.specs.Climbs.{way_up, leads_over}
 use Rattle.sd_planner.specs.Flags.{is_set, AreSet, AreOver}
 use Rattle.sd_planner.specs.Things.{AddsAll, AreNone, AreNear, AreUnfit, meets, met_device, met_link, parents_of, shares_device, shares_link}
 use Rattle.sd_planner.specs.declared.backups.things.Things.{Things}
-use Rattle.sd_planner.proofs.Members.{same_test, passed, any_has, had, has_below, any_same, any-map}
+use Rattle.sd_planner.proofs.Members.{passed, had, has_below, any-map}
 use Rattle.sd_planner.proofs.Joining.{device_listed, link_listed}
-use Rattle.sd_planner.proofs.Adding.{or_false, unset}
+use Rattle.sd_planner.proofs.Adding.{unset}
 use Rattle.sd_planner.proofs.Trees.{stands, Stands}
+use Rattle.sd_planner.proofs.Lists.{has_any}
+use Rattle.sd_planner.proofs.Walks.{or_swap}
 
 -- two lists have a number in common
 pub in_common : (xs ys : List ℕ) → list_any (has xs) ys ≡ list_any (has ys) xs
-in_common xs ys = same_test (list_any (has xs) ys) (list_any (has ys) xs) (λ any. turn xs ys any) (λ any. turn ys xs any)
+in_common xs ys = same_from_both (list_any (has xs) ys) (list_any (has ys) xs) (λ any. turn xs ys any) (λ any. turn ys xs any)
   where
     turn : (us vs : List ℕ) → list_any (has us) vs ≡ true → list_any (has vs) us ≡ true
-    turn us vs any = let h = had (has us) vs any in any_has (has vs) us h.element h.passes h.there
-
-or_swap : (a b : Bool) → (a || b) ≡ (b || a)
-or_swap true true = refl
-or_swap true false = refl
-or_swap false true = refl
-or_swap false false = refl
+    turn us vs any = let h = had (has us) vs any in has_any (has vs) us h.element h.passes h.there
 
 -- hops are hit by what has one of their links or devices
 pub hits_parts : (net : Network) (f : DomainId) (hops : List Hop)
@@ -58,7 +56,7 @@ any_never (x ∷ xs) = any_never xs
 
 -- a test that only one number can pass
 any_only : (test : ℕ → Bool) (n x : ℕ) → (test x ≡ true → x < n) → list_any (λ e. test e && nat_eq e x) (below n) ≡ test x
-any_only test n x within = same_test (list_any (λ e. test e && nat_eq e x) (below n)) (test x) there back
+any_only test n x within = same_from_both (list_any (λ e. test e && nat_eq e x) (below n)) (test x) there back
   where
     there : list_any (λ e. test e && nat_eq e x) (below n) ≡ true → test x ≡ true
     there any = let h = had (λ e. test e && nat_eq e x) (below n) any in let parts = and_parts (test h.element) (nat_eq h.element x) h.passes in
@@ -66,7 +64,7 @@ any_only test n x within = same_test (list_any (λ e. test e && nat_eq e x) (bel
 
     back : test x ≡ true → list_any (λ e. test e && nat_eq e x) (below n) ≡ true
     back passes =
-        any_has (λ e. test e && nat_eq e x) (below n) x (has_below n x ∙ lt-ltb x n (within passes)) (and_from (test x) (nat_eq x x) passes (eq-eqb x x refl))
+        has_any (λ e. test e && nat_eq e x) (below n) x (has_below n x ∙ lt-ltb x n (within passes)) (and_from (test x) (nat_eq x x) passes (eq-eqb x x refl))
 
 any_false : {X : Type 0} (test : X → Bool) (xs : List X) → list_any (λ x. test x && false) xs ≡ false
 any_false test xs = any_same (λ x. test x && false) (λ x. false) xs (λ x. never (test x)) ∙ any_never xs
@@ -95,7 +93,7 @@ module _ (net : Network) (hops : List Hop) (devices_within : (x : ℕ) → has (
   hits_device e = hits_parts net (domain.Device e) hops ∙ ap (λ t. t || has (parents_of hops) e) (any_never (links_of hops))
 
   hits_link : (m : ℕ) → hits net (domain.Link m) (things_of hops) ≡ has (links_of hops) m
-  hits_link m = hits_parts net (domain.Link m) hops ∙ ap (λ t. has (links_of hops) m || t) (any_never (parents_of hops)) ∙ or_false (has (links_of hops) m)
+  hits_link m = hits_parts net (domain.Link m) hops ∙ ap (λ t. has (links_of hops) m || t) (any_never (parents_of hops)) ∙ or_none (has (links_of hops) m)
 
   module _ (walk : Things) (device : (x : ℕ) → is_set walk.devices.items x ≡ has (parents_of hops) x) (link : (x : ℕ)
       → is_set walk.links.items x ≡ has (links_of hops) x) where
@@ -128,7 +126,7 @@ module _ (net : Network) (hops : List Hop) (devices_within : (x : ℕ) → has (
         ∙ hits_device x)
         ∙ ap (λ t. (met_device net walk (length net.domains) x || has (parents_of hops) x) || t)
         (any_false (λ m. hits net (domain.Link m) (things_of hops)) (link_numbers net))
-        ∙ or_false (met_device net walk (length net.domains) x || has (parents_of hops) x))
+        ∙ or_none (met_device net walk (length net.domains) x || has (parents_of hops) x))
 
     pub near_link : (x : ℕ) → (met_link net walk (length net.domains) x || has (links_of hops) x) ≡ shares_link net hops x
     near_link x =
@@ -144,7 +142,7 @@ module _ (net : Network) (hops : List Hop) (devices_within : (x : ℕ) → has (
         || list_any (λ m. hits net (domain.Link m) (things_of hops) && nat_eq m x) (link_numbers net))
         (any_false (λ e. hits net (domain.Device e) (things_of hops)) (device_numbers net))
         ∙ ap (λ t. t || list_any (λ m. hits net (domain.Link m) (things_of hops) && nat_eq m x) (link_numbers net))
-        (or_false (met_link net walk (length net.domains) x))
+        (or_none (met_link net walk (length net.domains) x))
         ∙ ap (λ t. met_link net walk (length net.domains) x || t)
         (any_only (λ m. hits net (domain.Link m) (things_of hops)) (length net.links) x (λ hit. links_within x (sym (hits_link x) ∙ hit)) ∙ hits_link x))
 
@@ -228,20 +226,20 @@ module _ {D : Type 0} (hit own : D → Bool) (link device : D → ℕ → Bool) 
       let parts = and_parts (hit f) (takes f) h.passes in
       elim (or_cases (own f || list_any (link f) links) (list_any (λ x. apart x && device f x) devices) parts.1) [
         | inl early ↦ or_left (one || two) three (elim (or_cases (own f) (list_any (link f) links) early) [
-          | inl here ↦ or_left one two (any_at (λ g. hit g && own g) ds h.place f h.at (and_from (hit f) (own f) parts.0 here))
+          | inl here ↦ or_left one two (any_passes_from_place (λ g. hit g && own g) ds h.place f h.at (and_from (hit f) (own f) parts.0 here))
           | inr some ↦
               (let m = passed (link f) links some in
               or_right one two
-              (any_at (λ x. list_any (λ g. hit g && link g x) ds) links m.place m.element m.at
-              (any_at (λ g. hit g && link g m.element) ds h.place f h.at (and_from (hit f) (link f m.element) parts.0 m.passes))))
+              (any_passes_from_place (λ x. list_any (λ g. hit g && link g x) ds) links m.place m.element m.at
+              (any_passes_from_place (λ g. hit g && link g m.element) ds h.place f h.at (and_from (hit f) (link f m.element) parts.0 m.passes))))
         ])
         | inr late ↦
             (let m = passed (λ x. apart x && device f x) devices late in
             let both = and_parts (apart m.element) (device f m.element) m.passes in
             or_right (one || two) three
-            (any_at (λ x. apart x && list_any (λ g. hit g && device g x) ds) devices m.place m.element m.at
+            (any_passes_from_place (λ x. apart x && list_any (λ g. hit g && device g x) ds) devices m.place m.element m.at
             (and_from (apart m.element) (list_any (λ g. hit g && device g m.element) ds) both.0
-            (any_at (λ g. hit g && device g m.element) ds h.place f h.at (and_from (hit f) (device f m.element) parts.0 both.1)))))
+            (any_passes_from_place (λ g. hit g && device g m.element) ds h.place f h.at (and_from (hit f) (device f m.element) parts.0 both.1)))))
       ]
 
   back : right ≡ true → left ≡ true
@@ -251,7 +249,7 @@ module _ {D : Type 0} (hit own : D → Bool) (link device : D → ℕ → Bool) 
           (let h = passed (λ f. hit f && own f) ds here in
           let f = h.element in
           let parts = and_parts (hit f) (own f) h.passes in
-          any_at (λ g. hit g && takes g) ds h.place f h.at
+          any_passes_from_place (λ g. hit g && takes g) ds h.place f h.at
           (and_from (hit f) (takes f) parts.0
           (or_left (own f || list_any (link f) links) (list_any (λ x. apart x && device f x) devices) (or_left (own f) (list_any (link f) links) parts.1))))
       | inr some ↦
@@ -259,10 +257,10 @@ module _ {D : Type 0} (hit own : D → Bool) (link device : D → ℕ → Bool) 
           let h = passed (λ f. hit f && link f m.element) ds m.passes in
           let f = h.element in
           let parts = and_parts (hit f) (link f m.element) h.passes in
-          any_at (λ g. hit g && takes g) ds h.place f h.at
+          any_passes_from_place (λ g. hit g && takes g) ds h.place f h.at
           (and_from (hit f) (takes f) parts.0
           (or_left (own f || list_any (link f) links) (list_any (λ x. apart x && device f x) devices)
-          (or_right (own f) (list_any (link f) links) (any_at (link f) links m.place m.element m.at parts.1)))))
+          (or_right (own f) (list_any (link f) links) (any_passes_from_place (link f) links m.place m.element m.at parts.1)))))
     ]
     | inr late ↦
         (let m = passed (λ x. apart x && list_any (λ f. hit f && device f x) ds) devices late in
@@ -270,11 +268,11 @@ module _ {D : Type 0} (hit own : D → Bool) (link device : D → ℕ → Bool) 
         let h = passed (λ f. hit f && device f m.element) ds both.1 in
         let f = h.element in
         let parts = and_parts (hit f) (device f m.element) h.passes in
-        any_at (λ g. hit g && takes g) ds h.place f h.at
+        any_passes_from_place (λ g. hit g && takes g) ds h.place f h.at
         (and_from (hit f) (takes f) parts.0
         (or_right (own f || list_any (link f) links) (list_any (λ x. apart x && device f x) devices)
-        (any_at (λ x. apart x && device f x) devices m.place m.element m.at (and_from (apart m.element) (device f m.element) both.0 parts.1)))))
+        (any_passes_from_place (λ x. apart x && device f x) devices m.place m.element m.at (and_from (apart m.element) (device f m.element) both.0 parts.1)))))
   ]
 
   pub by_parts : left ≡ right
-  by_parts = same_test left right there back
+  by_parts = same_from_both left right there back

@@ -1,39 +1,25 @@
 -- The hops of the rows are those of the network.
-use Rattle.std.proofs.Common.{◌≡◌, ℕ, zero, suc, ◌<◌, Bool, true, false, ◌&&◌, List, [], ◌∷◌, ◌++◌, length, map, filter, flat_map, find, nat_eq, cond, Option, Some, None, option_map, slice_get, if◌then◌else◌, refl, sym, ap, ◌∙◌, subst}
-use Rattle.std.proofs.lemmas.Bool.{eq-eqb, or_left, or_right, ltb-true}
-use Rattle.std.proofs.lemmas.Option.{same_Some, slice_get_within, get_or_from_slice_get}
-use Rattle.sd_num.specs.Lists.{has}
-use Rattle.sd_topo.specs.Network.{Network, Each, device_numbers, link_numbers, joins}
+use Rattle.std.proofs.Common.{◌≡◌, ℕ, suc, ◌<◌, Bool, true, false, ◌&&◌, List, [], ◌∷◌, ◌++◌, length, map, find, nat_eq, Option, Some, None, option_map, slice_get, if◌then◌else◌, refl, sym, ap, ◌∙◌, subst}
+use Rattle.std.proofs.lemmas.Option.{slice_get_within, get_or_from_slice_get}
+use Rattle.sd_topo.specs.Network.{Network, Each, device_numbers}
 use Rattle.sd_plan.specs.declared.Hop.{Hop}
 use Rattle.sd_plan.specs.declared.PlanRow.{PlanRow}
 use Rattle.sd_plan.specs.declared.Absent.{Absent}
 use Rattle.sd_plan.specs.Plans.{IsHop, IsRow, primary_of}
 use Rattle.sd_plan.proofs.Numbered.{length-numbered, get_or-numbered}
-use Rattle.sd_planner_place.specs.Usable.{hops_from, neighbours_of, hop_to}
-use Rattle.sd_planner_place.specs.declared.present.Neighbour.{Neighbour}
-use Rattle.sd_planner_place.proofs.Elements.{all_at}
-use Rattle.sd_planner_place.proofs.Adjacency.{IsNeighbourOf, neighbours_are}
-use Rattle.sd_planner_place.specs.Placing.{backup_root_of, placed}
-use Rattle.sd_planner_place.specs.Trees.{Grows}
+use Rattle.sd_plan.proofs.Shared.{each_more, found_passes}
+use Rattle.sd_planner.specs.Usable.{hops_from, neighbours_of, hop_to}
+use Rattle.sd_planner.specs.declared.present.Neighbour.{Neighbour}
+use Rattle.sd_planner.proofs.Elements.{all_at}
+use Rattle.sd_planner.proofs.Adjacency.{IsNeighbourOf, neighbours_are}
+use Rattle.sd_planner.specs.Placing.{backup_root_of, placed}
+use Rattle.sd_planner.specs.Trees.{Grows}
 use Rattle.sd_planner.specs.Serving.{primaries, backup_for, greedy_row, greedy_rows, serves, serves_backup_root}
 use Rattle.sd_planner.proofs.Walking.{primary_is}
 use Rattle.sd_planner.proofs.Within.{hop_within}
 
 each_none : {X : Type 0} (P : X → Type 0) → Each P []
 each_none P i x at = cc
-
-each_more : {X : Type 0} (P : X → Type 0) (y : X) (xs : List X) → P y → Each P xs → Each P (y ∷ xs)
-each_more P y xs first rest zero x at = subst P (same_Some y x at) first
-each_more P y xs first rest (suc i) x at = rest i x at
-
--- what is found is one of the list
-found_passes : {X : Type 0} (P : X → Type 0) (p : X → Bool) (xs : List X) (b : X) → Each P xs → find p xs ≡ Some b → P b
-found_passes P p [] b each found = cc
-found_passes P p (x ∷ xs) b each found = by_test (λ later. found_passes P p xs b (λ i y at. each (suc i) y at) later) (p x) found
-  where
-    by_test : (find p xs ≡ Some b → P b) → (t : Bool) → cond t (Some x) (find p xs) ≡ Some b → P b
-    by_test rest true found = subst P (same_Some x b found) (each 0 x refl)
-    by_test rest false found = rest found
 
 -- each hop that a device may take is one of the network
 hops_fit : (net : Network) (absent : Absent) (d : ℕ) → Each (IsHop net) (hops_from net absent d)

@@ -5,10 +5,10 @@ use Rattle.std.proofs.lemmas.List.{length-replicate}
 use Rattle.sd_topo.specs.Network.{Network}
 use Rattle.sd_plan.specs.declared.Hop.{Hop}
 use Rattle.sd_plan.specs.declared.Absent.{Absent}
-use Rattle.sd_planner_place.specs.declared.placement.Placed.{Placed}
-use Rattle.sd_planner_place.specs.Spreading.{placed_at}
-use Rattle.sd_planner_place.specs.Placing.{placed}
-use Rattle.sd_planner_place.specs.Trees.{Grows}
+use Rattle.sd_planner.specs.declared.placement.Placed.{Placed}
+use Rattle.sd_planner.specs.Spreading.{placed_at}
+use Rattle.sd_planner.specs.Placing.{placed}
+use Rattle.sd_planner.specs.Trees.{Grows}
 use Rattle.sd_planner.specs.Serving.{backup_for, greedy_row}
 use Rattle.sd_planner.specs.Flags.{is_set}
 use Rattle.sd_planner.specs.Surveys.{AreClear}

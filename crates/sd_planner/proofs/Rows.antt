@@ -4,7 +4,7 @@ use Rattle.sd_topo.specs.Network.{least_low, greatest_up}
 use Rattle.sd_plan.specs.declared.Absent.{Absent}
 use Rattle.sd_check_root.specs.Timing.{silence}
 use Rattle.sd_plan.specs.Examples.{fabric, fabric_rows, hop}
-use Rattle.sd_planner_place.specs.Placing.{backup_root_of, placed}
+use Rattle.sd_planner.specs.Placing.{backup_root_of, placed}
 use Rattle.sd_planner.specs.Serving.{greedy_rows, primaries, walk_up}
 
 abbrev nothing : Absent

@@ -1,9 +1,9 @@
 -- The tests of a hop, one by one.
 use Rattle.std.proofs.Common.{◌≡◌, ℕ, Bool, true, false, ◌&&◌, ◌||◌, not, nat_eq, List, Some, None, is_some, refl, sym, ap, ◌∙◌}
 use Rattle.std.proofs.lemmas.Bool.{ne_eqb, or_left}
-use Rattle.sd_planner_place.specs.declared.placement.Placed.{Placed}
-use Rattle.sd_planner_place.specs.Spreading.{is_placed, placed_at}
-use Rattle.sd_planner.proofs.Placing.{is_found}
+use Rattle.sd_planner.specs.declared.placement.Placed.{Placed}
+use Rattle.sd_planner.specs.Spreading.{is_placed, placed_at}
+use Rattle.sd_planner.proofs.FoundDevices.{is_found}
 
 -- one of two tests
 pub or_first : (r a b : Bool) → r ≡ a → r ≡ true → r ≡ (a || b)

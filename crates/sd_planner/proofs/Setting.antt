@@ -2,17 +2,9 @@
 use Rattle.std.proofs.Common.{◌≡◌, ℕ, ◌+◌, ◌<◌, Bool, true, false, ◌||◌, List, [], ◌∷◌, ◌++◌, length, take, nat_eq, get_or, set, if◌then◌else◌, refl, sym, ap, ◌∙◌, subst, arith, inl, inr}
 use Rattle.std.proofs.lemmas.Bool.{or_right, cases_eq, eq-eqb, ne_eqb}
 use Rattle.std.proofs.lemmas.List.{length-set, get_or-set_same, get_or-set_other, take_more}
-use Rattle.std.proofs.lemmas.List.Folds.{list_any-append}
 use Rattle.sd_num.specs.Lists.{has}
+use Rattle.sd_num.proofs.Places.{has_more}
 use Rattle.sd_planner.specs.Flags.{is_set, AreSet}
-
--- one number more
-pub has_more : (xs : List ℕ) (x k : ℕ) → has (xs ++ x ∷ []) k ≡ (has xs k || nat_eq k x)
-has_more xs x k = list_any-append (nat_eq k) xs (x ∷ []) ∙ ap (λ t. has xs k || t) (by_test (nat_eq k x))
-  where
-    by_test : (t : Bool) → (t || false) ≡ t
-    by_test true = refl
-    by_test false = refl
 
 pub none_set : (value : Bool) (flags : List Bool) → AreSet [] value flags flags
 none_set value flags = record { size = refl; each = λ k. refl }

@@ -4,16 +4,16 @@ use Rattle.std.specs.Prelude.{option_and_then}
 use Rattle.std.specs.List.{list_any}
 use Rattle.std.proofs.lemmas.Bool.{eqb-true}
 use Rattle.std.proofs.lemmas.Option.{same_Some, slice_get_within}
-use Rattle.sd_num.specs.Lists.{of_some}
+use Rattle.sd_num.specs.Lists.{map_or}
 use Rattle.sd_topo.specs.Network.{Network}
 use Rattle.sd_plan.specs.declared.Absent.{Absent}
 use Rattle.sd_plan.specs.declared.Hop.{Hop}
 use Rattle.sd_plan.specs.Walks.{devices_of, links_of}
-use Rattle.sd_planner_place.specs.declared.placement.Placed.{Placed}
-use Rattle.sd_planner_place.specs.Spreading.{placed_at}
-use Rattle.sd_planner_place.specs.Grown.{IsBelow}
-use Rattle.sd_planner_place.specs.Trees.{Grows}
-use Rattle.sd_planner_place.proofs.Growing.{at_taken, found_own}
+use Rattle.sd_planner.specs.declared.placement.Placed.{Placed}
+use Rattle.sd_planner.specs.Spreading.{placed_at}
+use Rattle.sd_planner.specs.Grown.{IsBelow}
+use Rattle.sd_planner.specs.Trees.{Grows}
+use Rattle.sd_planner.proofs.Growing.{at_taken, found_own}
 use Rattle.sd_planner.specs.Climbs.{hop_up, climb, way_up, leads_over}
 
 -- what is found stands somewhere
@@ -76,11 +76,11 @@ module _ (net : Network) (root : ℕ) (absent : Absent) (list : List Placed) (tr
   climb_none : (n d : ℕ) → hop_up list d ≡ None → climb list n d ≡ []
   unfolding climb
   climb_none zero d none = refl
-  climb_none (suc n) d none = ap (λ o. of_some o [] (λ hop. hop ∷ climb list n hop.parent)) none
+  climb_none (suc n) d none = ap (λ o. map_or o [] (λ hop. hop ∷ climb list n hop.parent)) none
 
   climb_some : (n d : ℕ) (hop : Hop) → hop_up list d ≡ Some hop → climb list (suc n) d ≡ hop ∷ climb list n hop.parent
   unfolding climb
-  climb_some n d hop some = ap (λ o. of_some o [] (λ h. h ∷ climb list n h.parent)) some
+  climb_some n d hop some = ap (λ o. map_or o [] (λ h. h ∷ climb list n h.parent)) some
 
   -- as many hops as a device's place are enough
   climb_enough : (bound i n m : ℕ) (p : Placed) → i ≤ bound → slice_get list i ≡ Some p → i ≤ n → i ≤ m → climb list n p.device ≡ climb list m p.device

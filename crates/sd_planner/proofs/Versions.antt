@@ -8,7 +8,7 @@ use Rattle.sd_plan.specs.declared.Plan.{Plan}
 use Rattle.sd_plan.proofs.Versions.{Fits-with_version}
 use Rattle.sd_checker.specs.declared.Verdict.TheVariants.{Accepted, Refused}
 use Rattle.sd_checker.proofs.Versions.{IsVerdict-with_version}
-use Rattle.sd_planner_place.specs.Placing.{placed}
+use Rattle.sd_planner.specs.Placing.{placed}
 use Rattle.sd_planner.specs.Serving.{primaries, walk_up, greedy_rows}
 use Rattle.sd_planner.specs.Greedy.{IsLeastWait, IsGreedy}
 use Rattle.sd_planner.specs.Planning.{IsPlanned}

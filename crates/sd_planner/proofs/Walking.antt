@@ -3,7 +3,7 @@ use Rattle.std.proofs.Common.{◌≡◌, ℕ, zero, suc, ◌≤◌, Bool, true, 
 use Rattle.std.specs.Prelude.{option_and_then}
 use Rattle.std.proofs.lemmas.Bool.{cases_lt, eqb-true}
 use Rattle.std.proofs.lemmas.Option.{slice_get_past}
-use Rattle.sd_num.specs.Lists.{of_some}
+use Rattle.sd_num.specs.Lists.{map_or}
 use Rattle.sd_topo.specs.Network.{Network, device_numbers}
 use Rattle.sd_plan.specs.declared.Hop.{Hop}
 use Rattle.sd_plan.specs.declared.PlanRow.{PlanRow}
@@ -11,10 +11,10 @@ use Rattle.sd_plan.specs.declared.Absent.{Absent}
 use Rattle.sd_plan.specs.Plans.{primary_of, is_root}
 use Rattle.sd_plan.specs.Walks.{hops}
 use Rattle.sd_plan.proofs.Numbered.{at-numbered, length-numbered}
-use Rattle.sd_planner_place.specs.declared.placement.Placed.{Placed}
-use Rattle.sd_planner_place.specs.Spreading.{placed_at}
-use Rattle.sd_planner_place.specs.Placing.{placed}
-use Rattle.sd_planner_place.specs.Trees.{Grows}
+use Rattle.sd_planner.specs.declared.placement.Placed.{Placed}
+use Rattle.sd_planner.specs.Spreading.{placed_at}
+use Rattle.sd_planner.specs.Placing.{placed}
+use Rattle.sd_planner.specs.Trees.{Grows}
 use Rattle.sd_planner.specs.Climbs.{hop_up, climb, way_up}
 use Rattle.sd_planner.specs.Serving.{primary_row, primaries, walk_up}
 use Rattle.sd_planner.proofs.Trees.{stands, Stands}
@@ -64,7 +64,7 @@ module _ (net : Network) (root : ℕ) (absent : Absent) (grows : Grows net root 
         (at-numbered (primary_row net root absent) (length net.devices) d None (λ row. row) inside)
         ∙ unmade (option_and_then (λ p. p.hop) (placed_at list d))
     | inr past ↦
-        ap (λ (o : Option (Option PlanRow)). option_map (λ (row : PlanRow). row.primary) (of_some o None (λ row. row)))
+        ap (λ (o : Option (Option PlanRow)). option_map (λ (row : PlanRow). row.primary) (map_or o None (λ row. row)))
         (slice_get_past (map (primary_row net root absent) (device_numbers net)) d
         (rw (length-numbered (primary_row net root absent) (length net.devices)) past))
         ∙ sym (ap (option_and_then (λ p. p.hop)) (past_none net root absent list grows d past))
@@ -77,7 +77,7 @@ module _ (net : Network) (root : ℕ) (absent : Absent) (grows : Grows net root 
   climb_root : (n : ℕ) → climb list n root ≡ []
   unfolding climb
   climb_root zero = refl
-  climb_root (suc n) = ap (λ o. of_some o [] (λ hop. hop ∷ climb list n hop.parent)) (root_up net root absent list grows)
+  climb_root (suc n) = ap (λ o. map_or o [] (λ hop. hop ∷ climb list n hop.parent)) (root_up net root absent list grows)
 
   root_is : (d : ℕ) → is_root (primaries net root absent) d ≡ nat_eq root d
   unfolding primaries
@@ -107,7 +107,7 @@ module _ (net : Network) (root : ℕ) (absent : Absent) (grows : Grows net root 
                 hop ↦ hop ∷ (elim (is_root (primaries net root absent) hop.parent)
                 [ true ↦ [] | false ↦ hops (is_root (primaries net root absent)) (primaries net root absent) n hop.parent ])
           ]
-          ≡ of_some o [] (λ hop. hop ∷ climb list n hop.parent)
+          ≡ map_or o [] (λ hop. hop ∷ climb list n hop.parent)
       by_hop rest None = refl
       by_hop rest (Some hop) =
           ap (λ hops. hop ∷ hops)

@@ -2,17 +2,17 @@
 use Rattle.std.proofs.Common.{◌≡◌, ℕ, zero, suc, ◌<◌, true, List, [], ◌∷◌, length, nat_eq, Option, Some, None, refl, sym, subst, inl, inr}
 use Rattle.std.specs.Prelude.{option_and_then}
 use Rattle.std.proofs.lemmas.Bool.{or_cases, eqb-true}
-use Rattle.sd_num.specs.Lists.{has, of_some}
+use Rattle.sd_num.specs.Lists.{has, map_or}
 use Rattle.sd_topo.specs.Network.{Network}
 use Rattle.sd_plan.specs.declared.Absent.{Absent}
 use Rattle.sd_plan.specs.declared.Hop.{Hop}
 use Rattle.sd_plan.specs.Walks.{links_of}
-use Rattle.sd_planner_place.specs.declared.placement.Placed.{Placed}
-use Rattle.sd_planner_place.specs.Spreading.{placed_at}
-use Rattle.sd_planner_place.specs.Trees.{Grows}
+use Rattle.sd_planner.specs.declared.placement.Placed.{Placed}
+use Rattle.sd_planner.specs.Spreading.{placed_at}
+use Rattle.sd_planner.specs.Trees.{Grows}
 use Rattle.sd_planner.specs.Climbs.{hop_up, climb, way_up}
 use Rattle.sd_planner.specs.Things.{parents_of}
-use Rattle.sd_planner_place.proofs.Growing.{found_own}
+use Rattle.sd_planner.proofs.Growing.{found_own}
 use Rattle.sd_planner.proofs.Trees.{stands, Stands}
 use Rattle.sd_planner.proofs.Adding.{goes_up, GoesUp}
 
@@ -37,7 +37,7 @@ module _ (net : Network) (root : ℕ) (absent : Absent) (list : List Placed) (tr
   climb_within zero d = record { parents = λ x there. cc; over = λ x there. cc }
   climb_within (suc n) d = by_hop (λ e. climb_within n e) (hop_up list d) refl
     where
-      by_hop : ((e : ℕ) → AreWithin (climb list n e)) → (o : Option Hop) → hop_up list d ≡ o → AreWithin (of_some o [] (λ hop. hop ∷ climb list n hop.parent))
+      by_hop : ((e : ℕ) → AreWithin (climb list n e)) → (o : Option Hop) → hop_up list d ≡ o → AreWithin (map_or o [] (λ hop. hop ∷ climb list n hop.parent))
       by_hop rest None is = record { parents = λ x there. cc; over = λ x there. cc }
       by_hop rest (Some hop) is =
           let inside = hop_within d hop is in

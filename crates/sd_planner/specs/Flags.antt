@@ -3,8 +3,8 @@ use Rattle.std.specs.Prelude.{◌≡◌, ℕ, ◌<◌, Bool, false, List, length
 use Rattle.sd_num.specs.Lists.{has}
 use Rattle.sd_topo.specs.Network.{Network}
 use Rattle.sd_plan.specs.declared.Absent.{Absent}
-use Rattle.sd_planner_place.specs.declared.placement.Placed.{Placed}
-use Rattle.sd_planner_place.specs.Trees.{Grows}
+use Rattle.sd_planner.specs.declared.placement.Placed.{Placed}
+use Rattle.sd_planner.specs.Trees.{Grows}
 use Rattle.sd_planner.specs.Climbs.{leads_over}
 
 -- the flag of a number, false where there is none

@@ -4,7 +4,7 @@ use Rattle.sd_topo.specs.Network.{Network, least_low, greatest_up}
 use Rattle.sd_plan.specs.declared.Plan.{Plan}
 use Rattle.sd_plan.specs.declared.Absent.{Absent}
 use Rattle.sd_check_root.specs.Timing.{silence}
-use Rattle.sd_planner_place.specs.Placing.{backup_root_of}
+use Rattle.sd_planner.specs.Placing.{backup_root_of}
 use Rattle.sd_planner.specs.Serving.{greedy_rows}
 
 -- x is the least wait whose counter surely takes this long

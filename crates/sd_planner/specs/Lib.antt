@@ -1,3 +1,18 @@
+-- Where each device is placed, then backups, waits and the plan.
+pub mod Usable
+pub mod Neighbours
+pub mod Absences
+pub mod Views
+pub mod Gathered
+pub mod Spreading
+pub mod Grown
+pub mod Placements
+pub mod PlacementView
+pub mod Sweeps
+pub mod Placing
+pub mod Trees
+pub mod Nearing
+pub mod Waits
 pub mod Climbs
 pub mod Flags
 pub mod Listed
@@ -8,4 +23,3 @@ pub mod Greedy
 pub mod Planning
 -- Handed on: what crates above name of those below.
 pub use Rattle.sd_checker.specs as Checker
-pub use Rattle.sd_planner_place.specs as PlannerPlace

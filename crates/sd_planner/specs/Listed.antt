@@ -1,16 +1,14 @@
 -- Which listed domains have a thing.
-use Rattle.std.specs.Prelude.{◌≡◌, ℕ, ◌&&◌, List, [], nat_lt, slice_index_or}
+use Rattle.std.specs.Prelude.{◌≡◌, ℕ, ◌&&◌, List, [], nat_lt}
 use Rattle.sd_num.specs.Lists.{has}
 use Rattle.sd_topo.specs.Network.{Network}
 use Rattle.sd_topo.specs.Places.{domain_of}
+use Rattle.sd_plan.specs.Subtrees.{listed}
 
 -- the lists of domains of each device and of each link
 pub record Lists : Type 0 where
   pub devices : List (List ℕ)
   pub links : List (List ℕ)
-
-abbrev pub listed : List (List ℕ) → ℕ → List ℕ
-listed lists x = slice_index_or lists x []
 
 -- each of the lists has the domains below a bound that have its thing, and no others
 abbrev pub ListUnder : (ℕ → List ℕ) → ℕ → List (List ℕ) → Type 0

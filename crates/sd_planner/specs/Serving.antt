@@ -12,14 +12,15 @@ use Rattle.sd_plan.specs.declared.Plan.{Plan}
 use Rattle.sd_plan.specs.declared.Absent.{Absent}
 use Rattle.sd_plan.specs.Plans.{primary_of, is_root}
 use Rattle.sd_plan.specs.Walks.{hops, things_of, devices_of, links_of}
-use Rattle.sd_planner_place.specs.Usable.{hops_from}
-use Rattle.sd_planner_place.specs.Spreading.{is_placed, placed_at, depth_of}
-use Rattle.sd_planner_place.specs.Placing.{backup_root_of, placed}
+use Rattle.sd_planner.specs.Usable.{hops_from}
+use Rattle.sd_planner.specs.Spreading.{is_placed, placed_at, depth_of}
+use Rattle.sd_planner.specs.Placing.{backup_root_of, placed}
 
 -- the domain has the hop's link or parent
 abbrev pub hits_hop : Network → DomainId → Hop → Bool
 hits_hop net domain hop = holds_link net domain hop.link || holds_device net domain hop.parent
 
+-- the listed domains, in their order
 abbrev pub listed_domains : Network → List DomainId
 listed_domains net = map Listed (below (length net.domains))
 
@@ -37,6 +38,7 @@ module _ (net : Network) (root : ℕ) (absent : Absent) where
   abbrev pub primary_row : ℕ → Option PlanRow
   primary_row d = option_map (λ hop. record { primary = hop; backup = None }) (option_and_then (λ p. p.hop) (placed_at (placed net root absent) d))
 
+  -- the plan with the primaries alone
   unfoldable pub primaries : Plan
   primaries =
       record {
@@ -53,6 +55,7 @@ module _ (net : Network) (root : ℕ) (absent : Absent) where
   unfoldable pub walk_up : ℕ → List Hop
   walk_up d = if nat_eq d root then [] else hops (is_root primaries) primaries (length (placed net root absent)) d
 
+  -- the walk of the device to the root has this one
   abbrev pub on_walk_up : ℕ → ℕ → Bool
   on_walk_up d x = has (devices_of d (walk_up d)) x
 
@@ -101,8 +104,10 @@ module _ (net : Network) (root : ℕ) (absent : Absent) where
       if nat_eq d (backup_root_of net root absent) then find (serves_backup_root d primary) (hops_from net absent d)
       else find (serves d primary) (hops_from net absent d)
 
+  -- the row of a device, with the first hop that serves as its backup
   abbrev pub greedy_row : ℕ → Option PlanRow
   greedy_row d = option_map (λ hop. record { primary = hop; backup = backup_for d hop }) (primary_of primaries d)
 
+  -- the rows of all devices
   unfoldable pub greedy_rows : List (Option PlanRow)
   greedy_rows = map greedy_row (device_numbers net)

@@ -5,9 +5,9 @@ use Rattle.sd_plan.specs.Domain.Domains.{holds_device}
 use Rattle.sd_plan.specs.Domain.declared.DomainId.TheVariants.{Listed}
 use Rattle.sd_plan.specs.declared.Absent.{Absent}
 use Rattle.sd_plan.specs.declared.Hop.{Hop}
-use Rattle.sd_planner_place.specs.Views as present
-use Rattle.sd_planner_place.specs.declared.placement.Placed.{Placed}
-use Rattle.sd_planner_place.specs.Placing.{placed}
+use Rattle.sd_planner.specs.Views as present
+use Rattle.sd_planner.specs.declared.placement.Placed.{Placed}
+use Rattle.sd_planner.specs.Placing.{placed}
 use Rattle.sd_planner.specs.Serving.{hits_hop}
 use Rattle.sd_planner.specs.Flags.{is_set}
 use Rattle.sd_planner.specs.declared.backups.survey.Survey.{Survey}
@@ -16,6 +16,7 @@ use Rattle.sd_planner.specs.declared.backups.survey.Survey.{Survey}
 abbrev pub net_in : Survey → Network
 net_in survey = present.net_of survey.present.now
 
+-- the absent list
 abbrev pub absent_in : Survey → Absent
 absent_in survey = present.left_out survey.present.now
 

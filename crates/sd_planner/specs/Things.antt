@@ -7,8 +7,8 @@ use Rattle.sd_topo.specs.Places.{domain_of}
 use Rattle.sd_plan.specs.Domain.Domains.{domains, holds_device, holds_link, hits}
 use Rattle.sd_plan.specs.Walks.{things_of, devices_of, links_of}
 use Rattle.sd_plan.specs.declared.Hop.{Hop}
-use Rattle.sd_planner_place.specs.declared.placement.Placed.{Placed}
-use Rattle.sd_planner_place.specs.Spreading.{placed_at}
+use Rattle.sd_planner.specs.declared.placement.Placed.{Placed}
+use Rattle.sd_planner.specs.Spreading.{placed_at}
 use Rattle.sd_planner.specs.Climbs.{way_up}
 use Rattle.sd_planner.specs.Flags.{is_set}
 use Rattle.sd_planner.specs.declared.backups.things.Things.{Things}
@@ -42,6 +42,7 @@ meets net things k = list_any (is_set things.devices.items) (domain_of net k).de
 abbrev pub met_device : Network → Things → ℕ → ℕ → Bool
 met_device net things n x = list_any (λ k. meets net things k && has (domain_of net k).devices x) (below n)
 
+-- the link is in one of the first listed domains that have something flagged
 abbrev pub met_link : Network → Things → ℕ → ℕ → Bool
 met_link net things n x = list_any (λ k. meets net things k && has (domain_of net k).links x) (below n)
 
@@ -49,6 +50,7 @@ met_link net things n x = list_any (λ k. meets net things k && has (domain_of n
 abbrev pub shares_device : Network → List Hop → ℕ → Bool
 shares_device net hops x = list_any (λ domain. hits net domain (things_of hops) && holds_device net domain x) (domains net)
 
+-- the link shares a domain with hops
 abbrev pub shares_link : Network → List Hop → ℕ → Bool
 shares_link net hops x = list_any (λ domain. hits net domain (things_of hops) && holds_link net domain x) (domains net)
 

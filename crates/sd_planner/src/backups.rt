@@ -2,9 +2,9 @@
 ghost use Rattle.std.specs.Prelude.{◌≡◌, ◌<◌, length, Some, IfOk, OnOk};
 ghost use Rattle.sd_topo.specs.Network.{Each};
 ghost use Rattle.sd_plan.specs.Plans.{IsRow};
-ghost use Rattle.sd_planner_place.specs.Spreading.{placed_at};
-ghost use Rattle.sd_planner_place.specs.Views.{net_of, left_out};
-ghost use Rattle.sd_planner_place.specs.Placing.{placed};
+ghost use Rattle.sd_planner.specs.Spreading.{placed_at};
+ghost use Rattle.sd_planner.specs.Views.{net_of, left_out};
+ghost use Rattle.sd_planner.specs.Placing.{placed};
 ghost use Rattle.sd_planner.specs.Serving as serving;
 ghost use Rattle.sd_planner.specs.Surveys.{net_in, absent_in, order_of, AreClear};
 
@@ -16,10 +16,10 @@ mod over;
 mod survey;
 mod things;
 
+use crate::{Placed, Placement, Present};
 use flags::no_flags;
 use sd_num::NoMemory;
 use sd_plan::{Hop, PlanRow, RowList};
-use sd_planner_place::{Placed, Placement, Present};
 use std::alloc::Global;
 use survey::Survey;
 

@@ -1,12 +1,26 @@
-//! The greedy planner: the backups of the placed devices, the least waits, and the plan.
+//! The greedy planner: where each device is placed, the backups of the placed devices, the least
+//! waits, and the plan.
 #![tactic(auto)]
 
 mod backups;
+mod left;
+mod nearest;
+mod placement;
+mod placing;
 mod plan;
+mod present;
+mod roots;
+mod sides;
+mod spreading;
+mod waiting;
 mod waits;
 
-// Handed on to crates above.
+pub use placement::{Placed, Placement};
+pub use placing::place;
 pub use plan::plan_for;
+pub use present::{Neighbour, Present};
+pub use roots::backup_root_of;
+// Handed on to crates above.
 pub use sd_checker as checker;
 use sd_checker::Breach;
 use sd_plan::Plan;

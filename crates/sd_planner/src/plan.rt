@@ -2,17 +2,16 @@
 ghost use Rattle.std.specs.Prelude.{◌≡◌, ◌<◌, length, IfOk};
 ghost use Rattle.sd_topo.specs.Topologies.{network};
 ghost use Rattle.sd_plan.specs.Plans.{Fits};
-ghost use Rattle.sd_planner_place.specs.Absences.{IsAbsentOf};
+ghost use Rattle.sd_planner.specs.Absences.{IsAbsentOf};
 ghost use Rattle.sd_planner.specs.Greedy.{IsGreedy};
 ghost use Rattle.sd_planner.specs.Planning.{IsPlanned};
 
-use crate::Planned;
 use crate::backups::greedy_rows;
 use crate::waits::least_waits;
+use crate::{Planned, Present, backup_root_of, place};
 use sd_checker::{Verdict, check};
 use sd_num::NoMemory;
 use sd_plan::{Absent, DeviceList, Plan};
-use sd_planner_place::{Present, backup_root_of, place};
 use sd_topo::Topology;
 use std::alloc::Global;
 

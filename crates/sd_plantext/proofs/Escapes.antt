@@ -7,7 +7,7 @@ use Rattle.std.proofs.lemmas.Option.{slice_get-map}
 use Rattle.json.specs.Print.{escape}
 use Rattle.json.proofs.Printed.Strings.{escape_byte_plain}
 use Rattle.serde_json.specs.Written.{compact_text}
-use Rattle.sd_num.specs.Lists.{of_some, at_place}
+use Rattle.sd_num.specs.Lists.{map_or, at_place}
 use Rattle.sd_topo.specs.Network.{Network, Device, Link, Each, is_name, is_name_byte, name_at, device_names, link_names}
 use Rattle.sd_topo.specs.Limits.{IsNetwork}
 use Rattle.sd_plantext.specs.Printed.{quoted}
@@ -37,15 +37,15 @@ plain_name name good = let (lengths, bytes) = and_parts (nat_le 1 (length name) 
 plain_at : (names : List (List ℕ)) (n : ℕ) → Each (λ name. IsTrue (is_name name)) names → escape (name_at names n) ≡ name_at names n
 plain_at names n good = by (slice_get names n) (λ name at. good n name at)
   where
-    by : (o : Option (List ℕ)) → ((name : List ℕ) → o ≡ Some name → is_name name ≡ true) → escape (of_some o [] (λ name. name)) ≡ of_some o [] (λ name. name)
+    by : (o : Option (List ℕ)) → ((name : List ℕ) → o ≡ Some name → is_name name ≡ true) → escape (map_or o [] (λ name. name)) ≡ map_or o [] (λ name. name)
     by None named = refl
     by (Some name) named = plain_name name (named name refl)
 
 -- the name of a thing at a place
 name_mapped : {A : Type 0} (f : A → List ℕ) (xs : List A) (i : ℕ) → name_at (map f xs) i ≡ at_place xs i [] f
-name_mapped {A = A} f xs i = ap (λ o. of_some o [] (λ name. name)) (slice_get-map f xs i) ∙ by (slice_get xs i)
+name_mapped {A = A} f xs i = ap (λ o. map_or o [] (λ name. name)) (slice_get-map f xs i) ∙ by (slice_get xs i)
   where
-    by : (o : Option A) → of_some (option_map f o) [] (λ name. name) ≡ of_some o [] f
+    by : (o : Option A) → map_or (option_map f o) [] (λ name. name) ≡ map_or o [] f
     by None = refl
     by (Some x) = refl
 

@@ -3,7 +3,7 @@ use Rattle.std.proofs.Common.{◌≡◌, ℕ, ◌+◌, ◌<◌, List, ◌++◌, 
 use Rattle.std.proofs.lemmas.List.Elements.{filter_map-append}
 use Rattle.std.proofs.lemmas.Option.{slice_get-get_or}
 use Rattle.serde_json.specs.Data.{Data}
-use Rattle.sd_num.specs.Lists.{below, of_some, at_place}
+use Rattle.sd_num.specs.Lists.{below, map_or, at_place}
 use Rattle.sd_topo.specs.Network.{Network}
 use Rattle.sd_plan.specs.declared.Plan.{Plan as PlanShown}
 use Rattle.sd_plan.specs.declared.PlanRow.{PlanRow}
@@ -14,7 +14,7 @@ use Rattle.sd_plantext.specs.PrintedTree.{row_data, row_listed, rows_listed}
 pub row_at : (rows : List (Option PlanRow)) (plan : PlanShown) (d : ℕ) (default : Option PlanRow) → rows ≡ plan.rows → d < length rows
     → get_or rows d default ≡ row_of plan d
 row_at rows plan d default same within =
-    sym (ap (λ o. of_some o None (λ row. row)) (slice_get-get_or rows d default within))
+    sym (ap (λ o. map_or o None (λ row. row)) (slice_get-get_or rows d default within))
     ∙ ap (λ (xs : List (Option PlanRow)). at_place xs d None (λ row. row)) same
 
 -- the rows with those of one more device

@@ -5,7 +5,7 @@ use Rattle.std.proofs.lemmas.Bool.{le-leb, and_parts}
 use Rattle.std.proofs.lemmas.List.{append-nil}
 use Rattle.serde_json.specs.Data.{Data, Items, array as array_data, string}
 use Rattle.serde_json.specs.View.{items_of}
-use Rattle.sd_num.specs.Lists.{has, ascends, all_below, of_some, at_place}
+use Rattle.sd_num.specs.Lists.{has, ascends, all_below, map_or, at_place}
 use Rattle.sd_topo.specs.Network.{Network, Device, Link, Each, name_at, device_names, link_names, device_numbers}
 use Rattle.sd_topo.specs.Limits.{IsNetwork, AreDistinct}
 use Rattle.sd_topo.proofs.Ascending.{ascending-itself}
@@ -155,7 +155,7 @@ more_read net entry d rows row law within good at =
 good_row : (net : Network) (plan : PlanShown) (d : ℕ) (row : PlanRow) → Fits net plan → row_of plan d ≡ Some row → IsRow net (Some row)
 good_row net plan d row fits at = fits.rows d (Some row) (by (slice_get plan.rows d) at)
   where
-    by : (o : Option (Option PlanRow)) → of_some o None (λ r. r) ≡ Some row → o ≡ Some (Some row)
+    by : (o : Option (Option PlanRow)) → map_or o None (λ r. r) ≡ Some row → o ≡ Some (Some row)
     by None h = cc
     by (Some r) h = ap (λ (x : Option PlanRow). Some x) h
 

@@ -2,7 +2,7 @@
 use Rattle.std.proofs.Common.{◌≡◌, ℕ, ◌+◌, ◌<◌, ◌≤◌, true, cond, List, [], ◌∷◌, length, set, get_or, Option, None, Some, is_none, is_some, Result, refl, ap, sym, ◌∙◌, subst, arith}
 use Rattle.std.proofs.lemmas.Option.{slice_get-get_or, slice_get_read}
 use Rattle.std.proofs.lemmas.List.Sums.{sum_by-set, sum_by-cons}
-use Rattle.sd_num.specs.Lists.{of_some}
+use Rattle.sd_num.specs.Lists.{map_or}
 use Rattle.sd_topo.specs.Network.{Network}
 use Rattle.sd_plan.specs.declared.PlanRow.{PlanRow}
 use Rattle.sd_plantext.specs.Counted.{filled}
@@ -41,14 +41,14 @@ one_row row = cond (is_some row) 1 0
 pub free_here : (rows : List (Option PlanRow)) (n : ℕ) (row : Option PlanRow) → n < length rows → row ≡ get_or rows n row → is_free rows n ≡ is_none row
 free_here rows n row within is =
     let none : Option PlanRow = None in
-    ap (λ (entry : Option (Option PlanRow)). is_none (of_some entry none (λ row. row))) (slice_get_read rows (length rows) n row refl within is)
+    ap (λ (entry : Option (Option PlanRow)). is_none (map_or entry none (λ row. row))) (slice_get_read rows (length rows) n row refl within is)
 
 -- a place within the rows that is free holds nothing
 free_row : (rows : List (Option PlanRow)) (n : ℕ) → n < length rows → is_free rows n ≡ true → get_or rows n None ≡ None
 free_row rows n within free =
     let none : Option PlanRow = None in
     nothing (get_or rows n none)
-    (subst (λ (entry : Option (Option PlanRow)). is_none (of_some entry none (λ row. row)) ≡ true) (slice_get-get_or rows n none within) free)
+    (subst (λ (entry : Option (Option PlanRow)). is_none (map_or entry none (λ row. row)) ≡ true) (slice_get-get_or rows n none within) free)
   where
     nothing : (row : Option PlanRow) → is_none row ≡ true → row ≡ None
     nothing None h = refl

@@ -2,7 +2,7 @@
 use Rattle.std.proofs.Common.{◌≡◌, ◌⊎◌, inl, inr, ℕ, ◌+◌, ◌<◌, ◌≤◌, ◌^◌, Bool, true, false, not, ◌&&◌, nat_le, cond, List, [], ◌∷◌, ◌++◌, length, set, Option, None, Some, is_none, Result, Ok, Err, All, IsTrue, refl, ap, sym, ◌∙◌, subst}
 use Rattle.std.specs.Prelude.{IfSome}
 use Rattle.std.specs.Str.{bytes_eq}
-use Rattle.std.proofs.lemmas.Bool.{leb-true}
+use Rattle.std.proofs.lemmas.Bool.{leb-true, not-true}
 use Rattle.std.proofs.lemmas.List.{length-set, length-map, length-replicate}
 use Rattle.std.proofs.lemmas.List.Elements.{All-push, All-nil, All-set, All-replicate}
 use Rattle.std.proofs.lemmas.List.Quantifiers.{position-Some}
@@ -37,11 +37,6 @@ allowed_ok false fault x y h = cc
 -- equal answers hold equal values
 pub ok_inside : {X : Type 0} (x y : X) → let made : X → Result X PlanFault = λ z. Ok z in made x ≡ made y → x ≡ y
 ok_inside x y h = cc
-
--- what is not true is false
-not_true : (b : Bool) → not b ≡ true → b ≡ false
-not_true true h = cc
-not_true false h = refl
 
 -- one of two answers
 one_of : {X : Type 0} (b : Bool) (x y : X) (r : Result X PlanFault) → cond b (Ok x) r ≡ Ok y → (x ≡ y) ⊎ (r ≡ Ok y)
@@ -98,7 +93,7 @@ unfolding one_more_name
 one_more_ok p names seen d more h =
     let (n, at, last) = bind_ok (referred p names d) (λ n. allowed (not (has seen n)) (TwiceNamed p) (seen ++ n ∷ [])) more h in
     let (new, same) = allowed_ok (not (has seen n)) (TwiceNamed p) (seen ++ n ∷ []) more last in
-    (n, sym same, referred_ok p names d n at, not_true (has seen n) new)
+    (n, sym same, referred_ok p names d n at, not-true (has seen n) new)
 
 -- listed things are there
 pub listed_ok : (p : PlanPlace) (names : List (List ℕ)) (seen : List ℕ) (ds : Items) (out : List ℕ) → All (λ n. n < length names) seen

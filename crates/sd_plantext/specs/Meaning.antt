@@ -37,6 +37,7 @@ abbrev pub there : {X : Type 0} → PlanPlace → Option X → Result X PlanFaul
 there p None = Err (Missing p)
 there p (Some x) = Ok x
 
+-- what is there, or the fault that it is of another kind
 abbrev pub of_kind : {X : Type 0} → PlanPlace → Option X → Result X PlanFault
 of_kind p None = Err (WrongKind p)
 of_kind p (Some x) = Ok x

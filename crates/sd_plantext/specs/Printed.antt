@@ -11,6 +11,7 @@ use Rattle.sd_plan.specs.Plans.{row_of}
 abbrev pub quoted : List ℕ → List ℕ
 quoted text = 34 ∷ text ++ 34 ∷ []
 
+-- a key in quotes, a colon and its value
 abbrev pub with_key : List ℕ → List ℕ → List ℕ
 with_key key value = quoted key ++ 58 ∷ value
 
@@ -18,14 +19,17 @@ with_key key value = quoted key ++ 58 ∷ value
 abbrev pub array : List (List ℕ) → List ℕ
 array values = 91 ∷ join_with_byte 44 values ++ 93 ∷ []
 
+-- values parted by commas, in braces
 abbrev pub object : List (List ℕ) → List ℕ
 object values = 123 ∷ join_with_byte 44 values ++ 125 ∷ []
 
+-- the members of a row that name its backup parent and link, if it has them
 abbrev pub backup_members : Network → Option Hop → List (List ℕ)
 backup_members net None = []
 backup_members net (Some hop) =
     with_key (codes "backup") (quoted (device_name net hop.parent)) ∷ with_key (codes "backup_link") (quoted (link_name net hop.link)) ∷ []
 
+-- the text of the row of a device
 abbrev pub row_text : Network → ℕ → PlanRow → List ℕ
 row_text net d row =
     object
@@ -39,6 +43,7 @@ row_text net d row =
 abbrev pub rows_text : Network → Plan → List ℕ
 rows_text net plan = array (filter_map (λ d. option_map (row_text net d) (row_of plan d)) (device_numbers net))
 
+-- the text of a plan
 abbrev pub plan_text : Network → Plan → List ℕ
 plan_text net plan =
     object

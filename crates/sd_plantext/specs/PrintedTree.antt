@@ -16,6 +16,7 @@ count n = number (unsigned n)
 abbrev pub device_data : Network → ℕ → Data
 device_data net d = string (name_at (device_names net) d)
 
+-- a link by its name
 abbrev pub link_data : Network → ℕ → Data
 link_data net l = string (name_at (link_names net) l)
 
@@ -30,6 +31,7 @@ with_backup net (Some hop) rest =
     member (codes "backup") (device_data net hop.parent)
     (member (codes "backup_link") (link_data net hop.link) rest)
 
+-- the members of the row of a device
 unfoldable pub row_members : Network → ℕ → PlanRow → Members
 row_members net d row =
     with_backup net row.backup
@@ -37,6 +39,7 @@ row_members net d row =
     (member (codes "link") (link_data net row.primary.link)
     (member (codes "parent") (device_data net row.primary.parent) no_members)))
 
+-- the row of a device, as an object
 abbrev pub row_data : Network → ℕ → PlanRow → Data
 row_data net d row = object (row_members net d row)
 
@@ -48,9 +51,11 @@ row_listed net d row = filter_map (λ d. option_map (row_data net d) row) (d ∷
 abbrev pub rows_listed : Network → PlanShown → List ℕ → List Data
 rows_listed net plan devices = filter_map (λ d. option_map (row_data net d) (row_of plan d)) devices
 
+-- the rows of some devices, as an array
 abbrev pub rows_data : Network → PlanShown → List ℕ → Data
 rows_data net plan devices = array (items_of (rows_listed net plan devices))
 
+-- the members of a plan
 unfoldable pub plan_members : Network → PlanShown → Members
 plan_members net plan =
     member (codes "absent_devices") (list_data (device_data net) plan.absent.devices)
@@ -63,6 +68,7 @@ plan_members net plan =
     (member (codes "wait_first") (count plan.wait_first)
     (member (codes "wait_second") (count plan.wait_second) no_members))))))))
 
+-- a plan, as an object
 abbrev pub plan_data : Network → PlanShown → Data
 plan_data net plan = object (plan_members net plan)
 

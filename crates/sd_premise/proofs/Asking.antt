@@ -2,7 +2,7 @@
 use Rattle.std.proofs.Common.{◌≡◌, ◌^◌, ◌<◌, ◌≤◌, Bool, true, false, not, ◌||◌, List, length, Option, Some, None, is_some, refl, subst, arith}
 use Rattle.std.specs.Prelude.{IfSome}
 use Rattle.std.proofs.lemmas.Bool.{leb-false}
-use Rattle.sd_num.specs.Lists.{of_some}
+use Rattle.sd_num.specs.Lists.{map_or}
 use Rattle.sd_topo.specs.Network.{Network}
 use Rattle.sd_sched.specs.Events.{is_commit}
 use Rattle.sd_history.specs.World.{Setting, Seen, window, window_is_open, has_commit, epoch_in_force}
@@ -18,7 +18,7 @@ use Rattle.sd_premise.proofs.Following.{sent_known}
 closing_opened : (setting : Setting) (earlier : List Seen) (s : Seen) → CanFollow setting earlier s → s.closed ≡ true → window_is_open earlier ≡ true
 closing_opened setting earlier s can closes = by s.closed (is_commit s.event) (has_commit earlier) refl refl closes can.closing
   where
-    committed : (o : Option (List Seen)) (test : List Seen → Bool) → of_some o false test ≡ true → is_some o ≡ true
+    committed : (o : Option (List Seen)) (test : List Seen → Bool) → map_or o false test ≡ true → is_some o ≡ true
     committed None test there = cc
     committed (Some w) test there = refl
 

@@ -3,7 +3,7 @@ use Rattle.std.proofs.Common.{◌≡◌, ℕ, ◌+◌, ◌<◌, ◌≤◌, Bool,
 use Rattle.std.specs.Prelude.{Contains, if◌then◌else◌}
 use Rattle.std.proofs.lemmas.Bool.{le-leb}
 use Rattle.std.proofs.lemmas.List.Elements.{Contains-append_cases, All-contains}
-use Rattle.sd_num.specs.Lists.{of_some, same_number}
+use Rattle.sd_num.specs.Lists.{map_or, same_number}
 use Rattle.sd_topo.specs.Network.{delay_of}
 use Rattle.sd_msg.specs.declared.Flight.{Flight}
 use Rattle.sd_sched.specs.Events.{reference_of, ticked}
@@ -24,7 +24,7 @@ follows setting earlier s can = record {
   taken = by s.taken refl;
 }
   where
-    by : (o : Option Flight) → s.taken ≡ o → of_some o true (λ f. nat_le f.number (rounds.last_sent earlier)) ≡ true
+    by : (o : Option Flight) → s.taken ≡ o → map_or o true (λ f. nat_le f.number (rounds.last_sent earlier)) ≡ true
     by None is = refl
     by (Some f) is = le-leb f.number (rounds.last_sent earlier) (le_greatest (reaching_flights earlier) f (can.taken f is).sent)
 
@@ -45,7 +45,7 @@ latest_low setting [] d order = omega arith
 latest_low setting (s ∷ earlier) d order = by (same_number (ticked s.event) d || makes d s.event) (latest_low setting earlier d order.0)
   where
     by : (b : Bool) → latest_tick earlier d ≤ latest_reference earlier
-        → of_some (if b then Some (reference_of s.event) else None) (latest_tick earlier d) (λ t. t) ≤ reference_of s.event
+        → map_or (if b then Some (reference_of s.event) else None) (latest_tick earlier d) (λ t. t) ≤ reference_of s.event
     by true before = omega arith
     by false before = omega (arith, before, time_rises setting earlier s.event order.1.allowed)
 

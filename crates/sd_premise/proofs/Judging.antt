@@ -1,11 +1,15 @@
 -- Where each monitor stands for what was seen, all of them do, and what they answer is what breaks.
-use Rattle.std.proofs.Common.{◌≡◌, Bool, true, not, ◌&&◌, List, ◌∷◌, ap, ◌∙◌}
-use Rattle.sd_num.specs.Lists.{of_some}
-use Rattle.sd_sched.specs.Events.{reference_of}
+use Rattle.std.proofs.Common.{◌≡◌, ℕ, ◌+◌, ◌≤◌, Bool, true, false, not, ◌&&◌, List, ◌∷◌, refl, ap, ◌∙◌}
 use Rattle.sd_history.specs.declared.BrokenSet.{BrokenSet}
 use Rattle.sd_history.specs.World.{Setting, Seen}
-use Rattle.sd_history.specs.Premises.{is_in_time, start_holds, drift_holds, delay_holds, tick_holds, loss_holds, domain_holds, renew_holds, broken_in, newly, breaks}
-use Rattle.sd_premise_clocks.specs.Delays.{DelayStands}
+use Rattle.sd_history.specs.Premises.{start_holds, drift_holds, delay_holds, tick_holds, loss_holds, domain_holds, renew_holds, broken_in, newly, breaks}
+use Rattle.sd_premise.specs.Order.{CanFollow}
+use Rattle.sd_premise.specs.Worlds.{world_after}
+use Rattle.sd_premise.specs.Standing.{StandsFor, room_of, net_of}
+use Rattle.sd_premise.specs.Breaking.{with_held}
+use Rattle.sd_premise.specs.Calm.{Sees}
+use Rattle.sd_premise.specs.declared.premises.Premises.{Premises}
+use Rattle.sd_premise.specs.declared.sets.Held.{Held}
 
 -- what seven monitors answer is what is broken
 pub answered : (setting : Setting) (seen : List Seen) (start drift delay tick loss domain renew : Bool)
@@ -16,34 +20,56 @@ pub answered : (setting : Setting) (seen : List Seen) (start drift delay tick lo
 answered setting seen start drift delay tick loss domain renew a b c d e f g i =
     record { start = not (a i); drift = not (b i); delay = not (c i); tick = not (d i); loss = not (e i); domain = not (f i); renew = not (g i) }
 
--- an event that cannot break the premises on starts, delays, failures and renewals
-pub tick_answered : (setting : Setting) (s : Seen) (earlier : List Seen) (before : BrokenSet) (drift tick loss : Bool) → before ≡ broken_in setting earlier
-    → start_holds earlier ≡ start_holds (s ∷ earlier) → drift ≡ drift_holds setting (s ∷ earlier)
-    → delay_holds setting earlier ≡ delay_holds setting (s ∷ earlier) → tick ≡ tick_holds setting (s ∷ earlier) → loss ≡ loss_holds setting (s ∷ earlier)
+-- an event that can break those on drift, delays, ticks and loss alone
+pub held_answered : (setting : Setting) (s : Seen) (earlier : List Seen) (before : BrokenSet) (held : Held)
+    → before ≡ broken_in setting earlier → start_holds earlier ≡ start_holds (s ∷ earlier) → held.drift ≡ drift_holds setting (s ∷ earlier)
+    → held.delay ≡ delay_holds setting (s ∷ earlier) → held.tick ≡ tick_holds setting (s ∷ earlier) → held.loss ≡ loss_holds setting (s ∷ earlier)
     → domain_holds setting earlier ≡ domain_holds setting (s ∷ earlier) → renew_holds setting earlier ≡ renew_holds setting (s ∷ earlier)
-    → record before { drift = not drift; tick = not tick; loss = not loss } ≡ broken_in setting (s ∷ earlier)
-tick_answered setting s earlier before drift tick loss is a b c d e f g =
-    ap (λ (x : BrokenSet). record x { drift = not drift; tick = not tick; loss = not loss }) is
+    → with_held before held ≡ broken_in setting (s ∷ earlier)
+held_answered setting s earlier before held is a b c d e f g =
+    ap (λ (x : BrokenSet). with_held x held) is
     ∙ (λ i. record { start = not (a i); drift = not (b i); delay = not (c i); tick = not (d i); loss = not (e i); domain = not (f i); renew = not (g i) })
 
--- one that can break that on delays too
-pub receipt_answered : (setting : Setting) (s : Seen) (earlier : List Seen) (before : BrokenSet) (drift delay tick loss : Bool)
-    → before ≡ broken_in setting earlier → start_holds earlier ≡ start_holds (s ∷ earlier) → drift ≡ drift_holds setting (s ∷ earlier)
-    → delay ≡ delay_holds setting (s ∷ earlier) → tick ≡ tick_holds setting (s ∷ earlier) → loss ≡ loss_holds setting (s ∷ earlier)
-    → domain_holds setting earlier ≡ domain_holds setting (s ∷ earlier) → renew_holds setting earlier ≡ renew_holds setting (s ∷ earlier)
-    → record before { drift = not drift; delay = not delay; tick = not tick; loss = not loss } ≡ broken_in setting (s ∷ earlier)
-receipt_answered setting s earlier before drift delay tick loss is a b c d e f g =
-    ap (λ (x : BrokenSet). record x { drift = not drift; delay = not delay; tick = not tick; loss = not loss }) is
-    ∙ (λ i. record { start = not (a i); drift = not (b i); delay = not (c i); tick = not (d i); loss = not (e i); domain = not (f i); renew = not (g i) })
+-- what is broken still does not break
+pub none_newly : (broken : BrokenSet)
+    → record { start = false; drift = false; delay = false; tick = false; loss = false; domain = false; renew = false } ≡ newly broken broken
+none_newly broken = λ i.
+    record {
+      start = never broken.start i;
+      drift = never broken.drift i;
+      delay = never broken.delay i;
+      tick = never broken.tick i;
+      loss = never broken.loss i;
+      domain = never broken.domain i;
+      renew = never broken.renew i;
+    }
+  where
+    never : (b : Bool) → false ≡ (b && not b)
+    never true = refl
+    never false = refl
 
--- what the premise on delays keeps stands for one event as for another that receives the same at the same reference
-pub delay_alike : (setting : Setting) (keeps : Bool) (t s : Seen) (earlier : List Seen) → DelayStands setting keeps (t ∷ earlier) → t.taken ≡ s.taken
-    → reference_of t.event ≡ reference_of s.event → DelayStands setting keeps (s ∷ earlier)
-delay_alike setting keeps t s earlier stands taken at = record {
-  holds = stands.holds ∙ (λ i. of_some (taken i) true (is_in_time setting (at i)) && delay_holds setting earlier);
-}
+-- a premise that was not broken, by what is kept, and holds still
+pub still : (b held : Bool) → b ≡ not held → not b ≡ held
+still b true is = ap not is
+still b false is = ap not is
 
 -- what breaks with an event
 pub breaks_with : (setting : Setting) (s : Seen) (earlier : List Seen) (before now : BrokenSet) → before ≡ broken_in setting earlier
     → now ≡ broken_in setting (s ∷ earlier) → newly before now ≡ breaks setting (s ∷ earlier)
 breaks_with setting s earlier before now was is = λ i. newly (was i) (is i)
+
+-- so where the monitors stand for the event too, and answer what they break newly, they saw it
+pub sees : {IsSuch : Seen → Type 0} {sends : ℕ} {old new : Premises} {answer : BrokenSet}
+    → ((setting : Setting) (earlier : List Seen) (s : Seen) → IsSuch s → CanFollow setting earlier s → StandsFor old setting earlier
+    → StandsFor new setting (s ∷ earlier))
+    → answer ≡ newly old.broken new.broken → room_of old ≤ room_of new + sends
+    → ((s : Seen) → IsSuch s → new.world ≡ world_after old.world s) → net_of new ≡ net_of old
+    → Sees IsSuch sends old new answer
+sees {old = old} {new = new} stands answers room world network = record {
+  stands = stands;
+  breaks = λ setting earlier s is can stood.
+      answers ∙ breaks_with setting s earlier old.broken new.broken stood.broken (stands setting earlier s is can stood).broken;
+  room = room;
+  world = world;
+  network = network;
+}

@@ -6,7 +6,7 @@ use Rattle.std.proofs.Common.{arith, sym, ap, ◌∙◌, subst, inl, inr, cond}
 use Rattle.std.proofs.lemmas.Bool.{and_parts, and_from, or_parts, or_from, le-leb, not-false, eqb-true}
 use Rattle.std.proofs.lemmas.Option.{same_Some}
 use Rattle.std.proofs.lemmas.List.Elements.{Contains-append_left, Contains-append_right}
-use Rattle.sd_num.specs.Lists.{of_some, same_number, ascends, greatest}
+use Rattle.sd_num.specs.Lists.{map_or, same_number, ascends, greatest}
 use Rattle.sd_topo.specs.Network.{delay_of}
 use Rattle.sd_msg.specs.declared.Flight.{Flight}
 use Rattle.sd_sched.specs.declared.Event.{Event}
@@ -25,6 +25,7 @@ use Rattle.sd_history.specs.flights.Flights.{AreNumberedOn}
 use Rattle.sd_history.proofs.flights.Sending.{step_numbered, counted, WasSent, was_sent}
 use Rattle.sd_history.proofs.flights.Numbers.{numbers_within}
 use Rattle.sd_history.proofs.flights.Places.{IsOfNetwork, flights_of_network}
+use Rattle.sd_history.proofs.Shared.{received_message}
 use Rattle.sd_premise_loss.specs.rounds.Order.{last_sent}
 use Rattle.sd_premise_loss.proofs.rounds.InOrder.{last_sent_with}
 use Rattle.sd_premise.specs.Order.{IsSentAt, IsOnTheWay, CanFollow, ComesInOrder}
@@ -115,8 +116,8 @@ closes_late : (s : Seen) (earlier : List Seen) → s.closed ≡ false → has_co
 closes_late s earlier stays had = by s.closed (is_stage s.event) (window earlier) stays had
   where
     by : (closed stage : Bool) (o : Option (List Seen)) → closed ≡ false
-        → of_some (if closed then None else if stage then Some [] else option_map (λ w. s ∷ w) o) false (list_any (λ x. is_commit x.event)) ≡ true
-        → (is_commit s.event || of_some o false (list_any (λ x. is_commit x.event))) ≡ true
+        → map_or (if closed then None else if stage then Some [] else option_map (λ w. s ∷ w) o) false (list_any (λ x. is_commit x.event)) ≡ true
+        → (is_commit s.event || map_or o false (list_any (λ x. is_commit x.event))) ≡ true
     by true stage o stays' had' = cc
     by false true o stays' had' = cc
     by false false None stays' had' = cc
@@ -144,7 +145,7 @@ module _ (setting : Setting) (s : Step) (earlier : List Step) (steps : AreSteps 
       turned d false within = tt
 
       by : (o : Option ℕ) → device_of s.seen.event ≡ o
-          → IfSome (of_some o None (λ d. if has_turned earlier (first_step setting earlier s.seen.event s.told) d then Some d else None))
+          → IfSome (map_or o None (λ d. if has_turned earlier (first_step setting earlier s.seen.event s.told) d then Some d else None))
           (λ d. d < length setting.net.devices)
       by None names = tt
       by (Some d) names =
@@ -204,11 +205,6 @@ seen_sent setting (s ∷ earlier) f is a reaches = elim (either_side s.sent (fli
   | inr before ↦ Contains-append_right s.seen.sent (premises.reaching_flights (seen_of earlier)) f (seen_sent setting earlier f is.0 before reaches)
 ]
 
--- what a receipt is of
-received_message : (e : Event) (m : ℕ) → received e ≡ Some m → message_of e ≡ Some m
-received_message (event.Recv r d c n) m is = is
-received_message _ m is = cc
-
 found_numbered : (n : ℕ) (fs : List Flight) (f : Flight) → find (λ g. nat_eq g.number n) fs ≡ Some f → f.number ≡ n
 found_numbered n [] f is = cc
 found_numbered n (g ∷ gs) f is = by (nat_eq g.number n) refl is (found_numbered n gs f)
@@ -243,13 +239,13 @@ unreceived : (setting : Setting) (steps : List Step) (n : ℕ) → AreSteps sett
     → premises.was_received (seen_of steps) n ≡ false
 unreceived setting [] n is unused = refl
 unreceived setting (s ∷ earlier) n is unused =
-    or_from (of_some s.seen.taken false (λ f. nat_eq f.number n)) (premises.was_received (seen_of earlier) n) (by s.seen.taken refl)
+    or_from (map_or s.seen.taken false (λ f. nat_eq f.number n)) (premises.was_received (seen_of earlier) n) (by s.seen.taken refl)
     (unreceived setting earlier n is.0 two.1)
   where
     two : (same_number (message_of s.seen.event) n ≡ false) × (was_used earlier n ≡ false)
     two = or_parts (same_number (message_of s.seen.event) n) (was_used earlier n) unused
 
-    by : (o : Option Flight) → s.seen.taken ≡ o → of_some o false (λ f. nat_eq f.number n) ≡ false
+    by : (o : Option Flight) → s.seen.taken ≡ o → map_or o false (λ f. nat_eq f.number n) ≡ false
     by None none = refl
     by (Some f) some = sym (ap (λ (m : Option ℕ). same_number m n) (taken_is earlier s.seen.event f (sym (step_takes setting s earlier is) ∙ some)).message)
         ∙ two.0
@@ -267,9 +263,9 @@ on_the_way setting s earlier is f takes = record {
 
     unspent : is_spent earlier (reference_of s.seen.event) f ≡ false
     unspent =
-        sym (ap (λ (o : Option ℕ). of_some o false (λ n. of_some (flight_numbered earlier n) false (is_spent earlier (reference_of s.seen.event))))
+        sym (ap (λ (o : Option ℕ). map_or o false (λ n. map_or (flight_numbered earlier n) false (is_spent earlier (reference_of s.seen.event))))
         taken.message
-        ∙ ap (λ (o : Option Flight). of_some o false (is_spent earlier (reference_of s.seen.event))) taken.there)
+        ∙ ap (λ (o : Option Flight). map_or o false (is_spent earlier (reference_of s.seen.event))) taken.there)
         ∙ none_holds (causes setting earlier s.seen.event) _ is.1 (later (later (later (later (later first)))))
 
     open_ : ((was_used earlier f.number || was_swept earlier f || nat_lt f.last (max (reference_of s.seen.event) (latest_reference (seen_of earlier)))) ≡ false)

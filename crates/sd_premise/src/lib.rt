@@ -2,8 +2,7 @@
 //! holds while none of them is broken. docs/PREMISES.md says what each asks of a fabric.
 #![tactic(auto)]
 
-mod delays;
-mod ground;
+mod inputs;
 mod monitors;
 mod premises;
 mod sets;

@@ -12,16 +12,14 @@ ghost use Rattle.sd_premise_loss.specs.rounds.Loss.{number_taken};
 ghost use Rattle.sd_premise_renewal.specs.Progressing.{HasDevices};
 ghost use Rattle.sd_premise.specs.Order.{CanFollow};
 ghost use Rattle.sd_premise.specs.Worlds.{world_after};
-ghost use Rattle.sd_premise.specs.Calm.{IsCalmTick, IsCalmReceipt};
 
 #[cfg(test)]
 mod tests;
 
-use crate::delays::take_delayed;
-use crate::ground::Ground;
+use crate::inputs::MonitorInputs;
 use crate::monitors::Monitors;
-use crate::sets::{NONE_BROKEN, break_now};
-use sd_fleet_state::world::World;
+use crate::sets::{Held, NONE_BROKEN, break_now, note_held};
+use sd_fleet_state::world::{World, failure_of};
 use sd_history::BrokenSet;
 use sd_msg::Flight;
 use sd_num::NoMemory;
@@ -85,6 +83,7 @@ fn observe_world(world: &mut World, seen: &Seen<'_>)
 
 impl Premises {
     ghost use Rattle.sd_premise.specs.Standing.{StandsFor, CanObserve, room_of, net_of};
+    ghost use Rattle.sd_premise.specs.Calm.{IsCalmTick, IsCalmReceipt, Sees};
 
     /// The monitors before any event, over plans of which the first is in force.
     pub fn new(alloc: Global, topo: &Topology, plans: &[Plan]) -> Result<Premises, NoMemory>
@@ -96,13 +95,13 @@ impl Premises {
             → setting.net ≡ network topo.now → setting.plans ≡ plans.now
             → StandsFor premises setting []) }
     {
-        let ground = Ground::new(alloc, topo, plans)?;
-        let monitors = Monitors::new(alloc, topo, &ground.members)?;
+        let inputs = MonitorInputs::new(alloc, topo, plans)?;
+        let monitors = Monitors::new(alloc, topo, &inputs.members)?;
         Ok(Premises {
-            topology: ground.topology,
-            members: ground.members,
-            links: ground.links,
-            world: ground.world,
+            topology: inputs.topology,
+            members: inputs.members,
+            links: inputs.links,
+            world: inputs.world,
             start: StartMonitor::new(),
             drift: monitors.drift,
             delay: DelayMonitor::new(),
@@ -153,12 +152,15 @@ impl Premises {
         observe_world(&mut self.world, seen);
         let now = BrokenSet {
             start: !self.start.observe(seen),
-            drift: !self.drift.observe(&self.topology, seen),
+            drift: !self.drift.observe(seen),
             delay: !self.delay.observe(&self.topology, seen),
             tick: !self.tick.observe(&self.members, &self.world, seen),
-            loss: !self
-                .loss
-                .observe(&seen.event, number_taken(seen), seen.sent),
+            loss: !self.loss.see(
+                seen.event.reference(),
+                failure_of(&seen.event),
+                number_taken(seen),
+                seen.sent,
+            ),
             domain: !self.domain.observe(&self.topology, seen),
             renew: !renew,
         };
@@ -166,37 +168,27 @@ impl Premises {
     }
 
     /// As `observe`, of a tick that receives nothing, with which no window closes and no device
-    /// enters the staged plan. Of the premises only those on drift, ticks and loss can break.
+    /// enters the staged plan. Mostly no premise breaks; those on drift, ticks and loss can.
     #[inline(always)]
     pub fn tick(&mut self, reference: u64, device: u32, counter: u64, sent: &[Flight]) -> BrokenSet
         requires room { length sent.now ≤ room_of self.old }
         requires device { device < length self.old.world.devices }
         requires events { self.old.world.events < 2 ^ 26 }
-        ensures stands { (setting : Setting) (earlier : List Sight) (s : Sight)
-            → IsCalmTick s reference device counter sent.now → CanFollow setting earlier s
-            → StandsFor self.old setting earlier → StandsFor self.new setting (s ∷ earlier) }
-        ensures breaks { (setting : Setting) (earlier : List Sight) (s : Sight)
-            → IsCalmTick s reference device counter sent.now → CanFollow setting earlier s
-            → StandsFor self.old setting earlier → result ≡ breaks setting (s ∷ earlier) }
-        ensures room { room_of self.old ≤ room_of self.new + length sent.now }
-        ensures world { (s : Sight) → IsCalmTick s reference device counter sent.now
-            → self.new.world ≡ world_after self.old.world s }
-        ensures network { net_of self.new ≡ net_of self.old }
+        ensures { Sees (λ s. IsCalmTick s reference device counter sent.now) (length sent.now)
+            self.old self.new result }
     {
         self.world.note_call(reference, device, counter);
-        let now = BrokenSet {
-            drift: !self
-                .drift
-                .read(&self.topology, device, reference, counter, false),
-            tick: !self.tick.tick(device, reference),
-            loss: !self.loss.see(reference, None, None, sent),
-            ..self.broken
+        let held = Held {
+            drift: self.drift.read(device, reference, counter, false),
+            delay: !self.broken.delay,
+            tick: self.tick.tick(device, reference),
+            loss: self.loss.see(reference, None, None, sent),
         };
-        break_now(&mut self.broken, now)
+        note_held(&mut self.broken, held)
     }
 
     /// As `observe`, of a receipt of this flight, with which no window closes and no device enters
-    /// the staged plan. Of the premises only those on drift, delays, ticks and loss can break.
+    /// the staged plan. Mostly no premise breaks; those on drift, delays, ticks and loss can.
     #[inline(always)]
     pub fn receive(
         &mut self,
@@ -210,31 +202,17 @@ impl Premises {
         requires device { device < length self.old.world.devices }
         requires link { flight.now.link < length (net_of self.old).links }
         requires events { self.old.world.events < 2 ^ 26 }
-        ensures stands { (setting : Setting) (earlier : List Sight) (s : Sight)
-            → IsCalmReceipt s reference device counter flight.now sent.now
-            → CanFollow setting earlier s
-            → StandsFor self.old setting earlier → StandsFor self.new setting (s ∷ earlier) }
-        ensures breaks { (setting : Setting) (earlier : List Sight) (s : Sight)
-            → IsCalmReceipt s reference device counter flight.now sent.now
-            → CanFollow setting earlier s
-            → StandsFor self.old setting earlier → result ≡ breaks setting (s ∷ earlier) }
-        ensures room { room_of self.old ≤ room_of self.new + length sent.now }
-        ensures world { (s : Sight)
-            → IsCalmReceipt s reference device counter flight.now sent.now
-            → self.new.world ≡ world_after self.old.world s }
-        ensures network { net_of self.new ≡ net_of self.old }
+        ensures { Sees (λ s. IsCalmReceipt s reference device counter flight.now sent.now)
+            (length sent.now) self.old self.new result }
     {
         self.world.note_call(reference, device, counter);
-        let now = BrokenSet {
-            drift: !self
-                .drift
-                .read(&self.topology, device, reference, counter, false),
-            delay: !take_delayed(&mut self.delay, &self.topology, reference, flight),
-            tick: !self.tick.receive(reference),
-            loss: !self.loss.see(reference, None, Some(flight.number), sent),
-            ..self.broken
+        let held = Held {
+            drift: self.drift.read(device, reference, counter, false),
+            delay: self.delay.read(&self.topology, reference, flight),
+            tick: self.tick.receive(reference),
+            loss: self.loss.see(reference, None, Some(flight.number), sent),
         };
-        break_now(&mut self.broken, now)
+        note_held(&mut self.broken, held)
     }
 
     /// Which premises are broken so far.

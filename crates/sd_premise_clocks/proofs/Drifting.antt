@@ -1,6 +1,5 @@
 -- A reading keeps the rates with each reading of a life exactly where its offsets are within the grain of the least of the life.
-use Rattle.std.proofs.Common.{◌≡◌, ℕ, ◌+◌, ◌-◌, ◌*◌, ◌^◌, ◌≤◌, ◌<◌, Bool, true, ◌&&◌, List, [], ◌∷◌, min, nat_le, refl, ap, ◌∙◌, arith}
-use Rattle.std.specs.List.{list_all}
+use Rattle.std.proofs.Common.{◌≡◌, ℕ, ◌+◌, ◌-◌, ◌*◌, ◌^◌, ◌≤◌, ◌<◌, Bool, true, ◌&&◌, List, [], ◌∷◌, min, nat_le, ap, ◌∙◌, arith}
 use Rattle.std.proofs.Math.Nat.{mul-sub, mul-le-mul_left}
 use Rattle.std.proofs.lemmas.Bool.{and_parts, and_from, leb-true, le-leb}
 use Rattle.std.proofs.lemmas.Nat.{mul-le}
@@ -9,13 +8,6 @@ use Rattle.sd_num.specs.declared.Rates.{Rates}
 use Rattle.sd_num.specs.Numbers.{distance, keeps_rate}
 use Rattle.sd_premise_clocks.specs.declared.offsets.Offsets.{Offsets}
 use Rattle.sd_premise_clocks.specs.Readings.{keeps_rates_with, is_after_each, left_of, lead_at, lag_at, offsets_at, no_offsets, lesser, are_within, least_offsets}
-
--- what each element passes, each passes that asks no more
-pub all_imply : {X : Type 0} (p q : X → Bool) (xs : List X) → ((x : X) → p x ≡ true → q x ≡ true) → list_all p xs ≡ true → list_all q xs ≡ true
-all_imply p q [] imply all = refl
-all_imply p q (x ∷ xs) imply all =
-    let parts = and_parts (p x) (list_all p xs) all in
-    and_from (q x) (list_all q xs) (imply x parts.0) (all_imply p q xs imply parts.1)
 
 -- Two readings, x of which is the later one
 

@@ -6,6 +6,7 @@ use Rattle.std.proofs.lemmas.Bool.{and_parts, and_from, leb-true, le-leb, cases_
 use Rattle.std.proofs.lemmas.Option.{same_Some}
 use Rattle.sd_num.proofs.Places.{at_written, at_unwritten}
 use Rattle.sd_num.specs.declared.Rates.{Rates}
+use Rattle.sd_num.proofs.Shared.{all_imply}
 use Rattle.sd_topo.specs.Network.{rates_of}
 use Rattle.sd_sched.specs.Events.{reference_of}
 use Rattle.sd_fleet_state.specs.History.World.{Setting, Seen, latest_reference, latest_reading}
@@ -13,10 +14,9 @@ use Rattle.sd_fleet_state.specs.History.Premises.{readings, reads_honestly, drif
 use Rattle.sd_fleet_state.specs.History.Refusals.{makes_some}
 use Rattle.sd_fleet_state.specs.History.Open.{may_be_seen}
 use Rattle.sd_premise_clocks.specs.declared.offsets.Reading.{Reading}
-use Rattle.sd_premise_clocks.specs.declared.offsets.Offsets.{Offsets}
-use Rattle.sd_premise_clocks.specs.Readings.{pair_of, keeps_rates_with, is_after_each, no_offsets, offsets_at, lesser, are_within, least_offsets}
-use Rattle.sd_premise_clocks.specs.Drifts.{DriftKept, DriftStands, reading_of}
-use Rattle.sd_premise_clocks.proofs.Drifting.{all_imply}
+use Rattle.sd_premise_clocks.specs.declared.drift.Life.{Life}
+use Rattle.sd_premise_clocks.specs.Readings.{pair_of, keeps_rates_with, is_after_each, least_offsets}
+use Rattle.sd_premise_clocks.specs.Drifts.{DriftKept, IsLifeOf, DriftStands, reading_of}
 use Rattle.sd_premise_clocks.proofs.Seeing.{time_rises, counter_rises}
 use Rattle.sd_premise_clocks.proofs.Lives.{Reads, readings_here, readings_elsewhere, readings_unread, latest_here, latest_elsewhere, latest_unread, honest_here, honest_unread}
 
@@ -39,7 +39,10 @@ stands_unread setting kept earlier s unread stands may = record {
   holds = stands.holds
       ∙ sym (ap (λ (b : Bool). drift_holds setting earlier && b) (honest_unread setting s earlier unread) ∙ and_true (drift_holds setting earlier));
   devices = stands.devices;
-  lives = λ d life at. stands.lives d life at ∙ ap (least_offsets (rates_of setting.net d).ppm) (sym (readings_unread s earlier d unread));
+  lives = λ d life at. record {
+    rates = (stands.lives d life at).rates;
+    offsets = (stands.lives d life at).offsets ∙ ap (least_offsets life.rates.ppm) (sym (readings_unread s earlier d unread));
+  };
   in_order = λ d.
       (let rises : latest_reference earlier ≤ reference_of s.event = time_rises setting earlier s.event may in
       let same : latest_reading (s ∷ earlier) d ≡ latest_reading earlier d = latest_unread s earlier d unread in
@@ -72,16 +75,6 @@ past_before setting kept earlier s d r read stands may = by (makes_some s.event)
         let at : reference_of s.event ≡ r.reference = read.reference in
         after_more (readings earlier d) (latest_reference earlier) (latest_reading earlier d) r.reference r.counter (omega arith) counts (stands.in_order d)
 
--- what was kept of the life
-past_life : (setting : Setting) (kept : DriftKept) (earlier : List Seen) (s : Seen) (d : ℕ) (begins : Bool) (before : Offsets) → begins ≡ makes_some s.event
-    → (begins ≡ true → before ≡ no_offsets) → (begins ≡ false → slice_get kept.lives d ≡ Some before) → DriftStands setting kept earlier
-    → before ≡ least_offsets (rates_of setting.net d).ppm (past_of earlier s d)
-past_life setting kept earlier s d begins before is begun held stands = by (makes_some s.event) refl
-  where
-    by : (b : Bool) → makes_some s.event ≡ b → before ≡ least_offsets (rates_of setting.net d).ppm (cond b [] (readings earlier d))
-    by true makes = begun (is ∙ makes)
-    by false makes = stands.lives d before (held (is ∙ makes))
-
 -- whether it keeps the rates is judged over its life
 judged_here : (setting : Setting) (earlier : List Seen) (s : Seen) (d : ℕ) (r : Reading) → Reads s.event d r
     → reads_honestly setting s earlier ≡ keeps_rates_with (rates_of setting.net d) (past_of earlier s d) (pair_of r)
@@ -93,60 +86,64 @@ judged_here setting earlier s d r read = honest_here setting s earlier d r read 
     by true = refl
     by false = refl
 
--- what taking in a reading of an oscillator with these rates does to what is kept
-pub record TakesIn (rates : Rates) (s : Seen) (d : ℕ) (r : Reading) (before offsets : Offsets) (begins : Bool) (old new : DriftKept) : Type 0 where
+-- what taking in a reading of a device does to what is kept: before and after are its life
+pub record TakesIn (s : Seen) (d : ℕ) (r : Reading) (begins keeps : Bool) (before after : Life) (old new : DriftKept) : Type 0 where
   pub begins_life : begins ≡ makes_some s.event
-  pub begun : begins ≡ true → before ≡ no_offsets
-  pub held : begins ≡ false → slice_get old.lives d ≡ Some before
-  pub offsets_are : offsets ≡ offsets_at rates.ppm (pair_of r)
-  pub judged : (xs : List (ℕ × ℕ)) → is_after_each xs (pair_of r) ≡ true
-      → are_within rates.grain (least_offsets rates.ppm xs) offsets ≡ keeps_rates_with rates xs (pair_of r)
-  pub holds : new.holds ≡ (old.holds && are_within rates.grain before offsets)
-  pub lives : new.lives ≡ set old.lives d (lesser before offsets)
   pub within : d < length old.lives
+  pub held : slice_get old.lives d ≡ Some before
+  pub rates : after.rates ≡ before.rates
+  pub offsets : (xs : List (ℕ × ℕ)) → before.offsets ≡ least_offsets before.rates.ppm xs
+      → after.offsets ≡ least_offsets before.rates.ppm (pair_of r ∷ cond begins [] xs)
+  pub judged : (xs : List (ℕ × ℕ)) → before.offsets ≡ least_offsets before.rates.ppm xs → is_after_each (cond begins [] xs) (pair_of r) ≡ true
+      → keeps ≡ keeps_rates_with before.rates (cond begins [] xs) (pair_of r)
+  pub holds : new.holds ≡ (old.holds && keeps)
+  pub lives : new.lives ≡ set old.lives d after
 
-pub stands_reading : (setting : Setting) (rates : Rates) (s : Seen) (d : ℕ) (r : Reading) (before offsets : Offsets) (begins : Bool) (old new : DriftKept)
+pub stands_reading : (setting : Setting) (s : Seen) (d : ℕ) (r : Reading) (begins keeps : Bool) (before after : Life) (old new : DriftKept)
     (earlier : List Seen)
-    → Reads s.event d r → rates ≡ rates_of setting.net d → TakesIn rates s d r before offsets begins old new → DriftStands setting old earlier
+    → Reads s.event d r → TakesIn s d r begins keeps before after old new → DriftStands setting old earlier
     → may_be_seen setting earlier s.event ≡ true
     → DriftStands setting new (s ∷ earlier)
-stands_reading setting rates s d r before offsets begins old new earlier read own takes_in stands may =
-    let takes : TakesIn (rates_of setting.net d) s d r before offsets begins old new =
-    subst (λ (own : Rates). TakesIn own s d r before offsets begins old new) own takes_in in
-    let life : before ≡ least_offsets (rates_of setting.net d).ppm (past_of earlier s d) =
-    past_life setting old earlier s d begins before takes.begins_life takes.begun takes.held stands in
+stands_reading setting s d r begins keeps before after old new earlier read takes stands may =
     let first : is_after_each (past_of earlier s d) (pair_of r) ≡ true = past_before setting old earlier s d r read stands may in
     record {
-      holds = takes.holds ∙ ap (λ (b : Bool). b && are_within (rates_of setting.net d).grain before offsets) stands.holds
+      holds = takes.holds ∙ ap (λ (b : Bool). b && keeps) stands.holds
           ∙ ap (λ (b : Bool). drift_holds setting earlier && b)
-          (ap (λ (o : Offsets). are_within (rates_of setting.net d).grain o offsets) life ∙ takes.judged (past_of earlier s d) first
+          (takes.judged (readings earlier d) life.offsets (ap (λ (xs : List (ℕ × ℕ)). is_after_each xs (pair_of r)) past ∙ first)
+          ∙ ap (λ (xs : List (ℕ × ℕ)). keeps_rates_with before.rates xs (pair_of r)) past
+          ∙ ap (λ (own : Rates). keeps_rates_with own (past_of earlier s d) (pair_of r)) life.rates
           ∙ sym (judged_here setting earlier s d r read));
-      devices = ap length takes.lives ∙ length-set old.lives d (lesser before offsets) ∙ stands.devices;
-      lives = λ x kept at. lives_at x kept takes.within (grown takes.offsets_are life) (ap (λ (ls : List Offsets). slice_get ls x) (sym takes.lives) ∙ at)
-          (cases_eq x d);
+      devices = ap length takes.lives ∙ length-set old.lives d after ∙ stands.devices;
+      lives = λ x kept at. lives_at x kept (ap (λ (ls : List Life). slice_get ls x) (sym takes.lives) ∙ at) (cases_eq x d);
       in_order = λ x. order_at x first (cases_eq x d);
     }
   where
-    -- the lesser of both is the least with the reading
-    grown : offsets ≡ offsets_at (rates_of setting.net d).ppm (pair_of r) → before ≡ least_offsets (rates_of setting.net d).ppm (past_of earlier s d)
-        → lesser before offsets ≡ least_offsets (rates_of setting.net d).ppm (readings (s ∷ earlier) d)
-    grown is life =
-        ap (λ (o : Offsets). lesser o offsets) life
-        ∙ ap (lesser (least_offsets (rates_of setting.net d).ppm (past_of earlier s d))) is
-        ∙ ap (least_offsets (rates_of setting.net d).ppm) (sym (readings_here s earlier d r read))
+    life : IsLifeOf setting earlier d before
+    life = stands.lives d before takes.held
 
-    lives_at : (x : ℕ) (kept : Offsets) → d < length old.lives → lesser before offsets ≡ least_offsets (rates_of setting.net d).ppm (readings (s ∷ earlier) d)
-        → slice_get (set old.lives d (lesser before offsets)) x ≡ Some kept → (x ≡ d) ⊎ (x ≡ d → ⊥)
-        → kept ≡ least_offsets (rates_of setting.net x).ppm (readings (s ∷ earlier) x)
-    lives_at x kept within grown at (inl same) =
-        let at_d : slice_get (set old.lives d (lesser before offsets)) d ≡ Some kept =
-        ap (slice_get (set old.lives d (lesser before offsets))) (sym same) ∙ at in
-        let is_after : lesser before offsets ≡ kept =
-        same_Some (lesser before offsets) kept (sym (at_written old.lives d (lesser before offsets) within) ∙ at_d) in
-        sym is_after ∙ grown ∙ ap (λ (k : ℕ). least_offsets (rates_of setting.net k).ppm (readings (s ∷ earlier) k)) (sym same)
-    lives_at x kept within grown at (inr other) =
-        stands.lives x kept (sym (at_unwritten old.lives d x (lesser before offsets) other) ∙ at)
-        ∙ ap (least_offsets (rates_of setting.net x).ppm) (sym (readings_elsewhere s earlier d x r read (λ e. other (sym e))))
+    past : cond begins [] (readings earlier d) ≡ past_of earlier s d
+    past = ap (λ (b : Bool). cond b [] (readings earlier d)) takes.begins_life
+
+    grown : IsLifeOf setting (s ∷ earlier) d after
+    grown = record {
+      rates = takes.rates ∙ life.rates;
+      offsets = takes.offsets (readings earlier d) life.offsets
+          ∙ ap (λ (xs : List (ℕ × ℕ)). least_offsets before.rates.ppm (pair_of r ∷ xs)) past
+          ∙ ap (least_offsets before.rates.ppm) (sym (readings_here s earlier d r read))
+          ∙ ap (λ (own : Rates). least_offsets own.ppm (readings (s ∷ earlier) d)) (sym takes.rates);
+    }
+
+    lives_at : (x : ℕ) (kept : Life) → slice_get (set old.lives d after) x ≡ Some kept → (x ≡ d) ⊎ (x ≡ d → ⊥) → IsLifeOf setting (s ∷ earlier) x kept
+    lives_at x kept at (inl same) =
+        let at_d : slice_get (set old.lives d after) d ≡ Some kept = ap (slice_get (set old.lives d after)) (sym same) ∙ at in
+        let is_after : after ≡ kept = same_Some after kept (sym (at_written old.lives d after takes.within) ∙ at_d) in
+        subst (λ (k : ℕ). IsLifeOf setting (s ∷ earlier) k kept) (sym same) (subst (λ (l : Life). IsLifeOf setting (s ∷ earlier) d l) is_after grown)
+    lives_at x kept at (inr other) =
+        let was : IsLifeOf setting earlier x kept = stands.lives x kept (sym (at_unwritten old.lives d x after other) ∙ at) in
+        record {
+          rates = was.rates;
+          offsets = was.offsets ∙ ap (least_offsets kept.rates.ppm) (sym (readings_elsewhere s earlier d x r read (λ e. other (sym e))));
+        }
 
     order_at : (x : ℕ) → is_after_each (past_of earlier s d) (pair_of r) ≡ true → (x ≡ d) ⊎ (x ≡ d → ⊥)
         → is_after_each (readings (s ∷ earlier) x) (reference_of s.event, latest_reading (s ∷ earlier) x) ≡ true

@@ -7,7 +7,8 @@ use Rattle.std.proofs.lemmas.Bool.Decides.{same_from_decides}
 use Rattle.std.proofs.lemmas.List.{get_or_default}
 use Rattle.std.proofs.lemmas.List.Folds.{list_all-append}
 use Rattle.std.proofs.lemmas.List.Sums.{AllPass-from_list_all, list_all-from_AllPass}
-use Rattle.sd_num.specs.Lists.{below, of_some}
+use Rattle.sd_num.specs.Lists.{below, map_or}
+use Rattle.sd_num.proofs.Shared.{all_below}
 use Rattle.sd_topo.specs.Network.{device_numbers}
 use Rattle.sd_topo.specs.declared.Thing.TheVariants as thing
 use Rattle.sd_plan.specs.Plans.{is_member, members}
@@ -28,13 +29,6 @@ each_below test (suc n) all d within =
       | inr most ↦ (let same : n ≡ d = omega arith in subst (λ (k : ℕ). test k ≡ true) same (and_parts (test n) true parts.1).0)
     ]
 
-pub from_each_below : (test : ℕ → Bool) (n : ℕ) → ((d : ℕ) → d < n → test d ≡ true) → list_all test (below n) ≡ true
-from_each_below test zero each = refl
-from_each_below test (suc n) each =
-    list_all-append test (below n) (n ∷ [])
-    ∙ and_from (list_all test (below n)) (test n && true) (from_each_below test n (λ d within. each d (omega arith)))
-    (and_from (test n) true (each n (omega arith)) refl)
-
 pub all_filter : (test keep : ℕ → Bool) (xs : List ℕ) → list_all test (filter keep xs) ≡ list_all (λ x. not (keep x) || test x) xs
 all_filter test keep [] = refl
 all_filter test keep (x ∷ xs) = by (keep x) (all_filter test keep xs)
@@ -50,7 +44,7 @@ up_made : (seen : List Seen) (d : ℕ) → is_up seen d ≡ true → was_made se
 up_made [] d up = cc
 up_made (s ∷ earlier) d up = by (makes d s.event) (fails (thing.Device d) s.event) up (up_made earlier d)
   where
-    by : (makes fails : Bool) → of_some (cond makes (Some true) (cond fails (Some false) None)) (is_up earlier d) (λ up. up) ≡ true
+    by : (makes fails : Bool) → map_or (cond makes (Some true) (cond fails (Some false) None)) (is_up earlier d) (λ up. up) ≡ true
         → (is_up earlier d ≡ true → was_made earlier d ≡ true) → (makes || was_made earlier d) ≡ true
     by true fails up before = refl
     by false true up before = cc
@@ -154,9 +148,9 @@ holds_in_time : (setting : Setting) (s : Seen) (earlier : List Seen) → InTime 
 holds_in_time setting s earlier in_time =
     and_from (list_all (tick_test setting s earlier) (device_numbers setting.net))
     (list_all (start_test setting s earlier) (members setting.net (plan_numbered setting 1)))
-    (from_each_below (tick_test setting s earlier) (length setting.net.devices) (λ d within. tick_in_time setting s earlier d (in_time d within)))
+    (all_below (tick_test setting s earlier) (length setting.net.devices) (λ d within. tick_in_time setting s earlier d (in_time d within)))
     (all_filter (start_test setting s earlier) (is_member (plan_numbered setting 1)) (device_numbers setting.net)
-    ∙ from_each_below (λ d. not (is_member (plan_numbered setting 1) d) || start_test setting s earlier d) (length setting.net.devices)
+    ∙ all_below (λ d. not (is_member (plan_numbered setting 1) d) || start_test setting s earlier d) (length setting.net.devices)
     (λ d within. one d (in_time d within)))
   where
     one : (d : ℕ) → reference_of s.event - setting.net.params.tick ≤ owed_at setting earlier d

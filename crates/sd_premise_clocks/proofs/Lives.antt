@@ -4,7 +4,7 @@ use Rattle.std.specs.Prelude.{option_map, option_to_list}
 use Rattle.std.specs.List.{list_all}
 use Rattle.std.proofs.lemmas.Bool.{eq-eqb, ne_eqb}
 use Rattle.std.proofs.lemmas.Option.{same_Some}
-use Rattle.sd_num.specs.Lists.{of_some, same_number}
+use Rattle.sd_num.specs.Lists.{map_or, same_number}
 use Rattle.sd_num.specs.Numbers.{keeps_rate}
 use Rattle.sd_topo.specs.Network.{rates_of}
 use Rattle.sd_sched.specs.declared.Event.{Event}
@@ -109,24 +109,24 @@ readings_unread s earlier d unread = by (reads_not s.event unread)
 -- The latest counter of a device
 
 abbrev told : Option ℕ → Option ℕ → ℕ → ℕ → ℕ
-told device counter d before = of_some (cond (same_number device d) counter None) before (λ c. c)
+told device counter d before = map_or (cond (same_number device d) counter None) before (λ c. c)
 
 pub latest_here : (s : Seen) (earlier : List Seen) (d : ℕ) (r : Reading) → Reads s.event d r → latest_reading (s ∷ earlier) d ≡ r.counter
 latest_here s earlier d r read =
     ap (λ (o : Option ℕ). told o (counter_of s.event) d (latest_reading earlier d)) read.device
     ∙ ap (λ (o : Option ℕ). told (Some d) o d (latest_reading earlier d)) read.counter
-    ∙ ap (λ (b : Bool). of_some (cond b (Some r.counter) None) (latest_reading earlier d) (λ c. c)) (eq-eqb d d refl)
+    ∙ ap (λ (b : Bool). map_or (cond b (Some r.counter) None) (latest_reading earlier d) (λ c. c)) (eq-eqb d d refl)
 
 pub latest_elsewhere : (s : Seen) (earlier : List Seen) (d other : ℕ) (r : Reading) → Reads s.event d r → d ≢ other
     → latest_reading (s ∷ earlier) other ≡ latest_reading earlier other
 latest_elsewhere s earlier d other r read apart =
     ap (λ (o : Option ℕ). told o (counter_of s.event) other (latest_reading earlier other)) read.device
-    ∙ ap (λ (b : Bool). of_some (cond b (counter_of s.event) None) (latest_reading earlier other) (λ c. c)) (ne_eqb d other apart)
+    ∙ ap (λ (b : Bool). map_or (cond b (counter_of s.event) None) (latest_reading earlier other) (λ c. c)) (ne_eqb d other apart)
 
 pub latest_unread : (s : Seen) (earlier : List Seen) (d : ℕ) → reading_of s.event ≡ None → latest_reading (s ∷ earlier) d ≡ latest_reading earlier d
 latest_unread s earlier d unread = by (reads_not s.event unread)
   where
-    either : (b : Bool) → of_some (cond b None None) (latest_reading earlier d) (λ c. c) ≡ latest_reading earlier d
+    either : (b : Bool) → map_or (cond b None None) (latest_reading earlier d) (λ c. c) ≡ latest_reading earlier d
     either true = refl
     either false = refl
 
@@ -138,7 +138,7 @@ latest_unread s earlier d unread = by (reads_not s.event unread)
 
 abbrev judged : Setting → Seen → List Seen → Option ℕ → Option ℕ → Bool
 judged setting s earlier device counter =
-    of_some device true (λ d. of_some counter true (λ c. makes d s.event
+    map_or device true (λ d. map_or counter true (λ c. makes d s.event
     || list_all (λ r. keeps_rate (rates_of setting.net d) (c - r.1) (reference_of s.event - r.0)) (readings earlier d)))
 
 pub honest_here : (setting : Setting) (s : Seen) (earlier : List Seen) (d : ℕ) (r : Reading) → Reads s.event d r

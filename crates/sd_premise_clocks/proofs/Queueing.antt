@@ -3,10 +3,10 @@ use Rattle.std.proofs.Common.{◌≡◌, ℕ, zero, suc, ◌<◌, ◌≤◌, Boo
 use Rattle.std.specs.List.{list_all}
 use Rattle.std.proofs.lemmas.Bool.{and_parts, and_from, le-leb, leb-true, cases_eq, eq-eqb, eqb-true, both_ways}
 use Rattle.std.proofs.lemmas.List.Folds.{list_all-append, list_any-append}
+use Rattle.sd_num.proofs.Shared.{all_imply}
 use Rattle.sd_premise_clocks.specs.declared.queue.Entry.{Entry}
 use Rattle.sd_premise_clocks.specs.declared.queue.Mark.{Mark}
 use Rattle.sd_premise_clocks.specs.Queues.{ascend, are_at_most, reach, no_mark, mark_at, number_at, is_queued, is_queued_at}
-use Rattle.sd_premise_clocks.proofs.Drifting.{all_imply}
 
 -- The back
 

@@ -3,7 +3,7 @@ use Rattle.std.proofs.Common.{◌≡◌, ℕ, ◌+◌, ◌-◌, ◌<◌, Bool, t
 use Rattle.std.specs.Prelude.{slice_get, option_map}
 use Rattle.std.proofs.lemmas.List.{map-append, take_more}
 use Rattle.std.proofs.lemmas.Option.{slice_get-map, slice_get-get_or}
-use Rattle.sd_num.specs.Lists.{below, of_some, at_place}
+use Rattle.sd_num.specs.Lists.{below, map_or, at_place}
 use Rattle.sd_plan.specs.declared.Plan.{Plan}
 use Rattle.sd_plan.specs.Plans.{is_member, is_present}
 use Rattle.sd_plan.proofs.Numbered.{length-below, get_or-below}
@@ -25,14 +25,14 @@ flag_of test count plan d within =
 flags_are : (test : Plan → ℕ → Bool) → ((d : ℕ) → test no_plan d ≡ true) → (count : ℕ) (setting : Setting) (rows : List (List Bool)) (epoch d : ℕ)
     → rows ≡ map (row_for test count) setting.plans → d < count → flag_at rows (epoch - 1) d ≡ test (plan_numbered setting epoch) d
 flags_are test always count setting rows epoch d are within =
-    ap (λ (o : Option (List Bool)). of_some o true (λ row. at_place row d true (λ b. b))) mapped ∙ by (slice_get setting.plans (epoch - 1))
+    ap (λ (o : Option (List Bool)). map_or o true (λ row. at_place row d true (λ b. b))) mapped ∙ by (slice_get setting.plans (epoch - 1))
   where
     mapped : slice_get rows (epoch - 1) ≡ option_map (row_for test count) (slice_get setting.plans (epoch - 1))
     mapped = ap (λ (rs : List (List Bool)). slice_get rs (epoch - 1)) are ∙ slice_get-map (row_for test count) setting.plans (epoch - 1)
 
-    by : (o : Option Plan) → of_some (option_map (row_for test count) o) true (λ row. at_place row d true (λ b. b)) ≡ test (of_some o no_plan (λ plan. plan)) d
+    by : (o : Option Plan) → map_or (option_map (row_for test count) o) true (λ row. at_place row d true (λ b. b)) ≡ test (map_or o no_plan (λ plan. plan)) d
     by None = sym (always d)
-    by (Some plan) = ap (λ (o : Option Bool). of_some o true (λ b. b)) (flag_of test count plan d within)
+    by (Some plan) = ap (λ (o : Option Bool). map_or o true (λ b. b)) (flag_of test count plan d within)
 
 pub member_is : (setting : Setting) (rows : List (List Bool)) (epoch d : ℕ) → AreMembers setting rows → d < length setting.net.devices
     → flag_at rows (epoch - 1) d ≡ is_member (plan_numbered setting epoch) d

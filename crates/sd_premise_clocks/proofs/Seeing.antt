@@ -1,7 +1,7 @@
 -- What an event keeps that may be seen after what was seen: references and counters do not fall.
 use Rattle.std.proofs.Common.{◌≡◌, ℕ, ◌≤◌, Bool, true, false, not, ◌&&◌, ◌||◌, nat_lt, List, Option, Some, sym, ap, ◌∙◌, subst}
 use Rattle.std.proofs.lemmas.Bool.{or_parts, not-true, not-false, ltb-false}
-use Rattle.sd_num.specs.Lists.{of_some}
+use Rattle.sd_num.specs.Lists.{map_or}
 use Rattle.sd_sched.specs.declared.Event.{Event}
 use Rattle.sd_sched.specs.declared.Event.TheVariants.{Tick, Recv}
 use Rattle.sd_sched.specs.Events.{reference_of, device_of, counter_of}
@@ -41,11 +41,11 @@ pub counter_rises : (setting : Setting) (earlier : List Seen) (e : Event) (d c :
     → device_of e ≡ Some d → counter_of e ≡ Some c → latest_reading earlier d ≤ c
 counter_rises setting earlier e d c may makes device counter =
     let falls : counter_falls earlier e ≡ false = (neither_falls setting earlier e may).1 in
-    let at : (not (makes_some e) && of_some (device_of e) false (λ d. of_some (counter_of e) false (λ c. nat_lt c (latest_reading earlier d))))
+    let at : (not (makes_some e) && map_or (device_of e) false (λ d. map_or (counter_of e) false (λ c. nat_lt c (latest_reading earlier d))))
     ≡ nat_lt c (latest_reading earlier d) =
-    ap (λ (b : Bool). not b && of_some (device_of e) false (λ d. of_some (counter_of e) false (λ c. nat_lt c (latest_reading earlier d)))) makes
-    ∙ ap (λ (o : Option ℕ). of_some o false (λ d. of_some (counter_of e) false (λ c. nat_lt c (latest_reading earlier d)))) device
-    ∙ ap (λ (o : Option ℕ). of_some o false (λ c. nat_lt c (latest_reading earlier d))) counter in
+    ap (λ (b : Bool). not b && map_or (device_of e) false (λ d. map_or (counter_of e) false (λ c. nat_lt c (latest_reading earlier d)))) makes
+    ∙ ap (λ (o : Option ℕ). map_or o false (λ d. map_or (counter_of e) false (λ c. nat_lt c (latest_reading earlier d)))) device
+    ∙ ap (λ (o : Option ℕ). map_or o false (λ c. nat_lt c (latest_reading earlier d))) counter in
     ltb-false c (latest_reading earlier d) (sym at ∙ falls)
 
 -- the device of a tick or a receipt is up

@@ -1,6 +1,6 @@
 -- What a monitor keeps stands for an event more that it is not shown, since the event says nothing of its premise.
 use Rattle.std.proofs.Common.{◌≡◌, ℕ, Bool, true, ◌&&◌, List, ◌∷◌, nat_le, Option, None, sym, ap, ◌∙◌}
-use Rattle.sd_num.specs.Lists.{of_some}
+use Rattle.sd_num.specs.Lists.{map_or}
 use Rattle.sd_num.specs.Numbers.{distance}
 use Rattle.sd_msg.specs.declared.Flight.{Flight}
 use Rattle.sd_sched.specs.Events.{reference_of}
@@ -14,7 +14,7 @@ use Rattle.sd_premise_clocks.specs.Delays.{DelayStands}
 pub start_skips : (keeps : Bool) (s : Seen) (earlier : List Seen) → clock_set s.event ≡ None → StartStands keeps earlier → StartStands keeps (s ∷ earlier)
 start_skips keeps s earlier unset stands = record {
   holds = stands.holds
-      ∙ sym (ap (λ (o : Option (ℕ × ℕ)). of_some o true (λ set. nat_le (distance set.0 (reference_of s.event)) set.1) && start_holds earlier) unset);
+      ∙ sym (ap (λ (o : Option (ℕ × ℕ)). map_or o true (λ set. nat_le (distance set.0 (reference_of s.event)) set.1) && start_holds earlier) unset);
 }
 
 -- an event that receives nothing
@@ -22,5 +22,5 @@ pub delay_skips : (setting : Setting) (keeps : Bool) (s : Seen) (earlier : List 
     → DelayStands setting keeps (s ∷ earlier)
 delay_skips setting keeps s earlier untaken stands = record {
   holds = stands.holds
-      ∙ sym (ap (λ (o : Option Flight). of_some o true (is_in_time setting (reference_of s.event)) && delay_holds setting earlier) untaken);
+      ∙ sym (ap (λ (o : Option Flight). map_or o true (is_in_time setting (reference_of s.event)) && delay_holds setting earlier) untaken);
 }

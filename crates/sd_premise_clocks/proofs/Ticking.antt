@@ -5,7 +5,7 @@ use Rattle.std.proofs.Math.ListN.{length-set}
 use Rattle.std.proofs.lemmas.Bool.{eq-eqb, ne_eqb, cases_eq}
 use Rattle.std.proofs.lemmas.Option.{same_Some}
 use Rattle.std.proofs.lemmas.List.Sums.{sum_by-cons}
-use Rattle.sd_num.specs.Lists.{of_some, same_number}
+use Rattle.sd_num.specs.Lists.{map_or, same_number}
 use Rattle.sd_topo.specs.declared.Thing.TheVariants as thing
 use Rattle.sd_plan.specs.Plans.{is_member}
 use Rattle.sd_sched.specs.declared.Event.{Event}
@@ -45,7 +45,7 @@ spares e d apart = record { ticks = ticks_not e d apart; makes = makes_not e d a
 
 -- the latest tick as the event leaves it
 abbrev pub tick_then : Bool → Bool → ℕ → ℕ → ℕ
-tick_then ticks makes reference before = of_some (cond (ticks || makes) (Some reference) None) before (λ t. t)
+tick_then ticks makes reference before = map_or (cond (ticks || makes) (Some reference) None) before (λ t. t)
 
 pub tick_kept : (s : Seen) (earlier : List Seen) (d : ℕ) → Spares s.event d → latest_tick (s ∷ earlier) d ≡ latest_tick earlier d
 tick_kept s earlier d spared =
@@ -68,7 +68,7 @@ awaited_kept setting s earlier d unmade unfailed =
     ap (λ (b : Bool). b && is_member (plan_numbered setting 1) d) (untouched_kept s earlier d unmade unfailed)
 
 abbrev up_then : Bool → Bool → Bool → Bool
-up_then makes fails before = of_some (cond makes (Some true) (cond fails (Some false) None)) before (λ up. up)
+up_then makes fails before = map_or (cond makes (Some true) (cond fails (Some false) None)) before (λ up. up)
 
 pub up_kept : (s : Seen) (earlier : List Seen) (d : ℕ) → makes d s.event ≡ false → fails (thing.Device d) s.event ≡ false
     → is_up (s ∷ earlier) d ≡ is_up earlier d
@@ -96,17 +96,17 @@ window_kept s earlier stays stages =
 pub current_kept : (setting : Setting) (s : Seen) (earlier : List Seen) (d : ℕ) → s.closed ≡ false → is_stage s.event ≡ false
     → is_current_member setting (s ∷ earlier) d ≡ is_current_member setting earlier d
 current_kept setting s earlier d stays stages =
-    ap (λ (e : ℕ). is_member (plan_numbered setting e) d || of_some (option_map (λ w. plan_numbered setting (e + 1)) (window (s ∷ earlier))) false
+    ap (λ (e : ℕ). is_member (plan_numbered setting e) d || map_or (option_map (λ w. plan_numbered setting (e + 1)) (window (s ∷ earlier))) false
     (λ plan. is_member plan d)) (epoch_kept s earlier stays)
     ∙ ap (λ (o : Option (List Seen)). is_member (plan_numbered setting (epoch_in_force earlier)) d
-    || of_some (option_map (λ w. plan_numbered setting (epoch_in_force earlier + 1)) o) false (λ plan. is_member plan d))
+    || map_or (option_map (λ w. plan_numbered setting (epoch_in_force earlier + 1)) o) false (λ plan. is_member plan d))
     (window_kept s earlier stays stages)
     ∙ ap (λ (b : Bool). is_member (plan_numbered setting (epoch_in_force earlier)) d || b) (by (window earlier))
   where
     by : (o : Option (List Seen))
-        → of_some (option_map (λ (w : List Seen). plan_numbered setting (epoch_in_force earlier + 1)) (option_map (λ w. s ∷ w) o)) false
+        → map_or (option_map (λ (w : List Seen). plan_numbered setting (epoch_in_force earlier + 1)) (option_map (λ w. s ∷ w) o)) false
         (λ plan. is_member plan d)
-        ≡ of_some (option_map (λ (w : List Seen). plan_numbered setting (epoch_in_force earlier + 1)) o) false (λ plan. is_member plan d)
+        ≡ map_or (option_map (λ (w : List Seen). plan_numbered setting (epoch_in_force earlier + 1)) o) false (λ plan. is_member plan d)
     by None = refl
     by (Some w) = refl
 
@@ -187,12 +187,12 @@ ticks_stand setting kept s earlier stands = record {
 }
   where
     long : (named : Option ℕ)
-        → length (of_some named kept.states (λ d. set kept.states d (state_after s.event (get_or kept.states d no_state)))) ≡ length kept.states
+        → length (map_or named kept.states (λ d. set kept.states d (state_after s.event (get_or kept.states d no_state)))) ≡ length kept.states
     long None = refl
     long (Some x) = length-set kept.states x (state_after s.event (get_or kept.states x no_state))
 
     by : (named : Option ℕ) → device_of s.event ≡ named → (d : ℕ) → d < length kept.states
-        → TicksStandAt setting (get_or (of_some named kept.states (λ d. set kept.states d (state_after s.event (get_or kept.states d no_state)))) d no_state)
+        → TicksStandAt setting (get_or (map_or named kept.states (λ d. set kept.states d (state_after s.event (get_or kept.states d no_state)))) d no_state)
         (s ∷ earlier) d
     by None names d within =
         at_unnamed setting (get_or kept.states d no_state) s earlier d (λ other. absurd (none_some d (sym names ∙ other))) (stands.states d within)

@@ -7,14 +7,15 @@ use Rattle.sd_fleet_state.specs.History.World.{Setting, Seen, latest_reference, 
 use Rattle.sd_fleet_state.specs.History.Premises.{readings, drift_holds}
 use Rattle.sd_fleet_state.specs.History.Refusals.{makes_some}
 use Rattle.sd_premise_clocks.specs.declared.offsets.Reading.{Reading}
-use Rattle.sd_premise_clocks.specs.declared.offsets.Offsets.{Offsets}
+use Rattle.sd_premise_clocks.specs.declared.drift.Life.{Life}
 use Rattle.sd_premise_clocks.specs.Readings.{least_offsets, is_after_each}
 
--- what is kept: by device the least offsets of its life, and whether the premise holds
+-- what is kept: by device its present life, and whether the premise holds
 pub record DriftKept : Type 0 where
-  pub lives : List Offsets
+  pub lives : List Life
   pub holds : Bool
 
+-- a reading of a device and a counter, where there are both
 abbrev pub reading_with : Option ℕ → Option ℕ → ℕ → Option (ℕ × Reading)
 reading_with (Some d) (Some counter) reference = Some (d, record { reference = reference; counter = counter })
 reading_with _ _ reference = None
@@ -28,10 +29,15 @@ pub record IsReading (e : Event) (device reference counter : ℕ) (begins : Bool
   pub reading : reading_of e ≡ Some (device, record { reference = reference; counter = counter })
   pub life : begins ≡ makes_some e
 
+-- the life has the rates of the device, and the least offsets of its readings
+pub record IsLifeOf (setting : Setting) (seen : List Seen) (d : ℕ) (life : Life) : Type 0 where
+  pub rates : life.rates ≡ rates_of setting.net d
+  pub offsets : life.offsets ≡ least_offsets life.rates.ppm (readings seen d)
+
 -- what is kept stands for what was seen
 pub record DriftStands (setting : Setting) (kept : DriftKept) (seen : List Seen) : Type 0 where
   pub holds : kept.holds ≡ drift_holds setting seen
   pub devices : length kept.lives ≡ length setting.net.devices
-  pub lives : (d : ℕ) (life : Offsets) → slice_get kept.lives d ≡ Some life → life ≡ least_offsets (rates_of setting.net d).ppm (readings seen d)
+  pub lives : (d : ℕ) (life : Life) → slice_get kept.lives d ≡ Some life → IsLifeOf setting seen d life
   -- the readings of a life came in the order of references and counters
   pub in_order : (d : ℕ) → IsTrue (is_after_each (readings seen d) (latest_reference seen, latest_reading seen d))

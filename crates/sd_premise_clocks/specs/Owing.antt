@@ -1,6 +1,6 @@
 -- Since when each device owes a tick, and what is kept to know it.
 use Rattle.std.specs.Prelude.{◌≡◌, ℕ, ◌-◌, ◌^◌, ◌<◌, Bool, false, ◌&&◌, List, [], ◌∷◌, length, slice_set, slice_index_or, Option, Some, None, unwrap_or, if◌then◌else◌}
-use Rattle.sd_num.specs.Lists.{of_some}
+use Rattle.sd_num.specs.Lists.{map_or}
 use Rattle.sd_plan.specs.Plans.{is_member}
 use Rattle.sd_sched.specs.declared.Event.{Event}
 use Rattle.sd_sched.specs.declared.Event.TheVariants as event
@@ -38,6 +38,7 @@ pub record TicksKept : Type 0 where
   pub states : List TickState
   pub first : Option ℕ
 
+-- that of a device of which nothing was seen
 abbrev pub no_state : TickState
 no_state = record { latest = 0; awaited = false }
 
@@ -53,10 +54,11 @@ state_after _ x = x
 abbrev pub ticked_at : List TickState → ℕ → ℕ → List TickState
 ticked_at states d reference = slice_set states d (record (slice_index_or states d no_state) { latest = reference })
 
+-- an event more, which may be the first
 abbrev pub ticks_after : Event → TicksKept → TicksKept
 ticks_after e kept =
     record {
-      states = of_some (device_of e) kept.states (λ d. slice_set kept.states d (state_after e (slice_index_or kept.states d no_state)));
+      states = map_or (device_of e) kept.states (λ d. slice_set kept.states d (state_after e (slice_index_or kept.states d no_state)));
       first = Some (unwrap_or kept.first (reference_of e));
     }
 

@@ -7,6 +7,7 @@ use Rattle.sd_premise_clocks.specs.declared.queue.Queue.TheInside.{Inside}
 abbrev pub numbers_kept : Inside → List ℕ
 numbers_kept q = map (λ m. m.number) q.marks.items
 
+-- what holds of the fields between calls
 pub record IsQueue (q : Inside) : Type 0 where
   pub few : length q.marks.items < 2 ^ 32
   pub order : ascend q.entries.items ≡ true

@@ -21,9 +21,11 @@ reach bound es = list_all (λ e. nat_le bound e.number) es
 abbrev pub no_mark : Mark
 no_mark = record { number = 0; queued = false }
 
+-- the mark that stands at the place
 abbrev pub mark_at : List Mark → ℕ → Mark
 mark_at marks k = slice_index_or marks k no_mark
 
+-- the number that stands there
 abbrev pub number_at : List Mark → ℕ → ℕ
 number_at marks k = (mark_at marks k).number
 

@@ -6,6 +6,7 @@ use Rattle.sd_num.specs.Numbers.{keeps_rate}
 use Rattle.sd_premise_clocks.specs.declared.offsets.Reading.{Reading}
 use Rattle.sd_premise_clocks.specs.declared.offsets.Offsets.{Offsets}
 
+-- the reference and the counter of a reading
 abbrev pub pair_of : Reading → ℕ × ℕ
 pair_of reading = (reading.reference, reading.counter)
 
@@ -31,6 +32,7 @@ lead_at ppm r = 1000000 * (r.1 + left_of r.0) + ppm * left_of r.1
 abbrev pub lag_at : ℕ → ℕ × ℕ → ℕ
 lag_at ppm r = 1000000 * (r.0 + left_of r.1) + ppm * left_of r.1
 
+-- both of one reading
 abbrev pub offsets_at : ℕ → ℕ × ℕ → Offsets
 offsets_at ppm r = record { lead = lead_at ppm r; lag = lag_at ppm r }
 

@@ -3,6 +3,7 @@ use Rattle.std.specs.Prelude.{◌≡◌, length}
 use Rattle.sd_premise_clocks.specs.Tickings.{TickKept}
 use Rattle.sd_premise_clocks.specs.declared.tick.TickMonitor.TheInside.{Inside}
 
+-- its fields
 abbrev pub tick_kept : Inside → TickKept
 tick_kept m = record { ticks = m.ticks; owed = m.owed; limit = m.limit; holds = m.holds }
 

@@ -3,6 +3,7 @@ use Rattle.std.specs.Prelude.{◌^◌, ◌<◌, length}
 use Rattle.sd_premise_clocks.specs.Owing.{TicksKept}
 use Rattle.sd_premise_clocks.specs.declared.ticks.Ticks.TheInside.{Inside}
 
+-- its fields
 abbrev pub ticks_kept : Inside → TicksKept
 ticks_kept t = record { states = t.states.items; first = t.first }
 

@@ -1,8 +1,9 @@
 //! The premise on delays: each message that is received has an age within the bounds of its link.
-ghost use Rattle.std.specs.Prelude.{◌≡◌, ◌<◌, ◌∷◌, [], List, length};
+ghost use Rattle.std.specs.Prelude.{◌≡◌, ◌<◌, ◌∷◌, [], List, Some, length};
 ghost use Rattle.std.specs.Option.{ForSome};
 ghost use Rattle.sd_topo.specs.Topologies.{network};
 ghost use Rattle.sd_topo.specs.Network.{delay_towards};
+ghost use Rattle.sd_sched.specs.Events.{reference_of};
 ghost use Rattle.sd_fleet_state.specs.History.World.{Setting, Seen as Sight};
 ghost use Rattle.sd_fleet_state.specs.History.Premises.{is_in_time, delay_holds};
 ghost use Rattle.sd_premise_clocks.specs.Sights.{sight_of};
@@ -76,9 +77,26 @@ impl DelayMonitor {
             → DelayStands setting self.old earlier
             → result ≡ delay_holds setting (sight_of seen.now ∷ earlier) }
     {
-        if let Some(flight) = &seen.taken {
-            self.holds = self.holds && keeps_bounds(topo, seen.event.reference(), flight);
+        match &seen.taken {
+            Some(flight) => self.read(topo, seen.event.reference(), flight),
+            None => self.holds,
         }
+    }
+
+    /// Sees a flight that is received at a reference, and tells whether the premise holds still.
+    #[inline(always)]
+    pub fn read(&mut self, topo: &Topology, reference: u64, flight: &Flight) -> bool
+        requires { flight.now.link < length (network topo.now).links }
+        ensures stands { (setting : Setting) (earlier : List Sight) (s : Sight)
+            → setting.net ≡ network topo.now
+            → reference_of s.event ≡ reference → s.taken ≡ Some flight.now
+            → DelayStands setting self.old earlier → DelayStands setting self.new (s ∷ earlier) }
+        ensures holds { (setting : Setting) (earlier : List Sight) (s : Sight)
+            → setting.net ≡ network topo.now
+            → reference_of s.event ≡ reference → s.taken ≡ Some flight.now
+            → DelayStands setting self.old earlier → result ≡ delay_holds setting (s ∷ earlier) }
+    {
+        self.holds = self.holds && keeps_bounds(topo, reference, flight);
         self.holds
     }
 }

@@ -1,6 +1,6 @@
 //! The premise on drift: any two readings of one life of a device keep the rates of its oscillator.
 //! A life begins with a start or join.
-ghost use Rattle.std.specs.Prelude.{◌≡◌, ℕ, ◌<◌, ◌∷◌, [], List, length, IsTrue, IfOk, true, false, slice_get};
+ghost use Rattle.std.specs.Prelude.{◌≡◌, ℕ, ◌<◌, ◌∷◌, [], List, length, IsTrue, IfOk, if◌then◌else◌};
 ghost use Rattle.std.specs.Option.{ForSome};
 ghost use Rattle.sd_topo.specs.Topologies.{network};
 ghost use Rattle.sd_sched.specs.Events.{device_of};
@@ -9,7 +9,7 @@ ghost use Rattle.sd_fleet_state.specs.History.Premises.{drift_holds};
 ghost use Rattle.sd_fleet_state.specs.History.Refusals.{makes_some};
 ghost use Rattle.sd_fleet_state.specs.History.Open.{may_be_seen};
 ghost use Rattle.sd_premise_clocks.specs.Sights.{sight_of};
-ghost use Rattle.sd_premise_clocks.specs.Readings.{no_offsets};
+ghost use Rattle.sd_premise_clocks.specs.Readings.{pair_of, is_after_each, keeps_rates_with, least_offsets};
 ghost use Rattle.sd_premise_clocks.specs.Drifts.{reading_of, IsReading, DriftStands};
 
 use crate::Seen;
@@ -20,12 +20,19 @@ use sd_topo::Topology;
 use std::alloc::Global;
 use std::marker::Model;
 
-/// Whether the premise on drift has held so far, and how far each device's counter lay off the
-/// reference at least in its present life.
+/// How far a device's counter lay off the reference at least in its present life, and the rates of
+/// its oscillator, so that a reading asks for nothing else.
+#[derive(Clone, Copy)]
+pub struct Life {
+    rates: Rates,
+    offsets: Offsets,
+}
+
+/// Whether the premise on drift has held so far, and the present life of each device.
 #[derive(Drop)]
 pub struct DriftMonitor {
     /// By device.
-    lives: Vec<Offsets>,
+    lives: Vec<Life>,
     holds: bool,
 }
 
@@ -59,6 +66,31 @@ fn begins_life(event: &Event) -> bool
     matches!(event, Event::Start { .. } | Event::Join { .. })
 }
 
+impl Life {
+    /// Sees a reading, which begins a life or goes on with this one, and tells whether it keeps the
+    /// rates with each earlier reading of its life.
+    fn read(&mut self, reading: Reading, begins: bool) -> bool
+        ensures rates { self.new.rates ≡ self.old.rates }
+        ensures offsets { (readings : List (ℕ × ℕ))
+            → self.old.offsets ≡ least_offsets self.old.rates.ppm readings
+            → self.new.offsets ≡ least_offsets self.old.rates.ppm
+            (pair_of reading ∷ (if begins then [] else readings)) }
+        ensures keeps { (readings : List (ℕ × ℕ))
+            → self.old.offsets ≡ least_offsets self.old.rates.ppm readings
+            → IsTrue (is_after_each (if begins then [] else readings) (pair_of reading))
+            → result ≡ keeps_rates_with self.old.rates
+            (if begins then [] else readings) (pair_of reading) }
+    {
+        if begins {
+            self.offsets = Offsets::of_none();
+        }
+        let offsets = Offsets::at(self.rates, reading);
+        let keeps = self.offsets.allow(self.rates.grain, offsets);
+        self.offsets = self.offsets.with_reading(offsets);
+        keeps
+    }
+}
+
 impl DriftMonitor {
     /// A monitor that has seen nothing of the devices of a topology.
     pub fn new(alloc: Global, topo: &Topology) -> Result<DriftMonitor, NoMemory>
@@ -68,22 +100,27 @@ impl DriftMonitor {
             (λ monitor. (setting : Setting) → setting.net ≡ network topo.now
             → DriftStands setting monitor []) }
     {
-        match vec![in alloc; Offsets::of_none(); topo.devices() as usize] {
-            Ok(lives) => Ok(DriftMonitor { lives, holds: true }),
-            Err(_) => Err(NoMemory),
+        let devices = topo.devices();
+        let Ok(mut lives) = Vec::with_capacity(alloc, devices as usize) else {
+            return Err(NoMemory);
+        };
+        for d in 0..devices {
+            lives.push_reserved(Life {
+                rates: topo.rates(d),
+                offsets: Offsets::of_none(),
+            });
         }
+        Ok(DriftMonitor { lives, holds: true })
     }
 
     /// Sees one event more, and tells whether the premise holds still.
-    pub fn observe(&mut self, topo: &Topology, seen: &Seen<'_>) -> bool
-        requires topology { length self.old.lives ≡ length (network topo.now).devices }
-        requires device { ForSome (device_of seen.now.event)
-            (λ d. d < length (network topo.now).devices) }
-        ensures stands { (setting : Setting) (earlier : List Sight) → setting.net ≡ network topo.now
+    pub fn observe(&mut self, seen: &Seen<'_>) -> bool
+        requires device { ForSome (device_of seen.now.event) (λ d. d < length self.old.lives) }
+        ensures stands { (setting : Setting) (earlier : List Sight)
             → DriftStands setting self.old earlier
             → IsTrue (may_be_seen setting earlier seen.now.event)
             → DriftStands setting self.new (sight_of seen.now ∷ earlier) }
-        ensures holds { (setting : Setting) (earlier : List Sight) → setting.net ≡ network topo.now
+        ensures holds { (setting : Setting) (earlier : List Sight)
             → DriftStands setting self.old earlier
             → IsTrue (may_be_seen setting earlier seen.now.event)
             → result ≡ drift_holds setting (sight_of seen.now ∷ earlier) }
@@ -92,7 +129,7 @@ impl DriftMonitor {
         match reading_of(&seen.event) {
             Some((device, reading)) => {
                 let begins = begins_life(&seen.event);
-                self.read(topo, device, reading.reference, reading.counter, begins)
+                self.read(device, reading.reference, reading.counter, begins)
             }
             None => self.holds,
         }
@@ -101,48 +138,23 @@ impl DriftMonitor {
     /// Sees a reading of a device, which begins a life or goes on with one, and tells whether the
     /// premise holds still.
     #[inline(always)]
-    pub fn read(
-        &mut self,
-        topo: &Topology,
-        device: u32,
-        reference: u64,
-        counter: u64,
-        begins: bool,
-    ) -> bool
-        requires topology { length self.old.lives ≡ length (network topo.now).devices }
-        requires device { device < length (network topo.now).devices }
+    pub fn read(&mut self, device: u32, reference: u64, counter: u64, begins: bool) -> bool
+        requires { device < length self.old.lives }
         ensures stands { (setting : Setting) (earlier : List Sight) (s : Sight)
-            → setting.net ≡ network topo.now
             → IsReading s.event device reference counter begins
             → DriftStands setting self.old earlier
             → IsTrue (may_be_seen setting earlier s.event)
             → DriftStands setting self.new (s ∷ earlier) }
         ensures holds { (setting : Setting) (earlier : List Sight) (s : Sight)
-            → setting.net ≡ network topo.now
             → IsReading s.event device reference counter begins
             → DriftStands setting self.old earlier
             → IsTrue (may_be_seen setting earlier s.event)
             → result ≡ drift_holds setting (s ∷ earlier) }
         ensures devices { length self.new.lives ≡ length self.old.lives }
     {
-        let rates = topo.rates(device);
-        let offsets = Offsets::at(rates, Reading { reference, counter });
-        let life = self.life_before(device, begins);
-        self.holds &= life.allow(rates.grain, offsets);
-        self.lives[device as usize] = life.with_reading(offsets);
+        let reading = Reading { reference, counter };
+        let keeps = self.lives[device as usize].read(reading, begins);
+        self.holds &= keeps;
         self.holds
-    }
-
-    /// The least offsets of the life that a reading of a device goes on with, or begins.
-    fn life_before(&self, device: u32, begins: bool) -> Offsets
-        requires { device < length self.now.lives }
-        ensures begun { begins ≡ true → result ≡ no_offsets }
-        ensures kept { begins ≡ false → slice_get self.now.lives device ≡ Some result }
-    {
-        if begins {
-            Offsets::of_none()
-        } else {
-            self.lives[device as usize]
-        }
     }
 }

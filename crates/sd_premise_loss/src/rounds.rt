@@ -4,7 +4,6 @@ ghost use Rattle.std.specs.Prelude.{◌≡◌, ◌≤◌, ◌+◌, ℕ, List, []
 ghost use Rattle.sd_num.specs.Lists.{greatest};
 ghost use Rattle.sd_topo.specs.declared.Thing.{Thing as AnyThing};
 ghost use Rattle.sd_topo.specs.Topologies.{network};
-ghost use Rattle.sd_history.specs.Things.{failure_of};
 ghost use Rattle.sd_history.specs.Premises.{loss_holds};
 ghost use Rattle.sd_history.specs.World.{Setting, Seen};
 ghost use Rattle.sd_premise_loss.specs.rounds.Order.{Follows};
@@ -17,7 +16,6 @@ ghost use Rattle.sd_premise_loss.specs.flights.InterruptionsView.{mark_of, last_
 use crate::flights::{Interruptions, Runs, Waiting};
 use sd_msg::Flight;
 use sd_num::NoMemory;
-use sd_sched::Event;
 use sd_topo::{Thing, Topology};
 use std::alloc::Global;
 
@@ -40,7 +38,7 @@ pub struct Rounds {
 }
 
 impl Rounds {
-    ghost use Rattle.sd_premise_loss.specs.rounds.Standing.{StandsFor, IsTold, IsShown, room_of};
+    ghost use Rattle.sd_premise_loss.specs.rounds.Standing.{StandsFor, IsShown, room_of};
 
     /// The monitor before any event.
     pub fn new(alloc: Global, topo: &Topology) -> Result<Rounds, NoMemory>
@@ -70,21 +68,6 @@ impl Rounds {
             Some(count) => self.runs.ready(count),
             None => Err(NoMemory),
         }
-    }
-
-    /// Sees an event, with the number of the flight that it received and the flights that it sent
-    /// and that reach, and answers whether the premise still holds. It takes no memory.
-    pub fn observe(&mut self, event: &Event, taken: Option<u64>, sent: &[Flight]) -> bool
-        requires room { length sent.now ≤ room_of self.old }
-        ensures stands { (setting : Setting) (earlier : List Seen) (s : Seen)
-            → IsTold event.now taken sent.now s → Follows setting earlier s
-            → StandsFor self.old setting earlier → StandsFor self.new setting (s ∷ earlier) }
-        ensures holds { (setting : Setting) (earlier : List Seen) (s : Seen)
-            → IsTold event.now taken sent.now s → Follows setting earlier s
-            → StandsFor self.old setting earlier → result ≡ loss_holds setting (s ∷ earlier) }
-        ensures room { room_of self.old ≤ room_of self.new + length sent.now }
-    {
-        self.see(event.reference(), failed(event), taken, sent)
     }
 
     /// Sees an event at a reference, with the thing that it fails, the number of the flight that it
@@ -176,16 +159,5 @@ impl Rounds {
             → result ≡ loss_holds setting seen }
     {
         self.holds
-    }
-}
-
-/// The thing that the event fails.
-fn failed(event: &Event) -> Option<Thing>
-    ensures { result ≡ failure_of event.now }
-{
-    match *event {
-        Event::FailDevice { device, .. } => Some(Thing::Device(device)),
-        Event::FailLink { link, .. } => Some(Thing::Link(link)),
-        _ => None,
     }
 }

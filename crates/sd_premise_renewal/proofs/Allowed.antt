@@ -2,7 +2,7 @@
 use Rattle.std.proofs.Common.{◌≡◌, ℕ, ◌<◌, Bool, true, false, not, ◌&&◌, ◌||◌, List, ◌∷◌, length, nat_eq, nat_le, [], Option, Some, None, is_some, option_map, refl, sym, ap, ◌∙◌, subst}
 use Rattle.std.specs.Prelude.{if◌then◌else◌}
 use Rattle.std.proofs.lemmas.Bool.{or_parts, not-true, leb-false}
-use Rattle.sd_num.specs.Lists.{of_some}
+use Rattle.sd_num.specs.Lists.{map_or}
 use Rattle.sd_sched.specs.declared.Event.{Event}
 use Rattle.sd_sched.specs.Events.{device_of, joined, given, is_stage, is_commit, is_seal}
 use Rattle.sd_fleet_state.specs.History.Things.{mended}
@@ -53,7 +53,7 @@ in_place setting earlier e may = record { stage = two.0; preparing = two.1; seal
     prepares = (is_some (given e) || is_some (joined e) || is_some (mended e) || is_commit e) && past_preparing earlier
 
     other : Bool
-    other = is_commit e && of_some (device_of e) false (λ d. not (of_some (staged setting earlier) false (λ plan. nat_eq plan.root d)))
+    other = is_commit e && map_or (device_of e) false (λ d. not (map_or (staged setting earlier) false (λ plan. nat_eq plan.root d)))
 
     last : ((stages || prepares || other) ≡ false) × ((is_seal e && (not (window_is_open earlier) || not (has_commit earlier))) ≡ false)
     last = or_parts (stages || prepares || other) (is_seal e && (not (window_is_open earlier) || not (has_commit earlier)))

@@ -1,12 +1,13 @@
 -- Where all members of a plan are up and its links are not failed, the devices that are up and left out are cut off from its root exactly where no link leads
 -- from a member to one of them.
 use Rattle.std.specs.Prelude.{◌≡◌, ℕ, zero, suc, ◌+◌, ◌-◌, ◌<◌, ◌≤◌, Bool, true, false, ◌&&◌, ◌||◌, not, List, [], ◌∷◌, length, nat_eq, Some, None, ◌⊎◌}
-use Rattle.std.specs.List.{list_any, AllByRecursion, IsDistinct}
+use Rattle.std.specs.List.{list_any, IsDistinct}
 use Rattle.std.proofs.Common.{arith, ◌∙◌, sym, subst, inl, inr, refl}
-use Rattle.std.proofs.lemmas.Bool.{and_parts, and_from, or_left, or_right, or_cases, or_parts, eqb-true, eq-eqb, both_ways, false_from_ne_true, not-true, not_from_false}
+use Rattle.std.proofs.lemmas.Bool.{and_parts, and_from, or_left, or_right, or_cases, eqb-true, eq-eqb, both_ways, false_from_ne_true, not-true, not_from_false}
 use Rattle.std.proofs.lemmas.List.{length-map}
 use Rattle.std.proofs.lemmas.Map.Steps.{length-le_from_distinct_below}
 use Rattle.sd_num.specs.Lists.{has}
+use Rattle.sd_num.proofs.Shared.{differs, any_below_at}
 use Rattle.sd_topo.specs.Network.{Network, joins, link_of, device_numbers, link_numbers}
 use Rattle.sd_topo.specs.Joined.{Joined, here, over, joined_within}
 use Rattle.sd_topo.proofs.Reaching.{walk_joins}
@@ -15,13 +16,8 @@ use Rattle.sd_plan.specs.declared.Plan.{Plan}
 use Rattle.sd_plan.specs.Plans.{is_member, is_root, primary_of}
 use Rattle.sd_plan.specs.Walks.{walk, devices_of}
 use Rattle.sd_plan.proofs.Forest.{height, IsForest, climb, on_within, on_member, not_above}
-use Rattle.sd_premise_renewal.proofs.Belows.{any_below_at}
 
 -- Numbers of which none comes twice
-
-differs : (x : ℕ) (xs : List ℕ) → has xs x ≡ false → AllByRecursion (λ y. nat_eq x y ≡ false) xs
-differs x [] none = tt
-differs x (y ∷ ys) none = let parts = or_parts (nat_eq x y) (has ys x) none in (parts.0, differs x ys parts.1)
 
 distinct_one : (x : ℕ) → IsDistinct nat_eq (x ∷ [])
 unfolding IsDistinct

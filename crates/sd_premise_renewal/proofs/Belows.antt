@@ -1,19 +1,17 @@
 -- Tests of all numbers below a count, of some, and of the members of a plan.
 use Rattle.std.proofs.Common.{◌≡◌, ℕ, ◌<◌, Bool, true, false, not, ◌||◌, length, refl, sym, ap, ◌∙◌, subst}
-use Rattle.std.specs.List.{list_any, list_all}
-use Rattle.std.proofs.lemmas.List.Folds.{list_any_at, list_all_at}
+use Rattle.std.specs.List.{list_all}
+use Rattle.std.proofs.lemmas.List.Folds.{list_all_at}
 use Rattle.sd_num.specs.Lists.{below}
+use Rattle.sd_num.proofs.Shared.{all_below}
 use Rattle.sd_topo.specs.Network.{Network}
 use Rattle.sd_plan.specs.declared.Plan.{Plan}
 use Rattle.sd_plan.specs.Plans.{is_member, members}
 use Rattle.sd_plan.proofs.Numbered.{length-below, get_or-below}
-use Rattle.sd_premise_clocks.proofs.Judging.{each_below, from_each_below, all_filter}
+use Rattle.sd_premise_clocks.proofs.Judging.{each_below, all_filter}
 
 inside : (n x : ℕ) → x < n → x < length (below n)
 inside n x within = subst (λ (m : ℕ). x < m) (sym (length-below n)) within
-
-pub any_below_at : (p : ℕ → Bool) (n x : ℕ) → x < n → p x ≡ true → list_any p (below n) ≡ true
-any_below_at p n x within passes = list_any_at p (below n) x 0 (inside n x within) (ap p (get_or-below n x 0 within) ∙ passes)
 
 pub all_below_fails : (p : ℕ → Bool) (n x : ℕ) → x < n → p x ≡ false → list_all p (below n) ≡ false
 all_below_fails p n x within fails = list_all_at p (below n) x 0 (inside n x within) (ap p (get_or-below n x 0 within) ∙ fails)
@@ -21,7 +19,7 @@ all_below_fails p n x within fails = list_all_at p (below n) x 0 (inside n x wit
 module _ (net : Network) (plan : Plan) (test : ℕ → Bool) where
   pub members_pass : ((d : ℕ) → d < length net.devices → is_member plan d ≡ true → test d ≡ true) → list_all test (members net plan) ≡ true
   members_pass each = all_filter test (is_member plan) (below (length net.devices))
-      ∙ from_each_below (λ d. not (is_member plan d) || test d) (length net.devices) (λ d within. by d within (is_member plan d) refl)
+      ∙ all_below (λ d. not (is_member plan d) || test d) (length net.devices) (λ d within. by d within (is_member plan d) refl)
     where
       by : (d : ℕ) → d < length net.devices → (b : Bool) → is_member plan d ≡ b → (not b || test d) ≡ true
       by d within true member = each d within member

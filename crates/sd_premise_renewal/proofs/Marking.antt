@@ -3,7 +3,7 @@ use Rattle.std.proofs.Common.{◌≡◌, ℕ, ◌+◌, ◌≤◌, Bool, true, fa
 use Rattle.std.specs.Prelude.{IfSome, if◌then◌else◌}
 use Rattle.std.specs.List.{list_any}
 use Rattle.std.proofs.lemmas.Bool.{eq-eqb, ne_eqb}
-use Rattle.sd_num.specs.Lists.{of_some, same_number, latest, leading}
+use Rattle.sd_num.specs.Lists.{map_or, same_number, find_map_or, leading}
 use Rattle.sd_sched.specs.Events.{joined, given, is_stage, is_seal}
 use Rattle.sd_fleet_state.specs.History.Things.{mended}
 use Rattle.sd_fleet_state.specs.History.World.{Seen, window, window_is_open, has_entered}
@@ -14,26 +14,26 @@ use Rattle.sd_premise_renewal.specs.Windowed.{came_about, so_if, tells_mended, t
 
 -- The words on the open window
 
-any_latest : (test : Seen → Bool) (w : List Seen) → list_any test w ≡ latest (λ s. so_if (test s)) w false
+any_latest : (test : Seen → Bool) (w : List Seen) → list_any test w ≡ find_map_or (λ s. so_if (test s)) w false
 any_latest test [] = refl
 any_latest test (s ∷ w) = by (test s) (any_latest test w)
   where
-    by : (b : Bool) → list_any test w ≡ latest (λ x. so_if (test x)) w false
-        → (b || list_any test w) ≡ of_some (so_if b) (latest (λ x. so_if (test x)) w false) (λ told. told)
+    by : (b : Bool) → list_any test w ≡ find_map_or (λ x. so_if (test x)) w false
+        → (b || list_any test w) ≡ map_or (so_if b) (find_map_or (λ x. so_if (test x)) w false) (λ told. told)
     by true rest = refl
     by false rest = rest
 
 pub mend_came : (seen : List Seen) → has_mend seen ≡ came_about tells_mended seen
 mend_came seen = by (window seen)
   where
-    by : (o : Option (List Seen)) → of_some o false (list_any (λ s. is_some (mended s.event))) ≡ of_some o false (λ w. latest tells_mended w false)
+    by : (o : Option (List Seen)) → map_or o false (list_any (λ s. is_some (mended s.event))) ≡ map_or o false (λ w. find_map_or tells_mended w false)
     by None = refl
     by (Some w) = any_latest (λ s. is_some (mended s.event)) w
 
 pub seal_came : (seen : List Seen) → has_seal seen ≡ came_about tells_sealed seen
 seal_came seen = by (window seen)
   where
-    by : (o : Option (List Seen)) → of_some o false (list_any (λ s. is_seal s.event)) ≡ of_some o false (λ w. latest tells_sealed w false)
+    by : (o : Option (List Seen)) → map_or o false (list_any (λ s. is_seal s.event)) ≡ map_or o false (λ w. find_map_or tells_sealed w false)
     by None = refl
     by (Some w) = any_latest (λ s. is_seal s.event) w
 
@@ -41,21 +41,21 @@ pub given_came : (seen : List Seen) (d : ℕ) → was_given seen d ≡ came_abou
 given_came seen d = by (window seen)
   where
     since : (w : List Seen)
-        → list_any (λ s. same_number (given s.event) d) (leading (λ s. not (same_number (joined s.event) d)) w) ≡ latest (tells_given d) w false
+        → list_any (λ s. same_number (given s.event) d) (leading (λ s. not (same_number (joined s.event) d)) w) ≡ find_map_or (tells_given d) w false
     since [] = refl
     since (s ∷ w) = at (same_number (joined s.event) d) (same_number (given s.event) d) refl (since w)
       where
         at : (j g : Bool) → same_number (given s.event) d ≡ g
-            → list_any (λ x. same_number (given x.event) d) (leading (λ x. not (same_number (joined x.event) d)) w) ≡ latest (tells_given d) w false
+            → list_any (λ x. same_number (given x.event) d) (leading (λ x. not (same_number (joined x.event) d)) w) ≡ find_map_or (tells_given d) w false
             → list_any (λ x. same_number (given x.event) d) (cond (not j) (s ∷ leading (λ x. not (same_number (joined x.event) d)) w) [])
-            ≡ of_some (cond j (Some false) (so_if g)) (latest (tells_given d) w false) (λ told. told)
+            ≡ map_or (cond j (Some false) (so_if g)) (find_map_or (tells_given d) w false) (λ told. told)
         at true g is rest = refl
         at false true is rest = ap (λ b. b || list_any (λ x. same_number (given x.event) d) (leading (λ x. not (same_number (joined x.event) d)) w)) is
         at false false is rest = ap (λ b. b || list_any (λ x. same_number (given x.event) d) (leading (λ x. not (same_number (joined x.event) d)) w)) is ∙ rest
 
     by : (o : Option (List Seen))
-        → of_some o false (λ w. list_any (λ s. same_number (given s.event) d) (leading (λ s. not (same_number (joined s.event) d)) w))
-        ≡ of_some o false (λ w. latest (tells_given d) w false)
+        → map_or o false (λ w. list_any (λ s. same_number (given s.event) d) (leading (λ s. not (same_number (joined s.event) d)) w))
+        ≡ map_or o false (λ w. find_map_or (tells_given d) w false)
     by None = refl
     by (Some w) = since w
 
@@ -96,17 +96,17 @@ mark_next tells s earlier windows mark stands = record {
     apart None low = refl
     apart (Some n) low = ne_eqb n (windows + 1) (λ same. omega (arith, low, same))
 
-    open_told : (told : Option Bool) (w : List Seen) → tells s ≡ told → is_marked true windows mark ≡ latest tells w false
-        → is_marked true windows (mark_after told windows mark) ≡ latest tells (s ∷ w) false
-    open_told None w is was = was ∙ sym (ap (λ (o : Option Bool). of_some o (latest tells w false) (λ b. b)) is)
-    open_told (Some true) w is was = eq-eqb windows windows refl ∙ sym (ap (λ (o : Option Bool). of_some o (latest tells w false) (λ b. b)) is)
-    open_told (Some false) w is was = sym (ap (λ (o : Option Bool). of_some o (latest tells w false) (λ b. b)) is)
+    open_told : (told : Option Bool) (w : List Seen) → tells s ≡ told → is_marked true windows mark ≡ find_map_or tells w false
+        → is_marked true windows (mark_after told windows mark) ≡ find_map_or tells (s ∷ w) false
+    open_told None w is was = was ∙ sym (ap (λ (o : Option Bool). map_or o (find_map_or tells w false) (λ b. b)) is)
+    open_told (Some true) w is was = eq-eqb windows windows refl ∙ sym (ap (λ (o : Option Bool). map_or o (find_map_or tells w false) (λ b. b)) is)
+    open_told (Some false) w is was = sym (ap (λ (o : Option Bool). map_or o (find_map_or tells w false) (λ b. b)) is)
 
     by : (closed stage : Bool) (told : Option Bool) → tells s ≡ told → (o : Option (List Seen))
-        → is_marked (is_some o) windows mark ≡ of_some o false (λ w. latest tells w false)
+        → is_marked (is_some o) windows mark ≡ map_or o false (λ w. find_map_or tells w false)
         → is_marked (is_some (if closed then None else if stage then Some [] else option_map (λ w. s ∷ w) o)) (next_windows stage windows)
         (next_mark stage told windows mark)
-        ≡ of_some (if closed then None else if stage then Some [] else option_map (λ w. s ∷ w) o) false (λ w. latest tells w false)
+        ≡ map_or (if closed then None else if stage then Some [] else option_map (λ w. s ∷ w) o) false (λ w. find_map_or tells w false)
     by true stage told is o was = refl
     by false true told is o was = apart mark.window stands.before
     by false false told is None was = refl

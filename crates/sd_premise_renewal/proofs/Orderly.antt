@@ -2,7 +2,7 @@
 use Rattle.std.proofs.Common.{◌≡◌, ℕ, ◌<◌, Bool, true, false, not, ◌&&◌, ◌||◌, List, ◌∷◌, length, Option, Some, None, is_some, option_map, refl, sym, ap, ◌∙◌, subst}
 use Rattle.std.specs.List.{list_all}
 use Rattle.std.proofs.lemmas.Bool.{and_parts, not-true}
-use Rattle.sd_num.specs.Lists.{of_some}
+use Rattle.sd_num.specs.Lists.{map_or}
 use Rattle.sd_plan.specs.declared.Plan.{Plan}
 use Rattle.sd_plan.specs.Plans.{is_member, members}
 use Rattle.sd_sched.specs.Events.{is_commit, is_seal}
@@ -30,8 +30,8 @@ staged_is setting seen = by (window seen)
 pub commits_by : (setting : Setting) (s : Seen) (earlier : List Seen) → may_be_seen setting earlier s.event ≡ true → is_commit s.event ≡ true
     → commits_orderly setting s earlier ≡ (s.acted && is_met setting earlier)
 commits_by setting s earlier may commits =
-    ap (λ b. not b || (s.acted && of_some (staged setting earlier) true asks)) commits
-    ∙ ap (λ (o : Option Plan). s.acted && of_some o true asks) (staged_is setting earlier (commit_opened setting earlier s.event may commits))
+    ap (λ b. not b || (s.acted && map_or (staged setting earlier) true asks)) commits
+    ∙ ap (λ (o : Option Plan). s.acted && map_or o true asks) (staged_is setting earlier (commit_opened setting earlier s.event may commits))
   where
     asks : Plan → Bool
     asks plan = list_all (is_prepared setting earlier) (members setting.net plan) && leaves_out_failed setting earlier plan
@@ -41,9 +41,9 @@ pub seals_by : (setting : Setting) (s : Seen) (earlier : List Seen) → may_be_s
     → seals_orderly setting s earlier
     ≡ (has_seal earlier || list_all (λ d. not (is_up earlier d) || has_entered earlier d) (members setting.net (staged_plan setting earlier)))
 seals_by setting s earlier may seals =
-    ap (λ b. not b || has_seal earlier || of_some (staged setting earlier) true
+    ap (λ b. not b || has_seal earlier || map_or (staged setting earlier) true
     (λ plan. list_all (λ d. not (is_up earlier d) || has_entered earlier d) (members setting.net plan))) seals
-    ∙ ap (λ (o : Option Plan). has_seal earlier || of_some o true
+    ∙ ap (λ (o : Option Plan). has_seal earlier || map_or o true
     (λ plan. list_all (λ d. not (is_up earlier d) || has_entered earlier d) (members setting.net plan)))
     (staged_is setting earlier (seal_opened setting earlier s.event may seals))
 

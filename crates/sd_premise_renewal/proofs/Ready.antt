@@ -3,7 +3,8 @@ use Rattle.std.proofs.Common.{◌≡◌, ℕ, ◌-◌, ◌<◌, Bool, true, fals
 use Rattle.std.specs.Prelude.{slice_get}
 use Rattle.std.proofs.lemmas.Bool.{and_parts, or_cases, both_ways, not-true, not_from_true, not_from_false}
 use Rattle.std.proofs.lemmas.Option.{slice_get-get_or}
-use Rattle.sd_num.specs.Lists.{has, of_some}
+use Rattle.sd_num.specs.Lists.{has, map_or}
+use Rattle.sd_num.proofs.Shared.{all_below}
 use Rattle.sd_topo.specs.Network.{joins, link_of}
 use Rattle.sd_topo.specs.Limits.{IsNetwork, IsLink}
 use Rattle.sd_topo.proofs.Laws.{link_law}
@@ -16,7 +17,7 @@ use Rattle.sd_plan.proofs.Forest.{IsForest, forest_of}
 use Rattle.sd_fleet_state.specs.History.World.{Setting, Seen, is_up, link_has_failed, epoch_in_force, staged_epoch, no_plan}
 use Rattle.sd_fleet_state.specs.History.Premises.{leaves_out_failed, leaves_out_cleanly}
 use Rattle.sd_fleet_state.specs.membership.Plans.{IsFollowable, AreSound}
-use Rattle.sd_premise_clocks.proofs.Judging.{each_below, from_each_below}
+use Rattle.sd_premise_clocks.proofs.Judging.{each_below}
 use Rattle.sd_premise_renewal.specs.Moments.{staged_plan, uses_failed, leads_out, IsReady}
 use Rattle.sd_premise_renewal.proofs.Belows.{all_below_fails}
 use Rattle.sd_premise_renewal.proofs.Apart.{strays, none_strays, some_strays}
@@ -25,7 +26,7 @@ use Rattle.sd_premise_renewal.proofs.Apart.{strays, none_strays, some_strays}
 pub staged_sound : (setting : Setting) (seen : List Seen) → AreSound setting.net setting.plans → epoch_in_force seen < length setting.plans
     → IsFollowable setting.net (staged_plan setting seen)
 staged_sound setting seen sound planned =
-    subst (λ (o : Option Plan). IsFollowable setting.net (of_some o no_plan (λ plan. plan))) (sym there)
+    subst (λ (o : Option Plan). IsFollowable setting.net (map_or o no_plan (λ plan. plan))) (sym there)
     (sound (epoch_in_force seen) (get_or setting.plans (epoch_in_force seen) no_plan)
     (slice_get-get_or setting.plans (epoch_in_force seen) no_plan planned))
   where
@@ -38,7 +39,7 @@ module _ (setting : Setting) (seen : List Seen) where
   pub failed_all : ((l : ℕ) → l < length setting.net.links → uses_failed setting seen l ≡ false)
       → leaves_out_failed setting seen (staged_plan setting seen) ≡ true
   failed_all none =
-      from_each_below (λ l. not (link_has_failed seen l) || has (staged_plan setting seen).absent.links l) (length setting.net.links)
+      all_below (λ l. not (link_has_failed seen l) || has (staged_plan setting seen).absent.links l) (length setting.net.links)
       (λ l within. by (link_has_failed seen l) (has (staged_plan setting seen).absent.links l) (none l within))
     where
       by : (failed left : Bool) → (failed && not left) ≡ false → (not failed || left) ≡ true
@@ -98,7 +99,7 @@ module _ (setting : Setting) (seen : List Seen) where
     pub cleanly_all : ((l : ℕ) → l < length setting.net.links → leads_out setting seen l ≡ false)
         → leaves_out_cleanly setting seen (staged_plan setting seen) ≡ true
     cleanly_all none =
-        from_each_below (λ d. not (strays setting.net (staged_plan setting seen) (is_up seen) (λ l. not (link_has_failed seen l)) d))
+        all_below (λ d. not (strays setting.net (staged_plan setting seen) (is_up seen) (λ l. not (link_has_failed seen l)) d))
         (length setting.net.devices) (λ d within.
         not_from_false (strays setting.net (staged_plan setting seen) (is_up seen) (λ l. not (link_has_failed seen l)) d)
         (none_strays setting.net (staged_plan setting seen) (is_up seen) (λ l. not (link_has_failed seen l)) rules.root none d))

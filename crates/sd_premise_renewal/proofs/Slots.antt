@@ -3,7 +3,7 @@ use Rattle.std.proofs.Common.{◌≡◌, ℕ, ◌<◌, Bool, true, false, ◌||�
 use Rattle.std.specs.Prelude.{slice_index_or, slice_set, if◌then◌else◌}
 use Rattle.std.proofs.lemmas.Bool.{eqb-true, eqb-false}
 use Rattle.std.proofs.Math.ListN.{length-set}
-use Rattle.sd_num.specs.Lists.{of_some, same_number}
+use Rattle.sd_num.specs.Lists.{map_or, same_number}
 use Rattle.sd_sched.specs.declared.Event.{Event}
 use Rattle.sd_sched.specs.declared.Event.TheVariants as event
 use Rattle.sd_fleet_state.specs.History.World.{Seen, makes}
@@ -73,7 +73,7 @@ pub length_entered : (s : Seen) (windows : ℕ) (marks : List Mark) → length (
 length_entered s windows marks = by s.activated ∙ length_made s.event marks
   where
     by : (o : Option ℕ)
-        → length (of_some o (made_after s.event marks) (λ d. slice_set (made_after s.event marks) d (marked windows))) ≡ length (made_after s.event marks)
+        → length (map_or o (made_after s.event marks) (λ d. slice_set (made_after s.event marks) d (marked windows))) ≡ length (made_after s.event marks)
     by None = refl
     by (Some d) = length-set (made_after s.event marks) d (marked windows)
 
@@ -89,7 +89,7 @@ entered_slot s windows marks d within = by s.activated
     told true x y o is = refl
     told false x y o is = is
 
-    by : (o : Option ℕ) → at (of_some o (made_after s.event marks) (λ m. slice_set (made_after s.event marks) m (marked windows))) d
+    by : (o : Option ℕ) → at (map_or o (made_after s.event marks) (λ m. slice_set (made_after s.event marks) m (marked windows))) d
         ≡ mark_after (if same_number o d then Some true else if makes d s.event then Some false else None) windows (at marks d)
     by None = made_slot s.event windows marks d within
     by (Some m) =

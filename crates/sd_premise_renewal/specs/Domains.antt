@@ -31,6 +31,7 @@ with_failure net (Some x) kept =
 abbrev pub if_closed : Bool → DomainKept → DomainKept
 if_closed closed kept = if closed then record kept { failed = nothing_of kept.failed.device_room kept.failed.link_room } else kept
 
+-- an event more
 abbrev pub domain_after : Network → Seen → DomainKept → DomainKept
 domain_after net s kept = if_closed s.closed (with_failure net (failure_of s.event) kept)
 

@@ -3,9 +3,11 @@ use Rattle.std.specs.Prelude.{◌≡◌, ℕ, ◌≤◌, Bool, true, false, ◌&
 use Rattle.sd_num.specs.Lists.{same_number}
 use Rattle.sd_premise_renewal.specs.declared.mark.Mark.{Mark}
 
+-- it came about in no window
 abbrev pub no_mark : Mark
 no_mark = record { window = None }
 
+-- it came about in the window of this number
 abbrev pub marked : ℕ → Mark
 marked number = record { window = Some number }
 
@@ -13,13 +15,13 @@ marked number = record { window = Some number }
 abbrev pub is_marked : Bool → ℕ → Mark → Bool
 is_marked open_window windows mark = open_window && same_number mark.window windows
 
--- the mark after an event that tells this of it
+-- the mark after an event that says this of it: true or false, or nothing
 abbrev pub mark_after : Option Bool → ℕ → Mark → Mark
 mark_after None windows mark = mark
 mark_after (Some true) windows mark = marked windows
 mark_after (Some false) windows mark = no_mark
 
--- the mark tells whether it came about, and is of no window that is to come
+-- the mark says whether it came about, and is of no window that is to come
 pub record MarkStands (open_window : Bool) (windows : ℕ) (mark : Mark) (came : Bool) : Type 0 where
   pub is : is_marked open_window windows mark ≡ came
   pub before : IfSome mark.window (λ number. number ≤ windows)

@@ -1,6 +1,6 @@
 -- How far the open window has come, by what is kept.
 use Rattle.std.specs.Prelude.{◌≡◌, ℕ, ◌+◌, ◌<◌, List, length, count_by, slice_set, slice_index_or, if◌then◌else◌}
-use Rattle.sd_num.specs.Lists.{of_some}
+use Rattle.sd_num.specs.Lists.{map_or}
 use Rattle.sd_sched.specs.declared.Event.{Event}
 use Rattle.sd_sched.specs.declared.Event.TheVariants as event
 use Rattle.sd_sched.specs.Events.{is_stage}
@@ -40,7 +40,7 @@ made_after _ marks = marks
 
 -- a device is made, or enters the staged plan
 abbrev pub entered_after : Seen → ℕ → List Mark → List Mark
-entered_after s windows marks = of_some s.activated (made_after s.event marks) (λ d. slice_set (made_after s.event marks) d (marked windows))
+entered_after s windows marks = map_or s.activated (made_after s.event marks) (λ d. slice_set (made_after s.event marks) d (marked windows))
 
 -- an event that opens no window
 abbrev pub progress_within : Seen → ProgressKept → ProgressKept
@@ -57,7 +57,7 @@ progress_within s kept =
 abbrev pub progress_after : Seen → ProgressKept → ProgressKept
 progress_after s kept = if is_stage s.event then record kept { windows = kept.windows + 1 } else progress_within s kept
 
--- what is kept tells what came about in the open window of what was seen
+-- what is kept says what came about in the open window of what was seen
 pub record ProgressStands (kept : ProgressKept) (seen : List Seen) : Type 0 where
   pub windows : kept.windows ≡ count_by (λ s. is_stage s.event) seen
   pub mended : MarkStands (window_is_open seen) kept.windows kept.mended (has_mend seen)

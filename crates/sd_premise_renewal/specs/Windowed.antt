@@ -1,14 +1,15 @@
--- What an event tells of the open window: true that something came about in it, false that it is undone, none where it says nothing of it.
+-- What an event says of the open window: true where something came about in it, false where that is undone, none where it says nothing of it.
 use Rattle.std.specs.Prelude.{ℕ, Bool, true, false, List, Option, Some, None, is_some, if◌then◌else◌}
-use Rattle.sd_num.specs.Lists.{of_some, same_number, latest}
+use Rattle.sd_num.specs.Lists.{map_or, same_number, find_map_or}
 use Rattle.sd_sched.specs.Events.{joined, given, is_seal}
 use Rattle.sd_fleet_state.specs.History.Things.{mended}
 use Rattle.sd_fleet_state.specs.History.World.{Seen, window, makes}
 
--- what the latest event of the open window that tells something tells, and false where none does
+-- what the latest event of the open window that says anything of it says, and false where none does
 abbrev pub came_about : (Seen → Option Bool) → List Seen → Bool
-came_about tells seen = of_some (window seen) false (λ w. latest tells w false)
+came_about tells seen = map_or (window seen) false (λ w. find_map_or tells w false)
 
+-- where it came, true; else nothing
 abbrev pub so_if : Bool → Option Bool
 so_if came = if came then Some true else None
 

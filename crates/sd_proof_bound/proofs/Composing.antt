@@ -2,9 +2,8 @@
 use Rattle.std.specs.Prelude.{◌≡◌, ℕ, ◌+◌, ◌-◌, ◌*◌, ◌/◌, ◌≤◌, Bool, true, false, ◌&&◌, ◌||◌, not, List, [], ◌∷◌, ◌++◌, nat_le, Option, Some, None, option_map, IsTrue, refl}
 use Rattle.std.proofs.Common.{arith, sym, ◌∙◌, ap, subst}
 use Rattle.std.proofs.lemmas.Bool.{and_parts, and_from, leb-true}
-use Rattle.std.proofs.lemmas.Nat.{mul-le}
 use Rattle.sd_drill.specs.Num.Numbers.{grow}
-use Rattle.sd_drill.specs.Num.Lists.{of_some}
+use Rattle.sd_drill.specs.Num.Lists.{map_or}
 use Rattle.sd_drill.specs.Num.declared.Rates.{Rates}
 use Rattle.sd_drill.specs.Topo.Network.{Network, rates_of}
 use Rattle.sd_drill.specs.Domain.declared.DomainId.{DomainId}
@@ -29,6 +28,7 @@ use Rattle.sd_drill.specs.Drill.{IsWorst}
 use Rattle.sd_proof_safety.specs.messages.Moments.{Tail, whole, behind}
 use Rattle.sd_proof_safety.proofs.messages.Tails.{rest_of}
 use Rattle.sd_proof_safety.proofs.messages.Prefixes.{all_hold_before}
+use Rattle.sd_proof_safety.proofs.timers.Spans.{grow_rises}
 use Rattle.sd_proof_bound.specs.Bound.{alone, no_stage, within_base, within_hold, held_briefly, FailsSo}
 use Rattle.sd_proof_bound.specs.Holding.{BoundHolds}
 use Rattle.sd_proof_bound.specs.Recovering.{steps_under, Recovers}
@@ -107,19 +107,13 @@ held_at budget older (s ∷ earlier) x (behind t) holds =
     held_at budget older earlier x t (and_parts (within_hold budget earlier) (held_briefly budget (s ∷ earlier) s.seen.event) holds).0
 
 pub held_when : (acts : Bool) (o : Option Past) (past : Past) (c hold : ℕ) → o ≡ Some past → acts ≡ true
-    → (not acts || of_some o true (λ p. nat_le (c - (estimate_now p).at) hold)) ≡ true → c - (estimate_now past).at ≤ hold
+    → (not acts || map_or o true (λ p. nat_le (c - (estimate_now p).at) hold)) ≡ true → c - (estimate_now past).at ≤ hold
 held_when true None past c hold there acts holds = cc
 held_when true (Some p) past c hold there acts holds =
     subst (λ q. c - (estimate_now q).at ≤ hold) (some_is there) (leb-true (c - (estimate_now p).at) hold holds)
 held_when false o past c hold there acts holds = cc
 
 -- Sums
-
-grow_rises : (ppm x y : ℕ) → x ≤ y → grow ppm x ≤ grow ppm y
-grow_rises ppm x y le = rises (ppm * x) (ppm * y) (mul-le ppm x ppm y (omega arith) le)
-  where
-    rises : (a b : ℕ) → a ≤ b → (a + 999999) / 1000000 ≤ (b + 999999) / 1000000
-    rises a b le' = omega (arith, le')
 
 pub aged : (past : Past) (rates : Rates) (counter age : ℕ) → rates_now past ≡ rates → counter - (estimate_now past).at ≤ age
     → (report_at past counter).eps ≤ (estimate_now past).base + ageing rates age

@@ -6,7 +6,7 @@ use Rattle.std.proofs.Common.{arith, sym, ◌∙◌, subst, inl, inr}
 use Rattle.std.proofs.Math.Nat.{mul-le-mul_right}
 use Rattle.std.proofs.lemmas.Bool.{and_parts, and_from, leb-true, cases_lt}
 use Rattle.std.proofs.lemmas.Nat.{mul-le}
-use Rattle.sd_drill.specs.Num.Lists.{of_some}
+use Rattle.sd_drill.specs.Num.Lists.{map_or}
 use Rattle.sd_drill.specs.Num.Numbers.{grow, low}
 use Rattle.sd_drill.specs.Num.declared.Rates.{Rates}
 use Rattle.sd_drill.specs.Topo.Network.{Network, rates_of}
@@ -33,7 +33,7 @@ use Rattle.sd_proof_safety.proofs.History.Parts.{premises_of}
 use Rattle.sd_drill.specs.declared.Budget.{Budget}
 use Rattle.sd_drill.specs.Drill.{IsWorst, quiet, source, root_halves}
 use Rattle.sd_proof_safety.specs.invariant.Bounds.{depth, delay, losses, rounds_gap, tick_gap, first_up, second_up, wait_up, first_low, second_low, wait_low}
-use Rattle.sd_proof_safety.specs.invariant.Coming.{Comes}
+use Rattle.sd_proof_safety.specs.invariant.Coming.{IsNextEvent}
 use Rattle.sd_proof_safety.specs.invariant.Eras.{era, beginning, all_started, is_among, failed_now, does, hears, heard_at}
 use Rattle.sd_proof_safety.specs.invariant.Silences.{AreSilent}
 use Rattle.sd_proof_safety.specs.messages.Moments.{Tail, whole, behind, Moment, upto, when, IsIn, IsBefore, Emits}
@@ -53,6 +53,7 @@ use Rattle.sd_proof_safety.proofs.timers.Histories.{timed}
 use Rattle.sd_proof_safety.proofs.waits.Standing.{times, sound}
 use Rattle.sd_proof_safety.proofs.whole.Kept.{comes}
 use Rattle.sd_proof_safety.proofs.whole.Silent.{are_silent}
+use Rattle.sd_proof_safety.proofs.frame.Standing.{chosen}
 use Rattle.sd_proof_bound.specs.timeouts.Settled.{the_plan, IsUnderWay, IsSettled, IsWell, Scene}
 use Rattle.sd_proof_bound.specs.traces.Led.{Led, at_source, IsWithin}
 use Rattle.sd_proof_bound.specs.chains.Chains.{Chain, passing, turning, IsTurned}
@@ -67,12 +68,12 @@ use Rattle.sd_proof_bound.proofs.traces.Lengths.{Outcome, trace_short}
 use Rattle.sd_proof_bound.proofs.traces.Served.{acts_after}
 use Rattle.sd_proof_bound.proofs.traces.Sounding.{fed_by}
 use Rattle.sd_proof_bound.proofs.chains.Chains.{fed_chain}
-use Rattle.sd_proof_bound.proofs.chains.Hearing.{HeardAt, heard_moment, HeardBy, heard_by, or_other, receipt_epoch}
+use Rattle.sd_proof_bound.proofs.chains.Hearing.{HeardAt, heard_moment, HeardBy, heard_by, receipt_epoch}
 use Rattle.sd_proof_bound.proofs.ages.Takeovers.{takes_over_by}
 use Rattle.sd_proof_bound.proofs.ages.Silences.{turned_by}
 use Rattle.sd_proof_bound.proofs.ages.Ages.{counted_member}
 use Rattle.sd_proof_bound.specs.Bound.{alone}
-use Rattle.sd_proof_bound.specs.Hearing.{IsServed, IsCalmSince, recovery, HearsAgain, HearsByAge, HearsByBound}
+use Rattle.sd_proof_bound.specs.Hearing.{IsServed, IsUndisturbedSince, recovery, HearsAgain, HearsByAge, HearsByBound}
 
 -- Sums
 
@@ -256,7 +257,7 @@ module _ (setting : Setting) (silent : AreSilent setting) (x : Event) (h : List 
         let sc : Scene setting (failed_now (chronicle setting (x ∷ h))) a.moment =
         scene_at setting (x ∷ h) e calm settled a.moment (behind a.is_in) (after_limit (when a.moment) p_late) in
         let heard : does hears a.moment.earlier a.moment.step d ≡ true =
-        or_other (makes d a.moment.step.seen.event) (does hears a.moment.earlier a.moment.step d) a.marks (sc.unmade d well) in
+        chosen (makes d a.moment.step.seen.event) (does hears a.moment.earlier a.moment.step d) a.marks (sc.unmade d well) in
         by_receipt a.moment a.is_in p_late (subst (λ t. reference_of e ≤ t + coming setting.net) at by_now) (heard_by a.moment d heard)
 
     by_chain : (c : Chain setting (failed_now (chronicle setting (x ∷ h))) (top_of setting (x ∷ h) e) limit d long) → (n : ℕ)
@@ -349,11 +350,11 @@ since_before steps d since calm lately le (inr heard) =
     })
 
 module _ (net : Network) (plan : Plan) (f : DomainId) (network : IsNetwork net) (fits : Fits net plan) (accepted : IsAccepted net plan) (since : ℕ)
-    (e x : Event) (h : List Event) (calm : IsCalmSince net plan f since (e ∷ x ∷ h)) (late : since + recovery net plan < reference_of e) where
+    (e x : Event) (h : List Event) (calm : IsUndisturbedSince net plan f since (e ∷ x ∷ h)) (late : since + recovery net plan < reference_of e) where
   abbrev setting : Setting
   setting = alone net plan
 
-  comes_ : Comes (alone net plan) (x ∷ h) e
+  comes_ : IsNextEvent (alone net plan) (x ∷ h) e
   comes_ =
       comes (alone net plan) (x ∷ h) e
       (record { network = network; some_plan = omega arith; fit = each_one _ plan fits; accepted = each_one _ plan accepted })
@@ -425,8 +426,8 @@ module _ (net : Network) (plan : Plan) (f : DomainId) (network : IsNetwork net) 
   inside : list_all (holds net f) (failed_now (chronicle (alone net plan) (x ∷ h))) ≡ true
   inside =
       era_within net f (seen_of (chronicle setting (x ∷ h)))
-      (all_seen setting (λ y. of_some (failure_of y) true (holds net f)) (x ∷ h)
-      (and_parts (of_some (failure_of e) true (holds net f)) (list_all (λ y. of_some (failure_of y) true (holds net f)) (x ∷ h)) calm.inside).1)
+      (all_seen setting (λ y. map_or (failure_of y) true (holds net f)) (x ∷ h)
+      (and_parts (map_or (failure_of e) true (holds net f)) (list_all (λ y. map_or (failure_of y) true (holds net f)) (x ∷ h)) calm.inside).1)
 
   module _ (d : ℕ) (counted : is_counted (alone net plan) (seen_of (chronicle (alone net plan) (x ∷ h))) d ≡ true) where
     live : (is_up (seen_of (chronicle (alone net plan) (x ∷ h))) d ≡ true)

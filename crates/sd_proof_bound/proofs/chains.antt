@@ -10,7 +10,7 @@
 --
 -- # What it takes as given
 --
--- The invariant after each event before (`Comes`, in `IsSettled`), and that the backup root acts soon where the root
+-- The invariant after each event before (`IsNextEvent`, in `IsSettled`), and that the backup root acts soon where the root
 -- failed, as an argument.
 -- Chains from a device that acts.
 pub mod Cuts

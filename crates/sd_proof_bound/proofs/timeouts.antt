@@ -10,7 +10,7 @@
 --
 -- # What it takes as given
 --
--- The invariant after each event before, as every step of its proof does (`Comes`).
+-- The invariant after each event before, as every step of its proof does (`IsNextEvent`).
 -- Runs in which nothing fails any more.
 pub mod Unstaged
 pub mod Settled

@@ -9,7 +9,7 @@
 --
 -- # What it takes as given
 --
--- The invariant after each event before, as every step of its proof does (`Comes`, in `IsSettled`).
+-- The invariant after each event before, as every step of its proof does (`IsNextEvent`, in `IsSettled`).
 -- Ways that stand.
 pub mod Sources
 pub mod Sounding

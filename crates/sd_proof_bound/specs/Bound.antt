@@ -1,7 +1,7 @@
 -- What the drill promises of every history: no report of a live device is above its bound.
 use Rattle.std.specs.Prelude.{◌≡◌, ℕ, ◌-◌, ◌≤◌, Bool, true, ◌&&◌, not, List, ◌∷◌, ◌++◌, filter_map, nat_eq, nat_le, IsTrue, Some, None, ◌⊎◌, [], ◌||◌}
 use Rattle.std.specs.List.{list_all, list_any}
-use Rattle.sd_drill.specs.Num.Lists.{of_some}
+use Rattle.sd_drill.specs.Num.Lists.{map_or}
 use Rattle.sd_drill.specs.Topo.declared.Thing.{Thing}
 use Rattle.sd_drill.specs.Domain.Domains.{holds}
 use Rattle.sd_drill.specs.Domain.Things.{same_thing}
@@ -21,27 +21,29 @@ use Rattle.sd_proof_safety.specs.History.Premises.{all_hold}
 use Rattle.sd_proof_safety.specs.History.Lines.{asked_report}
 use Rattle.sd_drill.specs.declared.Budget.{Budget}
 
+-- no window was opened
 abbrev pub no_stage : List Seen → Bool
 no_stage seen = list_all (λ s. not (is_stage s.event)) seen
 
 -- each clock that is set is set with an uncertainty of at most the base
 abbrev pub within_base : Budget → List Seen → Bool
-within_base budget seen = list_all (λ s. of_some (clock_set s.event) true (λ set. nat_le set.1 budget.base)) seen
+within_base budget seen = list_all (λ s. map_or (clock_set s.event) true (λ set. nat_le set.1 budget.base)) seen
 
 -- where the event read a counter and its device acts as root after it, the device's estimate is at most the hold old
 abbrev pub held_briefly : Budget → List Step → Event → Bool
 held_briefly budget steps e =
-    of_some (device_of e) true (λ d.
-    of_some (counter_of e) true (λ c.
-    not (acts_in steps d) || of_some (past_in steps d) true (λ past. nat_le (c - (estimate_now past).at) budget.hold)))
+    map_or (device_of e) true (λ d.
+    map_or (counter_of e) true (λ c.
+    not (acts_in steps d) || map_or (past_in steps d) true (λ past. nat_le (c - (estimate_now past).at) budget.hold)))
 
+-- at each step an acting device holds at most what the budget says
 abbrev pub within_hold : Budget → List Step → Bool
 within_hold budget [] = true
 within_hold budget (s ∷ earlier) = within_hold budget earlier && held_briefly budget (s ∷ earlier) s.seen.event
 
 -- the things that failed, each with its reference
 abbrev pub failures : List Seen → List (Thing × ℕ)
-failures seen = filter_map (λ s. of_some (failure_of s.event) None (λ x. Some (x, reference_of s.event))) seen
+failures seen = filter_map (λ s. map_or (failure_of s.event) None (λ x. Some (x, reference_of s.event))) seen
 
 -- all things of the domain failed at this reference, and nothing else failed
 pub record FailsAtOnce (net : Network) (f : DomainId) (seen : List Seen) (reference : ℕ) : Type 0 where
@@ -52,6 +54,7 @@ pub record FailsAtOnce (net : Network) (f : DomainId) (seen : List Seen) (refere
 abbrev pub FailsSo : Network → DomainId → List Seen → Type 0
 FailsSo net f seen = (failures seen ≡ []) ⊎ ((reference : ℕ) × FailsAtOnce net f seen reference)
 
+-- one plan, which is never renewed
 abbrev pub alone : Network → Plan → Setting
 alone net plan = record { net = net; plans = plan ∷ [] }
 

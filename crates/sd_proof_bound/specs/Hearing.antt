@@ -3,7 +3,7 @@
 -- goes on hearing.
 use Rattle.std.specs.Prelude.{◌≡◌, ℕ, ◌+◌, ◌-◌, ◌*◌, ◌<◌, ◌≤◌, true, ◌||◌, not, List, ◌∷◌, nat_le, is_some, IsTrue, ◌⊎◌}
 use Rattle.std.specs.List.{list_all, list_any}
-use Rattle.sd_drill.specs.Num.Lists.{of_some}
+use Rattle.sd_drill.specs.Num.Lists.{map_or}
 use Rattle.sd_drill.specs.Topo.Network.{Network, rates_of}
 use Rattle.sd_drill.specs.Topo.Limits.{IsNetwork}
 use Rattle.sd_drill.specs.Domain.Domains.{holds}
@@ -56,10 +56,10 @@ abbrev pub IsServed : List Step → (d since lately : ℕ) → Type 0
 IsServed steps d since lately = (acts_in steps d ≡ true) ⊎ HasHeard steps d since lately
 
 -- A history of one plan in which no premise is broken, only things of the domain fail, and nothing fails later than the reference. It has begun by then.
-pub record IsCalmSince (net : Network) (plan : Plan) (f : DomainId) (since : ℕ) (history : List Event) : Type 0 where
+pub record IsUndisturbedSince (net : Network) (plan : Plan) (f : DomainId) (since : ℕ) (history : List Event) : Type 0 where
   pub is : IsHistory (alone net plan) history
   pub premises : IsTrue (all_hold (alone net plan) (seen_of (steps_under net plan history)))
-  pub inside : IsTrue (list_all (λ e. of_some (failure_of e) true (holds net f)) history)
+  pub inside : IsTrue (list_all (λ e. map_or (failure_of e) true (holds net f)) history)
   pub unstaged : IsTrue (list_all (λ e. not (is_stage e)) history)
   pub unfailed : IsTrue (list_all (λ e. not (is_some (failure_of e)) || nat_le (reference_of e) since) history)
   pub begun : IsTrue (list_any (λ e. nat_le (reference_of e) since) history)
@@ -73,7 +73,7 @@ recovery net plan = tick_gap net + turning net plan + (rounds_gap net + 2 * (dep
 -- since the reference, and within the last W.
 abbrev pub HearsWithin : Network → Plan → DomainId → (d time : ℕ) → Type 0
 HearsWithin net plan f d time =
-    (since : ℕ) (e : Event) (history : List Event) → IsCalmSince net plan f since (e ∷ history)
+    (since : ℕ) (e : Event) (history : List Event) → IsUndisturbedSince net plan f since (e ∷ history)
     → IsTrue (is_counted (alone net plan) (seen_of (steps_under net plan history)) d) → since + time < reference_of e
     → IsServed (steps_under net plan history) d since (reference_of e - silence net)
 

@@ -21,7 +21,6 @@ use Rattle.sd_proof_headline.specs.Words.{is_plain}
 use Rattle.sd_proof_headline.specs.Headlines.{has_word, is_calm_case, no_case_alarm}
 use Rattle.sd_proof_headline.proofs.Numbers.{decimal_plain, says_zero}
 use Rattle.sd_proof_headline.proofs.Premises.{all_still}
-use Rattle.sd_replay.specs.Promises.{IsSound}
 use Rattle.sd_replay.proofs.Calm.{history_is_calm}
 use Rattle.sd_replay.proofs.Due.{four_parts}
 use Rattle.sd_proof_headline.proofs.Quiet.{first_word_is}
@@ -29,6 +28,7 @@ use Rattle.sd_proof_headline.proofs.Refused.{breach_line}
 use Rattle.sd_proof_headline.proofs.Texts.{lines_are, text_is_line, plain_one_line, words_are_fields}
 use Rattle.sd_replay.specs.Tallies.{is_broken, is_alarm, lines_that, tally_of}
 use Rattle.sd_replay.specs.declared.Tally.{Tally}
+use Rattle.sd_replay.specs.ProofSafety.invariant.Coming.{IsFair}
 
 -- Tallies
 
@@ -37,7 +37,7 @@ record IsQuietHistory (setting : Setting) (events : List Event) : Type 0 where
   holds : all_hold setting (seen_of (chronicle setting events)) ≡ true
   quiet : lines_that is_alarm setting (chronicle setting events) ≡ 0
 
-quiet_history : (setting : Setting) → IsSound setting → (events : List Event) → IsHistory setting events
+quiet_history : (setting : Setting) → IsFair setting → (events : List Event) → IsHistory setting events
     → lines_that is_broken setting (chronicle setting events) ≡ 0 → IsQuietHistory setting events
 quiet_history setting sound [] is none = record { holds = refl; quiet = refl }
 quiet_history setting sound (e ∷ earlier) is none =
@@ -53,7 +53,7 @@ quiet_history setting sound (e ∷ earlier) is none =
     record { holds = now; quiet = last }
 
 -- a history with no line of a premise has no alarm, over plans that are accepted
-pub no_alarm_without : (setting : Setting) → IsSound setting → (events : List Event) → IsHistory setting events
+pub no_alarm_without : (setting : Setting) → IsFair setting → (events : List Event) → IsHistory setting events
     → lines_that is_broken setting (chronicle setting events) ≡ 0 → lines_that is_alarm setting (chronicle setting events) ≡ 0
 no_alarm_without setting sound events is none = (quiet_history setting sound events is none).quiet
 
@@ -96,7 +96,7 @@ module _ (events reports eps broken alarms : ℕ) where
       ∙ ap (λ b. b && true) (line_calm calm)
 
 -- the line of the tally of a history, over plans that are accepted
-pub tally_is_calm : (setting : Setting) → IsSound setting → (events : List Event) → IsHistory setting events
+pub tally_is_calm : (setting : Setting) → IsFair setting → (events : List Event) → IsHistory setting events
     → let t = tally_of setting (chronicle setting events) in no_case_alarm (text_of (case_words t.events t.reports t.greatest_eps t.broken t.alarms)) ≡ true
 tally_is_calm setting sound events is =
     let t : Tally = tally_of setting (chronicle setting events) in

@@ -3,7 +3,7 @@ use Rattle.std.specs.Prelude.{◌≡◌, ℕ, ◌≤◌, true, false, ◌&&◌, 
 use Rattle.std.specs.List.{list_all}
 use Rattle.std.proofs.Common.{arith, sym, ◌∙◌}
 use Rattle.std.proofs.lemmas.Bool.{and_parts, and_from, agree_below_at, true_from_ne_false, ltb-false}
-use Rattle.sd_wait.specs.Num.Lists.{of_some}
+use Rattle.sd_wait.specs.Num.Lists.{map_or}
 use Rattle.sd_replay.specs.Topo.Network.{Each, is_name_byte, is_name, name_at}
 use Rattle.sd_proof_headline.specs.Words.{is_plain}
 
@@ -28,6 +28,6 @@ name_plain name is = bytes_plain name (and_parts (nat_le 1 (length name) && nat_
 pub named_plain : (names : List (List ℕ)) (n : ℕ) → Each (λ name. IsTrue (is_name name)) names → is_plain (name_at names n) ≡ true
 named_plain names n is = by (slice_get names n) (λ name at. name_plain name (is n name at))
   where
-    by : (o : Option (List ℕ)) → ((name : List ℕ) → o ≡ Some name → is_plain name ≡ true) → is_plain (of_some o [] (λ name. name)) ≡ true
+    by : (o : Option (List ℕ)) → ((name : List ℕ) → o ≡ Some name → is_plain name ≡ true) → is_plain (map_or o [] (λ name. name)) ≡ true
     by None each = refl
     by (Some name) each = each name refl

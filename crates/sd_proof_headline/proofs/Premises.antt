@@ -13,7 +13,7 @@ use Rattle.sd_proof_headline.specs.Headlines.{none_before}
 use Rattle.sd_proof_headline.specs.Kinds.{names_dishonesty}
 use Rattle.sd_proof_headline.proofs.Behind.{Goes, none_at_all, extended}
 use Rattle.sd_replay.specs.Tallies.{is_broken}
-use Rattle.sd_replay.proofs.Counted.{more, line_if, split}
+use Rattle.sd_replay.proofs.Counted.{count_append, line_if, split}
 use Rattle.sd_replay.proofs.Due.{broken, loop, acting, told, four_parts, none_broken}
 
 -- Lines of premises
@@ -87,8 +87,8 @@ module _ (setting : Setting) (s : Step) (earlier : List Step) where
   behind_broken : (bad first : Line → Bool) → count_by bad (broken setting s earlier) ≡ 0 → 0 < count_by first (broken setting s earlier)
       → none_before bad first (lines_of setting (s ∷ earlier)) ≡ true
   behind_broken bad first none some =
-      let l = more first (broken setting s earlier) (loop setting s earlier) in
-      let r = more first (broken setting s earlier ++ (loop setting s earlier)) (acting setting s earlier) in
+      let l = count_append first (broken setting s earlier) (loop setting s earlier) in
+      let r = count_append first (broken setting s earlier ++ (loop setting s earlier)) (acting setting s earlier) in
       extended bad first (broken setting s earlier ++ (loop setting s earlier) ++ (acting setting s earlier)) (told setting s earlier)
       (extended bad first (broken setting s earlier ++ (loop setting s earlier)) (acting setting s earlier)
       (extended bad first (broken setting s earlier) (loop setting s earlier) (none_at_all bad first (broken setting s earlier) none) some)

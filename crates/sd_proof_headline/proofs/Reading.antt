@@ -1,12 +1,12 @@
 -- What is read of a schedule is a history, and why a line of it is refused fits on one line.
 use Rattle.std.specs.Prelude.{◌≡◌, ℕ, ◌+◌, Bool, true, false, List, [], ◌∷◌, length, Option, None, Some, Result, Ok, Err, codes, refl, if◌then◌else◌}
 use Rattle.std.specs.List.{list_any}
-use Rattle.std.proofs.Common.{subst, ap}
-use Rattle.sd_wait.specs.Num.Lists.{of_some}
+use Rattle.std.proofs.Common.{subst}
 use Rattle.sd_cmd_files.specs.Stream.Lines.{lines}
 use Rattle.sd_replay.specs.Sched.declared.Event.{Event}
 use Rattle.sd_replay.specs.History.World.{Setting}
 use Rattle.sd_replay.specs.History.Chronicle.{IsHistory}
+use Rattle.sd_replay.proofs.History.Given.{some_is}
 use Rattle.sd_cmd_files.specs.work.Works.{Work, Reading, length_fault, unless_too_long, read_on, reading_from, reading}
 use Rattle.sd_proof_headline.specs.Words.{is_one_line}
 use Rattle.sd_proof_headline.specs.Works.{ReadsEvents}
@@ -16,12 +16,9 @@ pub record ReadsHistory (setting : Setting) (r : Reading Event) : Type 0 where
   pub history : IsHistory setting r.taken
   pub reason : (why : List ℕ) → r.refused ≡ Some why → is_one_line why ≡ true
 
-same_some : {A : Type 0} {x y : A} → Some x ≡ Some y → x ≡ y
-same_some {x = x} same = ap (λ o. of_some o x (λ z. z)) same
-
 -- the reason is one line
 of_reason : (known why : List ℕ) → is_one_line known ≡ true → Some known ≡ Some why → is_one_line why ≡ true
-of_reason known why one same = subst (λ (w : List ℕ). is_one_line w ≡ true) (same_some same) one
+of_reason known why one same = subst (λ (w : List ℕ). is_one_line w ≡ true) (some_is same) one
 
 fault_is_line : (long past : Bool) (why : List ℕ) → (if long then Some (codes "LongLine") else if past then Some (codes "Limit") else None) ≡ Some why
     → is_one_line why ≡ true

@@ -5,7 +5,7 @@ use Rattle.std.proofs.Common.{ap, ◌∙◌}
 use Rattle.std.proofs.lemmas.Bool.{and_from}
 use Rattle.std.proofs.lemmas.List.Folds.{list_all-append}
 use Rattle.std.proofs.lemmas.Option.{slice_get-map}
-use Rattle.sd_wait.specs.Num.Lists.{of_some, at_place}
+use Rattle.sd_wait.specs.Num.Lists.{map_or, at_place}
 use Rattle.sd_replay.specs.Topo.Network.{Network, Each, is_name}
 use Rattle.sd_replay.specs.Topo.Limits.{IsNetwork}
 use Rattle.sd_replay.specs.Topo.declared.Thing.{Thing}
@@ -151,7 +151,7 @@ refusal_quiet refusal =
 found_plain : {A : Type 0} (name : A → List ℕ) (xs : List A) (i : ℕ) → Each (λ n. IsTrue (is_name n)) (map name xs) → is_plain (at_place xs i [] name) ≡ true
 found_plain {A} name xs i each = by (slice_get xs i) (λ x at. name_plain (name x) (each i (name x) (slice_get-map name xs i ∙ ap (option_map name) at)))
   where
-    by : (o : Option A) → ((x : A) → o ≡ Some x → is_plain (name x) ≡ true) → is_plain (of_some o [] name) ≡ true
+    by : (o : Option A) → ((x : A) → o ≡ Some x → is_plain (name x) ≡ true) → is_plain (map_or o [] name) ≡ true
     by None plain = refl
     by (Some x) plain = plain x refl
 

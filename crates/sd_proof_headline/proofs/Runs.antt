@@ -17,7 +17,7 @@ use Rattle.sd_cmd_files.specs.Checker.Verdicts.{IsAccepted, IsVerdict}
 use Rattle.sd_cmd_files.specs.Checker.declared.Breach.{Breach}
 use Rattle.sd_cmd_files.specs.Checker.declared.Verdict.{Verdict}
 use Rattle.sd_cmd_files.specs.Checker.declared.Verdict.TheVariants.{Accepted, Refused}
-use Rattle.sd_cmd_files.specs.Answering.{May, After}
+use Rattle.sd_cmd_files.specs.Answering.{Allowed, After}
 use Rattle.sd_cmd_files.specs.Inputs.{refused_for, in_file, topology_of, plan_in_file}
 use Rattle.sd_cmd_files.specs.Reasons.{refusal_line}
 use Rattle.sd_cmd_files.specs.declared.Status.{Status}
@@ -68,18 +68,18 @@ plan_fits net place text plan same = by (json_of text) (file_says (input.Plan pl
 
 -- What is said of lines of refusals, and of what may be written behind files that are not refused, is said of all that may be written.
 module _ (Says : List ℕ → Type 0) (bytes : List ℕ) (status : Status) (refused : (why : Refusal) → Says (refusal_line why)) where
-  after_file : {X : Type 0} (says : Result X Refusal) (Then : X → May) → ((x : X) → says ≡ Ok x → Then x bytes status → Says bytes)
+  after_file : {X : Type 0} (says : Result X Refusal) (Then : X → Allowed) → ((x : X) → says ≡ Ok x → Then x bytes status → Says bytes)
       → After says Then bytes status → Says bytes
   after_file (Ok x) Then behind written = behind x refl written
   after_file (Err why) Then behind written = subst Says (sym written.0) (refused why)
 
   module _ (net : Network) (breached : (place : ℕ) (breach : Breach) → Says (refused_line net place breach)) where
-    after_verdict : (place : ℕ) (plan : Plan) (verdict : Verdict) (Then : May) → IsVerdict net plan verdict
+    after_verdict : (place : ℕ) (plan : Plan) (verdict : Verdict) (Then : Allowed) → IsVerdict net plan verdict
         → (IsAccepted net plan → Then bytes status → Says bytes) → AfterVerdict net place verdict Then bytes status → Says bytes
     after_verdict place plan Accepted Then is behind written = behind is written
     after_verdict place plan (Refused breach) Then is behind written = subst Says (sym written.0) (breached place breach)
 
-    after_plans : (place : ℕ) (front : List Plan) (texts : List (List ℕ)) (Then : List Plan → May) → Each (Fits net) front → Each (IsAccepted net) front
+    after_plans : (place : ℕ) (front : List Plan) (texts : List (List ℕ)) (Then : List Plan → Allowed) → Each (Fits net) front → Each (IsAccepted net) front
         → ((plans : List Plan) → length front + length texts ≡ length plans → Each (Fits net) plans → Each (IsAccepted net) plans → Then plans bytes status
         → Says bytes) → AfterPlans net place front texts Then bytes status → Says bytes
     after_plans place front [] Then fit accepted behind written = behind front (omega arith) fit accepted written

@@ -6,7 +6,7 @@ use Rattle.sd_cmd_files.proofs.Outside.Adding.{concat_piece}
 use Rattle.std.specs.Prelude.{◌≡◌, ℕ, ◌+◌, ◌<◌, Bool, true, false, List, [], ◌∷◌, ◌++◌, length, map, count_by, Option, Some, None, option_map, option_to_list, codes, decimal, refl}
 use Rattle.std.proofs.Common.{ap, arith, sym, ◌∙◌, subst}
 use Rattle.std.proofs.lemmas.List.{length_push}
-use Rattle.sd_wait.specs.Num.Lists.{of_some}
+use Rattle.sd_wait.specs.Num.Lists.{map_or}
 use Rattle.sd_replay.specs.Topo.Limits.{IsNetwork}
 use Rattle.sd_wait.specs.Clock.declared.Report.{Report}
 use Rattle.sd_wait.specs.Msg.Observed.{ReportAt}
@@ -24,7 +24,6 @@ use Rattle.sd_wait.specs.Printed.{bytes_at, waits_line}
 use Rattle.sd_wait.specs.declared.WaitTally.{WaitTally}
 use Rattle.sd_proof_headline.proofs.order.Ordered.{keeps_order}
 use Rattle.sd_cmd_files.specs.work.Works.{Work, reading, written_for}
-use Rattle.sd_replay.specs.Promises.{IsSound}
 use Rattle.sd_proof_headline.specs.Headlines.{is_alarm, is_broken, is_interval_alarm, is_disorder, is_dishonest, no_early_alarm, no_early_interval, no_early_disorder}
 use Rattle.sd_proof_headline.specs.Words.{is_plain}
 use Rattle.sd_proof_headline.specs.Kinds.{names_dishonesty}
@@ -42,14 +41,15 @@ use Rattle.sd_proof_headline.proofs.Waiting.{printed_wait}
 use Rattle.sd_proof_headline.proofs.Carried.{reading_passes}
 use Rattle.sd_replay.specs.Devices.{is_miss}
 use Rattle.sd_replay.specs.Tallies as lines
+use Rattle.sd_replay.specs.ProofSafety.invariant.Coming.{IsFair}
 
 -- Histories
 
 abbrev pub IsHonest : Setting → List Event → Type 0
 IsHonest setting events = is_honest setting (seen_of (chronicle setting events)) ≡ true
 
-abbrev pub IsCalm : Setting → List Event → Type 0
-IsCalm setting events = all_hold setting (seen_of (chronicle setting events)) ≡ true
+abbrev pub KeepsPremises : Setting → List Event → Type 0
+KeepsPremises setting events = all_hold setting (seen_of (chronicle setting events)) ≡ true
 
 module _ (setting : Setting) (earlier : List Event) (e : Event) (is : IsHistory setting (e ∷ earlier)) where
   abbrev before : List Step
@@ -66,7 +66,8 @@ module _ (setting : Setting) (earlier : List Event) (e : Event) (is : IsHistory 
       (now, no_interval setting here before (reports_contain setting (e ∷ earlier) is now)))
 
   -- no alarm before the first line of a premise
-  alarm_goes : IsSound setting → IsCalm setting earlier → Goes lines.is_alarm lines.is_broken (lines_of setting (here ∷ before)) (IsCalm setting (e ∷ earlier))
+  alarm_goes : IsFair setting → KeepsPremises setting earlier
+      → Goes lines.is_alarm lines.is_broken (lines_of setting (here ∷ before)) (KeepsPremises setting (e ∷ earlier))
   alarm_goes sound calm =
       event_goes setting here before lines.is_alarm lines.is_broken (λ p. refl)
       (λ nothing.
@@ -119,12 +120,12 @@ module _ (setting : Setting) (net : IsNetwork setting.net) (earlier : List Step)
   place = length (reports earlier)
 
   abbrev wait_lines_for : Option (ℕ × Report) → List (List ℕ)
-  wait_lines_for o = of_some o [] (λ t. map (printed_wait (device_name setting.net t.0)) (lines_at told place))
+  wait_lines_for o = map_or o [] (λ t. map (printed_wait (device_name setting.net t.0)) (lines_at told place))
 
   abbrev pub wait_lines : List (List ℕ)
   wait_lines = wait_lines_for (asked_report s)
 
-  are_for : (o : Option (ℕ × Report)) → AreLines (of_some o [] (λ t. bytes_at told place (device_name setting.net t.0))) (wait_lines_for o)
+  are_for : (o : Option (ℕ × Report)) → AreLines (map_or o [] (λ t. bytes_at told place (device_name setting.net t.0))) (wait_lines_for o)
   are_for None = no_lines
   are_for (Some t) = wait.waits_are_lines (device_name setting.net t.0) (device_plain setting.net net t.0) told place
 
@@ -217,9 +218,9 @@ module _ (setting : Setting) (net : IsNetwork setting.net) (work : Work Event) w
         }) refl
         prints.reads last_printed (λ text quiet. quiet.intervals)
 
-    pub events_keep_alarm : IsSound setting → (schedule : List ℕ) → no_early_alarm (written_for work (reading work schedule)) ≡ true
+    pub events_keep_alarm : IsFair setting → (schedule : List ℕ) → no_early_alarm (written_for work (reading work schedule)) ≡ true
     events_keep_alarm sound =
-        reading_passes is_alarm is_broken setting work (IsCalm setting)
+        reading_passes is_alarm is_broken setting work (KeepsPremises setting)
         (record {
           ls = λ earlier e. event_lines setting (chronicle setting (e ∷ earlier));
           are = lines_printed;
@@ -269,9 +270,9 @@ module _ (setting : Setting) (net : IsNetwork setting.net) (work : Work Event) w
               (intervals_printed setting net earlier e (interval_goes setting earlier e is honest));
         }) refl prints.reads both_last (λ text quiet. quiet.intervals)
 
-    pub waits_keep_alarm : IsSound setting → (schedule : List ℕ) → no_early_alarm (written_for work (reading work schedule)) ≡ true
+    pub waits_keep_alarm : IsFair setting → (schedule : List ℕ) → no_early_alarm (written_for work (reading work schedule)) ≡ true
     waits_keep_alarm sound =
-        reading_passes is_alarm is_broken setting work (IsCalm setting)
+        reading_passes is_alarm is_broken setting work (KeepsPremises setting)
         (record {
           ls = both_lines;
           are = both_printed;

@@ -3,7 +3,7 @@ use Rattle.std.specs.Prelude.{◌≡◌, ℕ, Bool, true, false, ◌&&◌, List,
 use Rattle.std.specs.List.{list_all, list_any, join_with_byte}
 use Rattle.std.proofs.Common.{arith, ap, ◌∙◌}
 use Rattle.std.proofs.lemmas.Bool.{or_parts}
-use Rattle.sd_wait.specs.Num.Lists.{of_some, at_place, below, greatest}
+use Rattle.sd_wait.specs.Num.Lists.{map_or, at_place, below, greatest}
 use Rattle.sd_wait.specs.Msg.Observed.{ReportAt}
 use Rattle.sd_replay.specs.Sched.Lines.{fields}
 use Rattle.sd_wait.specs.Waits.{WaitLine, Ended, Disorder, Begin, stamp_of, stamp_at, line_at, is_disorder as shows_disorder, ended_at, worst_disorder, lines_at, has_disorder}
@@ -96,7 +96,7 @@ no_ended told k (i ∷ is) =
 no_begin : (told : List ReportAt) (k : ℕ) → count_by tells_disorder (at_place told k [] (λ x. Begin x.line x.device (stamp_of x) ∷ [])) ≡ 0
 no_begin told k = by (slice_get told k)
   where
-    by : (o : Option ReportAt) → count_by tells_disorder (of_some o [] (λ x. Begin x.line x.device (stamp_of x) ∷ [])) ≡ 0
+    by : (o : Option ReportAt) → count_by tells_disorder (map_or o [] (λ x. Begin x.line x.device (stamp_of x) ∷ [])) ≡ 0
     by None = refl
     by (Some x) = refl
 
@@ -104,11 +104,11 @@ no_begin told k = by (slice_get told k)
 pub none_told : (told : List ReportAt) (k : ℕ) → has_disorder told k ≡ false → count_by tells_disorder (lines_at told k) ≡ 0
 none_told told k none =
     let ended : List WaitLine = map (λ i. Ended (line_at told k) (line_at told i)) (ended_at told k) in
-    let worst : List WaitLine = of_some (worst_disorder told k) [] (λ i. Disorder (line_at told k) (line_at told i) ∷ []) in
+    let worst : List WaitLine = map_or (worst_disorder told k) [] (λ i. Disorder (line_at told k) (line_at told i) ∷ []) in
     let begun : List WaitLine = at_place told k [] (λ x. Begin x.line x.device (stamp_of x) ∷ []) in
     let one = no_ended told k (ended_at told k) in
     let two : count_by tells_disorder worst ≡ 0 =
-    ap (λ o. count_by tells_disorder (of_some o [] (λ i. Disorder (line_at told k) (line_at told i) ∷ []))) (no_worst told k none) in
+    ap (λ o. count_by tells_disorder (map_or o [] (λ i. Disorder (line_at told k) (line_at told i) ∷ []))) (no_worst told k none) in
     let three = no_begin told k in
     let front = count-append tells_disorder ended worst in
     let all = count-append tells_disorder (ended ++ worst) begun in

@@ -22,6 +22,7 @@ whole_lines (byte ∷ bytes) = if nat_eq byte 10 then [] ∷ whole_lines bytes e
 abbrev pub has_word : ℕ → List ℕ → List ℕ → Bool
 has_word place word line = at_place (fields line) place false (bytes_eq word)
 
+-- `alarm ..`
 abbrev pub is_alarm : List ℕ → Bool
 is_alarm line = has_word 0 (codes "alarm") line
 
@@ -29,9 +30,11 @@ is_alarm line = has_word 0 (codes "alarm") line
 abbrev pub is_interval_alarm : List ℕ → Bool
 is_interval_alarm line = is_alarm line && has_word 2 (codes "interval") line
 
+-- `disorder ..`
 abbrev pub is_disorder : List ℕ → Bool
 is_disorder line = has_word 0 (codes "disorder") line
 
+-- `broken ..`
 abbrev pub is_broken : List ℕ → Bool
 is_broken line = has_word 0 (codes "broken") line
 
@@ -62,6 +65,7 @@ no_early_disorder text = none_before is_disorder is_dishonest (whole_lines text)
 abbrev pub is_calm_case : List ℕ → Bool
 is_calm_case line = not (has_word 0 (codes "case") line && has_word 4 (codes "0") line) || has_word 5 (codes "0") line
 
+-- so it is in each line of the text
 abbrev pub no_case_alarm : List ℕ → Bool
 no_case_alarm text = list_all is_calm_case (whole_lines text)
 

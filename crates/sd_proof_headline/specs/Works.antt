@@ -1,7 +1,7 @@
 -- Works that read a schedule event by event and print what is due of each event.
 use Rattle.std.specs.Prelude.{◌≡◌, ℕ, List, [], ◌∷◌, ◌++◌, length, None, Ok, Err, IsTrue}
 use Rattle.sd_cmd_files.specs.Outside.Pieces.{piece_of}
-use Rattle.sd_wait.specs.Num.Lists.{of_some}
+use Rattle.sd_wait.specs.Num.Lists.{map_or}
 use Rattle.sd_replay.specs.Sched.declared.Event.{Event}
 use Rattle.sd_replay.specs.History.World.{Setting}
 use Rattle.sd_replay.specs.History.Steps.{Step}
@@ -29,7 +29,7 @@ pub record PrintsEvents (setting : Setting) (work : Work Event) : Type 0 where
 -- the lines of commit wait of a step behind others
 abbrev pub wait_bytes : Setting → List Step → Step → List ℕ
 wait_bytes setting earlier s =
-    of_some (asked_report s) [] (λ told. bytes_at (reports (s ∷ earlier)) (length (reports earlier)) (device_name setting.net told.0))
+    map_or (asked_report s) [] (λ told. bytes_at (reports (s ∷ earlier)) (length (reports earlier)) (device_name setting.net told.0))
 
 -- it prints the lines of commit wait behind those of each event, and how many there were at the end
 pub record PrintsWaits (setting : Setting) (work : Work Event) : Type 0 where

@@ -3,7 +3,7 @@ use Rattle.std.specs.Prelude.{count_by, ◌≡◌, ℕ, ◌+◌, ◌<◌, ◌≤
 use Rattle.std.specs.List.{list_any, list_all}
 use Rattle.std.proofs.Common.{sym, ap, ◌∙◌, subst, arith, inl, inr}
 use Rattle.std.proofs.lemmas.Bool.{and_parts, or_left, or_right, or_cases, or_parts, or_from, ltb-true, eq-eqb, eqb-true, not-true, le-ltb, both_ways, false_from_ne_true, true_from_ne_false}
-use Rattle.sd_checker.specs.Num.Lists.{of_some, same_number}
+use Rattle.sd_checker.specs.Num.Lists.{map_or, same_number}
 use Rattle.sd_checker.specs.Topo.Network.{Network, delay_of}
 use Rattle.sd_checker.specs.Topo.declared.Thing.{Thing}
 use Rattle.sd_checker.specs.Topo.declared.Thing.TheVariants as thing
@@ -108,7 +108,7 @@ spoiled_on s seen f before received_ = by (is_overdue seen f)
         → (b && not (was_received (s ∷ seen) f.number) && not (was_interrupted (s ∷ seen) f)) ≡ false
     late false is = refl
     late true is =
-        rw (or_right (of_some s.taken false (λ g. nat_eq g.number f.number)) (was_received seen f.number)
+        rw (or_right (map_or s.taken false (λ g. nat_eq g.number f.number)) (was_received seen f.number)
         (received_ (ltb-true f.due (reference_of s.event) is))) refl
 
     by : (b : Bool) → (if b then spoils seen f
@@ -131,7 +131,7 @@ fails_nothing : (e : Event) (r d : ℕ) (x : Thing) → IsCalm e r d → fails x
 fails_nothing e r d x ticks = refl
 fails_nothing e r d x (receives n) = refl
 
-none_staged : (net : Network) (d : ℕ) (e : End) (b : Bool) → Among e (of_some (if b then None else None) [] (λ p. ends_of net p d)) → ⊥
+none_staged : (net : Network) (d : ℕ) (e : End) (b : Bool) → Among e (map_or (if b then None else None) [] (λ p. ends_of net p d)) → ⊥
 none_staged net d e true a = elim a [ ]
 none_staged net d e false a = elim a [ ]
 
@@ -142,7 +142,7 @@ ends_are net plan steps open_ none epoch d e a = by (nat_eq epoch (epoch_in_forc
   where
     by : (b : Bool)
         → Among e
-        (of_some
+        (map_or
         (if b then Some (in_force (alone net plan) (seen_of steps))
         else if nat_eq epoch (staged_epoch (seen_of steps)) then staged (alone net plan) (seen_of steps) else None) []
         (λ p. ends_of net p d))
@@ -152,7 +152,7 @@ ends_are net plan steps open_ none epoch d e a = by (nat_eq epoch (epoch_in_forc
         absurd (none_staged net d e (nat_eq epoch (staged_epoch (seen_of steps)))
         (subst (λ (w : Option (List Seen)).
         Among e
-        (of_some
+        (map_or
         (if nat_eq epoch (staged_epoch (seen_of steps)) then option_map (λ x. plan_numbered (alone net plan) (staged_epoch (seen_of steps))) w else None) []
         (λ p. ends_of net p d))) open_ b))
 
@@ -188,7 +188,7 @@ module _ (net : Network) (plan : Plan) (dom : DomainId) (down : Thing → Bool) 
   used_on e r d calm (one {n = m} f found number) is air n used =
       elim (or_cases (nat_eq m n) (was_used steps n) used) [
         | inl now ↦ rw found (or_left (nat_eq f.number n) (was_received (seen_of steps) n) (eq-eqb f.number n (number ∙ eqb-true m n now)))
-        | inr old ↦ or_right (of_some (flight_numbered steps m) false (λ g. nat_eq g.number n)) (was_received (seen_of steps) n) (air.used n old)
+        | inr old ↦ or_right (map_or (flight_numbered steps m) false (λ g. nat_eq g.number n)) (was_received (seen_of steps) n) (air.used n old)
       ]
 
   pub air_goes_on : (e : Event) (r d : ℕ) → IsCalm e r d → Receives steps e → AreSteps setting (next_step setting steps e ∷ steps) → t ≤ r

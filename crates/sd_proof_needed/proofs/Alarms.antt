@@ -4,7 +4,7 @@ use Rattle.std.specs.List.{list_any}
 use Rattle.std.proofs.Common.{sym, ap, ◌∙◌, arith, inl, inr}
 use Rattle.std.proofs.lemmas.Bool.{or_cases, or_left, or_right, leb-true, eqb-true, eq-eqb, both_ways}
 use Rattle.std.proofs.lemmas.List.Folds.{list_any-append}
-use Rattle.sd_checker.specs.Num.Lists.{has, of_some}
+use Rattle.sd_checker.specs.Num.Lists.{has, map_or}
 use Rattle.sd_checker.specs.Topo.Network.{Network, device_numbers}
 use Rattle.sd_checker.specs.Plan.declared.Plan.{Plan}
 use Rattle.sd_history.specs.Sched.declared.Event.{Event}
@@ -66,7 +66,7 @@ printed setting s earlier comes =
     (broken_lines (breaks setting (seen_of (s ∷ earlier)))
     ++ loop_lines (first_on_loop setting earlier) (first_on_loop setting (s ∷ earlier))
     ++ root_lines (roots setting earlier) (roots setting (s ∷ earlier)))
-    (of_some (asked_report s) [] (report_lines (reference_of s.seen.event)))
+    (map_or (asked_report s) [] (report_lines (reference_of s.seen.event)))
     (any_behind is_roots_alarm
     (broken_lines (breaks setting (seen_of (s ∷ earlier))) ++ loop_lines (first_on_loop setting earlier) (first_on_loop setting (s ∷ earlier)))
     (root_lines (roots setting earlier) (roots setting (s ∷ earlier))) comes)

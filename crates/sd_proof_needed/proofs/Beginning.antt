@@ -4,7 +4,7 @@ use Rattle.std.specs.List.{list_any, list_all}
 use Rattle.std.proofs.Common.{sym, ap, ◌∙◌, subst, arith, inl, inr}
 use Rattle.std.proofs.lemmas.Bool.{and_from, and_left, and_right, or_left, or_right, or_from, both_ways, le-leb, lt-leb, le-ltb, lt-ltb, eq-eqb, ne_eqb, eqb-true, cases_eq, cases_lt}
 use Rattle.std.proofs.lemmas.List.{length-map}
-use Rattle.sd_checker.specs.Num.Lists.{of_some}
+use Rattle.sd_checker.specs.Num.Lists.{map_or}
 use Rattle.sd_checker.specs.Topo.Network.{Network, device_numbers}
 use Rattle.sd_checker.specs.Topo.declared.Thing.{Thing}
 use Rattle.sd_checker.specs.Topo.declared.Thing.TheVariants as thing
@@ -24,6 +24,8 @@ use Rattle.sd_history.specs.Premises.{readings, start_holds, drift_holds, delay_
 use Rattle.sd_history.specs.Premises as premise
 use Rattle.sd_history.specs.Premises.{is_overdue}
 use Rattle.sd_checker.specs.Plan.Duties.{duty_of}
+use Rattle.sd_checker.proofs.Plan.Forest.{or_none}
+use Rattle.sd_checker.proofs.Num.Shared.{equal_swap}
 use Rattle.sd_history.specs.Core.Calls.{Past, Started}
 use Rattle.sd_history.proofs.Among.{Among, first, later, all_pass}
 use Rattle.sd_proof_needed.specs.Alone.{alone, fails_only}
@@ -104,24 +106,20 @@ none_below : (p : ℕ → Bool) (d : ℕ) → false ≡ (nat_lt d 0 && p d)
 none_below p d = sym (and_left (nat_lt d 0) (p d) (le-ltb d 0 (omega arith)))
 
 -- what a latest answer is, where the event tells one in case of a test
-told_true : (b old : Bool) → of_some (if b then Some true else None) old (λ told. told) ≡ (b || old)
+told_true : (b old : Bool) → map_or (if b then Some true else None) old (λ told. told) ≡ (b || old)
 told_true true old = refl
 told_true false old = refl
 
-told_started : (b old : Bool) → of_some (if b || false then Some true else None) old (λ told. told) ≡ (b || old)
+told_started : (b old : Bool) → map_or (if b || false then Some true else None) old (λ told. told) ≡ (b || old)
 told_started true old = refl
 told_started false old = refl
 
-or_none : (b : Bool) → (b || false) ≡ b
-or_none true = refl
-or_none false = refl
-
-told_false : (b : Bool) → of_some (if b then Some false else None) false (λ told. told) ≡ false
+told_false : (b : Bool) → map_or (if b then Some false else None) false (λ told. told) ≡ false
 told_false true = refl
 told_false false = refl
 
 -- a reading at reference and counter 0
-read_zero : (b : Bool) (old : ℕ) → old ≡ 0 → of_some (if b then Some 0 else None) old (λ told. told) ≡ 0
+read_zero : (b : Bool) (old : ℕ) → old ≡ 0 → map_or (if b then Some 0 else None) old (λ told. told) ≡ 0
 read_zero true old is = refl
 read_zero false old is = is
 
@@ -139,20 +137,13 @@ read_none : (b : Bool) (old : List (ℕ × ℕ)) (x : ℕ × ℕ) → ((y : ℕ 
 read_none true old x each a = each x a
 read_none false old x each a = each x a
 
-unread : (b : Bool) (old : ℕ) → old ≡ 0 → of_some (if b then None else None) old (λ told. told) ≡ 0
+unread : (b : Bool) (old : ℕ) → old ≡ 0 → map_or (if b then None else None) old (λ told. told) ≡ 0
 unread true old is = is
 unread false old is = is
 
-eq_swap : (x y : ℕ) → nat_eq x y ≡ nat_eq y x
-eq_swap x y =
-    elim (cases_eq x y) [
-      | inl same ↦ eq-eqb x y same ∙ sym (eq-eqb y x (sym same))
-      | inr other ↦ ne_eqb x y other ∙ sym (ne_eqb y x (λ same. other (sym same)))
-    ]
-
 -- the same with the test of equality the other way round
 one_more_back : (p : ℕ → Bool) (a d : ℕ) → p a ≡ true → (nat_eq d a || (nat_lt d a && p d)) ≡ (nat_lt d (suc a) && p d)
-one_more_back p a d is = ap (λ b. b || (nat_lt d a && p d)) (eq_swap d a) ∙ sym (one_more p a d is)
+one_more_back p a d is = ap (λ b. b || (nat_lt d a && p d)) (equal_swap d a) ∙ sym (one_more p a d is)
 
 module _ (net : Network) (plan : Plan) (dom : DomainId) (down : Thing → Bool) (among : Among dom (domains net)) where
   abbrev setting : Setting
@@ -267,7 +258,7 @@ module _ (net : Network) (plan : Plan) (dom : DomainId) (down : Thing → Bool) 
             ),
           ),
         );
-        up = λ d. ap (λ old. of_some (if nat_eq d a then Some false else None) old (λ told. told)) (b.up d ∙ sym (none_below (is_live net plan down) d))
+        up = λ d. ap (λ old. map_or (if nat_eq d a then Some false else None) old (λ told. told)) (b.up d ∙ sym (none_below (is_live net plan down) d))
             ∙ told_false (nat_eq d a) ∙ none_below (is_live net plan down) d;
         made = b.made;
         device = λ d. told_true (nat_eq d a) (has_failed seen (thing.Device d)) ∙ ap (λ old. nat_eq d a || old) (b.device d)

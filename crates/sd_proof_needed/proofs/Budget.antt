@@ -5,7 +5,7 @@ use Rattle.std.proofs.Common.{sym, ap, ◌∙◌, subst, arith, inl, inr}
 use Rattle.std.proofs.Math.Nat.{mul-add}
 use Rattle.std.proofs.lemmas.Nat.{mul-le}
 use Rattle.std.proofs.lemmas.Bool.{and_parts, and_from, or_cases, or_parts, eqb-true, eq-eqb, ne_eqb, ltb-true, both_ways, cases_eq, not-true}
-use Rattle.sd_checker.specs.Num.Lists.{of_some}
+use Rattle.sd_checker.specs.Num.Lists.{map_or}
 use Rattle.sd_checker.specs.Topo.Network.{Network}
 use Rattle.sd_checker.specs.Topo.declared.Thing.{Thing}
 use Rattle.sd_checker.specs.Domain.declared.DomainId.{DomainId}
@@ -45,7 +45,7 @@ use Rattle.sd_proof_needed.proofs.Turns.{Sends, relays, emits, takes_over, Turne
 
 -- the backup root acts, as a number
 abbrev pub acted : Plan → List Step → ℕ
-acted plan steps = of_some (past_in steps plan.backup_root) 0 (λ past. if is_acting past then 1 else 0)
+acted plan steps = map_or (past_in steps plan.backup_root) 0 (λ past. if is_acting past then 1 else 0)
 
 -- the stamps of devices and messages: the second term begins when the backup root acts, and no round is greater than the number of ticks of a device,
 -- where the devices from c on have ticked k times and the others once less
@@ -90,7 +90,7 @@ total f (suc n) = f n + total f n
 
 -- how far the device's stamp has come
 abbrev pub level : ℕ → List Step → ℕ → ℕ
-level m steps d = of_some (past_in steps d) 0 (λ past. code m (stamp_now past))
+level m steps d = map_or (past_in steps d) 0 (λ past. code m (stamp_now past))
 
 -- what is on its way
 abbrev pub pending : List Step → List Flight
@@ -155,7 +155,7 @@ filter_fewer p q (y ∷ ys) x each is_p is_q a = fewer_head p q y x ys each is_p
 backup_root_is : (net : Network) (plan : Plan) (d : ℕ) (past : Past) → Plain (duty_of net plan 1 d) past → is_backup_root_now past ≡ true → plan.backup_root ≡ d
 backup_root_is net plan d past plain is =
     by (is_root plan d) (is_backup_root plan d) refl
-    (sym (ap (λ (o : Option Duty). of_some o false (λ duty. elim duty.role [ BackupRoot ↦ true | _ ↦ false ])) (duty_is (duty_of net plan 1 d) past plain))
+    (sym (ap (λ (o : Option Duty). map_or o false (λ duty. elim duty.role [ BackupRoot ↦ true | _ ↦ false ])) (duty_is (duty_of net plan 1 d) past plain))
     ∙ is)
   where
     by : (root backup : Bool) → is_backup_root plan d ≡ backup
@@ -182,7 +182,7 @@ ends_few : (net : Network) (plan : Plan) (dom : DomainId) (down : Thing → Bool
 ends_few net plan dom down steps t world epoch d =
     rw (world.closings, world.window) (by (nat_eq epoch 1) (nat_eq epoch 2))
   where
-    by : (b c : Bool) → length (of_some (if b then Some plan else if c then None else None) [] (λ p. ends_of net p d)) ≤ width net plan d
+    by : (b c : Bool) → length (map_or (if b then Some plan else if c then None else None) [] (λ p. ends_of net p d)) ≤ width net plan d
     by true c = omega arith
     by false true = omega arith
     by false false = omega arith
@@ -231,13 +231,13 @@ module _ (net : Network) (plan : Plan) (dom : DomainId) (down : Thing → Bool) 
   effect_is : s.told.effect ≡ effect_of past call
   effect_is =
       ap (λ (act : Act). (told_by steps act).effect) acts
-      ∙ ap (λ (o : Option Past). (of_some o tells_nothing (λ x. tells_called (effect_of x call) (answers_by (after x call)))).effect) past_is
+      ∙ ap (λ (o : Option Past). (map_or o tells_nothing (λ x. tells_called (effect_of x call) (answers_by (after x call)))).effect) past_is
 
   acted_was : d ≡ plan.backup_root → acted plan steps ≡ one_if (is_acting past)
-  acted_was same = ap (λ (o : Option Past). of_some o 0 (λ x. one_if (is_acting x))) (ap (past_in steps) (sym same) ∙ past_is)
+  acted_was same = ap (λ (o : Option Past). map_or o 0 (λ x. one_if (is_acting x))) (ap (past_in steps) (sym same) ∙ past_is)
 
   acted_now : d ≡ plan.backup_root → acted plan (s ∷ steps) ≡ one_if (is_acting (after past call))
-  acted_now same = ap (λ (o : Option Past). of_some o 0 (λ x. one_if (is_acting x))) (ap (past_in (s ∷ steps)) (sym same) ∙ past_here)
+  acted_now same = ap (λ (o : Option Past). map_or o 0 (λ x. one_if (is_acting x))) (ap (past_in (s ∷ steps)) (sym same) ∙ past_here)
 
   -- who acts goes on acting
   acted_more : acted plan steps ≤ acted plan (s ∷ steps)
@@ -246,7 +246,7 @@ module _ (net : Network) (plan : Plan) (dom : DomainId) (down : Thing → Bool) 
       by : (b : Bool) → nat_eq d plan.backup_root ≡ b → acted plan steps ≤ acted plan (s ∷ steps)
       by false other =
           let same : acted plan (s ∷ steps) ≡ acted plan steps =
-          ap (λ (o : Option Past). of_some o 0 (λ x. one_if (is_acting x))) (past_at plan.backup_root false other) in
+          ap (λ (o : Option Past). map_or o 0 (λ x. one_if (is_acting x))) (past_at plan.backup_root false other) in
           omega (arith, same)
       by true is =
           let same : d ≡ plan.backup_root = eqb-true d plan.backup_root is in
@@ -363,20 +363,20 @@ module _ (net : Network) (plan : Plan) (dom : DomainId) (down : Thing → Bool) 
     where
       elsewhere : (x : ℕ) → x ≢ d → level m (s ∷ steps) x ≡ level m steps x
       elsewhere x other =
-          ap (λ (o : Option Past). of_some o 0 (λ p. code m (stamp_now p))) (past_at x false (ne_eqb d x (λ same. other (sym same))))
+          ap (λ (o : Option Past). map_or o 0 (λ p. code m (stamp_now p))) (past_at x false (ne_eqb d x (λ same. other (sym same))))
 
       level_was : level m steps d ≡ code m (stamp_now past)
-      level_was = ap (λ (o : Option Past). of_some o 0 (λ p. code m (stamp_now p))) past_is
+      level_was = ap (λ (o : Option Past). map_or o 0 (λ p. code m (stamp_now p))) past_is
 
       level_now : level m (s ∷ steps) d ≡ code m (stamp_now (after past call))
-      level_now = ap (λ (o : Option Past). of_some o 0 (λ p. code m (stamp_now p))) past_here
+      level_now = ap (λ (o : Option Past). map_or o 0 (λ p. code m (stamp_now p))) past_here
 
       -- what the step sends
       sent_are : s.sent ≡ flights_by setting steps (reference_of e) d (epoch_now (after past call)) (effect_of past call)
       sent_are =
           ap (λ (act : Act). flights_of setting steps (reference_of e) act (told_by steps act)) acts
           ∙ ap (λ (o : Option Past). flights_of setting steps (reference_of e) (Calls d call)
-          (of_some o tells_nothing (λ x. tells_called (effect_of x call) (answers_by (after x call))))) past_is
+          (map_or o tells_nothing (λ x. tells_called (effect_of x call) (answers_by (after x call))))) past_is
 
       sent_few : (m' : Message) → effect_of past call ≡ Send m' → length s.sent ≤ width net plan d
       sent_few m' is_sent =
@@ -405,7 +405,7 @@ module _ (net : Network) (plan : Plan) (dom : DomainId) (down : Thing → Bool) 
       acted_most : acted plan (s ∷ steps) ≤ 1
       acted_most = most (past_in (s ∷ steps) plan.backup_root)
         where
-          most : (o : Option Past) → of_some o 0 (λ x. one_if (is_acting x)) ≤ 1
+          most : (o : Option Past) → map_or o 0 (λ x. one_if (is_acting x)) ≤ 1
           most None = omega arith
           most (Some x) = one_if_most (is_acting x)
 
@@ -482,7 +482,7 @@ module _ (net : Network) (plan : Plan) (dom : DomainId) (down : Thing → Bool) 
       receipt_turns (duty_of net plan 1 f.receiver) past.0 (stamps.plain f.receiver past.0 past.1) f.link f.message f.due in
       let s : Step = next_step (alone net plan) steps e in
       let acts : act_by (alone net plan) steps e ≡ Calls f.receiver call =
-      ap (λ (o : Option Flight). of_some o Passes (λ g. Calls f.receiver (Receive g.link g.message f.due))) found in
+      ap (λ (o : Option Flight). map_or o Passes (λ g. Calls f.receiver (Receive g.link g.message f.due))) found in
       let total_less_ = total_on net plan dom down m k c c steps t world stamps some less (omega arith) e f.due f.receiver call (receives f.number) acts
       live past.0 past.1 goes
       (λ counter same. cc) (λ link message counter same. (f, a, received_message same)) is in

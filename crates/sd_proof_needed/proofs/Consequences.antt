@@ -5,7 +5,7 @@ use Rattle.std.specs.Option.{option_or}
 use Rattle.std.proofs.Common.{sym, ap, ◌∙◌, subst, arith, inl, inr}
 use Rattle.std.proofs.lemmas.Bool.{and_parts, and_from, or_cases, or_left, or_right, eqb-true, eq-eqb, cases_Bool, both_ways, false_from_ne_true}
 use Rattle.std.proofs.lemmas.List.Folds.{list_any-append}
-use Rattle.sd_checker.specs.Num.Lists.{has, of_some, below}
+use Rattle.sd_checker.specs.Num.Lists.{has, map_or, below}
 use Rattle.sd_checker.specs.Topo.Network.{Network, device_numbers, link_numbers, joins}
 use Rattle.sd_checker.specs.Topo.declared.Thing.TheVariants as thing
 use Rattle.sd_checker.specs.Domain.Domains.{domains, holds_device, holds_link, hits}
@@ -17,27 +17,29 @@ use Rattle.sd_checker.specs.Plan.declared.PlanRow.{PlanRow}
 use Rattle.sd_checker.specs.Plan.Plans.{IsHop, is_member, is_present, is_root, is_backup_root, row_of, primary_of, backup_of}
 use Rattle.sd_checker.specs.Plan.Walks.{walk, path, ends_walks, is_hit, on_walk, devices_of, links_of, things_of, end_of, short_walk}
 use Rattle.sd_checker.specs.Plan.Structure.{is_no_ancestor, hop_is_right}
-use Rattle.sd_checker.proofs.Plan.Numbered.{none_found, find_none, both_none}
-use Rattle.sd_checker.proofs.Plan.Rules.{KeepsRules, keeps_rules, hops_within}
+use Rattle.sd_checker.proofs.Plan.Numbered.{none_found, both_none}
+use Rattle.sd_checker.proofs.Plan.Rules.{KeepsRules, keeps_rules, hops_within, none_mapped}
 use Rattle.sd_checker.proofs.Plan.Forest.{IsForest, IsStep, forest_of, climb, on_top, on_up}
 use Rattle.sd_checker.specs.CheckRoot.Roots.{root_breach, fallback_breach, fallback_devices, fallback_links}
 use Rattle.sd_checker.specs.CheckLoop.Loops.{HasNoCycle, is_walk, hops_of, same_hop}
-use Rattle.sd_checker.specs.CheckReach.Reach.{Fed, IsCut, LosesBackup, ReachHolds, DomainHolds, is_sound, next_hop, acting_end}
+use Rattle.sd_checker.specs.CheckReach.Reach.{Fed, LosesBackup, ReachHolds, DomainHolds, acting_end}
 use Rattle.sd_checker.specs.CheckReach.Reach as reach
 use Rattle.sd_checker.specs.Conditions.{RootHolds}
+use Rattle.sd_checker.proofs.CheckLoop.Shared.{not_root}
+use Rattle.sd_checker.proofs.Exclusive.{same_self}
+use Rattle.sd_checker.proofs.Shared.{backup_root_ends}
+use Rattle.sd_checker.proofs.Num.Firsts.{find_below_none}
 use Rattle.sd_proof_needed.specs.Consequences.{AncestorFollows, DomainFollows}
 use Rattle.sd_history.proofs.Among.{Among, on_right}
 use Rattle.sd_history.proofs.Given.{some_is}
-use Rattle.sd_proof_needed.proofs.Elements.{each_among, mapped, below_among, none_mapped}
-use Rattle.sd_proof_needed.proofs.Paths.{not_root, short_walk_is, short_walk_none, path_step}
+use Rattle.sd_history.proofs.Shared.{each_among, among_below}
+use Rattle.sd_proof_needed.proofs.Elements.{mapped}
+use Rattle.sd_proof_needed.proofs.Paths.{short_walk_is, short_walk_none, path_step}
 
 -- Domain from reach
 
 root_ends : (plan : Plan) (d : ℕ) → d ≡ plan.root → ends_walks plan d ≡ true
 root_ends plan d is = or_left (is_root plan d) (is_backup_root plan d) (eq-eqb plan.root d (sym is))
-
-backup_root_ends : (plan : Plan) (d : ℕ) → d ≡ plan.backup_root → ends_walks plan d ≡ true
-backup_root_ends plan d is = or_right (is_root plan d) (is_backup_root plan d) (eq-eqb plan.backup_root d (sym is))
 
 acting_ends : (net : Network) (plan : Plan) (f : DomainId) (d : ℕ) → d ≡ acting_end net plan f → ends_walks plan d ≡ true
 acting_ends net plan f d is = by (holds_device net f plan.root) is
@@ -84,10 +86,7 @@ domain_follows net plan holds_ i f at = domain_holds net plan f (holds_ i f at)
 link_is_domain : (net : Network) (l : ℕ) → l < length net.links → Among (domain.Link l) (domains net)
 link_is_domain net l within =
     on_right (map domain.Listed (below (length net.domains)) ++ map domain.Device (device_numbers net))
-    (mapped domain.Link (link_numbers net) l (below_among (length net.links) l within))
-
-itself : (hop : Hop) → same_hop hop hop ≡ true
-itself hop = rw (eq-eqb hop.parent hop.parent refl, eq-eqb hop.link hop.link refl) refl
+    (mapped domain.Link (link_numbers net) l (among_below (length net.links) l within))
 
 -- the hop is drawn among these
 abbrev drawn : Hop → Bool → Option Hop → Bool → Option Hop → Bool
@@ -106,7 +105,7 @@ module _ (net : Network) (plan : Plan) (forest : IsForest net plan) where
       subst (λ (hs : List Hop). has (links_of hs) hop.link ≡ true) (sym step.walk)
       (elim (or_cases (nat_eq b x) (on_walk net plan h.parent b) (sym (on_up net plan x b h step.walk) ∙ on)) [
         | inl here ↦ or_left (nat_eq hop.link h.link) (has (links_of (walk net plan h.parent)) hop.link)
-            (eq-eqb hop.link h.link (ap (λ (o : Option Hop). of_some o 0 (λ y. y.link)) (sym is ∙ ap (primary_of plan) (eqb-true b x here) ∙ is_)))
+            (eq-eqb hop.link h.link (ap (λ (o : Option Hop). map_or o 0 (λ y. y.link)) (sym is ∙ ap (primary_of plan) (eqb-true b x here) ∙ is_)))
         | inr there ↦ or_right (nat_eq hop.link h.link) (has (links_of (walk net plan h.parent)) hop.link) (above there)
       ]))
 
@@ -129,7 +128,7 @@ module _ (net : Network) (plan : Plan) (forest : IsForest net plan) where
       let no : (nat_eq hop.link hop.link && has (fallback_links net plan) hop.link) ≡ false =
       none_found (λ l. holds_link net (domain.Link hop.link) l && has (fallback_links net plan) l) (length net.links) hop.link none_found_ step.link in
       let there : has (fallback_links net plan) hop.link ≡ true =
-      subst (λ (o : Option Hop). has (of_some o [] (λ h. h.link ∷ links_of (walk net plan h.parent))) hop.link ≡ true) (sym falls)
+      subst (λ (o : Option Hop). has (map_or o [] (λ h. h.link ∷ links_of (walk net plan h.parent))) hop.link ≡ true) (sym falls)
       (or_right (nat_eq hop.link back.link) (has (links_of (walk net plan back.parent)) hop.link)
       (has_link_of plan.backup_root hop is back.parent inside on)) in
       both_ways (nat_eq hop.link hop.link && has (fallback_links net plan) hop.link) no
@@ -160,7 +159,7 @@ module _ (net : Network) (plan : Plan) (forest : IsForest net plan) where
       subst (λ (o : Option Hop). drawn hop (is_member plan x && not (ends_walks plan x)) o (is_hit net plan f x) (backup_of plan x) ≡ true) (sym is)
       (subst (λ (b : Bool). drawn hop b (Some hop) (is_hit net plan f x) (backup_of plan x) ≡ true)
       (sym (and_from (is_member plan x) (not (ends_walks plan x)) member (ap not other)))
-      (or_left (same_hop hop hop) _ (itself hop)))
+      (or_left (same_hop hop hop) _ (same_self hop)))
 
   -- and the backup one of a device that is hit
   backup_drawn : (f : DomainId) (x : ℕ) (hop : Hop) → is_member plan x ≡ true → ends_walks plan x ≡ false → is_hit net plan f x ≡ true
@@ -172,7 +171,7 @@ module _ (net : Network) (plan : Plan) (forest : IsForest net plan) where
       (sym (and_from (is_member plan x) (not (ends_walks plan x)) member (ap not other)))
       (list_any-append (same_hop hop) (option_to_list (primary_of plan x)) (hop ∷ [])
       ∙ or_right (list_any (same_hop hop) (option_to_list (primary_of plan x))) (same_hop hop hop || false)
-      (or_left (same_hop hop hop) false (itself hop)))))
+      (or_left (same_hop hop hop) false (same_self hop)))))
 
   -- primary hops lead from a member to each device of its short walk
   leads_down : (f : DomainId) (d x : ℕ) → x < length net.devices → is_member plan x ≡ true
@@ -222,7 +221,7 @@ module _ (net : Network) (plan : Plan) (forest : IsForest net plan) where
       (backup_drawn f d back step.below other hit falls) leads.is) leads.ends
 
 pub ancestor_follows : (net : Network) (plan : Plan) → AncestorFollows net plan
-ancestor_follows net plan fits structured root loop = find_none (λ d. not (is_no_ancestor net plan d)) (length net.devices) each
+ancestor_follows net plan fits structured root loop = find_below_none (λ d. not (is_no_ancestor net plan d)) (length net.devices) each
   where
     rules : KeepsRules net plan
     rules = keeps_rules net plan structured
@@ -234,7 +233,7 @@ ancestor_follows net plan fits structured root loop = find_none (λ d. not (is_n
     primary_there : (d : ℕ) (back : Hop) → d < length net.devices → backup_of plan d ≡ Some back → (hop : Hop) × (primary_of plan d ≡ Some hop)
     primary_there d back within falls = by (row_of plan d) falls
       where
-        by : (row : Option PlanRow) → of_some row None (λ r. r.backup) ≡ Some back → (hop : Hop) × (option_map (λ r. r.primary) row ≡ Some hop)
+        by : (row : Option PlanRow) → map_or row None (λ r. r.backup) ≡ Some back → (hop : Hop) × (option_map (λ r. r.primary) row ≡ Some hop)
         by None is = cc
         by (Some row) is = (row.primary, refl)
 
@@ -251,7 +250,7 @@ ancestor_follows net plan fits structured root loop = find_none (λ d. not (is_n
         (known.0, (and_parts (is_member plan back.parent) (is_present plan back.link) front).0)
 
     by_backup : (d : ℕ) → d < length net.devices → (o : Option Hop) → backup_of plan d ≡ o → (b : Bool) → is_backup_root plan d ≡ b
-        → of_some o true (λ hop. if b then not (on_walk net plan hop.parent d) else not (has (devices_of hop.parent (short_walk net plan hop.parent)) d)) ≡ true
+        → map_or o true (λ hop. if b then not (on_walk net plan hop.parent d) else not (has (devices_of hop.parent (short_walk net plan hop.parent)) d)) ≡ true
     by_backup d within None falls b is = refl
     by_backup d within (Some back) falls true is =
         let here : plan.backup_root ≡ d = eqb-true plan.backup_root d is in

@@ -2,7 +2,7 @@
 use Rattle.std.specs.Prelude.{◌≡◌, ℕ, ◌+◌, ◌<◌, Bool, true, false, ◌&&◌, ◌||◌, not, List, [], ◌∷◌, ◌++◌, length, count_by, nat_eq, Option, Some, None, is_some, option_map, refl, if◌then◌else◌}
 use Rattle.std.proofs.Common.{sym, ap, ◌∙◌, subst, inl, inr}
 use Rattle.std.proofs.lemmas.Bool.{and_parts, or_parts, eqb-true, eq-eqb, both_ways, not-true, not-false, false_from_ne_true, lt-ltb}
-use Rattle.sd_checker.specs.Num.Lists.{of_some}
+use Rattle.sd_checker.specs.Num.Lists.{map_or}
 use Rattle.sd_checker.specs.Topo.Network.{Network}
 use Rattle.sd_checker.specs.Topo.declared.Thing.{Thing}
 use Rattle.sd_checker.specs.Topo.declared.Thing.TheVariants as thing
@@ -205,7 +205,7 @@ module _ (net : Network) (plan : Plan) (fits : Fits net plan) (structured : stru
       quiet u =
           let was : IsSettled net plan steps d = old.settled d u in
           ap (λ (act : Act). (told_by steps act).effect) acts
-          ∙ ap (λ (o : Option Past). (of_some o tells_nothing (λ past. tells_called (effect_of past call) (answers_by (after past call)))).effect) was.is
+          ∙ ap (λ (o : Option Past). (map_or o tells_nothing (λ past. tells_called (effect_of past call) (answers_by (after past call)))).effect) was.is
           ∙ sends_nothing was.past call (stays was u)
 
       new : (g : Flight) → Among g (next_step (alone net plan) steps e).sent → g.reaches ≡ true → IsOnNext net plan f g.receiver g.link → ⊥
@@ -271,16 +271,16 @@ module _ (net : Network) (plan : Plan) (fits : Fits net plan) (structured : stru
       taken : (g : Flight) → flight_numbered steps n ≡ Some g → Later net plan f (next_step (alone net plan) steps (event.Recv r d c n) ∷ steps)
       taken g found_ =
           let right : not (nat_eq d g.receiver) ≡ false =
-          subst (λ (o : Option Flight). of_some o false (λ h. not (nat_eq d h.receiver)) ≡ false) found_
+          subst (λ (o : Option Flight). map_or o false (λ h. not (nat_eq d h.receiver)) ≡ false) found_
           (none_holds (causes (alone net plan) steps (event.Recv r d c n)) _ none (later (later (later (later (later (later first))))))) in
           let same : d ≡ g.receiver = eqb-true d g.receiver (not-false (nat_eq d g.receiver) right) in
           let unspent : is_spent steps r g ≡ false =
-          subst (λ (o : Option Flight). of_some o false (is_spent steps r) ≡ false) found_
+          subst (λ (o : Option Flight). map_or o false (is_spent steps r) ≡ false) found_
           (none_holds (causes (alone net plan) steps (event.Recv r d c n)) _ none (later (later (later (later (later first)))))) in
           let reaches : g.reaches ≡ true = not-false g.reaches (or_parts _ (not g.reaches) unspent).1 in
           let among : Among g (flights steps) = found (λ (h : Flight). nat_eq h.number n) g (flights steps) found_ in
           later_call (event.Recv r d c n) d (Receive g.link g.message c) receives
-          (ap (λ (o : Option Flight). of_some o Passes (λ h. Calls d (Receive h.link h.message c))) found_) refl (called_up (event.Recv r d c n) d none refl)
+          (ap (λ (o : Option Flight). map_or o Passes (λ h. Calls d (Receive h.link h.message c))) found_) refl (called_up (event.Recv r d c n) d none refl)
           (λ is u.
           receipt_rests (duty_of net plan 1 d) (option_map (edge_of net d) (next_hop plan d)) is.past is.settled
           g.link g.message c
@@ -297,7 +297,7 @@ module _ (net : Network) (plan : Plan) (fits : Fits net plan) (structured : stru
       passed : flight_numbered steps n ≡ None → Later net plan f (next_step (alone net plan) steps (event.Recv r d c n) ∷ steps)
       passed gone =
           let acts : act_by (alone net plan) steps (event.Recv r d c n) ≡ Passes =
-          ap (λ (o : Option Flight). of_some o Passes (λ h. Calls d (Receive h.link h.message c))) gone in
+          ap (λ (o : Option Flight). map_or o Passes (λ h. Calls d (Receive h.link h.message c))) gone in
           later_pass (event.Recv r d c n) receives (λ x. ap (λ (act : Act). past_after act x (past_in steps x)) acts)
           (ap (λ (act : Act). flights_of (alone net plan) steps r act (told_by steps act)) acts)
 

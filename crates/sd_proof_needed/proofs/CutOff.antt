@@ -5,7 +5,7 @@ use Rattle.std.specs.List.{list_any}
 use Rattle.std.proofs.Common.{sym, ap, ◌∙◌, subst, inl, inr}
 use Rattle.std.proofs.lemmas.Bool.{and_parts, and_from, or_cases, or_left, or_right, cases_Bool, both_ways, not-true}
 use Rattle.std.proofs.lemmas.List.Folds.{list_any-append}
-use Rattle.sd_checker.specs.Num.Lists.{of_some}
+use Rattle.sd_checker.specs.Num.Lists.{map_or}
 use Rattle.sd_checker.specs.Topo.Network.{Network}
 use Rattle.sd_checker.specs.Topo.declared.Thing.{Thing}
 use Rattle.sd_checker.specs.Topo.declared.Thing.TheVariants as thing
@@ -124,8 +124,8 @@ module _ (net : Network) (plan : Plan) (fits : Fits net plan) (structured : stru
       touched_off hop.parent live
       (fallback_hit down (λ d. not (is_root plan d)) hop.link hop.parent (walk net plan hop.parent) sound (live_parts net plan down hop.parent live).spared
       (subst (λ (o : Option Hop). list_any down
-      (map thing.Device (of_some o [] (λ h. filter (λ d. not (is_root plan d)) (devices_of h.parent (walk net plan h.parent))))
-      ++ map thing.Link (of_some o [] (λ h. h.link ∷ links_of (walk net plan h.parent)))) ≡ true) backup takes))
+      (map thing.Device (map_or o [] (λ h. filter (λ d. not (is_root plan d)) (devices_of h.parent (walk net plan h.parent))))
+      ++ map thing.Link (map_or o [] (λ h. h.link ∷ links_of (walk net plan h.parent)))) ≡ true) backup takes))
 
   pub off_above : (x l s : ℕ) → IsUnheard net plan down x l → follows_over plan s l x ≡ true → down (thing.Link l) ≡ false → is_live net plan down s ≡ true
       → is_cut_off net plan down s ≡ true

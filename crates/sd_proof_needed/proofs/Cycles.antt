@@ -10,6 +10,7 @@ use Rattle.sd_checker.specs.Plan.declared.Hop.{Hop}
 use Rattle.sd_checker.specs.Plan.declared.Plan.{Plan}
 use Rattle.sd_checker.specs.Plan.Walks.{devices_of, end_of}
 use Rattle.sd_checker.specs.CheckLoop.Loops.{LeadsTo, IsChain, AreDifferent, hops_of, same_hop, is_walk}
+use Rattle.sd_checker.proofs.CheckLoop.Shared.{parent_any}
 use Rattle.sd_proof_needed.specs.Loops.{ClosesLoop, CycleIsNeeded}
 use Rattle.sd_proof_needed.proofs.Loops.{loop_is_needed}
 
@@ -81,22 +82,13 @@ different_or_ring R (x ∷ xs) chain = by (different_or_ring R xs (rest_of xs ch
       | inr none ↦ inl (ap not none, different)
     ]
 
--- a walk leads from each of its devices to the next
-leads_one : (hs : List Hop) (hop : Hop) → list_any (same_hop hop) hs ≡ true → list_any (λ h. nat_eq h.parent hop.parent) hs ≡ true
-leads_one [] hop some = cc
-leads_one (h ∷ hs) hop some = elim (or_cases (same_hop hop h) (list_any (same_hop hop) hs) some) [
-  | inl here ↦ or_left (nat_eq h.parent hop.parent) (list_any (λ x. nat_eq x.parent hop.parent) hs)
-      (eq-eqb h.parent hop.parent (sym (eqb-true hop.parent h.parent (and_parts (nat_eq hop.parent h.parent) (nat_eq hop.link h.link) here).0)))
-  | inr more ↦ or_right (nat_eq h.parent hop.parent) (list_any (λ x. nat_eq x.parent hop.parent) hs) (leads_one hs hop more)
-]
-
 walk_chain : (net : Network) (plan : Plan) (f : DomainId) (d : ℕ) (hop : Hop) (hs : List Hop) → is_walk net plan f d (hop ∷ hs) ≡ true
     → IsChain (LeadsTo net plan f) (d ∷ devices_of hop.parent hs)
 walk_chain net plan f d hop [] walk =
-    (leads_one (hops_of net plan f d) hop (and_parts (list_any (same_hop hop) (hops_of net plan f d)) true walk).0, tt)
+    (parent_any (hops_of net plan f d) hop (and_parts (list_any (same_hop hop) (hops_of net plan f d)) true walk).0, tt)
 walk_chain net plan f d hop (h ∷ hs) walk =
     let (here, rest) = and_parts (list_any (same_hop hop) (hops_of net plan f d)) (is_walk net plan f hop.parent (h ∷ hs)) walk in
-    (leads_one (hops_of net plan f d) hop here, walk_chain net plan f hop.parent h hs rest)
+    (parent_any (hops_of net plan f d) hop here, walk_chain net plan f hop.parent h hs rest)
 
 -- it ends at one of its devices
 ends_among : (d : ℕ) (hs : List Hop) → has (devices_of d hs) (end_of d hs) ≡ true

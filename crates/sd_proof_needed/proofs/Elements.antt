@@ -1,17 +1,10 @@
 -- Elements of lists.
-use Rattle.std.specs.Prelude.{Option, None, option_map, ◌||◌, nat_eq, ◌≡◌, ℕ, zero, suc, ◌<◌, Bool, true, false, List, [], ◌∷◌, ◌++◌, filter, find, map, Some, is_some, refl, if◌then◌else◌}
+use Rattle.std.specs.Prelude.{◌||◌, nat_eq, ◌≡◌, ℕ, ◌<◌, Bool, true, false, List, [], ◌∷◌, ◌++◌, filter, find, map, Some, is_some, refl, if◌then◌else◌}
 use Rattle.std.specs.List.{list_any}
-use Rattle.std.proofs.Common.{sym, subst, arith, inl, inr}
-use Rattle.std.proofs.lemmas.Bool.{or_left, or_right, or_cases, eqb-true, cases_eq}
-use Rattle.sd_checker.specs.Num.Lists.{below, has}
-use Rattle.sd_checker.specs.Topo.Network.{Each}
-use Rattle.sd_history.proofs.Among.{Among, first, later, on_right, either_side}
-
--- an element of a list has a place
-pub each_among : {A : Type 0} (P : A → Type 0) (xs : List A) (x : A) → Each P xs → Among x xs → P x
-each_among P [] x each a = elim a [ ]
-each_among P (y ∷ ys) x each first = each zero x refl
-each_among P (y ∷ ys) x each (later a) = each_among P ys x (λ i z at. each (suc i) z at) a
+use Rattle.std.proofs.Common.{sym, subst, inl, inr}
+use Rattle.std.proofs.lemmas.Bool.{or_left, or_right, or_cases, eqb-true}
+use Rattle.sd_checker.specs.Num.Lists.{has}
+use Rattle.sd_history.proofs.Among.{Among, first, later}
 
 pub mapped : {A B : Type 0} (f : A → B) (xs : List A) (x : A) → Among x xs → Among (f x) (map f xs)
 mapped f [] x a = elim a [ ]
@@ -22,14 +15,6 @@ pub on_left : {A : Type 0} (xs ys : List A) (x : A) → Among x xs → Among x (
 on_left [] ys x a = elim a [ ]
 on_left (z ∷ xs) ys x first = first
 on_left (z ∷ xs) ys x (later a) = later (on_left xs ys x a)
-
-pub below_among : (n k : ℕ) → k < n → Among k (below n)
-below_among zero k within = absurd (omega arith)
-below_among (suc n) k within =
-    elim (cases_eq k n) [
-      | inl same ↦ on_right (below n) (subst (λ (m : ℕ). Among k (m ∷ [])) same first)
-      | inr other ↦ on_left (below n) (n ∷ []) k (below_among n k (omega (arith, other)))
-    ]
 
 kept_head : {A : Type 0} (p : A → Bool) (y x : A) (zs : List A) → p y ≡ true → (Among x zs → p x ≡ true) → Among x (y ∷ zs) → p x ≡ true
 kept_head p y x zs is rest first = is
@@ -54,27 +39,11 @@ pub found_some : {A : Type 0} (p : A → Bool) (xs : List A) (x : A) → p x ≡
 found_some p [] x is a = elim a [ ]
 found_some p (y ∷ ys) x is a = found_when p y x ys (p y) refl is (found_some p ys x is) a
 
-pub among_below : (n d : ℕ) → Among d (below n) → d < n
-among_below zero d a = elim a [ ]
-among_below (suc n) d a = elim (either_side (below n) (n ∷ []) a) [
-  | inl before ↦ (let less : d < n = among_below n d before in omega arith)
-  | inr last ↦ at_last d n last
-]
-  where
-    at_last : (c m : ℕ) → Among c (m ∷ []) → c < suc m
-    at_last c m first = omega arith
-    at_last c m (later b) = elim b [ ]
-
 -- one of them passes
 pub any_of : {A : Type 0} (p : A → Bool) (xs : List A) (x : A) → p x ≡ true → Among x xs → list_any p xs ≡ true
 any_of p [] x is a = elim a [ ]
 any_of p (y ∷ ys) x is first = or_left (p y) (list_any p ys) is
 any_of p (y ∷ ys) x is (later a) = or_right (p y) (list_any p ys) (any_of p ys x is a)
-
--- nothing is made of nothing alone
-pub none_mapped : {X Y : Type 0} (f : X → Y) (o : Option X) → option_map f o ≡ None → o ≡ None
-none_mapped f None none = refl
-none_mapped f (Some x) none = cc
 
 -- what passes and is among the elements is among those that are kept
 passing_head : {A : Type 0} (p : A → Bool) (y x : A) (ys : List A) → p x ≡ true → (Among x ys → Among x (filter p ys)) → Among x (y ∷ ys)

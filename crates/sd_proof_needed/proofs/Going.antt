@@ -2,7 +2,7 @@
 use Rattle.std.specs.Prelude.{◌≡◌, ℕ, ◌+◌, ◌-◌, ◌^◌, ◌<◌, ◌≤◌, Bool, true, false, List, [], ◌∷◌, length, max, nat_eq, nat_le, nat_lt, Option, Some, None, refl, if◌then◌else◌}
 use Rattle.std.proofs.Common.{ap, ◌∙◌, arith}
 use Rattle.std.proofs.lemmas.Bool.{and_from, or_from, le-leb, le-ltb, ne_eqb, eq-eqb}
-use Rattle.sd_checker.specs.Num.Lists.{of_some}
+use Rattle.sd_checker.specs.Num.Lists.{map_or}
 use Rattle.sd_checker.specs.Topo.Network.{Network, delay_of, link_of}
 use Rattle.sd_checker.specs.Topo.Limits.{IsNetwork}
 use Rattle.sd_checker.specs.Topo.declared.Delay.{Delay}
@@ -83,10 +83,10 @@ module _ (net : Network) (plan : Plan) (dom : DomainId) (down : Thing → Bool) 
   none_fails e r d ticks = good.failures
   none_fails e r d (receives n) = good.failures
 
-  goes : (e : Event) (r d : ℕ) → IsCalm e r d → Receives steps e → t ≤ r → OnTime net plan down (seen_of steps) r → NoneDue steps r
+  stays_good : (e : Event) (r d : ℕ) → IsCalm e r d → Receives steps e → t ≤ r → OnTime net plan down (seen_of steps) r → NoneDue steps r
       → arrives_in_time setting (next_step setting steps e).seen ≡ true
       → refusal setting steps e ≡ None → Good net plan dom down (e ∷ history) r
-  goes e r d calm receives_ later_ on_time none arrives accepted =
+  stays_good e r d calm receives_ later_ on_time none arrives accepted =
       let is : IsHistory setting (e ∷ history) = (good.is, accepted) in
       record {
         is = is;
@@ -99,7 +99,7 @@ module _ (net : Network) (plan : Plan) (dom : DomainId) (down : Thing → Bool) 
   pub tick_goes : (r d : ℕ) → is_live net plan down d ≡ true → t ≤ r → OnTime net plan down (seen_of steps) r → NoneDue steps r
       → Good net plan dom down (event.Tick r d r ∷ history) r
   tick_goes r d live later_ on_time none =
-      goes (event.Tick r d r) r d ticks nothing later_ on_time none refl
+      stays_good (event.Tick r d r) r d ticks nothing later_ on_time none refl
       (allowed net plan dom down steps t good.world (event.Tick r d r) r d ticks live later_ few refl refl refl)
 
   latest_is : {due last : ℕ} → due ≤ last → t ≤ due → max due (latest_reference (seen_of steps)) ≤ last
@@ -128,12 +128,12 @@ module _ (net : Network) (plan : Plan) (dom : DomainId) (down : Thing → Bool) 
       or_from (nat_eq f.number 0) (nat_lt (flight_count steps) f.number) (ne_eqb f.number 0 (λ same. omega (arith, same, numbers.0)))
       (le-ltb (flight_count steps) f.number numbers.1) in
       let spent : spent_message steps e ≡ false =
-      ap (λ (o : Option Flight). of_some o false (is_spent steps f.due)) found
+      ap (λ (o : Option Flight). map_or o false (is_spent steps f.due)) found
       ∙ rw (unused, laws.unswept, reaches, le-ltb f.last (max f.due (latest_reference (seen_of steps))) (latest_is laws.last later_)) refl in
       let ordered : (delay_of net f.link f.receiver).min ≤ (delay_of net f.link f.receiver).max =
       delay_in_order net f.link f.receiver law (flights_of_network setting steps f are a).link in
       let right : wrong_device steps e ≡ false = rw (found, eq-eqb f.receiver f.receiver refl) refl in
       let arrives : arrives_in_time setting (next_step setting steps e).seen ≡ true =
-      ap (λ (o : Option Flight). of_some o true (is_in_time setting f.due)) found ∙ timely f laws.due ordered in
-      goes e f.due f.receiver (receives f.number) (one f found refl) later_ on_time none arrives
+      ap (λ (o : Option Flight). map_or o true (is_in_time setting f.due)) found ∙ timely f laws.due ordered in
+      stays_good e f.due f.receiver (receives f.number) (one f found refl) later_ on_time none arrives
       (allowed net plan dom down steps t good.world e f.due f.receiver (receives f.number) (laws.live reaches) later_ few known spent right)

@@ -3,7 +3,7 @@
 use Rattle.std.specs.Prelude.{◌≡◌, ℕ, suc, ◌*◌, ◌<◌, Bool, true, false, List, ◌∷◌, nat_eq, nat_le, Option, Some, None, option_map, refl, if◌then◌else◌}
 use Rattle.std.proofs.Common.{sym, ap, ◌∙◌, subst, inl, inr}
 use Rattle.std.proofs.lemmas.Bool.{or_parts, eqb-true, eq-eqb}
-use Rattle.sd_checker.specs.Num.Lists.{of_some}
+use Rattle.sd_checker.specs.Num.Lists.{map_or}
 use Rattle.sd_checker.specs.Topo.Network.{Network}
 use Rattle.sd_checker.specs.Topo.declared.Thing.{Thing}
 use Rattle.sd_checker.specs.Topo.declared.Thing.TheVariants as thing
@@ -80,7 +80,7 @@ role_is net plan z other =
 
 -- the device's wait is not over at this counter
 abbrev pub is_over : Network → Plan → ℕ → ℕ → Bool
-is_over net plan d counter = of_some (wait_to_move (duty_of net plan 1 d)) false (λ wait. nat_le wait counter)
+is_over net plan d counter = map_or (wait_to_move (duty_of net plan 1 d)) false (λ wait. nat_le wait counter)
 
 -- a call that does nothing leaves a still device still
 pub stays_silent : (duty : Duty) (past : Past) (call : Call) → Still duty past → transition_of past call ≡ Nothing → duty_given call ≡ None
@@ -172,7 +172,7 @@ module _ (net : Network) (plan : Plan) (dom : DomainId) (down : Thing → Bool) 
       quiet in_ =
           let old : Stands (state d) steps d = hush.still d in_ in
           ap (λ (act : Act). (told_by steps act).effect) acts
-          ∙ ap (λ (o : Option Past). (of_some o tells_nothing (λ past. tells_called (effect_of past call) (answers_by (after past call)))).effect) old.is
+          ∙ ap (λ (o : Option Past). (map_or o tells_nothing (λ past. tells_called (effect_of past call) (answers_by (after past call)))).effect) old.is
           ∙ (called old.past in_ old.still).0
 
       silent_new : (f : Flight) → Among f (next_step setting steps e).sent → f.reaches ≡ true → mute f.receiver f.link → ⊥
@@ -199,5 +199,5 @@ module _ (net : Network) (plan : Plan) (dom : DomainId) (down : Thing → Bool) 
       → Hush zone mute state (next_step setting steps (event.Recv f.due f.receiver f.due f.number) ∷ steps)
   hush_receipt f a reaches found live hears is air =
       hush_on state (event.Recv f.due f.receiver f.due f.number) f.due f.receiver (Receive f.link f.message f.due) (receives f.number)
-      (ap (λ (o : Option Flight). of_some o Passes (λ g. Calls f.receiver (Receive g.link g.message f.due))) found) live
+      (ap (λ (o : Option Flight). map_or o Passes (λ g. Calls f.receiver (Receive g.link g.message f.due))) found) live
       (λ past in_ at. hears past in_ (λ mutes. hush.silent f a reaches mutes) at) (λ z past in_ other at. at) is air

@@ -2,7 +2,7 @@
 use Rattle.std.specs.Prelude.{◌≡◌, ℕ, ◌^◌, ◌<◌, ◌≤◌, Bool, true, false, ◌&&◌, not, List, [], ◌∷◌, ◌++◌, length, nat_eq, Option, Some, None, ◌⊎◌, refl}
 use Rattle.std.proofs.Common.{sym, ap, ◌∙◌, subst, inl, inr, append_assoc}
 use Rattle.std.proofs.lemmas.Bool.{and_parts, eq-eqb, eqb-true, not-true, not-false, both_ways}
-use Rattle.sd_checker.specs.Num.Lists.{has, of_some}
+use Rattle.sd_checker.specs.Num.Lists.{has, map_or}
 use Rattle.sd_checker.specs.Topo.Network.{Network}
 use Rattle.sd_checker.specs.Topo.Limits.{IsNetwork}
 use Rattle.sd_checker.specs.Topo.declared.Thing.{Thing}
@@ -17,6 +17,7 @@ use Rattle.sd_checker.specs.Plan.Structure.{structure_breach}
 use Rattle.sd_checker.specs.Plan.Walks.{is_hit}
 use Rattle.sd_checker.specs.Conditions as condition
 use Rattle.sd_checker.specs.CheckLoop.Loops.{IsChain, AreDifferent, IsNextShown, LeadsTo, IsShownCycle}
+use Rattle.sd_checker.proofs.Exclusive.{chain_tail}
 use Rattle.sd_history.specs.Chronicle.{chronicle}
 use Rattle.sd_history.specs.Lines.{counted_parent}
 use Rattle.sd_proof_needed.specs.Alone.{alone, holds_besides}
@@ -40,7 +41,7 @@ module _ (net : Network) (plan : Plan) (law : IsNetwork net) (fits : Fits net pl
   down = holds_besides net f all
 
   abbrev leads_to : Option Hop → ℕ → Bool
-  leads_to o y = of_some o false (λ hop. nat_eq hop.parent y)
+  leads_to o y = map_or o false (λ hop. nat_eq hop.parent y)
 
   -- a device of the ring moves where its primary hop does not lead to the next
   abbrev mover : ℕ → Bool
@@ -125,14 +126,6 @@ loop_is_needed net plan law fits structured bound f is_domain first others ring 
 
 -- What the checker shows
 
-chain_drop : (R : ℕ → ℕ → Type 0) (xs ys : List ℕ) → IsChain R (xs ++ ys) → IsChain R ys
-chain_drop R [] ys chain = chain
-chain_drop R (x ∷ xs) ys chain = chain_drop R xs ys (tail_of R x (xs ++ ys) chain)
-  where
-    tail_of : (R : ℕ → ℕ → Type 0) (x : ℕ) (zs : List ℕ) → IsChain R (x ∷ zs) → IsChain R zs
-    tail_of R x [] chain = tt
-    tail_of R x (z ∷ zs) chain = chain.1
-
 chain_map : (R S : ℕ → ℕ → Type 0) (xs : List ℕ) → ((x y : ℕ) → R x y → S x y) → IsChain R xs → IsChain S xs
 chain_map R S [] each chain = tt
 chain_map R S (x ∷ []) each chain = tt
@@ -148,7 +141,7 @@ shown_ring net plan f first others shown =
     record {
       different = different_drop shown.lead (first ∷ others) shown.once;
       leads = chain_map (IsNextShown net plan f) (LeadsTo net plan f) (first ∷ (others ++ first ∷ [])) (λ x y next_. next_.0.0)
-          (chain_drop (IsNextShown net plan f) shown.lead (first ∷ (others ++ first ∷ []))
+          (chain_tail (IsNextShown net plan f) shown.lead (first ∷ (others ++ first ∷ []))
           (subst (IsChain (IsNextShown net plan f)) (append_assoc shown.lead (first ∷ others) (first ∷ [])) shown.goes_on));
     }
 

@@ -2,7 +2,7 @@
 use Rattle.std.specs.Prelude.{◌≡◌, ℕ, zero, suc, ◌+◌, ◌*◌, ◌^◌, ◌<◌, ◌≤◌, Bool, true, false, List, ◌∷◌, ◌⊎◌, length, nat_eq, nat_le, Option, Some, None, is_some, option_map, refl, if◌then◌else◌}
 use Rattle.std.proofs.Common.{sym, ap, ◌∙◌, subst, arith, inl, inr}
 use Rattle.std.proofs.lemmas.Bool.{cases_eq, eq-eqb, ne_eqb, le-leb, lt-leb, both_ways}
-use Rattle.sd_checker.specs.Num.Lists.{of_some}
+use Rattle.sd_checker.specs.Num.Lists.{map_or}
 use Rattle.sd_checker.specs.Topo.Network.{Network}
 use Rattle.sd_checker.specs.Topo.Limits.{IsNetwork}
 use Rattle.sd_checker.specs.Topo.declared.Thing.{Thing}
@@ -88,7 +88,7 @@ module _ (net : Network) (plan : Plan) (dom : DomainId) (down : Thing → Bool) 
       early (is_some (duty_of net plan 1 d).backup) (role_of plan d) (role_is net plan d (is_zone.ordinary d in_))
     where
       early : (b : Bool) (role : Role) → role ≡ Ordinary
-          → of_some (elim role [ Root ↦ None | BackupRoot ↦ Some plan.wait_first | Ordinary ↦ if b then Some plan.wait else None ]) false
+          → map_or (elim role [ Root ↦ None | BackupRoot ↦ Some plan.wait_first | Ordinary ↦ if b then Some plan.wait else None ]) false
           (λ wait. nat_le wait (i * net.params.tick)) ≡ false
       early true role is =
           rw is (lt-leb plan.wait (i * net.params.tick) ((multiples plan.wait net.params.tick law.tick.0).early i less))
@@ -125,7 +125,7 @@ module _ (net : Network) (plan : Plan) (dom : DomainId) (down : Thing → Bool) 
       late (is_some (duty_of net plan 1 z).backup) there (role_of plan z) (role_is net plan z (is_zone.ordinary z (moves_zone z is)))
     where
       late : (b : Bool) → b ≡ true → (role : Role) → role ≡ Ordinary
-          → of_some (elim role [ Root ↦ None | BackupRoot ↦ Some plan.wait_first | Ordinary ↦ if b then Some plan.wait else None ]) false
+          → map_or (elim role [ Root ↦ None | BackupRoot ↦ Some plan.wait_first | Ordinary ↦ if b then Some plan.wait else None ]) false
           (λ wait. nat_le wait end_) ≡ true
       late b is_b role is_role = rw (is_role, is_b) (le-leb plan.wait end_ (multiples plan.wait net.params.tick law.tick.0).over)
 
@@ -148,7 +148,7 @@ module _ (net : Network) (plan : Plan) (dom : DomainId) (down : Thing → Bool) 
       tick_goes net plan dom down law among now.history now.reference now.good (omega (arith, roomy, within)) end_ c live now.before now.ticked now.none in
       let are : AreSteps setting (steps (event.Tick end_ c end_ ∷ now.history)) = history_is_accepted setting (event.Tick end_ c end_ ∷ now.history) good.is in
       let quiet : (next_step setting (steps now.history) (event.Tick end_ c end_)).told.effect ≡ Quiet =
-      ap (λ (o : Option Past). (of_some o tells_nothing (λ x. tells_called (effect_of x (Tick end_)) (answers_by (after x (Tick end_))))).effect) still.is
+      ap (λ (o : Option Past). (map_or o tells_nothing (λ x. tells_called (effect_of x (Tick end_)) (answers_by (after x (Tick end_))))).effect) still.is
       ∙ just.quiet in
       let sent_before : (f : Flight) → Among f (flights (steps (event.Tick end_ c end_ ∷ now.history))) → Among f (flights (steps now.history)) = λ f a.
       elim (either_side (next_step setting (steps now.history) (event.Tick end_ c end_)).sent (flights (steps now.history)) a) [

@@ -3,19 +3,20 @@ use Rattle.std.specs.Prelude.{◌≡◌, Bool, true, false, ◌&&◌, not, List,
 use Rattle.std.specs.List.{list_any, list_all}
 use Rattle.std.proofs.Common.{ap, ◌∙◌}
 use Rattle.std.proofs.lemmas.Bool.{and_parts, or_from, not-true}
-use Rattle.sd_checker.specs.Num.Lists.{of_some, latest, leading}
+use Rattle.sd_checker.specs.Num.Lists.{map_or, find_map_or, leading}
 use Rattle.sd_checker.specs.Plan.declared.Duty.{Duty}
+use Rattle.sd_checker.proofs.Num.Shared.{none_if_not_some}
 use Rattle.sd_history.specs.Core.Calls.{Started, Did, Past}
 use Rattle.sd_history.specs.Core.Words.{takes_up, taken_up, duty_given, later_entry, since_entry, duty_now, given_now}
 
 -- Calls of one kind
 
 pub latest_none : {B : Type 0} (p : Did → Bool) (f : Did → Option B) (d : B) (did : List Did) → ((x : Did) → p x ≡ true → f x ≡ None)
-    → list_all p did ≡ true → latest f did d ≡ d
+    → list_all p did ≡ true → find_map_or f did d ≡ d
 latest_none p f d [] each all = refl
 latest_none p f d (x ∷ xs) each all =
     let (here, rest) = and_parts (p x) (list_all p xs) all in
-    ap (λ o. of_some o (latest f xs d) (λ told. told)) (each x here) ∙ latest_none p f d xs each rest
+    ap (λ o. map_or o (find_map_or f xs d) (λ told. told)) (each x here) ∙ latest_none p f d xs each rest
 
 pub any_none : (p q : Did → Bool) (did : List Did) → ((x : Did) → p x ≡ true → q x ≡ false) → list_all p did ≡ true → list_any q did ≡ false
 any_none p q [] each all = refl
@@ -35,10 +36,6 @@ leading_all p q (x ∷ xs) each all =
     let (here, rest) = and_parts (p x) (list_all p xs) all in
     rw (each x here) (ap (λ ys. x ∷ ys) (leading_all p q xs each rest))
 
-pub none_is : {A : Type 0} (o : Option A) → is_some o ≡ false → o ≡ None
-none_is None is = refl
-none_is (Some x) is = cc
-
 -- No other duty
 
 -- the call neither took up a duty nor gave one
@@ -55,10 +52,10 @@ plain_takes x is = not-true (takes_up x) (and_parts (not (takes_up x)) (not (is_
 
 plain_gives : (x : Did) → is_plain x ≡ true → duty_given x.call ≡ None
 plain_gives x is =
-    none_is (duty_given x.call) (not-true (is_some (duty_given x.call)) (and_parts (not (takes_up x)) (not (is_some (duty_given x.call))) is).1)
+    none_if_not_some (duty_given x.call) (not-true (is_some (duty_given x.call)) (and_parts (not (takes_up x)) (not (is_some (duty_given x.call))) is).1)
 
 plain_takes_none : (x : Did) → is_plain x ≡ true → taken_up x.transition ≡ None
-plain_takes_none x is = none_is (taken_up x.transition) (plain_takes x is)
+plain_takes_none x is = none_if_not_some (taken_up x.transition) (plain_takes x is)
 
 module _ (duty : Duty) (past : Past) (plain : Plain duty past) where
   pub no_entry : later_entry past ≡ None

@@ -1,22 +1,15 @@
 -- The cut path of a device, one hop after another.
-use Rattle.std.specs.Prelude.{◌≡◌, ℕ, ◌<◌, Bool, true, false, List, [], ◌∷◌, length, Some, None, refl, if◌then◌else◌}
+use Rattle.std.specs.Prelude.{◌≡◌, ℕ, ◌<◌, Bool, true, false, [], ◌∷◌, length, Some, None, refl, if◌then◌else◌}
 use Rattle.std.proofs.Common.{sym, ap, ◌∙◌, inl, inr}
-use Rattle.std.proofs.lemmas.Bool.{or_parts, cases_Bool}
+use Rattle.std.proofs.lemmas.Bool.{cases_Bool}
 use Rattle.sd_checker.specs.Topo.Network.{Network}
 use Rattle.sd_checker.specs.Plan.declared.Hop.{Hop}
 use Rattle.sd_checker.specs.Plan.declared.Plan.{Plan}
-use Rattle.sd_checker.specs.Plan.Plans.{is_root, is_backup_root, primary_of}
+use Rattle.sd_checker.specs.Plan.Plans.{is_root, primary_of}
 use Rattle.sd_checker.specs.Plan.Walks.{hops, walk, ends_walks, short_path, short_walk}
 use Rattle.sd_checker.proofs.Plan.CutOff.{cut_off, cut_hops}
-use Rattle.sd_checker.proofs.Plan.Forest.{IsForest, IsStep, other_walk}
-
--- nothing at an end
-abbrev stop : Bool → List Hop → List Hop
-stop b hs = elim b [ true ↦ [] | false ↦ hs ]
-
--- a device that ends no walk is not the root
-pub not_root : (plan : Plan) (d : ℕ) → ends_walks plan d ≡ false → is_root plan d ≡ false
-not_root plan d other = (or_parts (is_root plan d) (is_backup_root plan d) other).0
+use Rattle.sd_checker.proofs.Plan.Forest.{IsForest, IsStep, other_walk, until}
+use Rattle.sd_checker.proofs.CheckLoop.Shared.{not_root}
 
 -- the path cut is the walk, cut
 pub path_cut : (net : Network) (plan : Plan) (d : ℕ) → is_root plan d ≡ false → short_path net plan d ≡ cut_off plan (walk net plan d)
@@ -40,7 +33,7 @@ path_step net plan d hop forest within is =
     let step : IsStep net plan d hop = forest.up d hop within is in
     path_cut net plan d step.other ∙ ap (cut_off plan) step.walk ∙ ap (λ hs. hop ∷ hs) (rest hop.parent (ends_walks plan hop.parent) refl)
   where
-    rest : (p : ℕ) (b : Bool) → ends_walks plan p ≡ b → stop b (cut_off plan (walk net plan p)) ≡ (if b then [] else short_path net plan p)
+    rest : (p : ℕ) (b : Bool) → ends_walks plan p ≡ b → until b (cut_off plan (walk net plan p)) ≡ (if b then [] else short_path net plan p)
     rest p true ends = refl
     rest p false ends = sym (path_cut net plan p (not_root plan p ends))
 

@@ -4,7 +4,7 @@ use Rattle.std.specs.List.{list_all}
 use Rattle.std.specs.Option.{option_or}
 use Rattle.std.proofs.Common.{sym, ap, ◌∙◌, subst, inr}
 use Rattle.std.proofs.lemmas.Bool.{and_parts, and_right}
-use Rattle.sd_checker.specs.Num.Lists.{of_some}
+use Rattle.sd_checker.specs.Num.Lists.{map_or}
 use Rattle.sd_checker.specs.Topo.Network.{Network}
 use Rattle.sd_checker.specs.Topo.Limits.{IsNetwork}
 use Rattle.sd_checker.specs.Topo.declared.Thing.TheVariants as thing
@@ -59,7 +59,7 @@ module _ (net : Network) (plan : Plan) (law : IsNetwork net) (fits : Fits net pl
   moves_back : (z : ℕ) → mover z ≡ true → (hop : Hop) × (backup_of plan z ≡ Some hop)
   moves_back z is = by (backup_of plan z) refl (and_parts (zone_in net plan (holds net f) z) (has_backup plan z) is).1
     where
-      by : (o : Option Hop) → backup_of plan z ≡ o → of_some o false (λ hop. true) ≡ true → (hop : Hop) × (backup_of plan z ≡ Some hop)
+      by : (o : Option Hop) → backup_of plan z ≡ o → map_or o false (λ hop. true) ≡ true → (hop : Hop) × (backup_of plan z ≡ Some hop)
       by None falls there = cc
       by (Some hop) falls there = (hop, falls)
 
@@ -102,7 +102,7 @@ module _ (net : Network) (plan : Plan) (law : IsNetwork net) (fits : Fits net pl
           }
       by None falls =
           let stays : mover x ≡ false = and_right (zone_in net plan (holds net f) x) (has_backup plan x)
-          (ap (λ (o : Option Hop). of_some o false (λ hop. true)) falls) in
+          (ap (λ (o : Option Hop). map_or o false (λ hop. true)) falls) in
           let it = end.still x in_zone stays in
           let none : (duty_of net plan 1 x).backup ≡ None = ap (option_map (edge_of net x)) falls in
           let no_wait : wait_to_move (duty_of net plan 1 x) ≡ None = waits (duty_of net plan 1 x).role ordinary (duty_of net plan 1 x).backup none in

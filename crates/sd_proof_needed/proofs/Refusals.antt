@@ -5,7 +5,7 @@ use Rattle.std.specs.Option.{option_or}
 use Rattle.std.proofs.Common.{sym, ap, ◌∙◌, subst, inl, inr}
 use Rattle.std.proofs.lemmas.Bool.{and_parts, and_from, or_cases, or_from, or_left, or_right, eqb-true, both_ways, not-true, false_from_ne_true}
 use Rattle.std.proofs.lemmas.List.Folds.{list_any-append}
-use Rattle.sd_checker.specs.Num.Lists.{has, of_some}
+use Rattle.sd_checker.specs.Num.Lists.{has, map_or}
 use Rattle.sd_checker.specs.Topo.Network.{Network, device_numbers, link_numbers}
 use Rattle.sd_checker.specs.Topo.declared.Thing.{Thing}
 use Rattle.sd_checker.specs.Topo.declared.Thing.TheVariants as thing
@@ -19,11 +19,12 @@ use Rattle.sd_checker.specs.Plan.Structure.{structure_breach}
 use Rattle.sd_checker.specs.CheckRoot.Roots.{fallback_devices, fallback_links, fallback_breach, root_breach}
 use Rattle.sd_checker.specs.Conditions as condition
 use Rattle.sd_checker.proofs.Plan.Numbered.{found_passes}
+use Rattle.sd_checker.proofs.Num.Shared.{unequal_swap}
 use Rattle.sd_proof_needed.specs.Alone.{holds_besides}
 use Rattle.sd_proof_needed.specs.Roots.{fallback, TakesBoth, RootRefusalIsRight, RefusalBesidesRootIsRight}
 use Rattle.sd_proof_needed.proofs.Elements.{kept_has}
 use Rattle.sd_proof_needed.proofs.Rings.{domain_is}
-use Rattle.sd_proof_needed.proofs.Taken.{mapped_hit, hit_besides, turned, not_on_path}
+use Rattle.sd_proof_needed.proofs.Taken.{mapped_hit, hit_besides, not_on_path}
 use Rattle.sd_proof_needed.proofs.Roots.{root_is_needed}
 
 module _ (net : Network) (plan : Plan) (f : DomainId) (x : Thing) (shown : root_breach net plan f ≡ Some x)
@@ -34,7 +35,7 @@ module _ (net : Network) (plan : Plan) (f : DomainId) (x : Thing) (shown : root_
 
   rootless_device : (d : ℕ) → holds_device net f d ≡ true → is_root plan d ≡ false → rootless (thing.Device d) ≡ true
   rootless_device d held other =
-      and_from (holds_device net f d) (not (has (plan.root ∷ []) d)) held (ap not (or_from (nat_eq d plan.root) false (turned plan.root d other) refl))
+      and_from (holds_device net f d) (not (has (plan.root ∷ []) d)) held (ap not (or_from (nat_eq d plan.root) false (unequal_swap plan.root d other) refl))
 
   -- what the checker shows
   taken : (hits net f (path net plan plan.backup_root) ≡ true) × (fallback_breach net plan f ≡ Some x)
@@ -49,7 +50,7 @@ module _ (net : Network) (plan : Plan) (f : DomainId) (x : Thing) (shown : root_
 
   -- the root is not of the fallback
   not_root_of : (d : ℕ) → (o : Option Hop) → backup_of plan plan.backup_root ≡ o
-      → has (of_some o [] (λ hop. filter (λ y. not (is_root plan y)) (devices_of hop.parent (walk net plan hop.parent)))) d ≡ true → is_root plan d ≡ false
+      → has (map_or o [] (λ hop. filter (λ y. not (is_root plan y)) (devices_of hop.parent (walk net plan hop.parent)))) d ≡ true → is_root plan d ≡ false
   not_root_of d None backup there = cc
   not_root_of d (Some hop) backup there =
       not-true (is_root plan d) (kept_has (λ y. not (is_root plan y)) (devices_of hop.parent (walk net plan hop.parent)) d there).1

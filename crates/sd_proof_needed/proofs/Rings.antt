@@ -1,11 +1,11 @@
 -- A ring of devices that may follow each other while things of a domain fail: each of them is hit, and hit by what the domain has beside the ring.
-use Rattle.std.specs.Prelude.{◌≡◌, ℕ, zero, suc, ◌<◌, Bool, true, false, ◌&&◌, ◌||◌, not, List, [], ◌∷◌, ◌++◌, length, map, nat_eq, nat_lt, slice_get, Option, Some, None, option_map, option_to_list, ◌⊎◌, refl, if◌then◌else◌}
+use Rattle.std.specs.Prelude.{◌≡◌, ℕ, ◌<◌, Bool, true, false, ◌&&◌, ◌||◌, not, List, [], ◌∷◌, ◌++◌, length, map, nat_eq, nat_lt, slice_get, Option, Some, None, option_map, option_to_list, ◌⊎◌, refl, if◌then◌else◌}
 use Rattle.std.specs.List.{list_any}
 use Rattle.std.proofs.Common.{sym, ap, ◌∙◌, subst, arith, inl, inr}
 use Rattle.std.proofs.lemmas.Bool.{and_parts, and_right, or_cases, or_left, or_right, or_parts, eqb-true, eq-eqb, ne_eqb, ltb-true, lt-ltb, cases_lt, cases_Bool, both_ways, not-true}
 use Rattle.std.proofs.lemmas.List.Folds.{list_any-append}
 use Rattle.std.proofs.lemmas.Option.{slice_get_past}
-use Rattle.sd_checker.specs.Num.Lists.{below, has, of_some, all_below}
+use Rattle.sd_checker.specs.Num.Lists.{below, has, map_or, all_below}
 use Rattle.sd_checker.specs.Topo.Network.{Network, Domain, device_numbers, link_numbers}
 use Rattle.sd_checker.specs.Topo.Limits.{IsNetwork}
 use Rattle.sd_checker.specs.Topo.declared.Thing.{Thing}
@@ -25,9 +25,11 @@ use Rattle.sd_checker.specs.CheckLoop.Loops.{LeadsTo, IsChain, AreDifferent}
 use Rattle.sd_history.proofs.Among as among
 use Rattle.sd_history.proofs.Among.{Among, on_right, either_side}
 use Rattle.sd_history.proofs.Given.{some_is}
+use Rattle.sd_history.proofs.flights.Places.{among_below}
+use Rattle.sd_history.proofs.Shared.{among_at, among_below as below_among}
 use Rattle.sd_proof_needed.specs.Alone.{holds_besides}
 use Rattle.sd_proof_needed.specs.Loops.{IsRing}
-use Rattle.sd_proof_needed.proofs.Elements.{mapped, on_left, below_among, among_below}
+use Rattle.sd_proof_needed.proofs.Elements.{mapped, on_left}
 use Rattle.sd_proof_needed.proofs.Paths.{no_short_walk, short_walk_is, short_walk_none, path_step}
 use Rattle.sd_proof_needed.proofs.Zones.{zone_in, zone_of}
 
@@ -44,12 +46,6 @@ domain_among net (domain.Device d) is =
 domain_among net (domain.Link l) is =
     on_right (map domain.Listed (below (length net.domains)) ++ map domain.Device (device_numbers net))
     (mapped domain.Link (link_numbers net) l (below_among (length net.links) l is))
-
--- an element at a place is among the elements
-got_among : {A : Type 0} (xs : List A) (k : ℕ) (x : A) → slice_get xs k ≡ Some x → Among x xs
-got_among [] k x at = cc
-got_among (y ∷ ys) zero x at = subst (λ z. Among z (y ∷ ys)) (some_is at) among.first
-got_among (y ∷ ys) (suc k) x at = among.later (got_among ys k x at)
 
 record Unmapped {A B : Type 0} (g : A → B) (xs : List A) (y : B) : Type 0 where
   pub from : A
@@ -68,7 +64,7 @@ unmapped {B = B} g (x ∷ xs) y a = at_head (g x) (map g xs) y refl a (unmapped 
 pub domain_is : (net : Network) (k : ℕ) (f : DomainId) → slice_get (domains net) k ≡ Some f → IsDomain net f
 domain_is net k f at =
     elim (either_side (map domain.Listed (below (length net.domains)) ++ map domain.Device (device_numbers net)) (map domain.Link (link_numbers net))
-    (got_among (domains net) k f at)) [
+    (among_at (domains net) k f at)) [
       | inl front ↦ elim (either_side (map domain.Listed (below (length net.domains))) (map domain.Device (device_numbers net)) front) [
         | inl a ↦ (let it : Unmapped domain.Listed (below (length net.domains)) f = unmapped domain.Listed (below (length net.domains)) f a in
             subst (IsDomain net) it.is (among_below (length net.domains) it.from it.there))
@@ -93,7 +89,7 @@ all_has bound (y ∷ ys) x all there =
 pub known_device : (net : Network) (f : DomainId) (d : ℕ) → IsNetwork net → IsDomain net f → holds_device net f d ≡ true → d < length net.devices
 known_device net (domain.Listed k) d law is held = by (slice_get net.domains k) refl held
   where
-    by : (o : Option Domain) → slice_get net.domains k ≡ o → of_some o false (λ listed. has listed.devices d) ≡ true → d < length net.devices
+    by : (o : Option Domain) → slice_get net.domains k ≡ o → map_or o false (λ listed. has listed.devices d) ≡ true → d < length net.devices
     by None at held' = cc
     by (Some x) at held' =
         let tests = and_parts _ (all_below (length net.links) x.links) (law.each_domain k x at) in
@@ -104,7 +100,7 @@ known_device net (domain.Link l) d law is held = cc
 pub known_link : (net : Network) (f : DomainId) (l : ℕ) → IsNetwork net → IsDomain net f → holds_link net f l ≡ true → l < length net.links
 known_link net (domain.Listed k) l law is held = by (slice_get net.domains k) refl held
   where
-    by : (o : Option Domain) → slice_get net.domains k ≡ o → of_some o false (λ listed. has listed.links l) ≡ true → l < length net.links
+    by : (o : Option Domain) → slice_get net.domains k ≡ o → map_or o false (λ listed. has listed.links l) ≡ true → l < length net.links
     by None at held' = cc
     by (Some x) at held' = all_has (length net.links) x.links l (and_parts _ (all_below (length net.links) x.links) (law.each_domain k x at)).1 held'
 known_link net (domain.Device e) l law is held = cc
@@ -239,14 +235,14 @@ pub has_hop_within : (net : Network) (plan : Plan) (x : ℕ) (hop : Hop) → Fit
 has_hop_within net plan x hop fits either = elim (cases_lt x (length net.devices)) [
   | inl within ↦ within
   | inr past ↦
-      (let none : row_of plan x ≡ None = ap (λ o. of_some o None (λ row. row))
+      (let none : row_of plan x ≡ None = ap (λ o. map_or o None (λ row. row))
       (slice_get_past plan.rows x (let same = fits.entries in omega (arith, past, same))) in
       absurd (nothing none either))
 ]
   where
     nothing : row_of plan x ≡ None → (primary_of plan x ≡ Some hop) ⊎ (backup_of plan x ≡ Some hop) → ⊥
     nothing none (inl is) = let gone : primary_of plan x ≡ None = ap (option_map (λ row. row.primary)) none in cc
-    nothing none (inr is) = let gone : backup_of plan x ≡ None = ap (λ (o : Option PlanRow). of_some o None (λ row. row.backup)) none in cc
+    nothing none (inr is) = let gone : backup_of plan x ≡ None = ap (λ (o : Option PlanRow). map_or o None (λ row. row.backup)) none in cc
 
 -- The ring
 

@@ -4,7 +4,7 @@ use Rattle.std.specs.List.{list_any}
 use Rattle.std.proofs.Common.{sym, ap, ◌∙◌, subst, arith, inl, inr}
 use Rattle.std.proofs.lemmas.Nat.{mul-le}
 use Rattle.std.proofs.lemmas.Bool.{and_parts, and_from, and_right, or_left, or_right, eq-eqb, ne_eqb, lt-ltb, lt-leb, le-leb, cases_eq, cases_lt, both_ways}
-use Rattle.sd_checker.specs.Num.Lists.{has, of_some}
+use Rattle.sd_checker.specs.Num.Lists.{has, map_or}
 use Rattle.sd_checker.specs.Topo.Network.{Network, device_numbers}
 use Rattle.sd_checker.specs.Topo.Limits.{IsNetwork}
 use Rattle.sd_checker.specs.Topo.declared.Thing.{Thing}
@@ -32,10 +32,11 @@ use Rattle.sd_history.specs.Chronicle.{chronicle, past_in, answers_by}
 use Rattle.sd_history.specs.Lines.{roots}
 use Rattle.sd_history.proofs.Bridges.{answers_by_words}
 use Rattle.sd_history.proofs.Given.{some_is}
+use Rattle.sd_history.proofs.Shared.{among_below}
 use Rattle.sd_proof_needed.specs.Alone.{alone, holds_besides}
 use Rattle.sd_proof_needed.specs.Loops.{ticks_until, events_until}
 use Rattle.sd_proof_needed.specs.Roots.{both_roots, fallback, TakesBoth, MakesTwoRoots, ticks_of_takeover, RootIsNeeded}
-use Rattle.sd_proof_needed.proofs.Elements.{any_of, among_kept, below_among}
+use Rattle.sd_proof_needed.proofs.Elements.{any_of, among_kept}
 use Rattle.sd_proof_needed.proofs.Worlds.{is_live}
 use Rattle.sd_proof_needed.proofs.Allowed.{live_parts}
 use Rattle.sd_proof_needed.proofs.Going.{Good, tick_goes, premises_held}
@@ -161,7 +162,7 @@ module _ (net : Network) (plan : Plan) (law : IsNetwork net) (fits : Fits net pl
   other_early i z less other ordinary = early (is_some (duty_of net plan 1 z).backup) (role_of plan z) (rw (other, ordinary) refl)
     where
       early : (c : Bool) (role : Role) → role ≡ Ordinary
-          → of_some (elim role [ Root ↦ None | BackupRoot ↦ Some plan.wait_first | Ordinary ↦ if c then Some plan.wait else None ]) false
+          → map_or (elim role [ Root ↦ None | BackupRoot ↦ Some plan.wait_first | Ordinary ↦ if c then Some plan.wait else None ]) false
           (λ wait. nat_le wait (i * tick)) ≡ false
       early true role is = rw is (lt-leb plan.wait (i * tick) (not_over i less))
       early false role is = rw is refl
@@ -171,7 +172,7 @@ module _ (net : Network) (plan : Plan) (law : IsNetwork net) (fits : Fits net pl
   b_over i = by (role_of plan b) b_role
     where
       by : (role : Role) → role ≡ BackupRoot
-          → of_some (elim role [
+          → map_or (elim role [
             | Root ↦ None
             | BackupRoot ↦ Some plan.wait_first
             | Ordinary ↦
@@ -319,7 +320,7 @@ module _ (net : Network) (plan : Plan) (law : IsNetwork net) (fits : Fits net pl
       any_of (nat_eq d) (roots setting (steps history)) d (eq-eqb d d refl)
       (among_kept (λ x. is_counted setting (seen_of (steps history)) x && acts_in (steps history) x) (device_numbers net) d
       (and_from (is_counted setting (seen_of (steps history)) d) (acts_in (steps history) d) counts as_root)
-      (below_among (length net.devices) d (live_parts net plan down d live).within))
+      (among_below (length net.devices) d (live_parts net plan down d live).within))
 
   -- the root acts from its start on
   root_acts : (past : Past) → Plain (duty_of net plan 1 plan.root) past → is_acting past ≡ true

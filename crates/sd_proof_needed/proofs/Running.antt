@@ -2,7 +2,7 @@
 use Rattle.std.specs.Prelude.{◌≡◌, ℕ, zero, suc, ◌+◌, ◌-◌, ◌*◌, ◌^◌, ◌<◌, ◌≤◌, Bool, true, false, ◌&&◌, ◌||◌, not, List, [], ◌∷◌, ◌⊎◌, length, nat_eq, nat_lt, Some, None, refl, if◌then◌else◌}
 use Rattle.std.proofs.Common.{sym, ◌∙◌, subst, arith, inl, inr}
 use Rattle.std.proofs.lemmas.Bool.{and_parts, not-true, cases_lt, cases_eq, eqb-false, lt-ltb, le-ltb, both_ways}
-use Rattle.sd_checker.specs.Num.Lists.{of_some}
+use Rattle.sd_checker.specs.Num.Lists.{map_or}
 use Rattle.sd_checker.specs.Topo.Network.{Network}
 use Rattle.sd_checker.specs.Topo.Limits.{IsNetwork}
 use Rattle.sd_checker.specs.Topo.declared.Thing.{Thing}
@@ -333,7 +333,7 @@ module _ (net : Network) (plan : Plan) (dom : DomainId) (down : Thing → Bool) 
           subst (λ (i : ℕ). Silent (state i d) past (Tick (i * tick))) one (idles.ticks (k - 1) d past (omega (arith, some, less_)) in_ at)
 
       by : (x : ℕ) (b : Bool) → nat_eq d x ≡ b → is_live net plan down x ≡ true → d ≤ x
-          → k * tick ≤ of_some (if b || false then Some (k * tick) else None) (latest_tick (seen_of (steps clear_.running.history)) x) (λ told. told)
+          → k * tick ≤ map_or (if b || false then Some (k * tick) else None) (latest_tick (seen_of (steps clear_.running.history)) x) (λ told. told)
       by x true same alive above = omega arith
       by x false other alive above = clear_.running.done x alive (omega (arith, above, eqb-false d x other))
 

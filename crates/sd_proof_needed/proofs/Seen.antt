@@ -11,9 +11,10 @@ use Rattle.sd_history.specs.Steps.{seen_of, parent_in}
 use Rattle.sd_history.specs.Chronicle.{chronicle}
 use Rattle.sd_history.specs.Lines.{counted_parent, follow, is_on_loop}
 use Rattle.sd_history.proofs.Known.{up_is_known}
+use Rattle.sd_history.proofs.Shared.{among_below}
 use Rattle.sd_proof_needed.specs.Alone.{alone}
 use Rattle.sd_proof_needed.specs.Loops.{LoopIsSeen}
-use Rattle.sd_proof_needed.proofs.Elements.{found_some, any_of, below_among, kept_has}
+use Rattle.sd_proof_needed.proofs.Elements.{found_some, any_of, kept_has}
 use Rattle.sd_proof_needed.proofs.Rings.{next_in, leads_next}
 
 -- Different numbers below n are no more than n
@@ -79,8 +80,8 @@ loop_is_seen net plan f start others different closes =
     found_some (is_on_loop (alone net plan) (chronicle (alone net plan) closes.history)) (device_numbers net) start
     (any_of (λ n. same_number (follow (counted_parent (alone net plan) (chronicle (alone net plan) closes.history)) (n + 1) start) start)
     (device_numbers net) (length others) back
-    (below_among (length net.devices) (length others) few))
-    (below_among (length net.devices) start (within start (or_left (nat_eq start start) (has others start) (eq-eqb start start refl))))
+    (among_below (length net.devices) (length others) few))
+    (among_below (length net.devices) start (within start (or_left (nat_eq start start) (has others start) (eq-eqb start start refl))))
   where
     counts : (b : Bool) (o : Option ℕ) (y : ℕ) → (if b then o else None) ≡ Some y → b ≡ true
     counts true o y is = refl

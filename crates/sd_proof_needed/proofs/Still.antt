@@ -3,15 +3,16 @@ use Rattle.std.specs.Prelude.{◌≡◌, ◌≢◌, ℕ, ◌-◌, Bool, true, fa
 use Rattle.std.specs.List.{list_all}
 use Rattle.std.proofs.Common.{ap, ◌∙◌, arith}
 use Rattle.std.proofs.lemmas.Bool.{and_parts, and_from, ne_eqb, not-true}
-use Rattle.sd_checker.specs.Num.Lists.{of_some}
+use Rattle.sd_checker.specs.Num.Lists.{map_or}
 use Rattle.sd_checker.specs.Plan.declared.Duty.{Duty}
 use Rattle.sd_checker.specs.Plan.declared.Edge.{Edge}
 use Rattle.sd_checker.specs.Plan.declared.Role.TheVariants.{Ordinary}
+use Rattle.sd_checker.proofs.Num.Shared.{none_if_not_some}
 use Rattle.sd_history.specs.Msg.declared.Message.{Message}
 use Rattle.sd_history.specs.Msg.Stamps.{is_newer}
 use Rattle.sd_history.specs.Core.declared.Effect.{Effect}
 use Rattle.sd_history.specs.Core.declared.Effect.TheVariants.{Quiet, Send}
-use Rattle.sd_proof_needed.proofs.Pasts.{latest_none, any_none, none_is, is_plain, Plain, no_entry, since_is, duty_is, given_none}
+use Rattle.sd_proof_needed.proofs.Pasts.{latest_none, any_none, is_plain, Plain, no_entry, since_is, duty_is, given_none}
 use Rattle.sd_history.specs.Core.Calls.{Started, Call, Tick, Receive, Did, Past, Transition, Entered, Committed, Recommitted, Accepted, Moved, TookOver, Emitted, Nothing}
 use Rattle.sd_history.specs.Core.Words.{taken_up, accepted_over, counter_of, is_move, is_takeover, duty_given, duty_now, heard, has_moved, is_acting, is_sealed, may_move, moved_at, starts_as_root, parent_edge, parent_now, wait_to_move, emits_at, takes_over_at, moves_at, is_backup_root_now, transition_of, after, effect_of, accepted_by, entered_by, over_link, epoch_now, stamp_now}
 
@@ -45,7 +46,7 @@ record Nought (x : Did) : Type 0 where
 nought : (x : Did) → did_nothing x ≡ true → Nought x
 nought x is =
     let (front, back) = and_parts (is_nothing x.transition) (not (is_some (duty_given x.call))) is in
-    record { transition = nothing_is x.transition front; call = none_is (duty_given x.call) (not-true (is_some (duty_given x.call)) back) }
+    record { transition = nothing_is x.transition front; call = none_if_not_some (duty_given x.call) (not-true (is_some (duty_given x.call)) back) }
 
 -- so it is plain
 pub still_plain : (duty : Duty) (past : Past) → Still duty past → Plain duty past
@@ -90,13 +91,13 @@ module _ (duty : Duty) (past : Past) (still : Still duty past) (other : starts_a
   pub on_primary : parent_edge past ≡ duty.primary
   on_primary = rw (not_acting, not_moved, duty_is duty past plain) refl
 
-  moves_when : (counter : ℕ) → moves_at past counter ≡ of_some (wait_to_move duty) false (λ wait. nat_le wait counter)
+  moves_when : (counter : ℕ) → moves_at past counter ≡ map_or (wait_to_move duty) false (λ wait. nat_le wait counter)
   moves_when counter =
       let same : counter - 0 ≡ counter = omega arith in
       rw (movable, not_moved, sealed, duty_is duty past plain, heard_at_start, same) refl
 
   -- a tick is a move or nothing
-  tick_by : (counter : ℕ) (late : Bool) → of_some (wait_to_move duty) false (λ wait. nat_le wait counter) ≡ late
+  tick_by : (counter : ℕ) (late : Bool) → map_or (wait_to_move duty) false (λ wait. nat_le wait counter) ≡ late
       → transition_of past (Tick counter) ≡ (if late then Moved else Nothing)
   tick_by counter late is =
       let no_emission : emits_at past counter ≡ false = rw not_acting refl in
@@ -104,16 +105,16 @@ module _ (duty : Duty) (past : Past) (still : Still duty past) (other : starts_a
       rw (no_emission, no_takeover, moves_when counter, is) refl
     where
       no_backup : (b : Bool) → (b && false && not (is_acting past)
-          && of_some (duty_now past) false (λ duty. nat_le duty.wait_second (counter - max (heard past) (moved_at past)))) ≡ false
+          && map_or (duty_now past) false (λ duty. nat_le duty.wait_second (counter - max (heard past) (moved_at past)))) ≡ false
       no_backup true = refl
       no_backup false = refl
 
   -- a tick before its wait is over
-  pub tick_stays : (counter : ℕ) → of_some (wait_to_move duty) false (λ wait. nat_le wait counter) ≡ false → transition_of past (Tick counter) ≡ Nothing
+  pub tick_stays : (counter : ℕ) → map_or (wait_to_move duty) false (λ wait. nat_le wait counter) ≡ false → transition_of past (Tick counter) ≡ Nothing
   tick_stays counter early = tick_by counter false early
 
   -- a tick when its wait is over
-  pub tick_moves : (counter : ℕ) → of_some (wait_to_move duty) false (λ wait. nat_le wait counter) ≡ true → transition_of past (Tick counter) ≡ Moved
+  pub tick_moves : (counter : ℕ) → map_or (wait_to_move duty) false (λ wait. nat_le wait counter) ≡ true → transition_of past (Tick counter) ≡ Moved
   tick_moves counter late = tick_by counter true late
 
   -- a receipt over another link than its primary one
@@ -176,7 +177,7 @@ just_moved duty past counter still other moves =
         (any_none did_nothing (λ x. is_takeover x.transition) past.did (λ x n. ap is_takeover (nought x n).transition) still.did) in
         let moved : has_moved (after past (Tick counter)) ≡ true = rw moves refl in
         let duty_still : duty_now (after past (Tick counter)) ≡ Some duty =
-        ap (λ (t : Transition). of_some (option_map Some (taken_up t)) (duty_now past) (λ told. told)) moves
+        ap (λ (t : Transition). map_or (option_map Some (taken_up t)) (duty_now past) (λ told. told)) moves
         ∙ duty_is duty past (still_plain duty past still) in
         rw (acting, moved, duty_still) refl
 

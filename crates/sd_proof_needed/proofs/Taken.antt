@@ -4,7 +4,7 @@ use Rattle.std.specs.List.{list_any}
 use Rattle.std.proofs.Common.{sym, ap, ◌∙◌, subst, inl, inr}
 use Rattle.std.proofs.lemmas.Bool.{and_parts, and_from, and_right, or_cases, or_parts, or_from, or_left, or_right, eqb-true, eq-eqb, cases_Bool, both_ways, not-true, not-false, false_from_ne_true}
 use Rattle.std.proofs.lemmas.List.Folds.{list_any-append}
-use Rattle.sd_checker.specs.Num.Lists.{has, of_some}
+use Rattle.sd_checker.specs.Num.Lists.{has, map_or}
 use Rattle.sd_checker.specs.Topo.Network.{Network}
 use Rattle.sd_checker.specs.Topo.declared.Thing.{Thing}
 use Rattle.sd_checker.specs.Topo.declared.Thing.TheVariants as thing
@@ -17,9 +17,11 @@ use Rattle.sd_checker.specs.Plan.Walks.{walk, path, things_of, devices_of, links
 use Rattle.sd_checker.specs.Plan.Structure.{structure_breach, roots_breach}
 use Rattle.sd_checker.proofs.Plan.Numbered.{both_none}
 use Rattle.sd_checker.proofs.Plan.Forest.{IsForest, IsStep, forest_of, not_above, climb, on_top, on_up, on_inside}
+use Rattle.sd_checker.proofs.Plan.Rules.{none_mapped}
+use Rattle.sd_checker.proofs.Num.Shared.{unequal_swap}
 use Rattle.sd_proof_needed.specs.Alone.{holds_besides}
 use Rattle.sd_proof_needed.specs.Roots.{both_roots, fallback}
-use Rattle.sd_proof_needed.proofs.Elements.{none_mapped, kept_has}
+use Rattle.sd_proof_needed.proofs.Elements.{kept_has}
 
 -- rule 1
 pub record HasRoots (plan : Plan) : Type 0 where
@@ -63,9 +65,6 @@ hit_besides p q d (h ∷ hs) apart link device is =
         | inr behind ↦ or_right (q (thing.Device h.parent)) (list_any q (things_of hs)) (hit_besides p q d hs rest link device behind)
       ])
     ]
-
-pub turned : (a b : ℕ) → nat_eq a b ≡ false → nat_eq b a ≡ false
-turned a b none = false_from_ne_true (nat_eq b a) (λ is. both_ways (nat_eq a b) none (eq-eqb a b (sym (eqb-true b a is))))
 
 -- numbers of which one is hit, by fewer things and by more
 mapped_more : (make : ℕ → Thing) (p q : Thing → Bool) (xs : List ℕ) → ((x : ℕ) → has xs x ≡ true → p (make x) ≡ true → q (make x) ≡ true)
@@ -122,8 +121,8 @@ module _ (net : Network) (plan : Plan) (fits : Fits net plan) (structured : stru
   down_device : (d : ℕ) → holds_device net f d ≡ true → is_root plan d ≡ false → is_backup_root plan d ≡ false → down (thing.Device d) ≡ true
   down_device d held other ordinary =
       let none : has (both_roots plan) d ≡ false =
-      or_from (nat_eq d plan.root) (nat_eq d plan.backup_root || false) (turned plan.root d other)
-      (or_from (nat_eq d plan.backup_root) false (turned plan.backup_root d ordinary) refl) in
+      or_from (nat_eq d plan.root) (nat_eq d plan.backup_root || false) (unequal_swap plan.root d other)
+      (or_from (nat_eq d plan.backup_root) false (unequal_swap plan.backup_root d ordinary) refl) in
       and_from (holds_device net f d) (not (has (both_roots plan) d)) held (ap not none)
 
   -- the backup root is not on its own path
@@ -137,7 +136,7 @@ module _ (net : Network) (plan : Plan) (fits : Fits net plan) (structured : stru
   rootless_down : (d : ℕ) → is_backup_root plan d ≡ false → rootless (thing.Device d) ≡ true → down (thing.Device d) ≡ true
   rootless_down d ordinary is =
       let (held, spared) = and_parts (holds_device net f d) (not (has (plan.root ∷ []) d)) is in
-      down_device d held (turned d plan.root (or_parts (nat_eq d plan.root) false (not-true (has (plan.root ∷ []) d) spared)).0) ordinary
+      down_device d held (unequal_swap d plan.root (or_parts (nat_eq d plan.root) false (not-true (has (plan.root ∷ []) d) spared)).0) ordinary
 
   pub path_taken : list_any rootless (path net plan plan.backup_root) ≡ true → list_any down (path net plan plan.backup_root) ≡ true
   path_taken hit = hit_besides rootless down plan.backup_root (walk net plan plan.backup_root) not_on_path (λ l is. is) rootless_down hit
@@ -172,7 +171,7 @@ module _ (net : Network) (plan : Plan) (fits : Fits net plan) (structured : stru
   kept hop = filter (λ y. not (is_root plan y)) (devices_of hop.parent (walk net plan hop.parent))
 
   abbrev fallen : Option Hop → List Thing
-  fallen o = map thing.Device (of_some o [] kept) ++ map thing.Link (of_some o [] (λ hop. hop.link ∷ links_of (walk net plan hop.parent)))
+  fallen o = map thing.Device (map_or o [] kept) ++ map thing.Link (map_or o [] (λ hop. hop.link ∷ links_of (walk net plan hop.parent)))
 
   pub fallback_taken : list_any down (path net plan plan.backup_root) ≡ true → list_any rootless (fallback net plan) ≡ true
       → list_any down (fallback net plan) ≡ true

@@ -4,9 +4,10 @@ use Rattle.std.proofs.Common.{ap, ◌∙◌, arith}
 use Rattle.std.proofs.lemmas.Bool.{not-true}
 use Rattle.sd_checker.specs.Plan.declared.Duty.{Duty}
 use Rattle.sd_checker.specs.Plan.declared.Role.TheVariants.{BackupRoot}
+use Rattle.sd_checker.proofs.Num.Shared.{none_if_not_some}
 use Rattle.sd_history.specs.Core.Calls.{Started, Call, Tick, Past, Transition, Nothing, Moved, TookOver}
 use Rattle.sd_history.specs.Core.Words.{accepted_over, counter_of, starts_as_root, is_takeover, duty_given, heard, has_moved, moved_at, is_acting, emits_at, takes_over_at, transition_of, after}
-use Rattle.sd_proof_needed.proofs.Pasts.{latest_none, none_is, duty_is}
+use Rattle.sd_proof_needed.proofs.Pasts.{latest_none, duty_is}
 use Rattle.sd_proof_needed.proofs.Turns.{acting_after}
 use Rattle.sd_proof_needed.proofs.Still.{Still}
 use Rattle.sd_proof_needed.proofs.Deaf.{heard_nothing, Settled, moved_as_before, settled_on, moved_settled}
@@ -31,7 +32,7 @@ module _ (duty : Duty) (c : ℕ) (past : Past) (has : HasMovedAt duty c past) wh
   heard_never : heard past ≡ 0
   heard_never =
       latest_none heard_nothing (λ x. option_and_then (λ edge. counter_of x.call) (accepted_over x.transition)) _ past.did
-      (λ x none. ap (option_and_then (λ edge. counter_of x.call)) (none_is (accepted_over x.transition) (not-true (is_some (accepted_over x.transition)) none)))
+      (λ x none. ap (option_and_then (λ edge. counter_of x.call)) (none_if_not_some (accepted_over x.transition) (not-true (is_some (accepted_over x.transition)) none)))
       has.settled.heard
       ∙ rw has.settled.plain.made refl
 

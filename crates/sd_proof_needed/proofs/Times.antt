@@ -1,20 +1,15 @@
 -- What the rules of timing say of the waits themselves.
-use Rattle.std.specs.Prelude.{◌≡◌, ℕ, ◌+◌, ◌*◌, ◌≤◌, Bool, false, List, [], ◌∷◌, length, map, find, None, is_some}
-use Rattle.std.proofs.Common.{ap, arith}
-use Rattle.std.proofs.lemmas.Bool.{ltb-false, false_from_ne_true, both_ways}
+use Rattle.std.specs.Prelude.{◌≡◌, ℕ, ◌+◌, ◌*◌, ◌≤◌, List, [], ◌∷◌, length, map, None}
+use Rattle.std.proofs.Common.{arith}
+use Rattle.std.proofs.lemmas.Bool.{ltb-false}
 use Rattle.sd_checker.specs.Num.Lists.{least, greatest}
 use Rattle.sd_checker.specs.Num.Numbers.{low, up}
 use Rattle.sd_checker.specs.Topo.Network.{Network, Device, least_low, greatest_up}
 use Rattle.sd_checker.specs.Topo.Limits.{IsNetwork}
 use Rattle.sd_checker.specs.Plan.declared.Plan.{Plan}
 use Rattle.sd_checker.specs.CheckRoot.Timing.{silence, inequalities, is_broken, timing_breach}
-use Rattle.sd_history.proofs.Among.{Among, first, later}
-use Rattle.sd_proof_needed.proofs.Elements.{found_some}
-
--- what is not found fails the test
-none_passes : {A : Type 0} (p : A → Bool) (xs : List A) (x : A) → find p xs ≡ None → Among x xs → p x ≡ false
-none_passes p xs x none a =
-    false_from_ne_true (p x) (λ is. both_ways (is_some (find p xs)) (ap is_some none) (found_some p xs x is a))
+use Rattle.sd_history.proofs.Among.{first, later}
+use Rattle.sd_history.proofs.Shared.{none_passes}
 
 -- the least reference time is no more than the counter time
 least_below : (x : ℕ) (devices : List Device) → least (map (λ device. low device.rates x) devices) ≤ x

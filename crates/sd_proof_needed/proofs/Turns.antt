@@ -4,7 +4,7 @@ use Rattle.std.specs.Prelude.{◌≡◌, ℕ, ◌+◌, Bool, true, false, ◌&&�
 use Rattle.std.specs.List.{list_any, list_all}
 use Rattle.std.proofs.Common.{sym, ap, ◌∙◌}
 use Rattle.std.proofs.lemmas.Bool.{and_parts, and_from, not-true}
-use Rattle.sd_checker.specs.Num.Lists.{of_some}
+use Rattle.sd_checker.specs.Num.Lists.{map_or}
 use Rattle.sd_checker.specs.Plan.declared.Duty.{Duty}
 use Rattle.sd_checker.specs.Plan.declared.Edge.{Edge}
 use Rattle.sd_history.specs.Msg.declared.Message.{Message}
@@ -122,7 +122,7 @@ module _ (duty : Duty) (past : Past) (plain : Plain duty past) where
       by (nat_eq (epoch_now past) message.epoch) (is_newer message.stamp (stamp_now past)) (option_and_then (over_link link) (parent_edge past)) refl refl refl
     where
       transition_by : (a : Option Transition) → accepted_by past link message ≡ a
-          → transition_of past (Receive link message counter) ≡ of_some a Nothing (λ transition. transition)
+          → transition_of past (Receive link message counter) ≡ map_or a Nothing (λ transition. transition)
       transition_by a is =
           let none : entered_by past link message ≡ None = rw (given_none duty past plain) refl in
           rw (none, is) refl

@@ -5,7 +5,7 @@ use Rattle.std.specs.List.{list_any, list_all}
 use Rattle.std.proofs.Common.{ap, arith}
 use Rattle.std.proofs.lemmas.Bool.{and_from, or_left, or_right, le-leb}
 use Rattle.std.proofs.lemmas.List.Sums.{sum_by-cons}
-use Rattle.sd_checker.specs.Num.Lists.{of_some}
+use Rattle.sd_checker.specs.Num.Lists.{map_or}
 use Rattle.sd_checker.specs.Num.Numbers.{distance, keeps_rate}
 use Rattle.sd_checker.specs.Num.declared.Rates.{Rates}
 use Rattle.sd_checker.specs.Topo.Network.{Network, device_numbers, rates_of}
@@ -25,8 +25,9 @@ use Rattle.sd_history.specs.Chronicle.{next_step}
 use Rattle.sd_history.specs.Premises.{readings, reads_honestly, start_holds, drift_holds, delay_holds, tick_holds, domain_holds, renew_holds, arrives_in_time, ticks_in_time, latest_tick, is_current_member, first_reference, failures_since_closing, fails_within_one}
 use Rattle.sd_history.proofs.Among.{Among, first, later, all_pass}
 use Rattle.sd_history.proofs.Filters.{kept_among}
+use Rattle.sd_history.proofs.flights.Places.{among_below}
 use Rattle.sd_proof_needed.specs.Alone.{alone}
-use Rattle.sd_proof_needed.proofs.Elements.{passes_kept, found_some, among_below}
+use Rattle.sd_proof_needed.proofs.Elements.{passes_kept, found_some}
 
 -- a tick or a receipt of a device at a reference, with a clock that shows just this
 pub data IsCalm : Event → ℕ → ℕ → Type 0 where
@@ -64,7 +65,7 @@ abbrev pub OnTime : Network → Plan → (Thing → Bool) → List Seen → ℕ 
 OnTime net plan down seen r = (d : ℕ) → is_live net plan down d ≡ true → r ≤ latest_tick seen d + net.params.tick
 
 -- a tick is the latest one of its device
-pub tick_later : (b : Bool) (r old tick : ℕ) → r ≤ old + tick → r ≤ of_some (if b || false then Some r else None) old (λ told. told) + tick
+pub tick_later : (b : Bool) (r old tick : ℕ) → r ≤ old + tick → r ≤ map_or (if b || false then Some r else None) old (λ told. told) + tick
 tick_later true r old tick late = omega arith
 tick_later false r old tick late = late
 
@@ -98,10 +99,10 @@ pub within_on : (p : Thing → Bool) (s : Seen) (seen : List Seen) → s.closed 
 within_on p s seen open_ none all = rw (open_, none) all
 
 -- a device that reads at this reference
-pub read_on : (r t d x : ℕ) {old : ℕ} → t ≤ r → old ≤ t → of_some (if nat_eq d x then Some r else None) old (λ told. told) ≤ r
+pub read_on : (r t d x : ℕ) {old : ℕ} → t ≤ r → old ≤ t → map_or (if nat_eq d x then Some r else None) old (λ told. told) ≤ r
 read_on r t d x {old = old} later_ before = by (nat_eq d x)
   where
-    by : (b : Bool) → of_some (if b then Some r else None) old (λ told. told) ≤ r
+    by : (b : Bool) → map_or (if b then Some r else None) old (λ told. told) ≤ r
     by true = omega arith
     by false = omega (arith, later_, before)
 

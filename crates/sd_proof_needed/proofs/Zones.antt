@@ -3,7 +3,7 @@ use Rattle.std.specs.Prelude.{◌≡◌, ℕ, ◌<◌, Bool, true, false, ◌&&�
 use Rattle.std.specs.List.{list_any}
 use Rattle.std.proofs.Common.{sym, ◌∙◌, subst, inl, inr}
 use Rattle.std.proofs.lemmas.Bool.{and_parts, or_cases, eqb-true, eq-eqb, cases_Bool, both_ways, not-true, not-false}
-use Rattle.sd_checker.specs.Num.Lists.{of_some}
+use Rattle.sd_checker.specs.Num.Lists.{map_or}
 use Rattle.sd_checker.specs.Topo.Network.{Network, device_numbers}
 use Rattle.sd_checker.specs.Topo.declared.Thing.{Thing}
 use Rattle.sd_checker.specs.Topo.declared.Thing.TheVariants as thing
@@ -15,7 +15,7 @@ use Rattle.sd_checker.specs.Plan.Duties.{leads_to, follows_over}
 use Rattle.sd_checker.specs.Plan.Structure.{structure_breach, first_failing, roots_breach, row_is_right, hops_are_right, links_differ}
 use Rattle.sd_checker.proofs.Plan.Numbered.{none_found, both_none}
 use Rattle.sd_checker.proofs.Plan.Forest.{IsForest, forest_of}
-use Rattle.sd_proof_needed.proofs.Elements.{none_mapped}
+use Rattle.sd_checker.proofs.Plan.Rules.{none_mapped}
 use Rattle.sd_proof_needed.proofs.Paths.{short_walk_is, short_walk_none, path_step}
 use Rattle.sd_proof_needed.proofs.Worlds.{is_live}
 use Rattle.sd_proof_needed.proofs.Allowed.{live_parts}
@@ -45,9 +45,9 @@ by_primary net plan x l s hop structured within primary same follows =
     by : (o : Option Hop) → backup_of plan x ≡ o → leads_to s l o ≡ true → ⊥
     by None falls leads = cc
     by (Some b) falls leads =
-        let rule : of_some (Some hop) true (λ p. of_some (Some b) true (λ q. not (nat_eq p.link q.link))) ≡ true =
-        subst (λ (o : Option Hop). of_some (Some hop) true (λ p. of_some o true (λ q. not (nat_eq p.link q.link))) ≡ true) falls
-        (subst (λ (o : Option Hop). of_some o true (λ p. of_some (backup_of plan x) true (λ q. not (nat_eq p.link q.link))) ≡ true) primary
+        let rule : map_or (Some hop) true (λ p. map_or (Some b) true (λ q. not (nat_eq p.link q.link))) ≡ true =
+        subst (λ (o : Option Hop). map_or (Some hop) true (λ p. map_or o true (λ q. not (nat_eq p.link q.link))) ≡ true) falls
+        (subst (λ (o : Option Hop). map_or o true (λ p. map_or (backup_of plan x) true (λ q. not (nat_eq p.link q.link))) ≡ true) primary
         (links_rule net plan x structured within)) in
         both_ways (nat_eq hop.link b.link) (not-true (nat_eq hop.link b.link) rule)
         (eq-eqb hop.link b.link (same ∙ sym (eqb-true b.link l (and_parts (nat_eq b.parent s) (nat_eq b.link l) leads).1)))
@@ -65,9 +65,9 @@ by_backup net plan x l s hop structured within falls same follows =
     by : (o : Option Hop) → primary_of plan x ≡ o → leads_to s l o ≡ true → ⊥
     by None primary leads = cc
     by (Some p) primary leads =
-        let rule : of_some (Some p) true (λ v. of_some (Some hop) true (λ q. not (nat_eq v.link q.link))) ≡ true =
-        subst (λ (o : Option Hop). of_some (Some p) true (λ v. of_some o true (λ q. not (nat_eq v.link q.link))) ≡ true) falls
-        (subst (λ (o : Option Hop). of_some o true (λ v. of_some (backup_of plan x) true (λ q. not (nat_eq v.link q.link))) ≡ true) primary
+        let rule : map_or (Some p) true (λ v. map_or (Some hop) true (λ q. not (nat_eq v.link q.link))) ≡ true =
+        subst (λ (o : Option Hop). map_or (Some p) true (λ v. map_or o true (λ q. not (nat_eq v.link q.link))) ≡ true) falls
+        (subst (λ (o : Option Hop). map_or o true (λ v. map_or (backup_of plan x) true (λ q. not (nat_eq v.link q.link))) ≡ true) primary
         (links_rule net plan x structured within)) in
         both_ways (nat_eq p.link hop.link) (not-true (nat_eq p.link hop.link) rule)
         (eq-eqb p.link hop.link (eqb-true p.link l (and_parts (nat_eq p.parent s) (nat_eq p.link l) leads).1 ∙ sym same))

@@ -1,7 +1,7 @@
 -- One plan that is never renewed, and histories in which some things fail.
 use Rattle.std.specs.Prelude.{ℕ, Bool, true, ◌&&◌, not, List, [], ◌∷◌, IsTrue}
 use Rattle.std.specs.List.{list_all}
-use Rattle.sd_checker.specs.Num.Lists.{has, of_some}
+use Rattle.sd_checker.specs.Num.Lists.{has, map_or}
 use Rattle.sd_checker.specs.Topo.Network.{Network}
 use Rattle.sd_checker.specs.Topo.declared.Thing.{Thing}
 use Rattle.sd_checker.specs.Topo.declared.Thing.TheVariants as thing
@@ -26,7 +26,7 @@ holds_besides net f spared (thing.Link l) = holds_link net f l
 
 -- only such things fail
 abbrev pub fails_only : (Thing → Bool) → List Event → Bool
-fails_only may_fail history = list_all (λ e. of_some (failure_of e) true may_fail) history
+fails_only may_fail history = list_all (λ e. map_or (failure_of e) true may_fail) history
 
 -- a history of the plan alone that breaks none of the seven premises, and in which only such things fail
 pub record IsClean (net : Network) (plan : Plan) (may_fail : Thing → Bool) (history : List Event) : Type 0 where

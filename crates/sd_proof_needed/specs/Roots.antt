@@ -28,6 +28,7 @@ use Rattle.sd_history.specs.Lines.{Line, RootsAlarm, roots, lines_of}
 use Rattle.sd_proof_needed.specs.Alone.{alone, holds_besides, IsClean}
 use Rattle.sd_proof_needed.specs.Loops.{ticks_until, events_until}
 
+-- the root and the backup root of a plan
 abbrev pub both_roots : Plan → List ℕ
 both_roots plan = plan.root ∷ plan.backup_root ∷ []
 

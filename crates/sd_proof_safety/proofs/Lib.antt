@@ -21,6 +21,7 @@ pub mod traced
 pub mod waits
 pub mod whole
 pub mod windows
+pub mod Shared
 -- Handed on: what crates above name of those below.
 pub use Rattle.sd_history.proofs.Core as Core
 pub use Rattle.sd_history.proofs as History

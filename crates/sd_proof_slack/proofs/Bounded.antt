@@ -41,8 +41,8 @@ settled a b c d e t u v w x p q r s o = omega (arith, p, q, r, s, o)
 sum_of_four : (base a b c x y z : ℕ) → a ≤ x → b ≤ y → c ≤ z → base + a + b + c ≤ base + x + y + z
 sum_of_four base a b c x y z p q r = omega (arith, p, q, r)
 
-whole : (a b c d v w x y z u : ℕ) → v ≡ a + b + c + d → u ≡ w + x + y + z → w ≤ a → x ≤ b → y ≤ c → z ≤ d → u ≤ v
-whole a b c d v w x y z u was is p q r s = omega (arith, was, is, p, q, r, s)
+sums_le : (a b c d v w x y z u : ℕ) → v ≡ a + b + c + d → u ≡ w + x + y + z → w ≤ a → x ≤ b → y ≤ c → z ≤ d → u ≤ v
+sums_le a b c d v w x y z u was is p q r s = omega (arith, was, is, p, q, r, s)
 
 module _ (before after : Network) (tighter : IsTighter before after) where
   rates : (d : ℕ) → AreTighterRates (rates_of before d) (rates_of after d)
@@ -103,7 +103,7 @@ module _ (before after : Network) (tighter : IsTighter before after) where
             let younger : is.oldest ≤ was.oldest =
             younger_falls (rates_of before d) (rates_of after d) (rates d) (quiet before plan was.long) (quiet after plan is.long) was.oldest is.oldest shorter
             was.is_oldest is.is_oldest in
-            whole (source before plan budget) (root_halves before plan) was.far (ageing (rates_of before d) was.oldest) w (source after plan budget)
+            sums_le (source before plan budget) (root_halves before plan) was.far (ageing (rates_of before d) was.oldest) w (source after plan budget)
             (root_halves after plan) is.far (ageing (rates_of after d) is.oldest) v was.sum is.sum source_falls (root_halves_fall before after tighter plan)
             (far_falls was.far is.far was.is_far is.is_far) (ageing_falls (rates_of before d) (rates_of after d) (rates d) was.oldest is.oldest younger)
 

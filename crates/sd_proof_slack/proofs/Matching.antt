@@ -5,7 +5,7 @@ use Rattle.std.proofs.Common.{arith, refl, sym, ap, ◌∙◌, subst, inl, inr}
 use mathlib.Core.Path.{fun_ext}
 use Rattle.std.proofs.lemmas.List.Elements.{length_all_zip, Contains-append_left, Contains-append_right, Contains-append_cases}
 use Rattle.std.proofs.lemmas.Option.{slice_get-get_or, slice_get_within, get_or_from_slice_get}
-use Rattle.sd_drill.specs.Num.Lists.{below, has, of_some, at_place}
+use Rattle.sd_drill.specs.Num.Lists.{below, has, map_or, at_place}
 use Rattle.sd_drill.specs.Topo.Network.{Network, Link, Domain, Each, no_link, link_of, joins}
 use Rattle.sd_drill.specs.Topo.Places.{no_domain}
 use Rattle.sd_drill.specs.Topo.declared.LinkEntry.{LinkEntry}
@@ -13,6 +13,7 @@ use Rattle.sd_drill.specs.Domain.Domains.{domains}
 use Rattle.sd_drill.specs.Domain.declared.DomainId.{DomainId}
 use Rattle.sd_drill.specs.Domain.declared.DomainId.TheVariants as domain
 use Rattle.sd_drill.proofs.Plan.Numbered.{length-numbered, get_or-numbered}
+use Rattle.sd_drill.proofs.Circles.{named}
 use Rattle.sd_proof_slack.specs.Tighter.{IsTighterEntry, IsTighterDevice, IsTighterLink, IsTighter, IsSameDomain}
 use Rattle.sd_proof_slack.proofs.Alike.{HasShape, HasThings}
 
@@ -30,9 +31,6 @@ entries (x ∷ xs) (y ∷ ys) zip zero = zip.0.entry
 entries (x ∷ xs) (y ∷ ys) zip (suc l) = entries xs ys zip.1 l
 
 -- Lists of domains
-
-numbered : {X : Type 0} (f : ℕ → X) (n k : ℕ) → k < n → Contains (map f (below n)) (f k)
-numbered f n k within = (k, omega (arith, within, length-numbered f n), get_or-numbered f n k (f k) within)
 
 numbered_as : {X : Type 0} (f : ℕ → X) (n : ℕ) (x : X) → Contains (map f (below n)) x → (k : ℕ) × (k < n) × (f k ≡ x)
 numbered_as f n x (k, within, is) =
@@ -66,8 +64,8 @@ module _ (before after : Network) (tighter : IsTighter before after) where
   pub things_of : (f g : DomainId) → IsSameDomain before f after g → HasThings before f after g
   things_of (domain.Listed j) (domain.Listed k) (listed, at, also) =
       record {
-        devices = fun_ext (λ d. ap (λ (o : Option Domain). of_some o false (λ listed'. has listed'.devices d)) (at ∙ sym also));
-        links = fun_ext (λ l. ap (λ (o : Option Domain). of_some o false (λ listed'. has listed'.links l)) (at ∙ sym also));
+        devices = fun_ext (λ d. ap (λ (o : Option Domain). map_or o false (λ listed'. has listed'.devices d)) (at ∙ sym also));
+        links = fun_ext (λ l. ap (λ (o : Option Domain). map_or o false (λ listed'. has listed'.links l)) (at ∙ sym also));
       }
   things_of (domain.Device d) (domain.Device e) same = record { devices = fun_ext (λ x. ap (λ (n : ℕ). nat_eq n x) same); links = refl }
   things_of (domain.Link l) (domain.Link m) same = record { devices = refl; links = fun_ext (λ x. ap (λ (n : ℕ). nat_eq n x) same) }
@@ -98,7 +96,7 @@ module _ (before after : Network) (tighter : IsTighter before after) where
         domain.Listed j,
         Contains-append_left (listed_before ++ devices_before) links_before (domain.Listed j)
             (Contains-append_left listed_before devices_before (domain.Listed j)
-            (numbered domain.Listed (length before.domains) j inside)),
+            (named domain.Listed (length before.domains) j inside)),
         (listed, slice_get-get_or before.domains j listed inside ∙ ap (λ (x : Domain). Some x) is, slice_get-get_or after.domains k no_domain within),
       )
 
@@ -108,7 +106,7 @@ module _ (before after : Network) (tighter : IsTighter before after) where
         domain.Device d,
         Contains-append_left (listed_before ++ devices_before) links_before (domain.Device d)
             (Contains-append_right listed_before devices_before (domain.Device d)
-            (numbered domain.Device (length before.devices) d inside)),
+            (named domain.Device (length before.devices) d inside)),
         refl,
       )
 
@@ -117,7 +115,7 @@ module _ (before after : Network) (tighter : IsTighter before after) where
       let inside : l < length before.links = omega (arith, within, shape_of.links) in (
         domain.Link l,
         Contains-append_right (listed_before ++ devices_before) links_before (domain.Link l)
-            (numbered domain.Link (length before.links) l inside),
+            (named domain.Link (length before.links) l inside),
         refl,
       )
 

@@ -8,13 +8,11 @@ use Rattle.sd_drill.specs.Num.Numbers.{grow, low, up}
 use Rattle.sd_drill.specs.Num.declared.Rates.{Rates}
 use Rattle.sd_drill.specs.Topo.Network.{Network, Link, least_low, greatest_up, greatest_delay}
 use Rattle.sd_drill.specs.CheckRoot.Timing.{round_gap, silence}
+use Rattle.sd_drill.proofs.Checker.Num.Shared.{ceiling_rises}
 use Rattle.sd_proof_slack.specs.Tighter.{AreTighterRates, IsTighterDevice, IsTighterLink, IsTighter}
 
-whole : (a b : ℕ) → a ≤ b → (a + 999999) / 1000000 ≤ (b + 999999) / 1000000
-whole a b le = omega (arith, le)
-
 pub grow_falls : (p q x y : ℕ) → p ≤ q → x ≤ y → grow p x ≤ grow q y
-grow_falls p q x y slower shorter = whole (p * x) (q * y) (mul-le p x q y slower shorter)
+grow_falls p q x y slower shorter = ceiling_rises (p * x) (q * y) (mul-le p x q y slower shorter)
 
 module _ (before after : Rates) (tighter : AreTighterRates before after) (x : ℕ) where
   grown : grow after.ppm x ≤ grow before.ppm x

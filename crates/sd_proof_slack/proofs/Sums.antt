@@ -2,8 +2,8 @@
 use Rattle.std.specs.Prelude.{◌≡◌, ℕ, zero, suc, ◌+◌, ◌-◌, ◌/◌, ◌<◌, ◌≤◌, Bool, true, false, List, [], ◌∷◌, length, max, nat_eq, Option, Some, None, IsTrue, ◌⊎◌}
 use Rattle.std.specs.List.{list_any}
 use Rattle.std.proofs.Common.{arith, refl, ap, ◌∙◌, subst, inl, inr}
-use Rattle.std.proofs.lemmas.Bool.{cases_lt, and_parts, and_from, or_cases, or_left, or_right, eqb-true, eq-eqb}
-use Rattle.sd_drill.specs.Num.Lists.{of_some}
+use Rattle.std.proofs.lemmas.Bool.{cases_lt, and_parts, and_from, or_cases, or_left, or_right}
+use Rattle.sd_drill.specs.Num.Lists.{map_or}
 use Rattle.sd_drill.specs.Num.Numbers.{correction}
 use Rattle.sd_drill.specs.Topo.Network.{Network, link_of, delay_towards, bounds_of}
 use Rattle.sd_drill.specs.Topo.declared.LinkEntry.{LinkEntry}
@@ -15,6 +15,8 @@ use Rattle.sd_drill.specs.Plan.Walks.{walk}
 use Rattle.sd_drill.specs.CheckLoop.Loops.{hops_of, same_hop, is_walk}
 use Rattle.sd_drill.specs.Drill.{root_halves}
 use Rattle.sd_drill.specs.recovery.Walks.{halves, IsWalk, IsGreatestOf}
+use Rattle.sd_drill.proofs.Checker.Exclusive.{same_self}
+use Rattle.sd_drill.proofs.Shared.{same_hop_same}
 use Rattle.sd_proof_slack.specs.Tighter.{IsTighterEntry, IsTighter}
 use Rattle.sd_proof_slack.proofs.Alike.{walk_same}
 use Rattle.sd_proof_slack.proofs.Matching.{entries, shape_of}
@@ -49,7 +51,7 @@ module _ (before after : Network) (tighter : IsTighter before after) where
     over_primary net = halves net plan.backup_root (walk net plan plan.backup_root)
 
     abbrev over_backup : Network → Option Hop → ℕ
-    over_backup net backup = of_some backup 0 (λ hop. halves net plan.backup_root (hop ∷ walk net plan hop.parent))
+    over_backup net backup = map_or backup 0 (λ hop. halves net plan.backup_root (hop ∷ walk net plan hop.parent))
 
     primary_falls : over_primary after ≤ over_primary before
     primary_falls =
@@ -73,19 +75,6 @@ module _ (before after : Network) (tighter : IsTighter before after) where
         greater a b c d first second = omega (arith, first, second)
 
 -- The greatest sum
-
-same_hop_same : (x y : Hop) → same_hop x y ≡ true → x ≡ y
-same_hop_same x y same =
-    let parts = and_parts (nat_eq x.parent y.parent) (nat_eq x.link y.link) same in
-    let parent : x.parent ≡ y.parent = eqb-true x.parent y.parent parts.0 in
-    let link : x.link ≡ y.link = eqb-true x.link y.link parts.1 in
-    ap (λ (n : ℕ). hop_of n x.link) parent ∙ ap (hop_of y.parent) link
-  where
-    hop_of : ℕ → ℕ → Hop
-    hop_of parent link = record { parent = parent; link = link }
-
-hop_itself : (x : Hop) → same_hop x x ≡ true
-hop_itself x = and_from (nat_eq x.parent x.parent) (nat_eq x.link x.link) (eq-eqb x.parent x.parent refl) (eq-eqb x.link x.link refl)
 
 module _ (net : Network) (plan : Plan) (f : DomainId) where
   -- a walk whose first hop is one of these, or that has none
@@ -134,7 +123,7 @@ module _ (net : Network) (plan : Plan) (f : DomainId) where
         (bounds_of net h.link d).half + g,
         record {
           hops = h ∷ one.hops;
-          has = (or_left (same_hop h h) (list_any (same_hop h) firsts) (hop_itself h), one.has);
+          has = (or_left (same_hop h h) (list_any (same_hop h) firsts) (same_self h), one.has);
           reached = ap (λ (n : ℕ). (bounds_of net h.link d).half + n) one.reached;
           greatest = most ((bounds_of net h.link d).half + g) (omega arith) more;
         },
@@ -143,7 +132,7 @@ module _ (net : Network) (plan : Plan) (f : DomainId) where
   of_firsts : (d : ℕ) (firsts : List Hop) → ((h : Hop) → list_any (same_hop h) firsts ≡ true → GreatestFrom h.parent) → HasGreatest (BeginsAmong firsts) d
   of_firsts d [] each = none_among d
   of_firsts d (h ∷ firsts) each =
-      one_more d h firsts (each h (or_left (same_hop h h) (list_any (same_hop h) firsts) (hop_itself h)))
+      one_more d h firsts (each h (or_left (same_hop h h) (list_any (same_hop h) firsts) (same_self h)))
       (of_firsts d firsts (λ x some. each x (or_right (same_hop x h) (list_any (same_hop x) firsts) some)))
 
   -- a walk is one that begins with a hop of its device

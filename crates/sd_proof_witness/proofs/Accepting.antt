@@ -4,7 +4,7 @@ use Rattle.std.specs.List.{list_any, list_all}
 use Rattle.std.proofs.Common.{refl, sym, ap, ◌∙◌, subst, arith, inl, inr}
 use Rattle.std.proofs.lemmas.Bool.{and_parts, and_from, or_cases, eqb-true, not-true, not-false, not_from_false, cases_lt, cases_Bool, both_ways}
 use Rattle.std.proofs.lemmas.Option.{slice_get_past, same_Some}
-use Rattle.sd_proof_bound.specs.Drill.Num.Lists.{of_some}
+use Rattle.sd_proof_bound.specs.Drill.Num.Lists.{map_or}
 use Rattle.sd_proof_bound.specs.Drill.Topo.Network.{Network, device_numbers, Each}
 use Rattle.sd_proof_bound.specs.Drill.Domain.Domains.{domains, holds_device, holds_link, hits}
 use Rattle.sd_proof_bound.specs.Drill.Domain.declared.DomainId.{DomainId}
@@ -71,7 +71,7 @@ leads_to_ends net plan f d = list_all (λ hop. ends_walks plan hop.parent) (hops
 -- the device is hit, and the domain has its backup
 abbrev pub loses : Network → Plan → DomainId → ℕ → Bool
 loses net plan f d =
-    not (ends_walks plan d) && is_hit net plan f d && of_some (backup_of plan d) false (λ hop. holds_link net f hop.link || holds_device net f hop.parent)
+    not (ends_walks plan d) && is_hit net plan f d && map_or (backup_of plan d) false (λ hop. holds_link net f hop.link || holds_device net f hop.parent)
 
 -- the device comes to hear the acting end over at most n turns
 abbrev pub is_fed : Network → Plan → DomainId → ℕ → ℕ → Bool
@@ -81,7 +81,7 @@ is_fed net plan f (suc n) d =
     && (nat_eq d (acting_end net plan f)
     || (nat_eq d plan.backup_root
     || (not (is_hit net plan f d)
-    || of_some (next_hop plan d) false (λ hop. not (holds_link net f hop.link) && not (holds_device net f hop.parent) && is_fed net plan f n hop.parent))))
+    || map_or (next_hop plan d) false (λ hop. not (holds_link net f hop.link) && not (holds_device net f hop.parent) && is_fed net plan f n hop.parent))))
 
 -- what is asked of each domain
 abbrev pub withstands : Network → Plan → DomainId → Bool
@@ -102,7 +102,7 @@ pub fed_by : (net : Network) (plan : Plan) (f : DomainId) (n d : ℕ) → is_fed
 fed_by net plan f zero d fed = cc
 fed_by net plan f (suc n) d fed =
     let turned : Bool =
-    of_some (next_hop plan d) false (λ hop. not (holds_link net f hop.link) && not (holds_device net f hop.parent) && is_fed net plan f n hop.parent) in
+    map_or (next_hop plan d) false (λ hop. not (holds_link net f hop.link) && not (holds_device net f hop.parent) && is_fed net plan f n hop.parent) in
     let (sound, how) =
     and_parts (is_sound net plan f d) (nat_eq d (acting_end net plan f) || (nat_eq d plan.backup_root || (not (is_hit net plan f d) || turned))) fed in
     elim (or_cases (nat_eq d (acting_end net plan f)) (nat_eq d plan.backup_root || (not (is_hit net plan f d) || turned)) how) [
@@ -121,7 +121,7 @@ fed_by net plan f (suc n) d fed =
   where
     by : (next : Option Hop) → next_hop plan d ≡ next → is_sound net plan f d ≡ true → is_hit net plan f d ≡ true
         → ((e : ℕ) → is_fed net plan f n e ≡ true → Fed net plan f e)
-        → of_some next false (λ hop. not (holds_link net f hop.link) && not (holds_device net f hop.parent) && is_fed net plan f n hop.parent) ≡ true
+        → map_or next false (λ hop. not (holds_link net f hop.link) && not (holds_device net f hop.parent) && is_fed net plan f n hop.parent) ≡ true
         → Fed net plan f d
     by None is sound hit rest turning = cc
     by (Some hop) is sound hit rest turning =
@@ -152,13 +152,13 @@ parts net plan f holds =
 
 module _ (net : Network) (plan : Plan) (fits : Fits net plan) where
   rowless : (d : ℕ) → length net.devices ≤ d → row_of plan d ≡ None
-  rowless d past = ap (λ (o : Option (Option PlanRow)). of_some o None (λ row. row)) (slice_get_past plan.rows d (omega (arith, fits.entries)))
+  rowless d past = ap (λ (o : Option (Option PlanRow)). map_or o None (λ row. row)) (slice_get_past plan.rows d (omega (arith, fits.entries)))
 
   no_primary : (d : ℕ) → length net.devices ≤ d → primary_of plan d ≡ None
   no_primary d past = ap (option_map (λ (row : PlanRow). row.primary)) (rowless d past)
 
   no_backup : (d : ℕ) → length net.devices ≤ d → backup_of plan d ≡ None
-  no_backup d past = ap (λ (o : Option PlanRow). of_some o None (λ row. row.backup)) (rowless d past)
+  no_backup d past = ap (λ (o : Option PlanRow). map_or o None (λ row. row.backup)) (rowless d past)
 
   no_hops : (f : DomainId) (d : ℕ) → length net.devices ≤ d → hops_of net plan f d ≡ []
   no_hops f d past =
@@ -235,7 +235,7 @@ module _ (net : Network) (plan : Plan) (fits : Fits net plan) where
       ]
     where
       takes : Option Hop → Bool
-      takes o = of_some o false (λ hop. holds_link net f hop.link || holds_device net f hop.parent)
+      takes o = map_or o false (λ hop. holds_link net f hop.link || holds_device net f hop.parent)
 
       none : (o : Option Hop) → o ≡ None → o ≡ Some lost.backup → ⊥
       none o is some = cc

@@ -19,6 +19,7 @@ device name = record { name = name; side = Root; rates = record { ppm = 200; gra
 abbrev pub link : List ℕ → ℕ → ℕ → Link
 link name a b = record { name = name; entry = record { end_a = a; end_b = b; min = 400000; max = 1000000; back_min = 400000; back_max = 1000000 } }
 
+-- a hop to a parent over a link
 abbrev pub hop : ℕ → ℕ → Hop
 hop parent link = record { parent = parent; link = link }
 
@@ -71,6 +72,7 @@ second_plan =
       rows = None ∷ None ∷ Some (record { primary = hop 1 4; backup = Some (hop 1 5) }) ∷ [];
     }
 
+-- the network with both plans
 abbrev pub setting : Setting
 setting = record { net = network; plans = first_plan ∷ second_plan ∷ [] }
 

@@ -38,6 +38,7 @@ abbrev pub was_counted : Setting → List Step → ℕ → Bool
 was_counted over [] d = false
 was_counted over (s ∷ earlier) d = is_counted over (seen_of earlier) d
 
+-- a report of a clock with its uncertainty
 abbrev pub report : ℕ → ℕ → Report
 report clock eps = record { clock = clock; eps = eps }
 
@@ -49,6 +50,7 @@ report_at line device reference told = record { line = line; device = device; re
 abbrev pub steps : List Event → ℕ → List Step
 steps events n = after_line setting events n
 
+-- what is seen of the first lines
 abbrev pub seen : List Event → ℕ → List Seen
 seen events n = seen_of (steps events n)
 

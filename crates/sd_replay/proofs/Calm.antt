@@ -12,7 +12,7 @@ use Rattle.sd_history.specs.Lines.{lines_of}
 use Rattle.sd_history.proofs.Devices.{devices_run, devices_have_history}
 use Rattle.sd_proof_safety.proofs.whole.Safe.{stays_safe}
 use Rattle.sd_proof_safety.specs.invariant.Kept.{IsSafe}
-use Rattle.sd_replay.specs.Promises.{IsSound}
+use Rattle.sd_proof_safety.specs.invariant.Coming.{IsFair}
 use Rattle.sd_replay.specs.Tallies.{is_alarm}
 use Rattle.sd_replay.specs.Calm.{IsCalm, StaysCalm}
 use Rattle.sd_replay.specs.Devices.{DevicesStayCalm}
@@ -20,13 +20,13 @@ use Rattle.sd_replay.proofs.Due.{none_broken, four_parts, no_alarm_due, all_hone
 use Rattle.sd_replay.proofs.Kept.{reports_contain}
 
 -- a clean history over plans that are accepted is safe
-pub history_is_safe : (setting : Setting) → IsSound setting → (history : List Event) → IsHistory setting history
+pub history_is_safe : (setting : Setting) → IsFair setting → (history : List Event) → IsHistory setting history
     → IsTrue (all_hold setting (seen_of (chronicle setting history))) → IsSafe setting (chronicle setting history)
 history_is_safe setting sound history is holds =
     stays_safe setting history (record { network = sound.network; some_plan = sound.some_plan; fit = sound.fit; accepted = sound.accepted })
     (record { is = is; premises = holds })
 
-module _ (setting : Setting) (sound : IsSound setting) where
+module _ (setting : Setting) (sound : IsFair setting) where
   no_alarm : (history : List Event) → IsHistory setting history → all_hold setting (seen_of (chronicle setting history)) ≡ true
       → count_by is_alarm (lines_of setting (chronicle setting history)) ≡ 0
   no_alarm [] is holds = refl
@@ -47,7 +47,7 @@ module _ (setting : Setting) (sound : IsSound setting) where
       record { no_loop = kept.loop; one_root = kept.root; no_alarm = no_alarm history is holds }
 
 -- and so are steps that are one
-pub stays_calm : (setting : Setting) → IsSound setting → (steps : List Step) → StaysCalm setting steps
+pub stays_calm : (setting : Setting) → IsFair setting → (steps : List Step) → StaysCalm setting steps
 stays_calm setting sound steps is holds =
     subst (IsCalm setting) (sym is.chronicle)
     (history_is_calm setting sound (events_of steps) is.history (subst (λ (s : List Step). IsTrue (all_hold setting (seen_of s))) is.chronicle holds))

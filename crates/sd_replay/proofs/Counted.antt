@@ -2,7 +2,7 @@
 use Rattle.std.specs.Prelude.{◌≡◌, ℕ, ◌+◌, Bool, true, false, List, [], ◌∷◌, ◌++◌, count_by, cond, Option, Some, None, is_some, not, refl, if◌then◌else◌}
 use Rattle.std.proofs.Common.{arith}
 use Rattle.std.proofs.lemmas.List.Sums.{sum_by-append}
-use Rattle.sd_num.specs.Lists.{of_some}
+use Rattle.sd_num.specs.Lists.{map_or}
 use Rattle.sd_clock.specs.declared.Report.{Report}
 use Rattle.sd_clock.specs.Estimates.{contains}
 use Rattle.sd_history.specs.declared.BrokenSet.{BrokenSet}
@@ -12,8 +12,8 @@ use Rattle.sd_replay.specs.lines.Findings.{found_lines, loop_found, roots_found,
 use Rattle.sd_replay.specs.Tallies.{is_broken, is_alarm}
 use Rattle.sd_replay.specs.Counting.{one}
 
-pub more : (test : Line → Bool) (xs ys : List Line) → count_by test (xs ++ ys) ≡ count_by test xs + count_by test ys
-more test xs ys = sum_by-append (λ x. cond (test x) 1 0) xs ys
+pub count_append : (test : Line → Bool) (xs ys : List Line) → count_by test (xs ++ ys) ≡ count_by test xs + count_by test ys
+count_append test xs ys = sum_by-append (λ x. cond (test x) 1 0) xs ys
 
 -- Broken lines
 
@@ -48,12 +48,12 @@ module _ (b : BrokenSet) where
       ≡ count_by test (line_if b.start Start) + count_by test (line_if b.drift Drift) + count_by test (line_if b.delay Delay) + count_by test
       (line_if b.tick Tick) + count_by test (line_if b.loss Loss) + count_by test (line_if b.domain Domain) + count_by test (line_if b.renew Renew)
   split test =
-      let d = more test (line_if b.start Start) (line_if b.drift Drift) in
-      let l = more test two (line_if b.delay Delay) in
-      let t = more test three (line_if b.tick Tick) in
-      let o = more test four (line_if b.loss Loss) in
-      let f = more test five (line_if b.domain Domain) in
-      let r = more test six (line_if b.renew Renew) in
+      let d = count_append test (line_if b.start Start) (line_if b.drift Drift) in
+      let l = count_append test two (line_if b.delay Delay) in
+      let t = count_append test three (line_if b.tick Tick) in
+      let o = count_append test four (line_if b.loss Loss) in
+      let f = count_append test five (line_if b.domain Domain) in
+      let r = count_append test six (line_if b.renew Renew) in
       omega (arith, d, l, t, o, f, r)
 
   pub broken_counted : count_by is_broken (broken_lines b) ≡ one b.start + one b.drift + one b.delay + one b.tick + one b.loss + one b.domain + one b.renew
@@ -91,8 +91,8 @@ roots_counted None = (refl, refl)
 roots_counted (Some two) = (refl, refl)
 
 report_counted : (reference : ℕ) (o : Option (ℕ × Report))
-    → (count_by is_alarm (of_some o [] (report_lines reference)) ≡ one (of_some o false (λ told. not (contains told.1 reference))))
-    × (count_by is_broken (of_some o [] (report_lines reference)) ≡ 0)
+    → (count_by is_alarm (map_or o [] (report_lines reference)) ≡ one (map_or o false (λ told. not (contains told.1 reference))))
+    × (count_by is_broken (map_or o [] (report_lines reference)) ≡ 0)
 report_counted reference None = (refl, refl)
 report_counted reference (Some told) = by (contains told.1 reference)
   where
@@ -103,15 +103,15 @@ report_counted reference (Some told) = by (contains told.1 reference)
 
 module _ (found : Findings) where
   abbrev asked : List Line
-  asked = of_some found.report [] (report_lines found.reference)
+  asked = map_or found.report [] (report_lines found.reference)
 
   parts : (test : Line → Bool)
       → count_by test (found_lines found) ≡ count_by test (broken_lines found.broken) + count_by test (loop_found found.looped) + count_by test
       (roots_found found.roots) + count_by test asked
   parts test =
-      let l = more test (broken_lines found.broken) (loop_found found.looped) in
-      let r = more test (broken_lines found.broken ++ loop_found found.looped) (roots_found found.roots) in
-      let a = more test (broken_lines found.broken ++ loop_found found.looped ++ roots_found found.roots) asked in
+      let l = count_append test (broken_lines found.broken) (loop_found found.looped) in
+      let r = count_append test (broken_lines found.broken ++ loop_found found.looped) (roots_found found.roots) in
+      let a = count_append test (broken_lines found.broken ++ loop_found found.looped ++ roots_found found.roots) asked in
       omega (arith, l, r, a)
 
   -- each broken line is of a premise

@@ -5,7 +5,7 @@ use Rattle.std.specs.List.{list_all}
 use Rattle.std.proofs.Common.{arith, sym, ap, subst, ◌∙◌}
 use Rattle.std.proofs.lemmas.Bool.{and_parts, and_from}
 use Rattle.std.proofs.lemmas.List.Folds.{list_all-append}
-use Rattle.sd_num.specs.Lists.{of_some}
+use Rattle.sd_num.specs.Lists.{map_or}
 use Rattle.sd_clock.specs.declared.Report.{Report}
 use Rattle.sd_clock.specs.Estimates.{contains}
 use Rattle.sd_msg.specs.Observed.{ReportAt}
@@ -17,12 +17,10 @@ use Rattle.sd_history.proofs.Parts.{premises_of}
 use Rattle.sd_history.specs.Premises.{breaks, is_honest, all_hold, start_holds, drift_holds, delay_holds}
 use Rattle.sd_history.specs.Lines.{Line, Premise, Broken, LoopAlarm, RootsAlarm, Reported, IntervalAlarm, broken_lines, loop_lines, root_lines, report_lines, asked_report, reports, roots, first_on_loop, lines_of}
 use Rattle.sd_history.specs.Lines as premise
+use Rattle.sd_history.proofs.Given.{some_is}
 use Rattle.sd_replay.specs.Tallies.{is_alarm}
 use Rattle.sd_replay.specs.Devices.{is_miss}
-use Rattle.sd_replay.proofs.Counted.{more, line_if, split}
-
-same_some : {A : Type 0} {x y : A} → Some x ≡ Some y → x ≡ y
-same_some {x = x} same = ap (λ o. of_some o x (λ z. z)) same
+use Rattle.sd_replay.proofs.Counted.{count_append, line_if, split}
 
 -- Lines of premises
 
@@ -64,7 +62,7 @@ no_roots test before (d ∷ e ∷ others) never = by (nat_le 2 (length before))
 -- nor but where a report misses its reference
 no_miss : (test : Line → Bool) (reference : ℕ) (o : Option (ℕ × Report)) → ((d : ℕ) (report : Report) → test (Reported d report) ≡ false)
     → ((told : ℕ × Report) → o ≡ Some told → contains told.1 reference ≡ true)
-    → count_by test (of_some o [] (report_lines reference)) ≡ 0
+    → count_by test (map_or o [] (report_lines reference)) ≡ 0
 no_miss test reference None never holds = refl
 no_miss test reference (Some told) never holds = by (contains told.1 reference) (holds told refl)
   where
@@ -80,7 +78,7 @@ latest_contains : (n reference : ℕ) (o : Option (ℕ × Report))
     → (x : ℕ × Report) → o ≡ Some x → contains x.1 reference ≡ true
 latest_contains n reference None all x same = cc
 latest_contains n reference (Some y) all x same =
-    subst (λ (z : ℕ × Report). contains z.1 reference ≡ true) (same_some same) (and_parts (contains y.1 reference) true all).0
+    subst (λ (z : ℕ × Report). contains z.1 reference ≡ true) (some_is same) (and_parts (contains y.1 reference) true all).0
 
 module _ (setting : Setting) (s : Step) (earlier : List Step) where
   abbrev pub broken : List Line
@@ -93,15 +91,15 @@ module _ (setting : Setting) (s : Step) (earlier : List Step) where
   acting = root_lines (roots setting earlier) (roots setting (s ∷ earlier))
 
   abbrev pub told : List Line
-  told = of_some (asked_report s) [] (report_lines (reference_of s.seen.event))
+  told = map_or (asked_report s) [] (report_lines (reference_of s.seen.event))
 
   -- the lines of an event by their parts
   pub four_parts : (test : Line → Bool)
       → count_by test (lines_of setting (s ∷ earlier)) ≡ count_by test broken + (count_by test loop + count_by test acting + count_by test told)
   four_parts test =
-      let l = more test broken loop in
-      let r = more test (broken ++ loop) acting in
-      let t = more test (broken ++ loop ++ acting) told in
+      let l = count_append test broken loop in
+      let r = count_append test (broken ++ loop) acting in
+      let t = count_append test (broken ++ loop ++ acting) told in
       omega (arith, l, r, t)
 
   abbrev here : List ReportAt

@@ -21,9 +21,9 @@ use Rattle.sd_history.specs.Open.{unspent}
 use Rattle.sd_history.specs.Accepted.{AreSteps}
 use Rattle.sd_history.specs.flights.Flights.{without_taken, without_swept, left_by, look_in, AreNumberedOn}
 use Rattle.sd_history.proofs.flights.Finds.{past_all, find_passing}
-use Rattle.sd_history.proofs.flights.Sending.{step_numbered, sent_is, counted}
-use Rattle.sd_fleet.specs.FleetFabric.declared.Outcome.{Outcome}
-use Rattle.sd_fleet.specs.FleetFabric.Outcomes.{first_number, outcome_of}
+use Rattle.sd_history.proofs.flights.Sending.{step_numbered, counted}
+use Rattle.sd_fleet.specs.declared.Outcome.{Outcome}
+use Rattle.sd_fleet.specs.Outcomes.{first_number, outcome_of}
 use Rattle.sd_history.proofs.flights.Numbers.{step_given, unspent_given}
 use Rattle.sd_history.proofs.flights.Looks.{look_is}
 use Rattle.sd_history.proofs.flights.Leaving.{unspent_after}
@@ -42,12 +42,6 @@ left_numbered top e fs are =
     swept_numbered top (failure_of e) (without_taken (message_of e) (filter (is_current (reference_of e)) fs))
     (taken_numbered top (message_of e) (filter (is_current (reference_of e)) fs) (numbered_filter 0 top (is_current (reference_of e)) fs are))
 
--- the flight at a place has the next number after those before it
-number_at : (n : ℕ) (fs : List Flight) (i : ℕ) (d : Flight) → AreNumberedOn n fs → i < length fs → (get_or fs i d).number ≡ n + i
-number_at n [] i d are within = absurd (omega arith)
-number_at n (f ∷ fs) zero d are within = let here = are.0 in omega (arith, here)
-number_at n (f ∷ fs) (suc i) d are within = let rest = number_at (n + 1) fs i d are.1 (omega arith) in omega (arith, rest)
-
 find_at : (n : ℕ) (fs : List Flight) (i : ℕ) (d : Flight) → AreNumberedOn n fs → i < length fs → find (has_number (n + i)) fs ≡ Some (get_or fs i d)
 find_at n [] i d are within = absurd (omega arith)
 find_at n (f ∷ fs) zero d are within =
@@ -58,10 +52,6 @@ find_at n (f ∷ fs) (suc i) d are within =
     let next : (n + 1) + i ≡ n + suc i = omega arith in
     ap (λ b. if b then Some f else find (has_number (n + suc i)) fs) (ne_eqb f.number (n + suc i) (λ same. omega (arith, first, same)))
     ∙ subst (λ k. find (has_number k) fs ≡ Some (get_or fs i d)) next (find_at (n + 1) fs i d are.1 (omega arith))
-
--- what is seen of the flights that a step sent
-pub seen_sent : (setting : Setting) (s : Step) (earlier : List Step) → AreSteps setting (s ∷ earlier) → s.seen.sent ≡ filter (λ f. f.reaches) s.sent
-seen_sent setting s earlier is = ap (λ (x : Step). x.seen.sent) is.2 ∙ ap (filter (λ f. f.reaches)) (sym (sent_is setting s earlier is))
 
 -- the number of the first of them
 pub first_is : (setting : Setting) (s : Step) (earlier : List Step) → AreSteps setting (s ∷ earlier) → 0 < length s.sent

@@ -22,7 +22,7 @@ use Rattle.sd_replay.specs.lines.Printed.{printed}
 use Rattle.sd_replay.specs.declared.monitors.Monitors.{Monitors}
 use Rattle.sd_replay.specs.declared.event_output.EventOutput.{EventOutput}
 use Rattle.sd_replay.specs.Counting.{no_tally}
-use Rattle.sd_replay.specs.Standing.{Onlooks, Tells, Stands, HasRun}
+use Rattle.sd_replay.specs.Standing.{HasSeen, HasPrinted, Stands, HasRun}
 
 -- plans that are accepted can be followed
 pub are_sound : (net : Network) (plans given : List Plan) → given ≡ plans → Each (Fits net) plans → Each (IsAccepted net) plans → AreSound net given
@@ -35,10 +35,10 @@ are_sound net plans given same fit accepted =
 pub first_stands : {N V : Type 0} (g : Ghosts N) (o : observers.Ghosts V) (topo : Topology) (plans : List Plan) (fleet : Fleet N g) (monitors : Monitors)
     (event_output : EventOutput) (observer : V) (setting : Setting)
     → setting.net ≡ network topo → setting.plans ≡ plans → 1 ≤ length plans → Each (Fits (network topo)) plans → Each (IsAccepted (network topo)) plans
-    → fleets.StandsFor g fleet setting [] → Onlooks monitors setting [] → network event_output.topology ≡ network topo → printed event_output.lines ≡ []
+    → fleets.StandsFor g fleet setting [] → HasSeen monitors setting [] → network event_output.topology ≡ network topo → printed event_output.lines ≡ []
     → event_output.tally ≡ no_tally → event_output.ended ≡ false
     → o.stands observer [] → Stands g o fleet monitors event_output observer setting []
-first_stands g o topo plans fleet monitors event_output observer setting net same some fit accepted made onlooks topology lines tally ended told =
+first_stands g o topo plans fleet monitors event_output observer setting net same some fit accepted made has_seen topology lines tally ended told =
     record {
       sound =
           record {
@@ -48,7 +48,7 @@ first_stands g o topo plans fleet monitors event_output observer setting net sam
             accepted = λ i plan at. subst (λ n. IsAccepted n plan) (sym net) (accepted i plan (subst (λ ps. slice_get ps i ≡ Some plan) same at));
           };
       made = made;
-      onlooks = onlooks;
+      has_seen = has_seen;
       tells = record { net = topology ∙ sym net; lines = lines; tally = tally; ended = ended };
       told = told;
     }
@@ -56,7 +56,7 @@ first_stands g o topo plans fleet monitors event_output observer setting net sam
 -- Room
 
 module _ {N V : Type 0} (g : Ghosts N) (o : observers.Ghosts V) (fleet : Fleet N g) (event_output : EventOutput) where
-  pub with_monitors : (observer : V) (old new : Monitors) → ((setting : Setting) (steps : List Step) → Onlooks old setting steps → Onlooks new setting steps)
+  pub with_monitors : (observer : V) (old new : Monitors) → ((setting : Setting) (steps : List Step) → HasSeen old setting steps → HasSeen new setting steps)
       → HasRun g o fleet old event_output observer → HasRun g o fleet new event_output observer
   with_monitors observer old new keeps has =
       record {
@@ -66,7 +66,7 @@ module _ {N V : Type 0} (g : Ghosts N) (o : observers.Ghosts V) (fleet : Fleet N
             record {
               sound = has.stands.sound;
               made = has.stands.made;
-              onlooks = keeps has.setting (steps_of has.steps) has.stands.onlooks;
+              has_seen = keeps has.setting (steps_of has.steps) has.stands.has_seen;
               tells = has.stands.tells;
               told = has.stands.told;
             };
@@ -82,7 +82,7 @@ module _ {N V : Type 0} (g : Ghosts N) (o : observers.Ghosts V) (fleet : Fleet N
             record {
               sound = has.stands.sound;
               made = has.stands.made;
-              onlooks = has.stands.onlooks;
+              has_seen = has.stands.has_seen;
               tells = has.stands.tells;
               told = keeps (reports (steps_of has.steps)) has.stands.told;
             };
@@ -94,7 +94,7 @@ pub stands_prepared : {N V : Type 0} (g : Ghosts N) (o : observers.Ghosts V) (be
     → ((setting : Setting) (run : List (NodeStep N)) → fleets.StandsFor g before setting run → fleets.StandsFor g after setting run)
     → Stands g o before monitors event_output observer setting run → Stands g o after monitors event_output observer setting run
 stands_prepared g o before after monitors event_output observer setting run keeps stands =
-    record { sound = stands.sound; made = keeps setting run stands.made; onlooks = stands.onlooks; tells = stands.tells; told = stands.told }
+    record { sound = stands.sound; made = keeps setting run stands.made; has_seen = stands.has_seen; tells = stands.tells; told = stands.told }
 
 -- another fleet that stands for the same runs
 pub with_fleet : {N V : Type 0} (g : Ghosts N) (o : observers.Ghosts V) (before after : Fleet N g) (monitors : Monitors) (event_output : EventOutput)
@@ -109,7 +109,7 @@ with_fleet g o before after monitors event_output observer keeps has =
           record {
             sound = has.stands.sound;
             made = keeps has.setting has.steps has.stands.made;
-            onlooks = has.stands.onlooks;
+            has_seen = has.stands.has_seen;
             tells = has.stands.tells;
             told = has.stands.told;
           };
@@ -118,14 +118,14 @@ with_fleet g o before after monitors event_output observer keeps has =
 -- the parts once there is room
 pub stands_ready : {N V : Type 0} (g : Ghosts N) (o : observers.Ghosts V) (fleet same : Fleet N g) (old new : Monitors) (event_output noted : EventOutput)
     (observer told : V) (setting : Setting) (run : List (NodeStep N)) → same ≡ fleet → noted ≡ event_output
-    → ((s : Setting) (steps : List Step) → Onlooks old s steps → Onlooks new s steps) → ((xs : List ReportAt) → o.stands observer xs → o.stands told xs)
+    → ((s : Setting) (steps : List Step) → HasSeen old s steps → HasSeen new s steps) → ((xs : List ReportAt) → o.stands observer xs → o.stands told xs)
     → Stands g o fleet old event_output observer setting run → Stands g o same new noted told setting run
 stands_ready g o fleet same old new event_output noted observer told setting run fleets_same event_outputs_same keeps tells stands =
     record {
       sound = stands.sound;
       made = subst (λ f. fleets.StandsFor g f setting run) (sym fleets_same) stands.made;
-      onlooks = keeps setting (steps_of run) stands.onlooks;
-      tells = subst (λ (j : EventOutput). Tells j setting (steps_of run)) (sym event_outputs_same) stands.tells;
+      has_seen = keeps setting (steps_of run) stands.has_seen;
+      tells = subst (λ (j : EventOutput). HasPrinted j setting (steps_of run)) (sym event_outputs_same) stands.tells;
       told = tells (reports (steps_of run)) stands.told;
     }
 
@@ -133,7 +133,7 @@ stands_ready g o fleet same old new event_output noted observer told setting run
 pub stands_with_room : {N V : Type 0} (g : Ghosts N) (o : observers.Ghosts V) {fleet prepared same : Fleet N g} {old new : Monitors}
     {event_output noted : EventOutput} {observer told : V} (setting : Setting) (run : List (NodeStep N))
     → ((s : Setting) (r : List (NodeStep N)) → fleets.StandsFor g fleet s r → fleets.StandsFor g prepared s r) → same ≡ prepared → noted ≡ event_output
-    → ((s : Setting) (steps : List Step) → Onlooks old s steps → Onlooks new s steps) → ((xs : List ReportAt) → o.stands observer xs → o.stands told xs)
+    → ((s : Setting) (steps : List Step) → HasSeen old s steps → HasSeen new s steps) → ((xs : List ReportAt) → o.stands observer xs → o.stands told xs)
     → Stands g o fleet old event_output observer setting run → Stands g o same new noted told setting run
 stands_with_room g o {fleet} {prepared} {same} {old} {new} {event_output} {noted} {observer}
     {told} setting run prepares fleets_same event_outputs_same keeps tells stands =

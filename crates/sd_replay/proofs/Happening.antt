@@ -16,8 +16,8 @@ use Rattle.sd_history.specs.World.{Setting}
 use Rattle.sd_history.specs.Steps.{Step}
 use Rattle.sd_history.specs.Nodes.{NodeStep, steps_of}
 use Rattle.sd_history.specs.Lines.{lines_of, asked_report, reports}
-use Rattle.sd_fleet.specs.FleetFabric.declared.Outcome.{Outcome}
-use Rattle.sd_fleet.specs.FleetFabric.Doing.{asks}
+use Rattle.sd_fleet.specs.declared.Outcome.{Outcome}
+use Rattle.sd_fleet.specs.Doing.{asks}
 use Rattle.sd_fleet.specs.declared.fleet.Fleet.{Fleet}
 use Rattle.sd_fleet.specs.Standing as fleets
 use Rattle.sd_replay.specs.lines.Printed.{printed}
@@ -27,7 +27,7 @@ use Rattle.sd_replay.specs.declared.Tally.{Tally}
 use Rattle.sd_replay.specs.declared.monitors.Monitors.{Monitors}
 use Rattle.sd_replay.specs.declared.event_output.EventOutput.{EventOutput}
 use Rattle.sd_replay.specs.Counting.{HasRoom, tally_with}
-use Rattle.sd_replay.specs.Standing.{Onlooks, HasStep, Stands, HasRun}
+use Rattle.sd_replay.specs.Standing.{HasSeen, HasStep, Stands, HasRun}
 use Rattle.sd_replay.proofs.Telling.{tally_room, tells_next, reports_same, reports_more}
 use Rattle.sd_replay.proofs.Looking.{asks_by_report, numbers_fit}
 
@@ -59,7 +59,7 @@ module _ {N V : Type 0} (g : Ghosts N) (o : observers.Ghosts V) (before : Fleet 
     (accepts : (setting : Setting) (run : List (NodeStep N)) → fleets.StandsFor g before setting run → fleets.IsAccepted g after setting run e outcome) where
   -- the fleet has made a step
   pub has_step : HasRun g o before monitors event_output observer → HasStep g monitors after e outcome
-  has_step has = record { setting = has.setting; run = has.steps; accepted = accepts has.setting has.steps has.stands.made; onlooks = has.stands.onlooks }
+  has_step has = record { setting = has.setting; run = has.steps; accepted = accepts has.setting has.steps has.stands.made; has_seen = has.stands.has_seen }
 
   pub numbers_merely : ∥ HasRun g o before monitors event_output observer ∥₁ → outcome.first_sent + outcome.sent < 2 ^ 64
   numbers_merely there = ∥∥₁_elim there (search props) (λ has. fit has)
@@ -78,13 +78,13 @@ module _ {N V : Type 0} (g : Ghosts N) (o : observers.Ghosts V) (before : Fleet 
 
   -- what was found of it is of the topology
   pub devices_merely : (found : Findings)
-      → ((setting : Setting) (run : List (NodeStep N)) → fleets.IsAccepted g after setting run e outcome → Onlooks monitors setting (steps_of run)
+      → ((setting : Setting) (run : List (NodeStep N)) → fleets.IsAccepted g after setting run e outcome → HasSeen monitors setting (steps_of run)
       → IsOf setting.net found)
       → ∥ HasRun g o before monitors event_output observer ∥₁ → IsOf (network event_output.topology) found
   devices_merely found of there =
       of_merely (network event_output.topology) found
       (∥∥₁_map there (λ has.
-      subst (λ net. IsOf net found) (sym has.stands.tells.net) (of has.setting has.steps (accepts has.setting has.steps has.stands.made) has.stands.onlooks)))
+      subst (λ net. IsOf net found) (sym has.stands.tells.net) (of has.setting has.steps (accepts has.setting has.steps has.stands.made) has.stands.has_seen)))
 
   -- where there is a report, the observer has room for it
   pub ready_merely : (told : ℕ × Report) → outcome.report ≡ Some told → (IsTrue (asks e) → 1 ≤ o.room observer)
@@ -102,10 +102,10 @@ module _ {N V : Type 0} (g : Ghosts N) (o : observers.Ghosts V) (before : Fleet 
 pub record IsDone {N V : Type 0} (g : Ghosts N) (o : observers.Ghosts V) (before after : Fleet N g) (monitors onlooked : Monitors)
     (event_output noted : EventOutput) (observer told : V) (e : Event) (outcome : Outcome) (found : Findings) : Type 0 where
   pub accepts : (setting : Setting) (run : List (NodeStep N)) → fleets.StandsFor g before setting run → fleets.IsAccepted g after setting run e outcome
-  pub onlooks : (setting : Setting) (run : List (NodeStep N)) (accepted : fleets.IsAccepted g after setting run e outcome)
-      → Onlooks monitors setting (steps_of run) → Onlooks onlooked setting (accepted.next.step ∷ steps_of run)
+  pub has_seen : (setting : Setting) (run : List (NodeStep N)) (accepted : fleets.IsAccepted g after setting run e outcome)
+      → HasSeen monitors setting (steps_of run) → HasSeen onlooked setting (accepted.next.step ∷ steps_of run)
   pub finds : (setting : Setting) (run : List (NodeStep N)) (accepted : fleets.IsAccepted g after setting run e outcome)
-      → Onlooks monitors setting (steps_of run) → found_lines found ≡ lines_of setting (accepted.next.step ∷ steps_of run)
+      → HasSeen monitors setting (steps_of run) → found_lines found ≡ lines_of setting (accepted.next.step ∷ steps_of run)
   pub report : found.report ≡ outcome.report
   pub topology : noted.topology ≡ event_output.topology
   pub tally : noted.tally ≡ tally_with event_output.tally found
@@ -148,9 +148,9 @@ module _ {N V : Type 0} (g : Ghosts N) (o : observers.Ghosts V) (before after : 
       record {
         sound = stands.sound;
         made = accepted.stands;
-        onlooks = done.onlooks setting run accepted stands.onlooks;
+        has_seen = done.has_seen setting run accepted stands.has_seen;
         tells =
-            tells_next setting step (steps_of run) accepted.stands.fabric.accepted found (done.finds setting run accepted stands.onlooks)
+            tells_next setting step (steps_of run) accepted.stands.fabric.accepted found (done.finds setting run accepted stands.has_seen)
             (done.report ∙ ap (λ (out : Outcome). out.report) accepted.comes) event_output noted stands.tells done.topology done.tally done.lines
             (done.ended ∙ ap (λ (out : Outcome). out.ended) accepted.comes);
         told = told_on outcome.report refl done.tells;

@@ -1,9 +1,8 @@
 -- What is promised of reports is kept: by each history, and by each replay of devices.
-use Rattle.std.specs.Prelude.{◌≡◌, Bool, true, List, [], ◌∷◌, IsTrue, refl}
+use Rattle.std.specs.Prelude.{◌≡◌, true, List, [], ◌∷◌, IsTrue, refl}
 use Rattle.std.specs.List.{list_all}
 use Rattle.std.proofs.Common.{sym, ap, ◌∙◌, subst, arith}
 use Rattle.sd_clock.specs.Estimates.{contains}
-use Rattle.sd_msg.specs.Observed.{ReportAt}
 use Rattle.sd_msg.specs.declared.observer.Observer as observers
 use Rattle.sd_core.specs.declared.registers.Registers.{Registers}
 use Rattle.sd_core.specs.contracts.device.DeviceNode.TheImpl.{ghosts}
@@ -21,15 +20,12 @@ use Rattle.sd_replay.specs.Tallies.{lines_that}
 use Rattle.sd_replay.specs.declared.replay.Replay.{Replay}
 use Rattle.sd_replay.specs.Replaying.{IsStepped}
 use Rattle.sd_replay.specs.Devices.{HasReplayed, DevicesKeepChronicle, is_miss, AllContain, DevicesContain}
-use Rattle.sd_replay.proofs.Due.{four_parts, none_broken, no_interval, reports_before}
+use Rattle.sd_replay.proofs.Due.{four_parts, none_broken, no_interval, reports_before, all_contain}
 
 pub reports_contain : (setting : Setting) → ReportsContain setting
 reports_contain setting = contained.reports_contain setting
 
 -- Lines of reports that contain
-
-abbrev all_contain : List ReportAt → Bool
-all_contain xs = list_all (λ r. contains r.report r.reference) xs
 
 none_misses : (setting : Setting) (steps : List Step) → all_contain (reports steps) ≡ true → lines_that is_miss setting steps ≡ 0
 none_misses setting [] all = refl

@@ -10,6 +10,7 @@ pub mod ParentTable
 pub mod Flights
 pub mod Looking
 pub mod Observing
+pub mod Resting
 pub mod Going
 pub mod Happening
 -- Handed on: what crates above name of those below.

@@ -1,9 +1,9 @@
 -- What the monitors see of an accepted step, and what they find, is what the history says.
-use Rattle.std.specs.Prelude.{◌≡◌, ℕ, zero, suc, ◌+◌, ◌^◌, ◌<◌, ◌≤◌, Bool, true, List, [], ◌∷◌, ◌++◌, length, filter, All, Option, Some, None, is_some, IfSome, refl, option_map, if◌then◌else◌}
+use Rattle.std.specs.Prelude.{◌≡◌, ℕ, zero, suc, ◌+◌, ◌^◌, ◌<◌, ◌≤◌, true, List, [], ◌∷◌, ◌++◌, length, filter, All, Option, Some, None, is_some, IfSome, refl, option_map, if◌then◌else◌}
 use Rattle.std.proofs.Common.{sym, ap, ◌∙◌, subst, arith}
 use Rattle.std.proofs.lemmas.Option.{same_Some}
 use Rattle.std.proofs.lemmas.List.Elements.{All-nil, All-push, All-filter, All-head, All-tail}
-use Rattle.sd_num.specs.Lists.{below, of_some}
+use Rattle.sd_num.specs.Lists.{below, map_or}
 use Rattle.sd_topo.specs.Limits.{IsNetwork}
 use Rattle.sd_plan.proofs.Numbered.{found_passes}
 use Rattle.sd_clock.specs.declared.Report.{Report}
@@ -21,15 +21,16 @@ use Rattle.sd_history.specs.Lines.{Line, broken_lines, loop_lines, root_lines, r
 use Rattle.sd_history.proofs.Known.{named_is_known}
 use Rattle.sd_history.proofs.flights.Counts.{numbers_few}
 use Rattle.sd_history.proofs.flights.Sending.{counted}
-use Rattle.sd_fleet.specs.FleetFabric.declared.Outcome.{Outcome}
-use Rattle.sd_fleet.specs.FleetFabric.Outcomes.{first_number, outcome_of}
-use Rattle.sd_fleet.specs.FleetFabric.Doing.{asks}
+use Rattle.sd_fleet.specs.declared.Outcome.{Outcome}
+use Rattle.sd_fleet.specs.Outcomes.{first_number, outcome_of}
+use Rattle.sd_fleet.specs.Doing.{asks}
+use Rattle.sd_fleet.proofs.Shared.{sent_reach}
 use Rattle.sd_replay.specs.declared.lines.findings.Findings.{Findings}
 use Rattle.sd_replay.specs.lines.Findings.{IsOf, found_lines, loop_found, roots_found}
 use Rattle.sd_replay.specs.Sights.{sight_by}
 use Rattle.sd_replay.specs.Standing.{counted_acts, new_loop, new_roots}
 use Rattle.sd_replay.proofs.ParentTable.{loop_lines_are, root_lines_are}
-use Rattle.sd_replay.proofs.Flights.{seen_sent, first_is}
+use Rattle.sd_replay.proofs.Flights.{first_is}
 
 -- What is seen
 
@@ -39,12 +40,12 @@ pub sight_is : (setting : Setting) (s : Step) (earlier : List Step) (e : Event) 
 sight_is setting s earlier e outcome sent is happens comes reach =
     ap (λ (o : Outcome). sight_by e o sent) comes
     ∙ ap (λ (x : Event). sight_by x (outcome_of s) sent) (sym happens)
-    ∙ ap (λ (fs : List Flight). sight_by s.seen.event (outcome_of s) fs) (reach ∙ sym (seen_sent setting s earlier is))
+    ∙ ap (λ (fs : List Flight). sight_by s.seen.event (outcome_of s) fs) (reach ∙ sym (sent_reach setting s earlier is))
 
 -- What is found
 
 abbrev lines_with : BrokenSet → List Line → List Line → Option (ℕ × Report) → ℕ → List Line
-lines_with broken loop acting report reference = broken_lines broken ++ loop ++ acting ++ of_some report [] (report_lines reference)
+lines_with broken loop acting report reference = broken_lines broken ++ loop ++ acting ++ map_or report [] (report_lines reference)
 
 -- the parts of what was found are those of the step
 pub record AreFound (setting : Setting) (s : Step) (earlier : List Step) (found : Findings) : Type 0 where

@@ -1,6 +1,6 @@
 -- The premises are shown just what is seen of an accepted step.
-use Rattle.std.specs.Prelude.{◌≡◌, ◌<◌, ◌≤◌, List, ◌∷◌, filter, length}
-use Rattle.std.proofs.Common.{sym, ap, subst}
+use Rattle.std.specs.Prelude.{◌≡◌, ℕ, ◌<◌, ◌≤◌, List, ◌∷◌, filter, length, Option, None, Some, IfSome, refl}
+use Rattle.std.proofs.Common.{sym, ap, ◌∙◌, subst}
 use Rattle.std.proofs.Props.{props}
 use Rattle.std.proofs.Math.Logic.{∥∥₁_elim, ∥∥₁_map}
 use Rattle.sd_sched.specs.Events.{reference_of, device_of, link_of}
@@ -8,12 +8,14 @@ use Rattle.sd_replay.proofs.Happening.{if_merely}
 use Rattle.sd_msg.specs.declared.Flight.{Flight}
 use Rattle.sd_core.specs.declared.node.Node.{Ghosts}
 use Rattle.sd_sched.specs.declared.Event.{Event}
+use Rattle.sd_topo.specs.Network.{Network}
 use Rattle.sd_history.specs.declared.BrokenSet.{BrokenSet}
 use Rattle.sd_history.specs.World.{Setting, Seen}
 use Rattle.sd_history.specs.Steps.{seen_of}
 use Rattle.sd_history.specs.Premises.{breaks}
 use Rattle.sd_history.specs.Nodes.{NodeStep, steps_of}
-use Rattle.sd_fleet.specs.FleetFabric.declared.Outcome.{Outcome}
+use Rattle.sd_history.proofs.Known.{named_is_known}
+use Rattle.sd_fleet.specs.declared.Outcome.{Outcome}
 use Rattle.sd_fleet.specs.declared.fleet.Fleet.{Fleet}
 use Rattle.sd_fleet.specs.Standing.{IsAccepted}
 use Rattle.sd_premise.specs.Order.{CanFollow}
@@ -23,9 +25,15 @@ use Rattle.sd_premise.proofs.Stepping.{can_follow}
 use Rattle.sd_premise.proofs.Asking.{can_observe}
 use Rattle.sd_replay.specs.Sights.{sight_by}
 use Rattle.sd_replay.specs.declared.alarms.Alarms.{Alarms}
-use Rattle.sd_replay.specs.Standing.{new_loop, new_roots}
+use Rattle.sd_replay.specs.declared.monitors.Monitors.{Monitors}
+use Rattle.sd_replay.specs.Standing.{new_loop, new_roots, IsStepOf, HasStep}
 use Rattle.sd_replay.specs.Troubles.{found_with}
 use Rattle.sd_replay.proofs.Looking.{sight_is, AreFound}
+
+-- a bound of the device that an event names
+pub named : (count : ℕ) (o : Option ℕ) → ((d : ℕ) → o ≡ Some d → d < count) → IfSome o (λ d. d < count)
+named count None within = tt
+named count (Some d) within = within d refl
 
 module _ {N : Type 0} (g : Ghosts N) (fleet : Fleet N g) (setting : Setting) (run : List (NodeStep N)) (e : Event) (outcome : Outcome)
     (accepted : IsAccepted g fleet setting run e outcome) (sent : List Flight)
@@ -66,6 +74,32 @@ module _ {N : Type 0} (g : Ghosts N) (fleet : Fleet N g) (setting : Setting) (ru
         report = ap (λ (o : Outcome). o.report) accepted.comes;
         reference = ap reference_of (sym accepted.happens);
       }
+
+-- its step, for a device that it names
+module _ {N : Type 0} (g : Ghosts N) (fleet : Fleet N g) (setting : Setting) (run : List (NodeStep N)) (e : Event) (outcome : Outcome)
+    (accepted : IsAccepted g fleet setting run e outcome) (device : Option ℕ) (names : device ≡ device_of e) where
+  abbrev pub made_of : IsStepOf g fleet setting run device outcome.closed
+  made_of =
+      record {
+        next = accepted.next;
+        named = ap device_of accepted.happens ∙ sym names;
+        closes = ap (λ (o : Outcome). o.closed) (sym accepted.comes);
+        stands = accepted.stands;
+      }
+
+-- what is kept of devices is of the fleet's network, and so is the device that the event names
+module _ {N : Type 0} (g : Ghosts N) (monitors : Monitors) (fleet : Fleet N g) (e : Event) (outcome : Outcome) (has : HasStep g monitors fleet e outcome) where
+  pub named_within : (d : ℕ) → device_of e ≡ Some d → d < length fleet.fabric.net.devices
+  named_within d names =
+      subst (λ (net : Network). d < length net.devices) (sym has.accepted.stands.fabric.net)
+      (named_is_known has.setting (steps_of has.run) has.accepted.next.step.seen.event d has.accepted.stands.fabric.accepted.1
+      (ap device_of has.accepted.happens ∙ names))
+
+  pub parents_within : length monitors.parent_table.parents ≡ length fleet.fabric.net.devices
+  parents_within = has.has_seen.parent_table.parents ∙ sym (ap (λ (net : Network). length net.devices) has.accepted.stands.fabric.net)
+
+  pub acting_within : length monitors.parent_table.acting ≡ length fleet.fabric.net.devices
+  acting_within = has.has_seen.parent_table.acting ∙ sym (ap (λ (net : Network). length net.devices) has.accepted.stands.fabric.net)
 
 -- what the premises ask, where it merely holds
 pub ask_merely : (monitors : Premises) (s : Seen) → ∥ premises.CanObserve monitors s ∥₁ → premises.CanObserve monitors s

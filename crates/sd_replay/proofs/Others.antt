@@ -2,8 +2,9 @@
 use Rattle.std.specs.Prelude.{◌≡◌, ℕ, Bool, true, false, ◌&&◌, ◌||◌, List, [], ◌∷◌, Option, Some, None, option_map, is_some, refl, if◌then◌else◌}
 use Rattle.std.specs.List.{list_any}
 use Rattle.std.proofs.Common.{sym, ap, ◌∙◌, inl, inr}
-use Rattle.std.proofs.lemmas.Bool.{or_parts, eqb-true, cases_Bool}
-use Rattle.sd_num.specs.Lists.{of_some, same_number}
+use Rattle.std.proofs.lemmas.Bool.{or_parts, cases_Bool}
+use Rattle.sd_num.specs.Lists.{map_or, same_number}
+use Rattle.sd_num.proofs.Shared.{same_number-some}
 use Rattle.sd_sched.specs.declared.Event.{Event}
 use Rattle.sd_sched.specs.declared.Event.TheVariants as event
 use Rattle.sd_sched.specs.Events.{device_of, joined, is_stage}
@@ -21,20 +22,15 @@ use Rattle.sd_premise.proofs.FleetState.world.Changes.{changes_other}
 use Rattle.sd_premise.proofs.FleetState.world.Shutting.{window_next}
 use Rattle.sd_replay.specs.Standing.{parent_row_in}
 
--- the option holds this number
-holds : (o : Option ℕ) (d : ℕ) → same_number o d ≡ true → o ≡ Some d
-holds None d same = cc
-holds (Some x) d same = ap Some (eqb-true x d same)
-
 -- another device is up as before
-up_as_before : (e : Event) (d : ℕ) (b : Bool) → same_number (device_of e) d ≡ false → b ≡ of_some (up_after d e) b (λ told. told)
+up_as_before : (e : Event) (d : ℕ) (b : Bool) → same_number (device_of e) d ≡ false → b ≡ map_or (up_after d e) b (λ told. told)
 up_as_before e d b other = (changes_other e d 0 (record untouched { up = b }) other).up
 
 -- after accepted steps only devices of the topology are up
 pub steps_know : (setting : Setting) (steps : List Step) → AreSteps setting steps → UpIsKnown setting steps
 steps_know setting [] is d up = cc
 steps_know setting (s ∷ earlier) is d up = elim (cases_Bool (same_number (device_of s.seen.event) d)) [
-  | inl named ↦ named_is_known setting earlier s.seen.event d is.1 (holds (device_of s.seen.event) d named)
+  | inl named ↦ named_is_known setting earlier s.seen.event d is.1 (same_number-some (device_of s.seen.event) d named)
   | inr other ↦ steps_know setting earlier is.0 d (up_as_before s.seen.event d (is_up (seen_of earlier) d) other ∙ up)
 ]
 
@@ -65,12 +61,12 @@ module _ (setting : Setting) (s : Step) (earlier : List Step) (is : AreSteps set
 
   joined_same : joined_in_window (seen_of (s ∷ earlier)) d ≡ joined_in_window (seen_of earlier) d
   joined_same =
-      ap (λ (o : Option (List Seen)). of_some o false (list_any (λ x. same_number (joined x.event) d))) (window_next s.seen (seen_of earlier) open_)
+      ap (λ (o : Option (List Seen)). map_or o false (list_any (λ x. same_number (joined x.event) d))) (window_next s.seen (seen_of earlier) open_)
       ∙ by (is_stage s.seen.event) (window (seen_of earlier)) (λ stages. stage_first stages) refl
     where
       by : (b : Bool) (o : Option (List Seen)) → (is_stage s.seen.event ≡ true → is_some o ≡ false) → is_stage s.seen.event ≡ b
-          → of_some (if b then Some [] else option_map (λ w. s.seen ∷ w) o) false (list_any (λ x. same_number (joined x.event) d))
-          ≡ of_some o false (list_any (λ x. same_number (joined x.event) d))
+          → map_or (if b then Some [] else option_map (λ w. s.seen ∷ w) o) false (list_any (λ x. same_number (joined x.event) d))
+          ≡ map_or o false (list_any (λ x. same_number (joined x.event) d))
       by true None first_ stages = refl
       by true (Some w) first_ stages = let clash : true ≡ false = first_ stages in cc
       by false None first_ stages = refl

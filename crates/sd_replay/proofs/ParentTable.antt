@@ -1,4 +1,4 @@
--- What is kept of the parent_table of devices is how they stand after an event, and answers for loops and roots of the history.
+-- What a `ParentTable` keeps of devices is how they stand after an event, and answers for loops and roots of the history.
 use Rattle.std.specs.Prelude.{◌≡◌, ◌≢◌, ℕ, zero, suc, ◌+◌, ◌<◌, Bool, false, List, [], ◌∷◌, ◌++◌, length, filter, find, nat_eq, replicate, slice_get, Option, Some, None, is_some, option_and_then, MatchOption, refl, if◌then◌else◌}
 use Rattle.std.specs.List.{list_any}
 use Rattle.std.proofs.Common.{sym, ap, ◌∙◌, subst, arith, inl, inr}
@@ -6,8 +6,9 @@ use Rattle.std.proofs.lemmas.Bool.{cases_lt, cases_Bool, eqb-true, eqb-false, ne
 use Rattle.std.proofs.lemmas.List.{length-set, length-replicate}
 use Rattle.std.proofs.lemmas.List.Elements.{filter-append}
 use Rattle.std.proofs.lemmas.Option.{same_Some}
-use Rattle.sd_num.specs.Lists.{below, of_some, at_place, same_number}
+use Rattle.sd_num.specs.Lists.{below, map_or, at_place, same_number}
 use Rattle.sd_num.proofs.Places.{at_written, at_unwritten}
+use Rattle.sd_num.proofs.Shared.{no_acting}
 use Rattle.sd_topo.specs.Network.{device_numbers}
 use Rattle.sd_watch.specs.Watch.{parent_in, follow, IsOnLoop, HasNoLoop, IsFirstOnLoop, acting_devices, two_least}
 use Rattle.sd_watch.proofs.Settling.{only_within}
@@ -20,6 +21,7 @@ use Rattle.sd_history.specs.Lines.{RootsAlarm, counted_parent, first_on_loop, ro
 use Rattle.sd_replay.proofs.Loops.{UpIsKnown, parents_known, first_is}
 use Rattle.sd_watch.specs.parent_table.ParentTable as parent_table
 use Rattle.sd_watch.specs.declared.parent_table.ParentRow.{ParentRow}
+use Rattle.sd_watch.proofs.Shared.{no_parent}
 use Rattle.sd_replay.specs.lines.Findings.{loop_found, roots_found}
 use Rattle.sd_replay.specs.Standing.{counted_acts, parent_row_in, parent_row_at, IsSet, IsParentTable, new_loop, new_roots}
 use Rattle.sd_replay.proofs.Others.{parent_row_same}
@@ -33,16 +35,16 @@ module _ (old new : parent_table.Kept) (d : ℕ) (parent_row : ParentRow) (set_ 
   pub set_here : d < length old.parents → d < length old.acting → parent_row_at new d ≡ parent_row
   set_here parents acting =
       ap (λ (p : Option ℕ). parent_row_of p (at_place new.acting d false (λ acts. acts)))
-      (ap (λ xs. parent_in xs d) set_.parents ∙ ap (λ o. of_some o None (λ parent. parent)) (at_written old.parents d parent_row.parent parents))
+      (ap (λ xs. parent_in xs d) set_.parents ∙ ap (λ o. map_or o None (λ parent. parent)) (at_written old.parents d parent_row.parent parents))
       ∙ ap (parent_row_of parent_row.parent)
-      (ap (λ xs. at_place xs d false (λ acts. acts)) set_.acting ∙ ap (λ o. of_some o false (λ acts. acts)) (at_written old.acting d parent_row.acts acting))
+      (ap (λ xs. at_place xs d false (λ acts. acts)) set_.acting ∙ ap (λ o. map_or o false (λ acts. acts)) (at_written old.acting d parent_row.acts acting))
 
   pub set_elsewhere : (e : ℕ) → e ≢ d → parent_row_at new e ≡ parent_row_at old e
   set_elsewhere e apart =
       ap (λ (p : Option ℕ). parent_row_of p (at_place new.acting e false (λ acts. acts)))
-      (ap (λ xs. parent_in xs e) set_.parents ∙ ap (λ o. of_some o None (λ parent. parent)) (at_unwritten old.parents d e parent_row.parent apart))
+      (ap (λ xs. parent_in xs e) set_.parents ∙ ap (λ o. map_or o None (λ parent. parent)) (at_unwritten old.parents d e parent_row.parent apart))
       ∙ ap (parent_row_of (parent_in old.parents e))
-      (ap (λ xs. at_place xs e false (λ acts. acts)) set_.acting ∙ ap (λ o. of_some o false (λ acts. acts)) (at_unwritten old.acting d e parent_row.acts apart))
+      (ap (λ xs. at_place xs e false (λ acts. acts)) set_.acting ∙ ap (λ o. map_or o false (λ acts. acts)) (at_unwritten old.acting d e parent_row.acts apart))
 
   pub set_parents : length new.parents ≡ length old.parents
   set_parents = ap length set_.parents ∙ length-set old.parents d parent_row.parent
@@ -60,16 +62,6 @@ set_each old new d parent_row set_ parents acting before e less = elim (cases_Bo
 ]
 
 -- Before any event
-
-no_parent : (n d : ℕ) → parent_in (replicate n None) d ≡ None
-no_parent zero d = refl
-no_parent (suc n) zero = refl
-no_parent (suc n) (suc d) = no_parent n d
-
-no_acting : (n d : ℕ) → at_place (replicate n false) d false (λ acts. acts) ≡ false
-no_acting zero d = refl
-no_acting (suc n) zero = refl
-no_acting (suc n) (suc d) = no_acting n d
 
 -- no device counts, so each stands as one that follows nobody and does not act
 pub first_parent_table : (kept : parent_table.Kept) (setting : Setting) (n : ℕ) → kept.parents ≡ replicate n None → kept.acting ≡ replicate n false
@@ -136,8 +128,8 @@ one_kept setting s earlier kept d is open_ named stands are =
 pub row_at : (kept : parent_table.Kept) (d : ℕ) (row : ParentRow) → slice_get kept.parents d ≡ Some row.parent → slice_get kept.acting d ≡ Some row.acts
     → parent_row_at kept d ≡ row
 row_at kept d row parent acts =
-    ap (λ (p : Option ℕ). parent_row_of p (at_place kept.acting d false (λ acts. acts))) (ap (λ o. of_some o None (λ parent. parent)) parent)
-    ∙ ap (parent_row_of row.parent) (ap (λ o. of_some o false (λ acts. acts)) acts)
+    ap (λ (p : Option ℕ). parent_row_of p (at_place kept.acting d false (λ acts. acts))) (ap (λ o. map_or o None (λ parent. parent)) parent)
+    ∙ ap (parent_row_of row.parent) (ap (λ o. map_or o false (λ acts. acts)) acts)
 
 -- two rows that say the same
 pub same_rows : (a b : ParentRow) → a.parent ≡ b.parent → a.acts ≡ b.acts → a ≡ b

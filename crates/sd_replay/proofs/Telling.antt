@@ -1,9 +1,9 @@
--- What the event_output tells after one event more.
+-- What the event output tells after one event more.
 use Rattle.std.specs.Prelude.{◌≡◌, ℕ, suc, ◌+◌, ◌*◌, ◌^◌, ◌≤◌, max, Bool, true, false, ◌||◌, List, [], ◌∷◌, ◌++◌, length, map, count_by, flat_map, Option, Some, None, is_some, option_map, option_to_list, refl, if◌then◌else◌}
 use Rattle.std.proofs.Common.{sym, ap, ◌∙◌, arith, add-one}
-use Rattle.std.proofs.lemmas.List.{length-append, append-nil}
+use Rattle.std.proofs.lemmas.List.{length-append, append-nil, map_push}
 use Rattle.std.proofs.lemmas.List.Sums.{count_by-le-length}
-use Rattle.sd_num.specs.Lists.{of_some, greatest}
+use Rattle.sd_num.specs.Lists.{map_or, greatest}
 use Rattle.sd_replay.specs.lines.Printed.{printed}
 use Rattle.sd_topo.specs.Network.{Network}
 use Rattle.sd_topo.specs.Topologies.{network}
@@ -18,7 +18,7 @@ use Rattle.sd_history.specs.Steps.{Step, seen_of}
 use Rattle.sd_history.specs.Refusals.{causes, after_end}
 use Rattle.sd_history.specs.Accepted.{AreSteps}
 use Rattle.sd_history.specs.Premises.{breaks}
-use Rattle.sd_history.specs.Lines.{Line, Broken, LoopAlarm, RootsAlarm, Reported, IntervalAlarm, broken_lines, loop_lines, root_lines, report_lines, asked_report, first_on_loop, roots, lines_of, reports}
+use Rattle.sd_history.specs.Lines.{Line, Broken, RootsAlarm, Reported, IntervalAlarm, broken_lines, loop_lines, root_lines, report_lines, asked_report, first_on_loop, roots, lines_of, reports}
 use Rattle.sd_history.specs.Lines as line
 use Rattle.sd_history.specs.Text.{bytes_of}
 use Rattle.sd_history.proofs.Among.{first, later}
@@ -30,7 +30,7 @@ use Rattle.sd_replay.specs.declared.Tally.{Tally}
 use Rattle.sd_replay.specs.declared.event_output.EventOutput.{EventOutput}
 use Rattle.sd_replay.specs.Tallies.{is_broken, is_alarm, lines_that, greatest_eps, tally_of}
 use Rattle.sd_replay.specs.Counting.{HasRoom, tally_with}
-use Rattle.sd_replay.specs.Standing.{Tells}
+use Rattle.sd_replay.specs.Standing.{HasPrinted}
 
 -- An event has eleven lines at most
 
@@ -64,7 +64,7 @@ roots_few before (d ∷ e ∷ others) = by _
     by true = omega arith
     by false = omega arith
 
-report_few : (reference : ℕ) (o : Option (ℕ × Report)) → length (of_some o [] (report_lines reference)) ≤ 2
+report_few : (reference : ℕ) (o : Option (ℕ × Report)) → length (map_or o [] (report_lines reference)) ≤ 2
 report_few reference None = omega arith
 report_few reference (Some told) = by (contains told.1 reference)
   where
@@ -130,10 +130,6 @@ greatest-append : (xs ys : List ℕ) → greatest (xs ++ ys) ≡ max (greatest x
 greatest-append [] ys = omega arith
 greatest-append (x ∷ xs) ys = let rest = greatest-append xs ys in omega (arith, rest)
 
-map-push : {A B : Type 0} (f : A → B) (xs : List A) (y : A) → map f (xs ++ y ∷ []) ≡ map f xs ++ f y ∷ []
-map-push f [] y = refl
-map-push f (x ∷ xs) y = ap (λ ys. f x ∷ ys) (map-push f xs y)
-
 abbrev told_at : Step → ℕ → ℕ × Report → ReportAt
 told_at s n told = record { line = n; device = told.0; reference = reference_of s.seen.event; report = told.1 }
 
@@ -145,7 +141,7 @@ module _ (setting : Setting) (s : Step) (earlier : List Step) (is : AreSteps set
       (ap (λ o. length (reports earlier) + (if is_some o then 1 else 0)) report ∙ count (asked_report s))
       (ap (λ xs. lines_that is_broken setting earlier + count_by is_broken xs) lines)
       (ap (λ xs. lines_that is_alarm setting earlier + count_by is_alarm xs) lines)
-      (ap (λ o. max (greatest_eps earlier) (of_some o 0 (λ told. told.1.eps))) report ∙ eps (asked_report s))
+      (ap (λ o. max (greatest_eps earlier) (map_or o 0 (λ told. told.1.eps))) report ∙ eps (asked_report s))
     where
       count : (o : Option (ℕ × Report))
           → length (reports earlier) + (if is_some o then 1 else 0) ≡ length (reports earlier ++ option_to_list (option_map (told_at s (length earlier + 1)) o))
@@ -153,14 +149,14 @@ module _ (setting : Setting) (s : Step) (earlier : List Step) (is : AreSteps set
       count (Some told) = let all = length-append (reports earlier) (told_at s (length earlier + 1) told ∷ []) in omega (arith, all)
 
       eps : (o : Option (ℕ × Report))
-          → max (greatest_eps earlier) (of_some o 0 (λ told. told.1.eps))
+          → max (greatest_eps earlier) (map_or o 0 (λ told. told.1.eps))
           ≡ greatest (map (λ x. x.report.eps) (reports earlier ++ option_to_list (option_map (told_at s (length earlier + 1)) o)))
       eps None = let same : max (greatest_eps earlier) 0 ≡ greatest_eps earlier = omega arith in
           same ∙ ap (λ xs. greatest (map (λ x. x.report.eps) xs)) (sym (append-nil (reports earlier)))
       eps (Some told) =
           let last = greatest-append (map (λ x. x.report.eps) (reports earlier)) (told.1.eps ∷ []) in
           let same : max (greatest_eps earlier) told.1.eps ≡ greatest (map (λ x. x.report.eps) (reports earlier) ++ told.1.eps ∷ []) = omega (arith, last) in
-          same ∙ ap greatest (sym (map-push (λ x. x.report.eps) (reports earlier) (told_at s (length earlier + 1) told)))
+          same ∙ ap greatest (sym (map_push (λ x. x.report.eps) (reports earlier) (told_at s (length earlier + 1) told)))
 
   bytes_next : (net : Network) (n : ℕ) → net ≡ setting.net → n ≡ length earlier → found_bytes net (n + 1) found ≡ bytes_of setting (s ∷ earlier)
   bytes_next net n same events =
@@ -178,10 +174,10 @@ module _ (setting : Setting) (s : Step) (earlier : List Step) (is : AreSteps set
       or_nothing true = refl
       or_nothing false = refl
 
-  -- the event_output that was written tells of the event
-  pub tells_next : (old new : EventOutput) → Tells old setting earlier → new.topology ≡ old.topology → new.tally ≡ tally_with old.tally found
+  -- the event output that was written tells of the event
+  pub tells_next : (old new : EventOutput) → HasPrinted old setting earlier → new.topology ≡ old.topology → new.tally ≡ tally_with old.tally found
       → printed new.lines ≡ found_bytes (network old.topology) (old.tally.events + 1) found
-      → new.ended ≡ is_end_event s.seen.event → Tells new setting (s ∷ earlier)
+      → new.ended ≡ is_end_event s.seen.event → HasPrinted new setting (s ∷ earlier)
   tells_next old new tells topology tally bytes ended =
       record {
         net = ap network topology ∙ tells.net;

@@ -1,6 +1,6 @@
 -- How a tally goes on with what is found of an event.
 use Rattle.std.specs.Prelude.{ℕ, ◌+◌, ◌^◌, ◌<◌, Bool, count_by, is_some, max, if◌then◌else◌}
-use Rattle.sd_num.specs.Lists.{of_some}
+use Rattle.sd_num.specs.Lists.{map_or}
 use Rattle.sd_replay.specs.declared.lines.findings.Findings.{Findings}
 use Rattle.sd_replay.specs.lines.Findings.{found_lines}
 use Rattle.sd_replay.specs.declared.Tally.{Tally}
@@ -17,6 +17,7 @@ pub record HasRoom (tally : Tally) : Type 0 where
   pub broken : tally.broken < 2 ^ 32
   pub alarms : tally.alarms < 2 ^ 32
 
+-- 1 where it is so, else 0
 abbrev pub one : Bool → ℕ
 one so = if so then 1 else 0
 
@@ -32,5 +33,5 @@ tally_with tally found =
       reports = tally.reports + one (is_some found.report);
       broken = tally.broken + count_by is_broken (found_lines found);
       alarms = tally.alarms + count_by is_alarm (found_lines found);
-      greatest_eps = max tally.greatest_eps (of_some found.report 0 (λ told. told.1.eps));
+      greatest_eps = max tally.greatest_eps (map_or found.report 0 (λ told. told.1.eps));
     }

@@ -17,4 +17,5 @@ pub use Rattle.sd_plan.specs.Domain as Domain
 pub use Rattle.sd_plan.specs as Plan
 pub use Rattle.sd_sched.specs as Sched
 pub use Rattle.sd_history.specs as History
-pub use Rattle.sd_fleet.specs.FleetFabric as FleetFabric
+pub use Rattle.sd_fleet.specs as Fleet
+pub use Rattle.sd_proof_safety.specs as ProofSafety

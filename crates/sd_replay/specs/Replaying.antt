@@ -1,5 +1,5 @@
 -- For which runs a replay stands, and how it goes on.
-use Rattle.std.specs.Prelude.{◌≡◌, ℕ, Bool, ◌||◌, List, ◌∷◌, Some, None, Ok, Err, IsTrue}
+use Rattle.std.specs.Prelude.{◌≡◌, ℕ, Bool, false, ◌||◌, List, ◌∷◌, Some, None, Ok, Err, IsTrue}
 use Rattle.sd_core.specs.declared.node.Node.{Ghosts}
 use Rattle.sd_msg.specs.declared.observer.Observer as observers
 use Rattle.sd_sched.specs.declared.Event.{Event}
@@ -8,9 +8,9 @@ use Rattle.sd_history.specs.World.{Setting}
 use Rattle.sd_history.specs.Steps.{Step}
 use Rattle.sd_history.specs.Nodes.{NodeStep}
 use Rattle.sd_history.specs.Refusals.{refusal}
-use Rattle.sd_fleet.specs.FleetFabric.declared.Outcome.{Outcome}
-use Rattle.sd_fleet.specs.FleetFabric.Doing.{may_send, asks}
-use Rattle.sd_fleet.specs.FleetFabric.Outcomes.{outcome_of}
+use Rattle.sd_fleet.specs.declared.Outcome.{Outcome}
+use Rattle.sd_fleet.specs.Doing.{may_send, asks}
+use Rattle.sd_fleet.specs.Outcomes.{outcome_of}
 use Rattle.sd_replay.specs.declared.replay.Replay.{Replay}
 use Rattle.sd_replay.specs.declared.faults.ReplayFault.{ReplayFault}
 use Rattle.sd_replay.specs.declared.faults.ReplayFault.TheVariants.{Line, Apply, Memory}
@@ -38,6 +38,17 @@ pub record IsSteppedTo {N V : Type 0} (g : Ghosts N) (o : observers.Ghosts V) (r
     (e : Event) (outcome : Outcome) : Type 0 where
   pub stepped : IsStepped g o replay setting run e
   pub comes : outcome ≡ outcome_of stepped.next.step
+
+-- what an event comes to with which only the time goes on, where its device acts as root or not
+abbrev pub idle_outcome : Bool → Outcome
+idle_outcome acted =
+    record { report = None; taken = None; first_sent = 0; sent = 0; activated = None; acted = acted; closed = false; ended = false }
+
+-- the event was accepted, and only the time went on
+pub record IsRested {N V : Type 0} (g : Ghosts N) (o : observers.Ghosts V) (replay : Replay N V g o) (setting : Setting) (run : List (NodeStep N))
+    (e : Event) : Type 0 where
+  pub stepped : IsStepped g o replay setting run e
+  pub idle : outcome_of stepped.next.step ≡ idle_outcome stepped.next.step.seen.acted
 
 -- only a tick, a receipt and an ask take memory
 abbrev pub may_take : Event → Bool

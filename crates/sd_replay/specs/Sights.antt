@@ -3,7 +3,7 @@ use Rattle.std.specs.Prelude.{List}
 use Rattle.sd_msg.specs.declared.Flight.{Flight}
 use Rattle.sd_sched.specs.declared.Event.{Event}
 use Rattle.sd_history.specs.World.{Seen}
-use Rattle.sd_fleet.specs.FleetFabric.declared.Outcome.{Outcome}
+use Rattle.sd_fleet.specs.declared.Outcome.{Outcome}
 
 -- the event, what came of it, and the flights that it sent and that reach
 abbrev pub sight_by : Event → Outcome → List Flight → Seen

@@ -8,22 +8,26 @@ use Rattle.sd_watch.specs.Watch.{parent_in, two_least}
 use Rattle.sd_core.specs.declared.node.Node.{Ghosts}
 use Rattle.sd_msg.specs.declared.observer.Observer as observers
 use Rattle.sd_sched.specs.declared.Event.{Event}
+use Rattle.sd_sched.specs.declared.Event.TheVariants.{Tick}
+use Rattle.sd_sched.specs.Events.{device_of}
 use Rattle.sd_history.specs.World.{Setting, is_counted}
 use Rattle.sd_history.specs.Steps.{Step, seen_of, acts_in}
 use Rattle.sd_history.specs.Nodes.{NodeStep, steps_of}
 use Rattle.sd_history.specs.Refusals.{after_end}
 use Rattle.sd_history.specs.Lines.{counted_parent, first_on_loop, roots, reports}
 use Rattle.sd_history.specs.Text.{bytes_of}
-use Rattle.sd_fleet.specs.FleetFabric.declared.Outcome.{Outcome}
+use Rattle.sd_fleet.specs.declared.Outcome.{Outcome}
 use Rattle.sd_fleet.specs.declared.fleet.Fleet.{Fleet}
+use Rattle.sd_fleet.specs.Registers.{Registers}
+use Rattle.sd_fleet.specs.Stepping.{outcome_resting}
 use Rattle.sd_fleet.specs.Standing as fleets
 use Rattle.sd_watch.specs.parent_table.ParentTable as parent_table
 use Rattle.sd_watch.specs.declared.parent_table.ParentRow.{ParentRow}
 use Rattle.sd_premise.specs.Standing as premises
+use Rattle.sd_proof_safety.specs.invariant.Coming.{IsFair}
 use Rattle.sd_replay.specs.declared.monitors.Monitors.{Monitors}
 use Rattle.sd_replay.specs.declared.event_output.EventOutput.{EventOutput}
 use Rattle.sd_replay.specs.Tallies.{tally_of}
-use Rattle.sd_replay.specs.Promises.{IsSound}
 
 -- Loops and roots
 
@@ -50,6 +54,14 @@ pub record IsParentTable (kept : parent_table.Kept) (setting : Setting) (steps :
   pub acting : length kept.acting ≡ length setting.net.devices
   pub each : (d : ℕ) → d < length setting.net.devices → parent_row_at kept d ≡ parent_row_in setting steps d
 
+-- the fleet made a step after the run: of an event that names this device, if any, and with which the window closes or not
+pub record IsStepOf {N : Type 0} (g : Ghosts N) (fleet : Fleet N g) (setting : Setting) (run : List (NodeStep N)) (device : Option ℕ) (closed : Bool)
+    : Type 0 where
+  pub next : NodeStep N
+  pub named : device_of next.step.seen.event ≡ device
+  pub closes : next.step.seen.closed ≡ closed
+  pub stands : fleets.StandsFor g fleet setting (next ∷ run)
+
 -- the least device on a loop, where there was no loop before the step
 abbrev pub new_loop : Setting → Step → List Step → Option ℕ
 new_loop setting s earlier = if is_some (first_on_loop setting earlier) then None else first_on_loop setting (s ∷ earlier)
@@ -60,8 +72,8 @@ new_roots setting s earlier = if is_some (two_least (roots setting earlier)) the
 
 -- The parts
 
--- the monitors has seen these steps
-pub record Onlooks (monitors : Monitors) (setting : Setting) (steps : List Step) : Type 0 where
+-- the monitors have seen these steps
+pub record HasSeen (monitors : Monitors) (setting : Setting) (steps : List Step) : Type 0 where
   pub premises : premises.StandsFor monitors.premises setting (seen_of steps)
   pub parent_table : IsParentTable monitors.parent_table setting steps
 
@@ -69,28 +81,33 @@ pub record Onlooks (monitors : Monitors) (setting : Setting) (steps : List Step)
 abbrev pub room_of : Monitors → ℕ
 room_of monitors = min (premises.room_of monitors.premises) (vec_capacity monitors.sent)
 
--- the fleet has just made a step after a run that the monitors has seen
+-- the fleet has just made a step after a run that the monitors have seen
 pub record HasStep {N : Type 0} (g : Ghosts N) (monitors : Monitors) (fleet : Fleet N g) (e : Event) (outcome : Outcome) : Type 0 where
   pub setting : Setting
   pub run : List (NodeStep N)
   pub accepted : fleets.IsAccepted g fleet setting run e outcome
-  pub onlooks : Onlooks monitors setting (steps_of run)
+  pub has_seen : HasSeen monitors setting (steps_of run)
 
--- the event_output tells of these steps
-pub record Tells (event_output : EventOutput) (setting : Setting) (steps : List Step) : Type 0 where
+-- and the step is a tick at which its device rests
+pub record HasRested {N : Type 0} (g : Ghosts N) (monitors : Monitors) (fleet : Fleet N g) (reference device counter : ℕ) : Type 0 where
+  pub kept : Registers
+  pub step : HasStep g monitors fleet (Tick reference device counter) (outcome_resting kept device)
+
+-- the event output tells of these steps
+pub record HasPrinted (event_output : EventOutput) (setting : Setting) (steps : List Step) : Type 0 where
   pub net : network event_output.topology ≡ setting.net
   pub lines : printed event_output.lines ≡ bytes_of setting steps
   pub tally : event_output.tally ≡ tally_of setting steps
   pub ended : event_output.ended ≡ after_end (seen_of steps)
 
--- All parts stand for the run: the fleet made it, the monitors has seen its steps, the event_output tells of them, and the observer was told of its
+-- All parts stand for the run: the fleet made it, the monitors have seen its steps, the event output tells of them, and the observer was told of its
 -- reports. Its plans are accepted.
 pub record Stands {N V : Type 0} (g : Ghosts N) (o : observers.Ghosts V) (fleet : Fleet N g) (monitors : Monitors) (event_output : EventOutput) (observer : V)
     (setting : Setting) (run : List (NodeStep N)) : Type 0 where
-  pub sound : IsSound setting
+  pub sound : IsFair setting
   pub made : fleets.StandsFor g fleet setting run
-  pub onlooks : Onlooks monitors setting (steps_of run)
-  pub tells : Tells event_output setting (steps_of run)
+  pub has_seen : HasSeen monitors setting (steps_of run)
+  pub tells : HasPrinted event_output setting (steps_of run)
   pub told : o.stands observer (reports (steps_of run))
 
 -- there is a run for which they stand

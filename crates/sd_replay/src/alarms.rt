@@ -1,16 +1,14 @@
 //! What an event brings that was not there before: a loop of parents, several devices that act as
 //! root.
 ghost use Rattle.std.specs.Prelude.{◌≡◌, ◌<◌, ◌∷◌, List, length, if◌then◌else◌, is_some, None, IsTrue, IfSome};
-ghost use Rattle.sd_sched.specs.Events.{device_of};
 ghost use Rattle.sd_history.specs.World.{Setting};
 ghost use Rattle.sd_history.specs.Nodes.{NodeStep, steps_of};
-ghost use Rattle.sd_fleet.specs.Standing.{StandsFor, IsAccepted};
-ghost use Rattle.sd_replay.specs.Standing.{parent_row_in, parent_row_at, IsParentTable, new_loop, new_roots};
+ghost use Rattle.sd_fleet.specs.Standing.{StandsFor};
+ghost use Rattle.sd_replay.specs.Standing.{parent_row_in, parent_row_at, IsParentTable, IsStepOf, new_loop, new_roots};
 
-use crate::sights::{parent_row_of, restand};
+use crate::sights::{parent_row_of, update_rows};
 use sd_core::Node;
-use sd_fleet::{Fleet, Outcome};
-use sd_sched::Event;
+use sd_fleet::Fleet;
 use sd_watch::parent_table::{ParentRow, ParentTable};
 
 /// What is new with an event.
@@ -60,21 +58,21 @@ fn is_kept<N: Node>(parent_table: &ParentTable, fleet: &Fleet<N>, d: u32) -> boo
 fn all_kept<N: Node>(
     parent_table: &ParentTable,
     fleet: &Fleet<N>,
-    event: &Event,
-    outcome: &Outcome,
+    named: Option<u32>,
+    closed: bool,
 ) -> bool
-    requires device { IfSome (device_of event.now) (λ d. d < length fleet.now.fabric.net.devices) }
+    requires device { IfSome named (λ d. d < length fleet.now.fabric.net.devices) }
     requires parents { length parent_table.now.parents ≡ length fleet.now.fabric.net.devices }
     requires acting { length parent_table.now.acting ≡ length fleet.now.fabric.net.devices }
     ensures { IsTrue result → (setting : Setting) (run : List (NodeStep N))
-        (accepted : IsAccepted N.Node fleet.now setting run event.now outcome.now)
+        (made : IsStepOf N.Node fleet.now setting run named closed)
         → IsParentTable parent_table.now setting (steps_of run)
-        → IsParentTable parent_table.now setting (accepted.next.step ∷ steps_of run) }
+        → IsParentTable parent_table.now setting (made.next.step ∷ steps_of run) }
 {
-    if outcome.closed {
+    if closed {
         return false;
     }
-    match event.device() {
+    match named {
         Some(d) => is_kept(parent_table, fleet, d),
         None => true,
     }
@@ -86,60 +84,60 @@ fn all_kept<N: Node>(
 pub(crate) fn alarms_of<N: Node>(
     parent_table: &mut ParentTable,
     fleet: &Fleet<N>,
-    event: &Event,
-    outcome: &Outcome,
+    named: Option<u32>,
+    closed: bool,
 ) -> Alarms
-    requires device { IfSome (device_of event.now) (λ d. d < length fleet.now.fabric.net.devices) }
+    requires device { IfSome named (λ d. d < length fleet.now.fabric.net.devices) }
     requires parents { length parent_table.old.parents ≡ length fleet.now.fabric.net.devices }
     requires acting { length parent_table.old.acting ≡ length fleet.now.fabric.net.devices }
     ensures stands { (setting : Setting) (run : List (NodeStep N))
-        (accepted : IsAccepted N.Node fleet.now setting run event.now outcome.now)
+        (made : IsStepOf N.Node fleet.now setting run named closed)
         → IsParentTable parent_table.old setting (steps_of run)
-        → IsParentTable parent_table.new setting (accepted.next.step ∷ steps_of run) }
+        → IsParentTable parent_table.new setting (made.next.step ∷ steps_of run) }
     ensures looped { (setting : Setting) (run : List (NodeStep N))
-        (accepted : IsAccepted N.Node fleet.now setting run event.now outcome.now)
+        (made : IsStepOf N.Node fleet.now setting run named closed)
         → IsParentTable parent_table.old setting (steps_of run)
-        → result.looped ≡ new_loop setting accepted.next.step (steps_of run) }
+        → result.looped ≡ new_loop setting made.next.step (steps_of run) }
     ensures roots { (setting : Setting) (run : List (NodeStep N))
-        (accepted : IsAccepted N.Node fleet.now setting run event.now outcome.now)
+        (made : IsStepOf N.Node fleet.now setting run named closed)
         → IsParentTable parent_table.old setting (steps_of run)
-        → result.roots ≡ new_roots setting accepted.next.step (steps_of run) }
+        → result.roots ≡ new_roots setting made.next.step (steps_of run) }
 {
-    if all_kept(parent_table, fleet, event, outcome) {
+    if all_kept(parent_table, fleet, named, closed) {
         return Alarms {
             looped: None,
             roots: None,
         };
     }
-    alarms_anew(parent_table, fleet, event, outcome)
+    alarms_anew(parent_table, fleet, named, closed)
 }
 
 /// Keeps how devices stand after any event, and compares what there is then with what there was.
 fn alarms_anew<N: Node>(
     parent_table: &mut ParentTable,
     fleet: &Fleet<N>,
-    event: &Event,
-    outcome: &Outcome,
+    named: Option<u32>,
+    closed: bool,
 ) -> Alarms
-    requires device { IfSome (device_of event.now) (λ d. d < length fleet.now.fabric.net.devices) }
+    requires device { IfSome named (λ d. d < length fleet.now.fabric.net.devices) }
     requires parents { length parent_table.old.parents ≡ length fleet.now.fabric.net.devices }
     requires acting { length parent_table.old.acting ≡ length fleet.now.fabric.net.devices }
     ensures stands { (setting : Setting) (run : List (NodeStep N))
-        (accepted : IsAccepted N.Node fleet.now setting run event.now outcome.now)
+        (made : IsStepOf N.Node fleet.now setting run named closed)
         → IsParentTable parent_table.old setting (steps_of run)
-        → IsParentTable parent_table.new setting (accepted.next.step ∷ steps_of run) }
+        → IsParentTable parent_table.new setting (made.next.step ∷ steps_of run) }
     ensures looped { (setting : Setting) (run : List (NodeStep N))
-        (accepted : IsAccepted N.Node fleet.now setting run event.now outcome.now)
+        (made : IsStepOf N.Node fleet.now setting run named closed)
         → IsParentTable parent_table.old setting (steps_of run)
-        → result.looped ≡ new_loop setting accepted.next.step (steps_of run) }
+        → result.looped ≡ new_loop setting made.next.step (steps_of run) }
     ensures roots { (setting : Setting) (run : List (NodeStep N))
-        (accepted : IsAccepted N.Node fleet.now setting run event.now outcome.now)
+        (made : IsStepOf N.Node fleet.now setting run named closed)
         → IsParentTable parent_table.old setting (steps_of run)
-        → result.roots ≡ new_roots setting accepted.next.step (steps_of run) }
+        → result.roots ≡ new_roots setting made.next.step (steps_of run) }
 {
     let looped = parent_table.first_loop();
     let roots = parent_table.two_acting();
-    restand(parent_table, fleet, event, outcome);
+    update_rows(parent_table, fleet, named, closed);
     Alarms {
         looped: newly(looped, parent_table.first_loop()),
         roots: newly(roots, parent_table.two_acting()),

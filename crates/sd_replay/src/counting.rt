@@ -3,7 +3,7 @@ ghost use Rattle.std.specs.Prelude.{◌≡◌, ◌≤◌, count_by};
 ghost use Rattle.sd_history.specs.Lines.{broken_lines};
 ghost use Rattle.sd_replay.specs.lines.Findings.{found_lines};
 ghost use Rattle.sd_replay.specs.Tallies.{is_broken, is_alarm};
-ghost use Rattle.sd_num.specs.Lists.{of_some};
+ghost use Rattle.sd_num.specs.Lists.{map_or};
 ghost use Rattle.sd_replay.specs.Counting.{HasRoom, no_tally, one, tally_with, with_nothing};
 
 use crate::Tally;
@@ -42,7 +42,7 @@ fn alarm_count(findings: &Findings) -> u64
 
 /// The uncertainty that the event reports, 0 where it reports nothing.
 fn eps_of(findings: &Findings) -> u128
-    ensures { result ≡ of_some findings.now.report 0 (λ told. told.1.eps) }
+    ensures { result ≡ map_or findings.now.report 0 (λ told. told.1.eps) }
 {
     match findings.report {
         Some((_, report)) => report.eps,

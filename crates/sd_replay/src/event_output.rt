@@ -3,15 +3,14 @@ ghost use Rattle.std.specs.Prelude.{◌≡◌, ◌+◌, [], IfOk, false};
 ghost use Rattle.sd_replay.specs.lines.Printed.{printed};
 ghost use Rattle.sd_topo.specs.Topologies.{network};
 ghost use Rattle.sd_replay.specs.lines.Findings.{IsOf, finds_none, found_bytes};
-ghost use Rattle.sd_replay.specs.Troubles.{found_with};
+ghost use Rattle.sd_replay.specs.Troubles.{found_by};
 ghost use Rattle.sd_replay.specs.Counting.{HasRoom, no_tally, tally_with};
 
 use crate::Tally;
 use crate::lines::{EventLines, Findings, finds_none, print_findings};
 use crate::trouble::Trouble;
-use sd_fleet::Outcome;
+use sd_clock::Report;
 use sd_num::NoMemory;
-use sd_sched::Event;
 use sd_topo::Topology;
 use std::alloc::Global;
 
@@ -26,28 +25,28 @@ pub(crate) struct EventOutput {
 
 /// Whether nothing is to be printed of an event, as of nearly all.
 #[inline(always)]
-fn brings_none(trouble: &Trouble, outcome: &Outcome) -> bool
+fn brings_none(trouble: &Trouble, report: &Option<(u32, Report)>) -> bool
     ensures { result ≡ finds_none trouble.now.broken trouble.now.alarms.looped
-        trouble.now.alarms.roots outcome.now.report }
+        trouble.now.alarms.roots report.now }
 {
     finds_none(
         &trouble.broken,
         &trouble.alarms.looped,
         &trouble.alarms.roots,
-        &outcome.report,
+        report,
     )
 }
 
 /// What is to be printed of an event.
-fn findings_of(trouble: &Trouble, event: &Event, outcome: &Outcome) -> Findings
-    ensures { result ≡ found_with trouble.now event.now outcome.now }
+fn findings_of(trouble: &Trouble, report: &Option<(u32, Report)>, reference: u64) -> Findings
+    ensures { result ≡ found_by trouble.now report.now reference }
 {
     Findings {
         broken: trouble.broken,
         looped: trouble.alarms.looped,
         roots: trouble.alarms.roots,
-        report: outcome.report,
-        reference: event.reference(),
+        report: *report,
+        reference,
     }
 }
 
@@ -68,45 +67,51 @@ impl EventOutput {
         })
     }
 
-    /// Writes an event that brings this trouble and came to this outcome, in place of the one before.
+    /// Writes an event that brings this trouble and has this report, in place of the one before.
     #[inline(always)]
-    pub(crate) fn note(&mut self, trouble: &Trouble, event: &Event, outcome: &Outcome)
+    pub(crate) fn note(
+        &mut self,
+        trouble: &Trouble,
+        report: &Option<(u32, Report)>,
+        reference: u64,
+        ended: bool,
+    )
         requires room { HasRoom self.old.tally }
         requires devices { IsOf (network self.old.topology)
-            (found_with trouble.now event.now outcome.now) }
+            (found_by trouble.now report.now reference) }
         ensures topology { self.new.topology ≡ self.old.topology }
         ensures tally { self.new.tally
-            ≡ tally_with self.old.tally (found_with trouble.now event.now outcome.now) }
+            ≡ tally_with self.old.tally (found_by trouble.now report.now reference) }
         ensures lines { printed self.new.lines
             ≡ found_bytes (network self.old.topology) (self.old.tally.events + 1)
-            (found_with trouble.now event.now outcome.now) }
-        ensures ended { self.new.ended ≡ outcome.now.ended }
+            (found_by trouble.now report.now reference) }
+        ensures ended { self.new.ended ≡ ended }
     {
-        if brings_none(trouble, outcome) {
+        if brings_none(trouble, report) {
             self.tally = self.tally.with_nothing();
             self.lines.clear();
         } else {
             // Of a copy, so that the trouble of nearly all events, none, is written nowhere.
             let held = *trouble;
-            self.note_trouble(&held, event, outcome);
+            self.note_trouble(&held, report, reference);
         }
-        self.ended = outcome.ended;
+        self.ended = ended;
     }
 
     /// Counts and prints what is found of an event.
     #[inline(never)]
-    fn note_trouble(&mut self, trouble: &Trouble, event: &Event, outcome: &Outcome)
+    fn note_trouble(&mut self, trouble: &Trouble, report: &Option<(u32, Report)>, reference: u64)
         requires room { HasRoom self.old.tally }
         requires devices { IsOf (network self.old.topology)
-            (found_with trouble.now event.now outcome.now) }
+            (found_by trouble.now report.now reference) }
         ensures topology { self.new.topology ≡ self.old.topology }
         ensures tally { self.new.tally
-            ≡ tally_with self.old.tally (found_with trouble.now event.now outcome.now) }
+            ≡ tally_with self.old.tally (found_by trouble.now report.now reference) }
         ensures lines { printed self.new.lines
             ≡ found_bytes (network self.old.topology) (self.old.tally.events + 1)
-            (found_with trouble.now event.now outcome.now) }
+            (found_by trouble.now report.now reference) }
     {
-        let found = findings_of(trouble, event, outcome);
+        let found = findings_of(trouble, report, reference);
         self.tally = self.tally.with(&found);
         print_findings(&mut self.lines, &self.topology, self.tally.events, &found);
     }

@@ -1,14 +1,17 @@
 //! Who looks on: judges the premises, and looks for loops of parents and several roots.
-ghost use Rattle.std.specs.Prelude.{◌≡◌, ◌<◌, ◌≤◌, ◌+◌, ◌^◌, List, [], ◌∷◌, length, OnOk, IfOk};
+ghost use Rattle.std.specs.Prelude.{◌≡◌, ◌<◌, ◌≤◌, ◌+◌, ◌^◌, List, [], ◌∷◌, length, None, OnOk, IfOk};
 ghost use Rattle.sd_topo.specs.Topologies.{network};
+ghost use Rattle.sd_sched.specs.declared.Event.TheVariants as events_of;
 ghost use Rattle.sd_history.specs.World.{Setting};
 ghost use Rattle.sd_history.specs.Steps.{Step};
 ghost use Rattle.sd_history.specs.Nodes.{NodeStep, steps_of};
 ghost use Rattle.sd_history.specs.Lines.{lines_of};
+ghost use Rattle.sd_fleet.specs.Registers.{Registers};
 ghost use Rattle.sd_fleet.specs.Standing.{IsAccepted};
+ghost use Rattle.sd_fleet.specs.Stepping.{outcome_resting};
 ghost use Rattle.sd_premise.specs.FleetState.membership.Plans.{AreSound};
 ghost use Rattle.sd_replay.specs.lines.Findings.{IsOf, found_lines};
-ghost use Rattle.sd_replay.specs.Troubles.{found_with};
+ghost use Rattle.sd_replay.specs.Troubles.{found_by, found_with};
 
 use crate::alarms::alarms_of;
 use crate::judging::judge;
@@ -35,7 +38,7 @@ pub(crate) struct Monitors {
 }
 
 impl Monitors {
-    ghost use Rattle.sd_replay.specs.Standing.{Onlooks, HasStep, room_of};
+    ghost use Rattle.sd_replay.specs.Standing.{HasSeen, HasStep, HasRested, room_of};
 
     /// Before any event.
     pub(crate) fn new(alloc: Global, topo: &Topology, plans: &[Plan]) -> Result<Monitors, NoMemory>
@@ -44,7 +47,7 @@ impl Monitors {
         requires sound { AreSound (network topo.now) plans.now }
         ensures stands { IfOk result (λ monitors. (setting : Setting)
             → setting.net ≡ network topo.now → setting.plans ≡ plans.now
-            → Onlooks monitors setting []) }
+            → HasSeen monitors setting []) }
     {
         let parent_table = ParentTable::new(alloc, topo.devices())?;
         let premises = Premises::new(alloc, topo, plans)?;
@@ -60,8 +63,8 @@ impl Monitors {
     pub(crate) fn ready(&mut self, alloc: Global, sent: usize) -> Result<(), NoMemory>
         ensures room { OnOk result (sent ≤ room_of self.new) }
         ensures grows { room_of self.old ≤ room_of self.new }
-        ensures stands { (setting : Setting) (steps : List Step) → Onlooks self.old setting steps
-            → Onlooks self.new setting steps }
+        ensures stands { (setting : Setting) (steps : List Step) → HasSeen self.old setting steps
+            → HasSeen self.new setting steps }
     {
         // Most devices have nobody below them.
         if sent == 0 {
@@ -88,21 +91,59 @@ impl Monitors {
         requires numbers { outcome.now.first_sent + outcome.now.sent < 2 ^ 64 }
         ensures stands { (setting : Setting) (run : List (NodeStep N))
             (accepted : IsAccepted N.Node fleet.now setting run event.now outcome.now)
-            → Onlooks self.old setting (steps_of run)
-            → Onlooks self.new setting (accepted.next.step ∷ steps_of run) }
+            → HasSeen self.old setting (steps_of run)
+            → HasSeen self.new setting (accepted.next.step ∷ steps_of run) }
         ensures found { (setting : Setting) (run : List (NodeStep N))
             (accepted : IsAccepted N.Node fleet.now setting run event.now outcome.now)
-            → Onlooks self.old setting (steps_of run)
+            → HasSeen self.old setting (steps_of run)
             → found_lines (found_with result event.now outcome.now)
             ≡ lines_of setting (accepted.next.step ∷ steps_of run) }
         ensures devices { (setting : Setting) (run : List (NodeStep N))
             → IsAccepted N.Node fleet.now setting run event.now outcome.now
-            → Onlooks self.old setting (steps_of run)
+            → HasSeen self.old setting (steps_of run)
             → IsOf setting.net (found_with result event.now outcome.now) }
     {
         collect(fleet, outcome, &mut self.sent);
         let broken = judge(&mut self.premises, event, outcome, &self.sent);
-        let alarms = alarms_of(&mut self.parent_table, fleet, event, outcome);
+        let alarms = alarms_of(
+            &mut self.parent_table,
+            fleet,
+            event.device(),
+            outcome.closed,
+        );
         Trouble { broken, alarms }
+    }
+
+    /// As `look`, of a tick at which its device rests.
+    #[inline(always)]
+    pub(crate) fn rest<N: Node>(
+        &mut self,
+        fleet: &Fleet<N>,
+        reference: u64,
+        d: u32,
+        counter: u64,
+    ) -> Trouble
+        requires step { ∥ HasRested N.Node self.old fleet.now reference d counter ∥₁ }
+        ensures stands { (kept : Registers) (setting : Setting) (run : List (NodeStep N))
+            (accepted : IsAccepted N.Node fleet.now setting run
+            (events_of.Tick reference d counter) (outcome_resting kept d))
+            → HasSeen self.old setting (steps_of run)
+            → HasSeen self.new setting (accepted.next.step ∷ steps_of run) }
+        ensures found { (kept : Registers) (setting : Setting) (run : List (NodeStep N))
+            (accepted : IsAccepted N.Node fleet.now setting run
+            (events_of.Tick reference d counter) (outcome_resting kept d))
+            → HasSeen self.old setting (steps_of run)
+            → found_lines (found_by result None reference)
+            ≡ lines_of setting (accepted.next.step ∷ steps_of run) }
+        ensures devices { (kept : Registers) (setting : Setting) (run : List (NodeStep N))
+            → IsAccepted N.Node fleet.now setting run
+            (events_of.Tick reference d counter) (outcome_resting kept d)
+            → HasSeen self.old setting (steps_of run)
+            → IsOf setting.net (found_by result None reference) }
+    {
+        Trouble {
+            broken: self.premises.tick(reference, d, counter, &[]),
+            alarms: alarms_of(&mut self.parent_table, fleet, Some(d), false),
+        }
     }
 }

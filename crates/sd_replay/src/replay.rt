@@ -1,5 +1,5 @@
 //! The replay: what happens with a line of a schedule.
-ghost use Rattle.std.specs.Prelude.{◌≡◌, ◌≤◌, ◌<◌, ◌^◌, ℕ, List, [], length, Some, Err, IsTrue, OnOk, IfOk, OnErr, IfErr, IfSome};
+ghost use Rattle.std.specs.Prelude.{◌≡◌, ◌≤◌, ◌<◌, ◌^◌, ℕ, List, [], length, false, Some, Err, IsTrue, OnOk, IfOk, OnErr, IfErr, IfSome};
 ghost use Rattle.sd_topo.specs.Topologies.{network};
 ghost use Rattle.sd_topo.specs.Network.{Each as OfEach};
 ghost use Rattle.sd_plan.specs.Plans.{Fits};
@@ -8,8 +8,8 @@ ghost use Rattle.sd_sched.specs.Lines.{event_of_line};
 ghost use Rattle.sd_sched.specs.Spelled.{is_within};
 ghost use Rattle.sd_history.specs.World.{Setting};
 ghost use Rattle.sd_msg.specs.Observed.{ReportAt};
-ghost use Rattle.sd_fleet.specs.FleetFabric.Doing.{asks};
-ghost use Rattle.sd_fleet.specs.FleetFabric.Room.{most_sent_in};
+ghost use Rattle.sd_fleet.specs.Doing.{asks};
+ghost use Rattle.sd_fleet.specs.Room.{most_sent_in};
 ghost use Rattle.sd_fleet.specs.Standing as fleets;
 ghost use Rattle.sd_premise.specs.FleetState.membership.Plans.{AreSound};
 ghost use Rattle.sd_history.specs.Steps.{Step, seen_of};
@@ -17,10 +17,11 @@ ghost use Rattle.sd_history.specs.Nodes.{NodeStep, steps_of};
 ghost use Rattle.sd_history.specs.Refusals.{refusal, after_end};
 ghost use Rattle.sd_history.specs.Text.{bytes_of};
 ghost use Rattle.sd_replay.specs.Tallies.{tally_of};
-ghost use Rattle.sd_replay.specs.Standing.{HasRun, Onlooks, room_of};
+ghost use Rattle.sd_replay.specs.Standing.{HasRun, HasSeen, room_of};
 
 use crate::event_output::EventOutput;
 use crate::monitors::Monitors;
+use crate::sights::acts_named;
 use crate::{PlanList, ReplayFault, Tally};
 use sd_core::Node;
 use sd_fleet::{Fleet, Outcome};
@@ -45,7 +46,7 @@ fn fleet_and_monitors<N: Node>(
         → setting.net ≡ network topo.now → setting.plans ≡ plans.now
         → fleets.StandsFor N.Node made.0 setting []) }
     ensures monitors { IfOk result (λ made. (setting : Setting)
-        → setting.net ≡ network topo.now → setting.plans ≡ plans.now → Onlooks made.1 setting []) }
+        → setting.net ≡ network topo.now → setting.plans ≡ plans.now → HasSeen made.1 setting []) }
 {
     let fleet = Fleet::new(alloc, topo, plans)?;
     let monitors = Monitors::new(alloc, topo, plans)?;
@@ -63,13 +64,13 @@ pub struct Replay<N: Node, V: Observer> {
     monitors: Monitors,
     event_output: EventOutput,
     observer: V,
-    /// What the last event came to that was accepted. It is kept so that no event makes a new one.
+    /// What the last event came to that `advance` took: kept, so that no event makes a new one.
     latest: Outcome,
     ghost run: { ∥ HasRun N.Node V.Observer fleet monitors event_output observer ∥₁ },
 }
 
 impl<N: Node, V: Observer> Replay<N, V> {
-    ghost use Rattle.sd_replay.specs.Replaying.{StandsFor, IsStepped, IsSteppedTo, IsFault, IsLineFault, lines_in, may_take};
+    ghost use Rattle.sd_replay.specs.Replaying.{StandsFor, IsStepped, IsSteppedTo, IsRested, IsFault, IsLineFault, lines_in, may_take};
     ghost use Rattle.sd_replay.specs.Calm.{StaysCalm};
 
     /// A replay before any event, with the first plan in force. It takes the room for the lines of
@@ -154,6 +155,9 @@ impl<N: Node, V: Observer> Replay<N, V> {
             → StandsFor N.Node V.Observer self.new setting run
             × IsFault fault setting (steps_of run) event.now) }
     {
+        if self.rest(event) {
+            return Ok(());
+        }
         self.advance(alloc, event)
     }
 
@@ -184,6 +188,9 @@ impl<N: Node, V: Observer> Replay<N, V> {
             × IsFault fault setting (steps_of run) event.now) }
         ensures same { OnErr result (outcome.new ≡ outcome.old) }
     {
+        if self.rest_to(event, outcome) {
+            return Ok(());
+        }
         match self.advance(alloc, event) {
             Ok(()) => {
                 *outcome = self.latest;
@@ -193,7 +200,60 @@ impl<N: Node, V: Observer> Replay<N, V> {
         }
     }
 
-    /// As `step_event`. What the event came to is kept.
+    /// A tick at which its device rests happens, if the event is one, as most are. It is for
+    /// `advance` where it is another or is refused, or a window is open.
+    // Numbers go from the fleet to the premises and the lines; no outcome is made.
+    #[inline(always)]
+    fn rest(&mut self, event: &Event) -> bool
+        requires within { IsTrue (is_within event.now) }
+        ensures accepted { IsTrue result → (setting : Setting) (run : List (NodeStep N))
+            → StandsFor N.Node V.Observer self.old setting run
+            → IsRested N.Node V.Observer self.new setting run event.now }
+        ensures stands { result ≡ false → (setting : Setting) (run : List (NodeStep N))
+            → StandsFor N.Node V.Observer self.old setting run
+            → StandsFor N.Node V.Observer self.new setting run }
+    {
+        let Event::Tick {
+            reference,
+            device,
+            counter,
+        } = *event
+        else {
+            return false;
+        };
+        if !self.fleet.rest(reference, device, counter) {
+            return false;
+        }
+        let trouble = self.monitors.rest(&self.fleet, reference, device, counter);
+        self.event_output.note(&trouble, &None, reference, false);
+        true
+    }
+
+    /// As `rest`. Where the event happens, what it came to is written into an outcome that the
+    /// caller lends.
+    #[inline(always)]
+    fn rest_to(&mut self, event: &Event, outcome: &mut Outcome) -> bool
+        requires within { IsTrue (is_within event.now) }
+        ensures accepted { IsTrue result → (setting : Setting) (run : List (NodeStep N))
+            → StandsFor N.Node V.Observer self.old setting run
+            → IsSteppedTo N.Node V.Observer self.new setting run event.now outcome.new }
+        ensures stands { result ≡ false → (setting : Setting) (run : List (NodeStep N))
+            → StandsFor N.Node V.Observer self.old setting run
+            → StandsFor N.Node V.Observer self.new setting run }
+        ensures same { result ≡ false → outcome.new ≡ outcome.old }
+    {
+        let acted = acts_named(&self.fleet, event);
+        if !self.rest(event) {
+            return false;
+        }
+        *outcome = Outcome {
+            acted,
+            ..Outcome::nothing()
+        };
+        true
+    }
+
+    /// As `step_event`, of any event. What it came to is kept.
     #[inline(always)]
     fn advance(&mut self, alloc: Global, event: &Event) -> Result<(), ReplayFault>
         requires within { IsTrue (is_within event.now) }
@@ -219,10 +279,11 @@ impl<N: Node, V: Observer> Replay<N, V> {
         };
         self.fleet.happen(event, &mut self.latest);
         let trouble = self.monitors.look(&self.fleet, event, &self.latest);
-        self.event_output.note(&trouble, event, &self.latest);
+        let reference = event.reference();
+        self.event_output.note(&trouble, &self.latest.report, reference, self.latest.ended);
         if let Some((d, report)) = self.latest.report {
             let line = self.event_output.tally.events;
-            self.observer.seen(line, d, event.reference(), report);
+            self.observer.seen(line, d, reference, report);
         }
         Ok(())
     }
@@ -236,8 +297,8 @@ impl<N: Node, V: Observer> Replay<N, V> {
         ensures memory { OnErr result (IsTrue (may_take event.now)) }
         ensures fleet { self.new.fleet ≡ self.old.fleet }
         ensures event_output { self.new.event_output ≡ self.old.event_output }
-        ensures onlooks { (setting : Setting) (steps : List Step)
-            → Onlooks self.old.monitors setting steps → Onlooks self.new.monitors setting steps }
+        ensures has_seen { (setting : Setting) (steps : List Step)
+            → HasSeen self.old.monitors setting steps → HasSeen self.new.monitors setting steps }
         ensures told { (reports : List ReportAt) → V.stands self.old.observer reports
             → V.stands self.new.observer reports }
     {

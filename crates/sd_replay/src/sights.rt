@@ -6,9 +6,10 @@ ghost use Rattle.std.specs.Vec.{vec_capacity};
 ghost use Rattle.sd_sched.specs.declared.Event.{Event as AnyEvent};
 ghost use Rattle.sd_sched.specs.Events.{device_of};
 ghost use Rattle.sd_history.specs.World.{Setting};
+ghost use Rattle.sd_history.specs.Steps.{acted_by};
 ghost use Rattle.sd_history.specs.Nodes.{NodeStep, steps_of};
 ghost use Rattle.sd_fleet.specs.Standing.{StandsFor, IsAccepted};
-ghost use Rattle.sd_replay.specs.Standing.{parent_row_in, IsSet, IsParentTable};
+ghost use Rattle.sd_replay.specs.Standing.{parent_row_in, IsSet, IsParentTable, IsStepOf};
 
 use sd_core::Node;
 use sd_fleet::{Fleet, Outcome};
@@ -31,6 +32,20 @@ pub(crate) fn parent_row_of<N: Node>(fleet: &Fleet<N>, d: u32) -> ParentRow
     ParentRow {
         parent: fleet.parent(d),
         acts: fleet.acts(d),
+    }
+}
+
+/// Whether an event names a device that acts as root.
+#[inline(always)]
+pub(crate) fn acts_named<N: Node>(fleet: &Fleet<N>, event: &Event) -> bool
+    ensures { (setting : Setting) (run : List (NodeStep N))
+        → StandsFor N.Node fleet.now setting run
+        → IfSome (device_of event.now) (λ d. d < length setting.net.devices)
+        → result ≡ acted_by (steps_of run) event.now }
+{
+    match event.device() {
+        Some(d) => d < fleet.devices() && fleet.acts(d),
+        None => false,
     }
 }
 
@@ -63,23 +78,23 @@ fn keep_all<N: Node>(parent_table: &mut ParentTable, fleet: &Fleet<N>)
 }
 
 /// Keeps how devices stand after an event: the one that it names, and all where a window closed.
-pub(crate) fn restand<N: Node>(
+pub(crate) fn update_rows<N: Node>(
     parent_table: &mut ParentTable,
     fleet: &Fleet<N>,
-    event: &Event,
-    outcome: &Outcome,
+    named: Option<u32>,
+    closed: bool,
 )
-    requires device { IfSome (device_of event.now) (λ d. d < length fleet.now.fabric.net.devices) }
+    requires device { IfSome named (λ d. d < length fleet.now.fabric.net.devices) }
     requires parents { length parent_table.old.parents ≡ length fleet.now.fabric.net.devices }
     requires acting { length parent_table.old.acting ≡ length fleet.now.fabric.net.devices }
     ensures { (setting : Setting) (run : List (NodeStep N))
-        (accepted : IsAccepted N.Node fleet.now setting run event.now outcome.now)
+        (made : IsStepOf N.Node fleet.now setting run named closed)
         → IsParentTable parent_table.old setting (steps_of run)
-        → IsParentTable parent_table.new setting (accepted.next.step ∷ steps_of run) }
+        → IsParentTable parent_table.new setting (made.next.step ∷ steps_of run) }
 {
-    if outcome.closed {
+    if closed {
         keep_all(parent_table, fleet);
-    } else if let Some(d) = event.device() {
+    } else if let Some(d) = named {
         keep_parent_row(parent_table, fleet, d);
     }
 }

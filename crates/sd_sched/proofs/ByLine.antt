@@ -83,6 +83,7 @@ event_of_taken Mend numbers =
     rw (get_or-take 3 numbers 1 0 (omega arith), get_or-take 3 numbers 0 0 (omega arith), get_or-take 3 numbers 2 0 (omega arith)) refl
 event_of_taken End numbers = rw (get_or-take 1 numbers 0 0 (omega arith)) refl
 
+-- so those of the shape say which event it is
 pub event_of_shape : (w : Word) (shape : List Field) (numbers : List ℕ) → shape ≡ (row_of w).shape
     → (row_of w).event numbers ≡ (row_of w).event (take (length shape) numbers)
 event_of_shape w shape numbers is = rw is (sym (event_of_taken w numbers))

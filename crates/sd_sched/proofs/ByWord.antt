@@ -4,7 +4,7 @@ use Rattle.std.specs.Prelude.{codes, find, nat_eq}
 use Rattle.std.specs.List.{list_any}
 use Rattle.std.proofs.Math.Dec.{eqb-suc-suc, eqb-suc-zero, eqb-zero-suc}
 use Rattle.std.proofs.lemmas.Bool.{or_parts}
-use Rattle.sd_num.specs.Lists.{of_some}
+use Rattle.sd_num.specs.Lists.{map_or}
 use Rattle.sd_sched.specs.Lines.{Word as Row, words, same_bytes, field_number, field_numbers, has_unknown_kind, then_numbers, event_of_word, event_or_number, event_of_fields}
 use Rattle.sd_sched.specs.Spelled.{is_word}
 use Rattle.sd_sched.specs.Reading.{row_of, ◌then◌, read_of, numbers_from}
@@ -27,8 +27,8 @@ verdict as_many unknown numbers = cond (not as_many) (Err FieldCount) (cond unkn
 
 -- a number before what is judged
 number_first : (place : ℕ) (number : Option ℕ) (as_many unknown : Bool) (numbers : Result (List ℕ) ℕ)
-    → verdict as_many unknown (of_some number (Err place) (λ n. then_numbers n numbers))
-    ≡ of_some number (Err (Number place)) (λ n. Ok (n ∷ [])) then verdict as_many unknown numbers
+    → verdict as_many unknown (map_or number (Err place) (λ n. then_numbers n numbers))
+    ≡ map_or number (Err (Number place)) (λ n. Ok (n ∷ [])) then verdict as_many unknown numbers
 unfolding verdict numbers_or_place
 number_first place None false unknown numbers = refl
 number_first place None true true numbers = refl
@@ -41,8 +41,8 @@ number_first place (Some n) true false (Err later) = refl
 
 -- a kind before what is judged, by whether it says device and whether it says link
 kind_first : (place : ℕ) (device link as_many unknown : Bool) (numbers : Result (List ℕ) ℕ)
-    → verdict as_many (not (device || link) || unknown) (of_some (cond device (Some 0) (cond link (Some 1) None)) (Err place) (λ n. then_numbers n numbers))
-    ≡ of_some (cond device (Some 0) (cond link (Some 1) None)) (Err UnknownWord) (λ n. Ok (n ∷ [])) then verdict as_many unknown numbers
+    → verdict as_many (not (device || link) || unknown) (map_or (cond device (Some 0) (cond link (Some 1) None)) (Err place) (λ n. then_numbers n numbers))
+    ≡ map_or (cond device (Some 0) (cond link (Some 1) None)) (Err UnknownWord) (λ n. Ok (n ∷ [])) then verdict as_many unknown numbers
 unfolding verdict numbers_or_place
 kind_first place true link false unknown numbers = refl
 kind_first place true link true true numbers = refl
@@ -59,7 +59,7 @@ kind_first place false false true false (Err later) = refl
 
 -- a field before what is judged
 field_first : (field : Field) (text : List ℕ) (place : ℕ) (as_many : Bool) (shape : List Field) (texts : List (List ℕ)) (numbers : Result (List ℕ) ℕ)
-    → verdict as_many (has_unknown_kind (field ∷ shape) (text ∷ texts)) (of_some (field_number field text) (Err place) (λ n. then_numbers n numbers))
+    → verdict as_many (has_unknown_kind (field ∷ shape) (text ∷ texts)) (map_or (field_number field text) (Err place) (λ n. then_numbers n numbers))
     ≡ read_of field place (field_number field text) then verdict as_many (has_unknown_kind shape texts) numbers
 field_first Amount text place as_many shape texts numbers = number_first place (field_number Amount text) as_many (has_unknown_kind shape texts) numbers
 field_first Which text place as_many shape texts numbers = number_first place (field_number Which text) as_many (has_unknown_kind shape texts) numbers

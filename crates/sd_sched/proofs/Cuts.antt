@@ -3,7 +3,7 @@ use Rattle.std.proofs.Common.{◌≡◌, ℕ, zero, suc, ◌≤◌, Bool, true, 
 use Rattle.std.specs.Prelude.{nat_eq, slice_get}
 use Rattle.std.specs.List.{list_all}
 use Rattle.std.proofs.lemmas.Bool.{and_parts}
-use Rattle.sd_num.specs.Lists.{of_some}
+use Rattle.sd_num.specs.Lists.{map_or}
 use Rattle.sd_num.specs.Decimals.{is_digit}
 use Rattle.sd_sched.specs.Lines.{fields, with_front, first_field}
 use Rattle.sd_sched.specs.Reading.{fields_behind}
@@ -21,7 +21,7 @@ fields_step (byte ∷ bytes) = go (eqb byte 32) (fields_step bytes)
     go false later = ap (with_front byte) later
 
 -- digits up to a space or the end of the bytes are the first field
-pub first_is_digits : (bytes : List ℕ) (n : ℕ) → list_all is_digit (take n bytes) ≡ true → of_some (slice_get bytes n) true (λ byte. nat_eq byte 32) ≡ true
+pub first_is_digits : (bytes : List ℕ) (n : ℕ) → list_all is_digit (take n bytes) ≡ true → map_or (slice_get bytes n) true (λ byte. nat_eq byte 32) ≡ true
     → n ≤ length bytes → first_field bytes ≡ take n bytes
 first_is_digits [] zero digits ends inside = refl
 first_is_digits [] (suc n) digits ends inside = absurd (omega arith)

@@ -1,9 +1,9 @@
 -- What is read of the fields one after the other is what is read of them all.
 use Rattle.std.proofs.Common.{◌≡◌, ◌≢◌, ℕ, suc, below_more, ◌+◌, ◌<◌, ◌≤◌, List, [], ◌∷◌, length, get_or, set, take, drop, Option, None, Some, Result, Ok, Err, refl, sym, ap, ◌∙◌, arith, append_assoc}
 use Rattle.std.proofs.lemmas.List.{get_or-set_same, get_or-set_other, length-set, take_more_set, drop_more, drop_all, append-nil}
-use Rattle.sd_num.specs.Lists.{of_some}
+use Rattle.sd_num.specs.Lists.{map_or}
 use Rattle.sd_sched.specs.Lines.{fields, first_field, field_number, limit}
-use Rattle.sd_sched.specs.Reading.{◌then◌, fault_of, graver, read_of, numbers_from, so_far, fields_behind, WithinFrom}
+use Rattle.sd_sched.specs.Reading.{◌then◌, fault_of, reported_first, read_of, numbers_from, so_far, fields_behind, WithinFrom}
 use Rattle.sd_sched.specs.declared.LineFault.{LineFault}
 use Rattle.sd_sched.specs.declared.LineFault.TheVariants.{UnknownWord, FieldCount, Number}
 use Rattle.sd_sched.specs.declared.words.Field.{Field}
@@ -11,10 +11,10 @@ use Rattle.sd_sched.specs.declared.words.Field.TheVariants.{Amount}
 use Rattle.sd_sched.proofs.Cuts.{fields_step}
 
 -- of three faults the gravest is answered, however they are met
-graver_assoc : (a b c : LineFault) → graver (graver a b) c ≡ graver a (graver b c)
-graver_assoc a b FieldCount = refl
-graver_assoc a b (Number place) = refl
-graver_assoc a b UnknownWord = refl
+reported_first_assoc : (a b c : LineFault) → reported_first (reported_first a b) c ≡ reported_first a (reported_first b c)
+reported_first_assoc a b FieldCount = refl
+reported_first_assoc a b (Number place) = refl
+reported_first_assoc a b UnknownWord = refl
 
 then_assoc : (a b c : Result (List ℕ) LineFault) → (a then b) then c ≡ a then (b then c)
 then_assoc (Ok xs) (Ok ys) (Ok zs) = ap Ok (append_assoc xs ys zs)
@@ -24,7 +24,7 @@ then_assoc (Ok xs) (Err g) (Err h) = refl
 then_assoc (Err f) (Ok ys) (Ok zs) = refl
 then_assoc (Err f) (Ok ys) (Err h) = refl
 then_assoc (Err f) (Err g) (Ok zs) = refl
-then_assoc (Err f) (Err g) (Err h) = ap Err (graver_assoc f g h)
+then_assoc (Err f) (Err g) (Err h) = ap Err (reported_first_assoc f g h)
 
 -- the count is the gravest
 pub count_wins : (a : Result (List ℕ) LineFault) → a then Err FieldCount ≡ Err FieldCount
@@ -43,7 +43,8 @@ number_read None numbers place n inside = ap Ok (sym (take_more_set numbers plac
 number_read (Some f) numbers place n inside = refl
 
 -- with none there is a fault
-none_read : (fault : Option LineFault) (xs ys : List ℕ) (g : LineFault) → so_far fault xs then Err g ≡ so_far (Some (of_some fault g (λ f. graver f g))) ys
+none_read : (fault : Option LineFault) (xs ys : List ℕ) (g : LineFault)
+    → so_far fault xs then Err g ≡ so_far (Some (map_or fault g (λ f. reported_first f g))) ys
 none_read None xs ys g = refl
 none_read (Some f) xs ys g = refl
 
@@ -102,7 +103,7 @@ pub ReadTo-fault : (shape : List Field) (behind numbers : List ℕ) (fault : Opt
     → ReadTo shape behind numbers fault left place → place < length shape → fields_behind left ≡ fields bytes
     → None ≡ field_number (get_or shape place Amount) (first_field bytes) → rest ≡ drop (length (first_field bytes)) bytes
     → ReadTo shape behind numbers
-    (Some (of_some fault (fault_of (get_or shape place Amount) (place + 1)) (λ f. graver f (fault_of (get_or shape place Amount) (place + 1))))) rest
+    (Some (map_or fault (fault_of (get_or shape place Amount) (place + 1)) (λ f. reported_first f (fault_of (get_or shape place Amount) (place + 1))))) rest
     (place + 1)
 ReadTo-fault shape behind numbers fault left place bytes rest read inside more is after =
     let g = fault_of (get_or shape place Amount) (place + 1) in

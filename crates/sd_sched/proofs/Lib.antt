@@ -7,7 +7,9 @@ pub mod ByWord
 pub mod First
 pub mod Prefix
 pub mod ByLine
+pub mod DigitWords
 pub mod InPlace
-pub mod InTurn
 pub mod Fronts
 pub mod ReadBack
+-- Handed on: what crates above name of those below.
+pub use Rattle.sd_num.proofs as Num

@@ -4,6 +4,7 @@ pub mod Events
 pub mod Clocks
 pub mod Honesty
 pub mod Reading
+pub mod Words
 pub mod InPlace
 pub mod Printing
 -- Handed on: what crates above name of those below.

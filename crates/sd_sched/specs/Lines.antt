@@ -1,6 +1,6 @@
 -- Schedule lines: a word and its fields, parted by one space.
 use Rattle.std.specs.Prelude.{ℕ, ◌+◌, ◌-◌, ◌^◌, Bool, true, false, ◌&&◌, not, List, ◌∷◌, length, find, nat_eq, nat_le, slice_index, Option, Some, None, Result, Ok, Err, codes, if◌then◌else◌, [], ◌||◌}
-use Rattle.sd_num.specs.Lists.{of_some}
+use Rattle.sd_num.specs.Lists.{map_or}
 use Rattle.sd_num.specs.Decimals.{number}
 use Rattle.sd_num.specs.declared.NumFault.{NumFault}
 use Rattle.sd_sched.specs.declared.Event.{Event}
@@ -35,55 +35,69 @@ pub record Word : Type 0 where
 abbrev pub word : List ℕ → List Field → (List ℕ → Event) → Word
 word spelled shape event = record { spelled = spelled; shape = shape; event = event }
 
--- the fourteen words
+-- start REF DEVICE COUNTER CLOCK EPS
 abbrev pub start_word : Word
 start_word =
     word (codes "start") (Amount ∷ Which ∷ Amount ∷ Amount ∷ Amount ∷ [])
     (λ v. Start (slice_index v 0) (slice_index v 1) (slice_index v 2) (slice_index v 3) (slice_index v 4))
 
+-- tick REF DEVICE COUNTER
 abbrev pub tick_word : Word
 tick_word = word (codes "tick") (Amount ∷ Which ∷ Amount ∷ []) (λ v. Tick (slice_index v 0) (slice_index v 1) (slice_index v 2))
 
+-- recv REF DEVICE COUNTER MESSAGE
 abbrev pub recv_word : Word
 recv_word = word (codes "recv") (Amount ∷ Which ∷ Amount ∷ Amount ∷ []) (λ v. Recv (slice_index v 0) (slice_index v 1) (slice_index v 2) (slice_index v 3))
 
+-- lose REF MESSAGE
 abbrev pub lose_word : Word
 lose_word = word (codes "lose") (Amount ∷ Amount ∷ []) (λ v. Lose (slice_index v 0) (slice_index v 1))
 
+-- fail REF device|link NUMBER
 abbrev pub fail_word : Word
 fail_word = word (codes "fail") (Amount ∷ Kind ∷ Which ∷ [])
     (λ v. if nat_eq (slice_index v 1) 0 then FailDevice (slice_index v 0) (slice_index v 2) else FailLink (slice_index v 0) (slice_index v 2))
 
+-- fix REF DEVICE COUNTER CLOCK EPS
 abbrev pub fix_word : Word
 fix_word = word (codes "fix") (Amount ∷ Which ∷ Amount ∷ Amount ∷ Amount ∷ [])
     (λ v. Fix (slice_index v 0) (slice_index v 1) (slice_index v 2) (slice_index v 3) (slice_index v 4))
 
+-- ask REF DEVICE COUNTER
 abbrev pub ask_word : Word
 ask_word = word (codes "ask") (Amount ∷ Which ∷ Amount ∷ []) (λ v. Ask (slice_index v 0) (slice_index v 1) (slice_index v 2))
 
+-- stage REF
 abbrev pub stage_word : Word
 stage_word = word (codes "stage") (Amount ∷ []) (λ v. Stage (slice_index v 0))
 
+-- give REF DEVICE
 abbrev pub give_word : Word
 give_word = word (codes "give") (Amount ∷ Which ∷ []) (λ v. Give (slice_index v 0) (slice_index v 1))
 
+-- commit REF DEVICE COUNTER
 abbrev pub commit_word : Word
 commit_word = word (codes "commit") (Amount ∷ Which ∷ Amount ∷ []) (λ v. Commit (slice_index v 0) (slice_index v 1) (slice_index v 2))
 
+-- seal REF DEVICE
 abbrev pub seal_word : Word
 seal_word = word (codes "seal") (Amount ∷ Which ∷ []) (λ v. Seal (slice_index v 0) (slice_index v 1))
 
+-- join REF DEVICE COUNTER CLOCK EPS
 abbrev pub join_word : Word
 join_word = word (codes "join") (Amount ∷ Which ∷ Amount ∷ Amount ∷ Amount ∷ [])
     (λ v. Join (slice_index v 0) (slice_index v 1) (slice_index v 2) (slice_index v 3) (slice_index v 4))
 
+-- mend REF device|link NUMBER
 abbrev pub mend_word : Word
 mend_word = word (codes "mend") (Amount ∷ Kind ∷ Which ∷ [])
     (λ v. if nat_eq (slice_index v 1) 0 then MendDevice (slice_index v 0) (slice_index v 2) else MendLink (slice_index v 0) (slice_index v 2))
 
+-- end REF
 abbrev pub end_word : Word
 end_word = word (codes "end") (Amount ∷ []) (λ v. End (slice_index v 0))
 
+-- the fourteen words
 abbrev pub words : List Word
 words =
     start_word
@@ -141,7 +155,7 @@ field_numbers place [] texts = Ok []
 field_numbers place (field ∷ shape) [] = Ok []
 field_numbers place (field ∷ shape) (text ∷ texts) =
     let others = field_numbers (place + 1) shape texts in
-    of_some (field_number field text) (Err place) (λ n. then_numbers n others)
+    map_or (field_number field text) (Err place) (λ n. then_numbers n others)
 
 -- a field that says device or link says neither
 abbrev pub has_unknown_kind : List Field → List (List ℕ) → Bool
@@ -166,7 +180,7 @@ event_of_word texts w =
 -- the event of all fields of a line, the word first
 abbrev pub event_of_fields : List (List ℕ) → Result Event LineFault
 event_of_fields [] = Err UnknownWord
-event_of_fields (first ∷ texts) = of_some (find (λ w. same_bytes w.spelled first) words) (Err UnknownWord) (event_of_word texts)
+event_of_fields (first ∷ texts) = map_or (find (λ w. same_bytes w.spelled first) words) (Err UnknownWord) (event_of_word texts)
 
 -- the event of a line, or its fault
 unfoldable pub event_of_line : List ℕ → Result Event LineFault

@@ -1,6 +1,6 @@
 -- Fields read one after the other, as they are found.
-use Rattle.std.specs.Prelude.{ℕ, ◌≡◌, ◌+◌, ◌≤◌, Bool, true, false, List, [], ◌∷◌, ◌++◌, Option, Some, None, Result, Ok, Err, slice_index}
-use Rattle.sd_num.specs.Lists.{of_some}
+use Rattle.std.specs.Prelude.{ℕ, ◌+◌, ◌≤◌, Bool, true, false, List, [], ◌∷◌, ◌++◌, Option, Some, None, Result, Ok, Err, slice_index}
+use Rattle.sd_num.specs.Lists.{map_or}
 use Rattle.sd_sched.specs.Lines.{Word as Row, start_word, tick_word, recv_word, lose_word, fail_word, fix_word, ask_word, stage_word, give_word, commit_word, seal_word, join_word, mend_word, end_word, fields, field_number, limit}
 use Rattle.sd_sched.specs.declared.LineFault.{LineFault}
 use Rattle.sd_sched.specs.declared.LineFault.TheVariants.{UnknownWord, FieldCount, Number}
@@ -53,10 +53,10 @@ fault_of Which place = Number place
 fault_of Kind place = UnknownWord
 
 -- a field's fault and that of the line behind it: the count is answered before a kind, a kind before a number, and of numbers the first
-abbrev pub graver : LineFault → LineFault → LineFault
-graver first FieldCount = FieldCount
-graver first UnknownWord = UnknownWord
-graver first (Number place) = first
+abbrev pub reported_first : LineFault → LineFault → LineFault
+reported_first first FieldCount = FieldCount
+reported_first first UnknownWord = UnknownWord
+reported_first first (Number place) = first
 
 infixl 10 ◌then◌
 -- the numbers of some fields and of those behind them, or the fault that is answered
@@ -64,11 +64,11 @@ abbrev pub ◌then◌ : Result (List ℕ) LineFault → Result (List ℕ) LineFa
 (Ok front) then (Ok behind) = Ok (front ++ behind)
 (Ok front) then (Err fault) = Err fault
 (Err fault) then (Ok behind) = Err fault
-(Err first) then (Err second) = Err (graver first second)
+(Err first) then (Err second) = Err (reported_first first second)
 
 -- what is read of a single field
 abbrev pub read_of : Field → ℕ → Option ℕ → Result (List ℕ) LineFault
-read_of field place number = of_some number (Err (fault_of field place)) (λ n. Ok (n ∷ []))
+read_of field place number = map_or number (Err (fault_of field place)) (λ n. Ok (n ∷ []))
 
 -- the numbers of these fields, or the fault of the line: the fields are counted from the given place
 abbrev pub numbers_from : ℕ → List Field → List (List ℕ) → Result (List ℕ) LineFault
@@ -86,12 +86,3 @@ so_far (Some fault) numbers = Err fault
 abbrev pub WithinFrom : ℕ → List Field → List ℕ → Type 0
 WithinFrom place [] numbers = Unit {0}
 WithinFrom place (field ∷ shape) numbers = (slice_index numbers place ≤ limit field) × WithinFrom (place + 1) shape numbers
-
--- the fields begin with one that has this number, and these are behind it
-abbrev pub Begins : Field → List (List ℕ) → ℕ → List (List ℕ) → Type 0
-Begins field texts n behind = (text : List ℕ) × ((texts ≡ text ∷ behind) × (field_number field text ≡ Some n))
-
--- the fields of a line begin with a reference time, a device and a counter, and these are behind them
-abbrev pub BeginsThree : List (List ℕ) → ℕ → ℕ → ℕ → List (List ℕ) → Type 0
-BeginsThree texts reference device counter behind = (shape : List Field)
-    → numbers_from 1 (Amount ∷ Which ∷ Amount ∷ shape) texts ≡ Ok (reference ∷ device ∷ counter ∷ []) then numbers_from 4 shape behind

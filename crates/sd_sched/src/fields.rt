@@ -1,11 +1,11 @@
 //! The fields of a line, each read as it is found: the bytes of a line that is no refusal are
 //! looked at once.
 ghost use Rattle.std.specs.Prelude.{◌≡◌, ◌≤◌, length, take, drop, [], position, nat_eq, nat_lt, not, ◌&&◌, slice_get, true, false, Err, Ok, Some, IfOk, IfErr, IfSome, IfNone};
-ghost use Rattle.sd_num.specs.Lists.{of_some};
+ghost use Rattle.sd_num.specs.Lists.{map_or};
 ghost use Rattle.sd_num.specs.Decimals.{number as number_of, leads_with_zero};
 ghost use Rattle.sd_sched.specs.Lines.{fields, first_field as first_of, event_of_line, field_number, limit, number_within};
 ghost use Rattle.sd_sched.specs.Spelled.{is_word};
-ghost use Rattle.sd_sched.specs.Reading.{WithinFrom, fault_of as fault_at, fields_behind, graver as graver_of, numbers_from};
+ghost use Rattle.sd_sched.specs.Reading.{WithinFrom, fault_of as fault_at, fields_behind, reported_first as reported_first_of, numbers_from};
 ghost use Rattle.sd_sched.specs.declared.LineFault.TheVariants.{UnknownWord};
 
 use crate::LineFault;
@@ -13,10 +13,10 @@ use crate::words::{Field, MOST_FIELDS};
 use sd_num::{leading_number, read_u64};
 
 /// The greatest number of a field that names no device and no link.
-pub const MOST_AMOUNT: u64 = 1 << 60;
+const MOST_AMOUNT: u64 = 1 << 60;
 
 /// The greatest number of a device or a link.
-pub const MOST_WHICH: u64 = (1 << 32) - 1;
+const MOST_WHICH: u64 = (1 << 32) - 1;
 
 /// A field that was read.
 #[derive(Clone, Copy)]
@@ -47,7 +47,7 @@ pub fn read_fields(shape: &[Field], behind: &[u8]) -> Result<[u64; MOST_FIELDS],
         let found = read_field(*field, bytes);
         match found.number {
             Some(number) => numbers[place] = number,
-            None => fault = Some(graver(fault, fault_of(*field, place as u8 + 1))),
+            None => fault = Some(reported_first(fault, fault_of(*field, place as u8 + 1))),
         }
         left = found.left;
     }
@@ -82,8 +82,8 @@ fn fault_of(field: Field, place: u8) -> LineFault
 }
 
 /// The fault that is answered where there are two.
-fn graver(first: Option<LineFault>, second: LineFault) -> LineFault
-    ensures { result ≡ of_some first second (λ f. graver_of f second) }
+fn reported_first(first: Option<LineFault>, second: LineFault) -> LineFault
+    ensures { result ≡ map_or first second (λ f. reported_first_of f second) }
 {
     match (first, second) {
         (Some(first), LineFault::Number(_)) => first,
@@ -134,12 +134,16 @@ fn within(number: u64, most: u64) -> Option<u64>
 pub fn is_plain(digits: &[u8]) -> bool
     ensures { result ≡ (nat_lt 0 (length digits.now) && not (leads_with_zero digits.now)) }
 {
-    !matches!(digits, [] | [b'0', _, ..])
+    match digits {
+        [] => false,
+        [b'0', more @ ..] => more.is_empty(),
+        _ => true,
+    }
 }
 
 /// Whether a field ends at a place: with the line, or at a space.
 fn ends_at(bytes: &[u8], place: usize) -> bool
-    ensures { result ≡ of_some (slice_get bytes.now place) true (λ byte. nat_eq byte 32) }
+    ensures { result ≡ map_or (slice_get bytes.now place) true (λ byte. nat_eq byte 32) }
 {
     match bytes.get(place) {
         Some(byte) => *byte == b' ',

@@ -14,19 +14,20 @@
 //! Numbers are decimal, with no leading zero. Devices and links go to 2^32 - 1, all others to 2^60.
 #![tactic(auto)]
 
+mod eights;
 mod events;
+mod fast;
 mod fields;
 mod making;
 mod numbers;
 mod printing;
 mod reading;
-mod usual;
 mod words;
 
+pub use fast::{BufferedLine, read_buffered_line};
 pub use fields::{Found, behind_space, first_field, read_number};
 pub use printing::line_text;
 pub use reading::read_line;
-pub use usual::{Front, read_front};
 
 /// One line of a schedule: an atomic action of one device or of the world.
 ///

@@ -4,24 +4,11 @@ ghost use Rattle.sd_sched.specs.Lines.{event_of_line};
 ghost use Rattle.sd_sched.specs.Spelled.{is_within};
 
 use crate::fields::{first_field, read_fields};
-use crate::usual::read_usual;
 use crate::words::Word;
 use crate::{Event, LineFault};
 
 /// The event of a line without its newline, or why it is none.
 pub fn read_line(bytes: &[u8]) -> Result<Event, LineFault>
-    ensures event { result ≡ event_of_line bytes.now }
-    ensures within { IfOk result (λ e. IsTrue (is_within e)) }
-{
-    match read_usual(bytes) {
-        Some(event) => Ok(event),
-        None => read_any(bytes),
-    }
-}
-
-/// The event of a line of any word, or its fault.
-#[inline(never)]
-fn read_any(bytes: &[u8]) -> Result<Event, LineFault>
     ensures event { result ≡ event_of_line bytes.now }
     ensures within { IfOk result (λ e. IsTrue (is_within e)) }
 {

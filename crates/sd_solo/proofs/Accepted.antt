@@ -2,7 +2,7 @@
 use Rattle.std.proofs.Common.{◌≡◌, ℕ, ◌^◌, ◌<◌, ◌≤◌, Bool, true, false, not, ◌&&◌, [], ◌∷◌, None, refl}
 use Rattle.std.specs.Prelude.{nat_le, nat_lt, nat_eq, is_some}
 use Rattle.std.proofs.lemmas.Bool.{ltb-false, leb-false}
-use Rattle.sd_num.specs.Lists.{of_some}
+use Rattle.sd_num.specs.Lists.{map_or}
 use Rattle.sd_sched.specs.declared.Event.{Event}
 use Rattle.sd_sched.specs.declared.Event.TheVariants as event
 use Rattle.sd_sched.specs.Events.{reference_of, device_of, counter_of}
@@ -35,13 +35,13 @@ none_holds false false false false false false false same =
 
 -- no cause to refuse this event holds
 no_cause : (past : Situation) (e : Event) → refusal_in past e ≡ None
-    → NoneHolds (of_some (device_of e) false (λ d. not (nat_eq d 0))) (nat_lt (reference_of e) past.reference)
-    (not (is_start e) && of_some (counter_of e) false (λ c. nat_lt c past.counter))
+    → NoneHolds (map_or (device_of e) false (λ d. not (nat_eq d 0))) (nat_lt (reference_of e) past.reference)
+    (not (is_start e) && map_or (counter_of e) false (λ c. nat_lt c past.counter))
     (not (is_start e) && is_some (device_of e) && not past.started) (is_start e && past.started) past.ended (nat_le (2 ^ 26) past.count)
 unfolding refusal_in
 no_cause past e accepted =
-    none_holds (of_some (device_of e) false (λ d. not (nat_eq d 0))) (nat_lt (reference_of e) past.reference)
-    (not (is_start e) && of_some (counter_of e) false (λ c. nat_lt c past.counter))
+    none_holds (map_or (device_of e) false (λ d. not (nat_eq d 0))) (nat_lt (reference_of e) past.reference)
+    (not (is_start e) && map_or (counter_of e) false (λ c. nat_lt c past.counter))
     (not (is_start e) && is_some (device_of e) && not past.started) (is_start e && past.started) past.ended (nat_le (2 ^ 26) past.count) accepted
 
 -- so many events were not accepted yet

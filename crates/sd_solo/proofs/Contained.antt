@@ -4,7 +4,7 @@ use Rattle.std.specs.List.{list_all}
 use Rattle.std.proofs.Common.{arith, sym, subst}
 use Rattle.std.proofs.lemmas.Bool.{and_parts, and_from, leb-true, le-leb, not-false}
 use Rattle.sd_num.specs.Numbers.{distance, keeps_rate}
-use Rattle.sd_num.specs.Lists.{of_some, latest}
+use Rattle.sd_num.specs.Lists.{map_or, find_map_or}
 use Rattle.sd_clock.specs.Estimates.{report_of, contains}
 use Rattle.sd_clock.proofs.Containment.{report_is_near, near_is_contained}
 use Rattle.sd_clock.specs.declared.Report.{Report}
@@ -57,7 +57,7 @@ anchored (e ∷ es) counter reference started truly keeps before =
     (and_parts (keeps_with counter reference e) (list_all (keeps_with counter reference) es) keeps).1
     (and_parts (nat_le (reference_of e) reference) (list_all (λ x. nat_le (reference_of x) reference) es) before).1)
 
-before_all : (events : List Event) (reference : ℕ) → IsHistory events → latest (λ x. Some (reference_of x)) events 0 ≤ reference
+before_all : (events : List Event) (reference : ℕ) → IsHistory events → find_map_or (λ x. Some (reference_of x)) events 0 ≤ reference
     → IsTrue (list_all (λ x. nat_le (reference_of x) reference) events)
 unfolding IsHistory
 before_all [] reference history late = refl
@@ -87,4 +87,4 @@ pub report_contains : (e : Event) (earlier : List Event) (report : Report) → I
     → IsTrue (start_holds (e ∷ earlier)) → IsTrue (drift_holds (e ∷ earlier))
     → IsTrue (contains report (reference_of e))
 report_contains e earlier report history same truly drifts =
-    subst (λ (r : Option Report). IsTrue (of_some r true (λ x. contains x (reference_of e)))) same (reports_contain e earlier history truly drifts)
+    subst (λ (r : Option Report). IsTrue (map_or r true (λ x. contains x (reference_of e)))) same (reports_contain e earlier history truly drifts)

@@ -2,7 +2,7 @@
 use Rattle.std.proofs.Common.{◌≡◌, ◌∙◌, ℕ, Bool, true, false, cond, not, List, [], ◌∷◌, Option, Some, None, Result, Ok, Err, refl, sym, ap, length, drop}
 use Rattle.std.proofs.lemmas.Bool.{and_parts, eqb-true}
 use Rattle.std.specs.Prelude.{IfOk, find, nat_eq, slice_index}
-use Rattle.sd_num.specs.Lists.{of_some}
+use Rattle.sd_num.specs.Lists.{map_or}
 use Rattle.sd_sched.specs.Lines.{Word, words, event_of_word, event_or_number, event_of_fields, event_of_line, has_unknown_kind, field_numbers, first_field, same_bytes}
 use Rattle.sd_sched.specs.Reading.{fields_behind}
 use Rattle.sd_sched.specs.declared.Event.{Event}
@@ -115,7 +115,7 @@ of_fields : (first : List ℕ) (texts : List (List ℕ)) → KnownAs (knows firs
 of_fields first texts = go (find (λ w. same_bytes w.spelled first) words) (λ w found. found_among words first w all_agree found)
   where
     go : (found : Option Word) → ((w : Word) → found ≡ Some w → Agrees w × (w.spelled ≡ first))
-        → KnownAs (knows first) (of_some found (Err UnknownWord) (event_of_word texts))
+        → KnownAs (knows first) (map_or found (Err UnknownWord) (event_of_word texts))
     go None is = tt
     go (Some w) is = of_word (knows first) w texts (λ v. (is w refl).0 v ∙ ap knows (is w refl).1)
 

@@ -2,7 +2,7 @@
 use Rattle.std.proofs.Common.{◌≡◌, ℕ, ◌+◌, Bool, true, false, ◌||◌, List, ◌∷◌, None, IsTrue, refl, sym, ap, ◌∙◌, subst, arith, length, add-one}
 use Rattle.std.proofs.lemmas.List.Sums.{sum_by-cons}
 use Rattle.std.specs.Prelude.{count_by, cond}
-use Rattle.sd_num.specs.Lists.{of_some}
+use Rattle.sd_num.specs.Lists.{map_or}
 use Rattle.sd_sched.specs.declared.Event.{Event}
 use Rattle.sd_sched.specs.Events.{reference_of, counter_of, is_end_event}
 use Rattle.sd_solo.specs.Histories.{Situation, situation, refusal_in, is_start, is_ask, is_known, estimate_set, IsHistory, refusal}
@@ -14,7 +14,7 @@ abbrev pub situation_after : Situation → Event → Situation
 situation_after past e =
     record {
       reference = reference_of e;
-      counter = of_some (counter_of e) past.counter (λ c. c);
+      counter = map_or (counter_of e) past.counter (λ c. c);
       started = is_start e || past.started;
       ended = is_end_event e || past.ended;
       count = past.count + 1;
@@ -36,14 +36,14 @@ history_after old e events known accepted h = (h.history, known, subst (λ (past
 
 -- the registers go on standing for the history, where the event is accepted and they do what it says
 pub stands_after : (old new : Solo) (e : Event) (events : List Event) → IsTrue (is_known e) → refusal_in (situation_of old) e ≡ None
-    → situation_of new ≡ situation_after (situation_of old) e → new.estimate ≡ of_some (estimate_set e) old.estimate (λ x. x)
+    → situation_of new ≡ situation_after (situation_of old) e → new.estimate ≡ map_or (estimate_set e) old.estimate (λ x. x)
     → new.reports ≡ cond (is_ask e) (old.reports + 1) old.reports
     → StandsFor old events → StandsFor new (e ∷ events)
 stands_after old new e events known accepted situated estimated counted h =
     record {
       history = history_after old e events known accepted h;
       situation = situated ∙ ap (λ past. situation_after past e) h.situation ∙ sym (situation-cons events e);
-      estimate = estimated ∙ ap (λ x. of_some (estimate_set e) x (λ told. told)) h.estimate;
+      estimate = estimated ∙ ap (λ x. map_or (estimate_set e) x (λ told. told)) h.estimate;
       reports = counted ∙ ap (λ n. cond (is_ask e) (n + 1) n) h.reports ∙ counted_more (is_ask e) (count_by is_ask events)
           ∙ sym (sum_by-cons (λ x. cond (is_ask x) 1 0) e events);
     }

@@ -3,6 +3,7 @@ use Rattle.std.specs.Prelude.{ℕ, List, codes}
 use Rattle.sd_solo.specs.declared.SoloFault.{SoloFault}
 use Rattle.sd_solo.specs.declared.SoloFault.TheVariants.{UnknownDevice, TimeFalls, CounterFalls, NotStarted, StartedTwice, AfterEnd, TooManyEvents}
 
+-- the name of a refusal
 abbrev pub fault_name : SoloFault → List ℕ
 fault_name UnknownDevice = codes "UnknownDevice"
 fault_name TimeFalls = codes "TimeFalls"

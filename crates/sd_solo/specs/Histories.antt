@@ -1,7 +1,7 @@
 -- One device alone, with the number 0 and rates of its own: its starts, fixes, asks and an end. A history has its newest event first.
 use Rattle.std.specs.Prelude.{◌≡◌, ℕ, ◌+◌, ◌^◌, Bool, true, false, ◌&&◌, not, List, ◌∷◌, length, count_by, nat_eq, nat_le, nat_lt, Option, Some, None, is_some, codes, decimal, IsTrue, if◌then◌else◌, []}
 use Rattle.std.specs.List.{list_any}
-use Rattle.sd_num.specs.Lists.{of_some, latest}
+use Rattle.sd_num.specs.Lists.{map_or, find_map_or}
 use Rattle.sd_num.specs.Texts.{text_of}
 use Rattle.sd_num.specs.declared.Rates.{Rates}
 use Rattle.sd_clock.specs.declared.Estimate.{Estimate}
@@ -13,6 +13,7 @@ use Rattle.sd_sched.specs.Events.{reference_of, device_of, counter_of, started, 
 use Rattle.sd_solo.specs.declared.SoloFault.{SoloFault}
 use Rattle.sd_solo.specs.declared.SoloFault.TheVariants as fault
 
+-- the rates of the device
 abbrev pub rates : Rates
 rates = record { ppm = 200; grain = 1000 }
 
@@ -28,9 +29,11 @@ is_known _ = false
 abbrev pub was_started : List Event → Bool
 was_started events = list_any (λ e. is_some (started e)) events
 
+-- the event starts the device
 abbrev pub is_start : Event → Bool
 is_start e = is_some (started e)
 
+-- the event asks the device
 abbrev pub is_ask : Event → Bool
 is_ask (event.Ask reference device counter) = true
 is_ask _ = false
@@ -44,11 +47,12 @@ pub record Situation : Type 0 where
   pub ended : Bool
   pub count : ℕ
 
+-- the situation after the events
 abbrev pub situation : List Event → Situation
 situation events =
     record {
-      reference = latest (λ e. Some (reference_of e)) events 0;
-      counter = latest counter_of events 0;
+      reference = find_map_or (λ e. Some (reference_of e)) events 0;
+      counter = find_map_or counter_of events 0;
       started = was_started events;
       ended = list_any is_end_event events;
       count = length events;
@@ -57,9 +61,9 @@ situation events =
 -- each cause with whether it holds, in the order in which they are answered
 abbrev pub causes : Situation → Event → List (SoloFault × Bool)
 causes past e =
-    (fault.UnknownDevice, of_some (device_of e) false (λ d. not (nat_eq d 0)))
+    (fault.UnknownDevice, map_or (device_of e) false (λ d. not (nat_eq d 0)))
     ∷ (fault.TimeFalls, nat_lt (reference_of e) past.reference)
-    ∷ (fault.CounterFalls, not (is_start e) && of_some (counter_of e) false (λ c. nat_lt c past.counter))
+    ∷ (fault.CounterFalls, not (is_start e) && map_or (counter_of e) false (λ c. nat_lt c past.counter))
     ∷ (fault.NotStarted, not (is_start e) && is_some (device_of e) && not past.started)
     ∷ (fault.StartedTwice, is_start e && past.started)
     ∷ (fault.AfterEnd, past.ended)
@@ -71,6 +75,7 @@ abbrev pub first_cause : List (SoloFault × Bool) → Option SoloFault
 first_cause [] = None
 first_cause (cause ∷ others) = if cause.1 then Some cause.0 else first_cause others
 
+-- why an event is refused in a situation, if it is
 unfoldable pub refusal_in : Situation → Event → Option SoloFault
 refusal_in past e = first_cause (causes past e)
 
@@ -84,8 +89,9 @@ estimate_set (event.Start reference device counter clock eps) = Some (estimate_a
 estimate_set (event.Fix reference device counter clock eps) = Some (estimate_at clock eps counter)
 estimate_set _ = None
 
+-- the estimate that the newest start or fix set
 abbrev pub estimate_now : List Event → Estimate
-estimate_now events = latest estimate_set events (estimate_at 0 0 0)
+estimate_now events = find_map_or estimate_set events (estimate_at 0 0 0)
 
 -- the report of an ask
 abbrev pub report_by : List Event → Event → Option Report
@@ -103,7 +109,7 @@ report_text n report = text_of (codes "report" ∷ decimal n ∷ codes "0" ∷ d
 
 -- what the latest event prints: an ask prints its report, with the number of the event
 abbrev pub bytes_of : List Event → Event → List ℕ
-bytes_of earlier e = of_some (report_by earlier e) [] (report_text (length earlier + 1))
+bytes_of earlier e = map_or (report_by earlier e) [] (report_text (length earlier + 1))
 
 -- the last line of a history that has ended: how many events and how many reports there were
 abbrev pub done_text : List Event → List ℕ

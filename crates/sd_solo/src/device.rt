@@ -63,9 +63,51 @@ impl Solo {
         self.ended
     }
 
-    /// Why the event is refused, if it is.
-    #[tactic(auto, unfolding(crate::specs::Histories::refusal_in))]
+    /// Why the event is refused, if it is: of a usual one that is accepted one test tells.
+    #[inline(always)]
     fn refusal(&self, event: &Event) -> Option<SoloFault>
+        ensures { result ≡ refusal_in (situation_of self.now) event.now }
+    {
+        if self.is_calm(event) {
+            None
+        } else {
+            self.first_cause(event)
+        }
+    }
+
+    /// Whether the event is a fix or an ask, and no cause to refuse it holds.
+    #[inline(always)]
+    #[tactic(auto, unfolding(crate::specs::Histories::refusal_in))]
+    fn is_calm(&self, event: &Event) -> bool
+        ensures { IsTrue result → refusal_in (situation_of self.now) event.now ≡ None }
+    {
+        match *event {
+            Event::Fix {
+                reference,
+                device,
+                counter,
+                ..
+            }
+            | Event::Ask {
+                reference,
+                device,
+                counter,
+            } => {
+                device == 0
+                    && self.reference <= reference
+                    && self.counter <= counter
+                    && self.started
+                    && !self.ended
+                    && self.events < MOST_EVENTS
+            }
+            _ => false,
+        }
+    }
+
+    /// The first cause to refuse the event, if there is one.
+    #[inline(never)]
+    #[tactic(auto, unfolding(crate::specs::Histories::refusal_in))]
+    fn first_cause(&self, event: &Event) -> Option<SoloFault>
         ensures { result ≡ refusal_in (situation_of self.now) event.now }
     {
         let starts = matches!(event, Event::Start { .. });

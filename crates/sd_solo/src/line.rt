@@ -3,7 +3,7 @@ ghost use Rattle.std.specs.Prelude.{◌≡◌, ◌≤◌, take, position, nat_eq
 ghost use Rattle.sd_solo.specs.Histories.{is_known as is_known_event};
 ghost use Rattle.sd_solo.specs.Lines.{solo_event, knows};
 
-use sd_sched::{Event, Front, LineFault, first_field, read_front, read_line};
+use sd_sched::{BufferedLine, Event, LineFault, first_field, read_buffered_line, read_line};
 
 /// The event of a line, or why it is none. Four words are known here, and a line with another word
 /// is `UnknownWord` whatever its fields.
@@ -33,7 +33,7 @@ pub fn read_solo_line(line: &[u8]) -> Result<Event, LineFault>
 
 /// The first line of a text, if it is an ask or a fix and ends with a newline. Any other may be one
 /// that is known here all the same: `read_solo_line` says.
-pub fn read_solo_front(text: &[u8]) -> Option<Front>
+pub fn read_solo_front(text: &[u8]) -> Option<BufferedLine>
     ensures newline { IfSome result
         (λ front. position (λ byte. nat_eq byte 10) text.now ≡ Some front.len) }
     ensures short { IfSome result (λ front. front.len ≤ 4096) }
@@ -41,7 +41,7 @@ pub fn read_solo_front(text: &[u8]) -> Option<Front>
         (λ front. solo_event (take front.len text.now) ≡ Ok front.event) }
     ensures known { IfSome result (λ front. IsTrue (is_known_event front.event)) }
 {
-    let Some(front) = read_front(text) else {
+    let Some(front) = read_buffered_line(text) else {
         return None;
     };
     if is_known(&front.event) {

@@ -50,7 +50,7 @@ refusal_cases false true line f e = inr (refl, refl, cc)
 refusal_cases false false line f e = cc
 
 -- the cases of a line
-line_cases : (long past : Bool) (next line : Option (List ℕ)) → cond long (Err LongLine) (cond past (Err Limit) (Ok next)) ≡ Ok line
+pub line_cases : (long past : Bool) (next line : Option (List ℕ)) → cond long (Err LongLine) (cond past (Err Limit) (Ok next)) ≡ Ok line
     → (long ≡ false) × (past ≡ false) × (next ≡ line)
 line_cases true past next line e = cc
 line_cases false true next line e = cc

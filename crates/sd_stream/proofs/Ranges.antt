@@ -1,21 +1,13 @@
 -- Ranges of a buffer.
 use Rattle.std.proofs.Common.{◌≡◌, ℕ, ◌+◌, ◌-◌, ◌≤◌, List, ◌++◌, refl, sym, ap, ◌∙◌, length, take, drop, slice_range, arith}
 use Rattle.std.proofs.lemmas.List.{drop-take, drop-drop, take_all, take_at}
-use Rattle.std.proofs.Math.Seq.{take-add}
+use Rattle.sd_num.proofs.Shared.{range_split}
 
 -- a range of the front
 range_in_front : (xs : List ℕ) (a b : ℕ) → a ≤ b → slice_range xs a b ≡ drop a (take b xs)
 range_in_front xs a b h =
     let e : a + (b - a) ≡ b = omega arith in
     rw e at (sym (drop-take a (b - a) xs))
-
--- a range is two ranges, one behind the other
-range_split : (xs : List ℕ) (a b c : ℕ) → a ≤ b → b ≤ c → slice_range xs a c ≡ slice_range xs a b ++ slice_range xs b c
-range_split xs a b c h k =
-    let e : c - a ≡ b - a + (c - b) = omega arith in
-    let f : a + (b - a) ≡ b = omega arith in
-    let g : drop (b - a) (drop a xs) ≡ drop b xs = drop-drop (b - a) a xs ∙ ap (λ n. drop n xs) f in
-    rw (e, take-add (b - a) (c - b) (drop a xs), g) refl
 
 -- what stands before the end stays, whatever comes behind it
 pub same_range : (old new : List ℕ) (s e : ℕ) → s ≤ e → take e new ≡ take e old → slice_range new s e ≡ slice_range old s e

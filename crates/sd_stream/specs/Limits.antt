@@ -20,8 +20,8 @@ unfoldable pub answer_of : ℕ → List ℕ → Result (Option (List ℕ)) Strea
 answer_of before text = if is_long before text then Err LongLine else if is_past before text then Err Limit else Ok (next_of text)
 
 -- a call answers what is expected, or that the outside failed
-abbrev pub Answers : Result (Option (List ℕ)) StreamFault → Result (Option (Bor (List ℕ))) StreamFault → Type 0
-Answers expected (Ok line) = expected ≡ Ok (option_copied line)
-Answers expected (Err ReadFault) = ⊤
-Answers expected (Err LongLine) = expected ≡ Err LongLine
-Answers expected (Err Limit) = expected ≡ Err Limit
+abbrev pub IsAnswerTo : Result (Option (List ℕ)) StreamFault → Result (Option (Bor (List ℕ))) StreamFault → Type 0
+IsAnswerTo expected (Ok line) = expected ≡ Ok (option_copied line)
+IsAnswerTo expected (Err ReadFault) = ⊤
+IsAnswerTo expected (Err LongLine) = expected ≡ Err LongLine
+IsAnswerTo expected (Err Limit) = expected ≡ Err Limit

@@ -3,7 +3,7 @@ ghost use Rattle.std.specs.Prelude.{◌≡◌, ◌≢◌, ◌≤◌, ◌+◌, �
 ghost use Rattle.std.specs.Result.{IsErrOf};
 ghost use Rattle.std.specs.Io.KnownBytes.{Keeps};
 ghost use Rattle.sd_outside.specs.Shelves.{KeepsShelf};
-ghost use Rattle.sd_stream.specs.Limits.{answer_of, Answers};
+ghost use Rattle.sd_stream.specs.Limits.{answer_of, IsAnswerTo};
 ghost use Rattle.sd_stream.specs.Buffered.{buffered};
 
 use crate::buffer::Buffer;
@@ -131,7 +131,7 @@ impl<'s, S: Shelf> LineReader<'s, S> {
     /// place, and after `LongLine` or `Limit` each later call answers the same.
     pub fn next_line(&mut self) -> Result<Option<&[u8]>, StreamFault>
         ensures answer { IfSome (text_left S.Shelf self.old) (λ text.
-            Answers (answer_of (bytes_before self.old) text) result) }
+            IsAnswerTo (answer_of (bytes_before self.old) text) result) }
         ensures short { IfOk result (λ line. IfSome line (λ l. length l.now ≤ 4096)) }
         ensures repeats { IfErr (buffered_answer self.old) (λ f. result ≡ Err f) }
         ensures* leaves { sem 𝓛 (LeavesReader S.row S.Shelf self.entry result) }

@@ -1,5 +1,7 @@
-//! The checker and the drill beside plain slow programs (`sd_test_plain`), over many small networks.
+//! The checker and the drill beside plain slow programs (`plain`), over many small networks.
 #![tactic(auto)]
 
 mod checking;
 mod drilling;
+#[cfg(test)]
+mod plain;

@@ -1,7 +1,10 @@
 //! A fleet beside the plain slow program over whole histories (`trial`), a fleet of as many devices
-//! as there may be (`load`), and one that follows a schedule that was made (`made`).
+//! as there may be (`load`), one that follows a schedule that was made (`made`), and worked
+//! histories, each event with what comes of it, with nodes of other kinds too (`rows`).
 #![tactic(auto)]
 
 mod load;
 mod made;
+#[cfg(test)]
+mod rows;
 mod trial;

@@ -1,5 +1,8 @@
-//! A replay beside a plain slow program that judges each premise over the whole list of events.
+//! A replay beside a plain slow program (`plain`) that judges each premise over the whole list of
+//! events.
 #![tactic(auto)]
 
+#[cfg(test)]
+mod plain;
 #[cfg(test)]
 mod tests;

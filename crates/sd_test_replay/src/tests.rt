@@ -10,6 +10,7 @@ mod networks;
 mod tally;
 mod tempers;
 
+use crate::plain::{PlainReplay, Site};
 use accepted::accepted_plans;
 use course::Course;
 use networks::{FABRIC, NETWORKS, Network, SQUARE};
@@ -21,7 +22,6 @@ use sd_test_fleet_kit::plan::Plan;
 use sd_test_fleet_kit::sched::{Event, line_text, read_line};
 use sd_test_fleet_kit::topo::{Thing, Topology};
 use sd_test_fleet_kit::topotext::read_topology;
-use sd_test_replay_plain::{PlainReplay, Site};
 use std::alloc::Global;
 use std::process::Abort;
 use std::test::Fail;

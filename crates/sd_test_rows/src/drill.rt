@@ -1,12 +1,12 @@
 //! `drill`: bounds and refusals worked out by hand, in pieces, and where the outside fails.
 ghost use Rattle.std.specs.Prelude.{◌≤◌};
 
+use crate::kit::{USAGE, run_words, shelf_of};
 use crate::runs::{Run, assert_ran, run_of};
 use sd_test_examples::{
     DRIFTLESS, DRIFTLESS_PLAN, FABRIC, FABRIC_PLAN, TRIANGLE, TRIANGLE_2, TRIANGLE_PLAN,
 };
-use sd_test_rows_kit::top::Status;
-use sd_test_rows_kit::{USAGE, run_words, shelf_of};
+use sd_top::Status;
 use std::process::Abort;
 use std::test::Fail;
 

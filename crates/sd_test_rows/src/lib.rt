@@ -1,9 +1,18 @@
-//! Worked runs of the whole program, over a shelf and a sink in memory: those of schedules with
-//! plans stand in a crate of their own.
+//! Worked runs of the whole program, over a shelf and a sink in memory.
 #![tactic(auto)]
 
 #[cfg(test)]
+mod case;
+#[cfg(test)]
 mod drill;
+#[cfg(test)]
+mod kit;
+#[cfg(test)]
+mod order;
+#[cfg(test)]
+mod plans;
+#[cfg(test)]
+mod replay;
 #[cfg(test)]
 mod runs;
 #[cfg(test)]

@@ -1,8 +1,8 @@
 //! One run of the program over texts in memory, as all rows ask for it.
 ghost use Rattle.std.specs.Prelude.{◌≡◌, ◌≤◌};
 
-use sd_test_rows_kit::top::Status;
-use sd_test_rows_kit::{run_words, shelf_of};
+use crate::kit::{run_words, shelf_of};
+use sd_top::Status;
 use std::alloc::{AllocError, Global};
 use std::process::Abort;
 use std::test::Fail;

@@ -7,9 +7,9 @@ mod migrate;
 mod plan;
 mod texts;
 
+use crate::kit::USAGE;
 use crate::runs::{Run, assert_leaves, assert_ran, refused_at_once, run_of};
-use sd_test_rows_kit::USAGE;
-use sd_test_rows_kit::top::Status;
+use sd_top::Status;
 use std::process::Abort;
 use std::test::Fail;
 

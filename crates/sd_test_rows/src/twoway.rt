@@ -1,10 +1,10 @@
 //! `twoway`: bounds and refusals worked out by hand, in pieces, and where the outside fails.
 ghost use Rattle.std.specs.Prelude.{◌≤◌};
 
+use crate::kit::USAGE;
 use crate::runs::{Run, assert_calls_fail, assert_leaves, assert_ran, refused_at_once, run_of};
 use sd_test_examples::{TRIANGLE, TRIANGLE_2};
-use sd_test_rows_kit::USAGE;
-use sd_test_rows_kit::top::Status;
+use sd_top::Status;
 use std::process::Abort;
 use std::test::Fail;
 

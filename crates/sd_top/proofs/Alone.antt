@@ -1,7 +1,7 @@
 -- That a device alone goes on as the work of `solo` says.
 use Rattle.std.proofs.Common.{◌≡◌, ℕ, ◌+◌, List, [], ◌∷◌, Option, Some, None, Ok, sym, ap, ◌∙◌, subst, length, add-one, refl}
 use Rattle.sd_clock.specs.declared.Report.{Report}
-use Rattle.sd_num.specs.Lists.{of_some}
+use Rattle.sd_num.specs.Lists.{map_or}
 use Rattle.sd_sched.specs.declared.Event.{Event}
 use Rattle.sd_solo.specs.Histories.{bytes_of, refusal, report_by, report_text}
 use Rattle.sd_solo.specs.Lines.{solo_event}
@@ -20,9 +20,9 @@ use Rattle.sd_top.specs.Schedules.{accepted, solo_work, unless_refused}
 abbrev Goes : (xs : List Event) (line printed : List ℕ) (next : Solo) → Work Event → Type 0
 Goes xs line printed next work = (x : Event) × (work.says xs line ≡ Ok x) × (printed ≡ work.bytes xs x) × ((work ≡ solo_work) × StandsFor next (x ∷ xs))
 
-goes : (work : Work Event) (xs : List Event) (e : Event) (line printed : List ℕ) (next : Solo) → work ≡ solo_work → Ok e ≡ solo_event line
+goes_on_as_solo : (work : Work Event) (xs : List Event) (e : Event) (line printed : List ℕ) (next : Solo) → work ≡ solo_work → Ok e ≡ solo_event line
     → StandsFor next (e ∷ xs) → printed ≡ bytes_of xs e → Goes xs line printed next work
-goes work xs e line printed next is event stands prints =
+goes_on_as_solo work xs e line printed next is event stands prints =
     let taken : refusal xs e ≡ None = latest_accepted next e xs stands in
     subst (Goes xs line printed next) (sym is) (
       e,
@@ -37,21 +37,21 @@ pub goes_reporting : (work : Work Event) (xs : List Event) (e : Event) (line pri
     → Ok e ≡ solo_event line → StandsFor next (e ∷ xs) → Some report ≡ report_by xs e
     → n ≡ length (e ∷ xs) → printed ≡ report_text n report → Goes xs line printed next work
 goes_reporting work xs e line printed next report n is event stands told count prints =
-    goes work xs e line printed next is event stands
+    goes_on_as_solo work xs e line printed next is event stands
     (prints ∙ ap (λ (k : ℕ). report_text k report) (count ∙ sym (add-one (length xs)))
-    ∙ ap (λ (r : Option Report). of_some r [] (report_text (length xs + 1))) told)
+    ∙ ap (λ (r : Option Report). map_or r [] (report_text (length xs + 1))) told)
 
 -- without one
 pub goes_silently : (work : Work Event) (xs : List Event) (e : Event) (line printed : List ℕ) (next : Solo) → work ≡ solo_work → Ok e ≡ solo_event line
     → StandsFor next (e ∷ xs) → None ≡ report_by xs e → printed ≡ []
     → Goes xs line printed next work
 goes_silently work xs e line printed next is event stands told prints =
-    goes work xs e line printed next is event stands (prints ∙ ap (λ (r : Option Report). of_some r [] (report_text (length xs + 1))) told)
+    goes_on_as_solo work xs e line printed next is event stands (prints ∙ ap (λ (r : Option Report). map_or r [] (report_text (length xs + 1))) told)
 
 -- the line of a report is a whole line
 pub reports_whole : WritesWhole solo_work
 reports_whole xs e = whole (length xs + 1) (report_by xs e)
   where
-    whole : (n : ℕ) (report : Option Report) → IsTrue (are_lines (of_some report [] (report_text n)))
+    whole : (n : ℕ) (report : Option Report) → IsTrue (are_lines (map_or report [] (report_text n)))
     whole n None = refl
     whole n (Some report) = text_whole (codes "report" ∷ decimal n ∷ codes "0" ∷ decimal report.clock ∷ decimal report.eps ∷ [])

@@ -1,5 +1,5 @@
 -- The bounds of a topology's links are those of what its file says.
-use Rattle.std.proofs.Common.{ℕ, true, List, Option, Some, None, Result, Ok, Err, inl, sym, subst}
+use Rattle.std.proofs.Common.{ℕ, true, List, Option, Some, None, Result, Ok, Err, sym, subst}
 use Rattle.std.specs.Prelude.{IfSome}
 use Rattle.sd_cmd_files.specs.Stream.Reader.{IsNear}
 use Rattle.sd_topo.specs.Network.{Network}
@@ -11,7 +11,7 @@ use Rattle.sd_cmd_files.specs.Answering.{After, InWrites, WritesAfter}
 use Rattle.sd_cmd_files.specs.Inputs.{topology_of}
 use Rattle.sd_cmd_files.specs.Loads.{Loads}
 use Rattle.sd_cmd_files.specs.Texts.{texts_of}
-use Rattle.sd_cmd_files.specs.Writes.{Tells, WritesOnce}
+use Rattle.sd_cmd_files.specs.Writes.{HasOutput, WritesOnce}
 use Rattle.sd_cmd_files.specs.declared.Status.{Status}
 use Rattle.sd_cmd_files.specs.declared.command_error.CommandError.{CommandError}
 use Rattle.sd_cmd_files.specs.declared.command_error.CommandError.TheVariants as ended
@@ -20,14 +20,11 @@ use Rattle.sd_cmd_files.specs.declared.command_error.IoError.{IoError}
 use Rattle.sd_cmd_files.specs.declared.command_error.IoError.TheVariants as stop
 use Rattle.sd_cmd_files.specs.work.Ending.{LeavesAt}
 use Rattle.sd_cmd_files.specs.work.Works.{InSteps, IsOutcome, refused_part}
+use Rattle.sd_cmd_replay.proofs.Loading.{Held}
 use Rattle.sd_cmd_twoway.specs.Twoways.{twoway_work}
 use Rattle.sd_top.specs.Twoways.{refused_over}
 use Rattle.sd_top.specs.TwowayWrites.{TwowayIn}
 use Rattle.sd_top.proofs.Drilling.{unloaded_leaves}
-
--- the texts of a shelf, where they are told
-abbrev Held : Type 0
-Held = Option (List ℕ → Option (List ℕ))
 
 module _ (topology exchanges : List ℕ) where
   -- a topology that was read
@@ -51,7 +48,7 @@ module _ (topology exchanges : List ℕ) where
 
   -- one that was not: the line of its refusal, or nothing
   pub told_before : (held : Held) (why : CommandError) (old new : Option Pieces) (result : Result Status IoError)
-      → IfSome held (λ h. Loads network (topology_of (texts_of h topology)) (Err why)) → WritesOnce (Tells (Err why)) old new result
+      → IfSome held (λ h. Loads network (topology_of (texts_of h topology)) (Err why)) → WritesOnce (HasOutput (Err why)) old new result
       → IfSome held (λ h. LeavesAt true (TwowayIn (texts_of h topology) (texts_of h exchanges)) old new result)
   told_before None why old new result says writes = tt
   told_before (Some h) why old new result says writes =

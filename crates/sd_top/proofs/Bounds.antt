@@ -2,7 +2,7 @@
 use Rattle.std.specs.Prelude.{◌≡◌, ℕ, ◌<◌, List, length, slice_get, Option, None, Some, refl}
 use Rattle.std.proofs.Common.{subst}
 use Rattle.std.proofs.lemmas.Option.{slice_get_within}
-use Rattle.sd_num.specs.Lists.{of_some}
+use Rattle.sd_num.specs.Lists.{map_or}
 use Rattle.sd_topo.specs.Network.{Network}
 use Rattle.sd_plan.specs.Domain.declared.DomainId.{DomainId}
 use Rattle.sd_plan.specs.declared.Plan.{Plan}
@@ -17,7 +17,7 @@ use Rattle.sd_top.specs.Words.Command.{Drill}
 use Rattle.sd_top.specs.Bounds.{DrillsTruly, KeepsBounds, MeetsBounds}
 
 -- a number that is listed for a device is the worst of it
-listed_within : (bounds : List (Option ℕ)) (d w : ℕ) (o : Option (Option ℕ)) → slice_get bounds d ≡ o → of_some o None (λ bound. bound) ≡ Some w
+listed_within : (bounds : List (Option ℕ)) (d w : ℕ) (o : Option (Option ℕ)) → slice_get bounds d ≡ o → map_or o None (λ bound. bound) ≡ Some w
     → d < length bounds
 listed_within bounds d w None there listed = cc
 listed_within bounds d w (Some bound) there listed = slice_get_within bounds d bound there

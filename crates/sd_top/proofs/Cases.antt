@@ -10,10 +10,10 @@ use Rattle.sd_cmd_files.specs.Checker.Verdicts.{IsAccepted, IsVerdict}
 use Rattle.sd_cmd_files.specs.Checker.declared.Verdict.{Verdict}
 use Rattle.sd_cmd_files.specs.Checker.declared.Verdict.TheVariants.{Accepted, Refused}
 use Rattle.sd_proof_bound.specs.History.World.{Setting}
+use Rattle.sd_proof_bound.specs.ProofSafety.invariant.Coming.{IsFair}
 use Rattle.sd_cmd_case.specs.Gen.fabric.Fabrics.{fabric, first_absent, second_absent}
 use Rattle.sd_cmd_case.specs.Gen.Drafts.{history_of}
-use Rattle.sd_cmd_replay.specs.Replay.Promises.{IsSound}
-use Rattle.sd_cmd_files.specs.Answering.{May}
+use Rattle.sd_cmd_files.specs.Answering.{Allowed}
 use Rattle.sd_cmd_files.specs.declared.Status.{Status}
 use Rattle.sd_cmd_files.specs.planfiles.PlanFiles.{AfterVerdict}
 use Rattle.sd_cmd_case.specs.Cases.{AfterGreedy, IsTallied, case_tally}
@@ -32,13 +32,13 @@ each_of_both P first second one two (suc zero) plan at = let same : second ≡ p
 each_of_both P first second one two (suc (suc i)) plan at = cc at
 
 module _ (net : Network) (is : IsNetwork net) (bytes : List ℕ) (status : Status) where
-  after_verdict : (place : ℕ) (plan : Plan) (verdict : Verdict) (Then : May) → IsVerdict net plan verdict
+  after_verdict : (place : ℕ) (plan : Plan) (verdict : Verdict) (Then : Allowed) → IsVerdict net plan verdict
       → (IsAccepted net plan → Then bytes status → no_case_alarm bytes ≡ true)
       → AfterVerdict net place verdict Then bytes status → no_case_alarm bytes ≡ true
   after_verdict place plan Accepted Then says behind written = behind says written
   after_verdict place plan (Refused breach) Then says behind written = ap no_case_alarm written.0 ∙ breach_is_calm net is place breach
 
-  after_greedy : (place root : ℕ) (absent : Absent) (Then : Plan → May)
+  after_greedy : (place root : ℕ) (absent : Absent) (Then : Plan → Allowed)
       → ((plan : Plan) → Fits net plan → IsAccepted net plan → Then plan bytes status → no_case_alarm bytes ≡ true)
       → AfterGreedy net place root absent Then bytes status → no_case_alarm bytes ≡ true
   after_greedy place root absent Then behind (plan, greedy, fits, (verdict, says, written)) =
@@ -48,7 +48,7 @@ module _ (net : Network) (is : IsNetwork net) (bytes : List ℕ) (status : Statu
       → IsTallied (case_tally (setting_over net (first ∷ second ∷ [])) number) bytes status → no_case_alarm bytes ≡ true
   tallied number first second fits accepted fits' accepted' told =
       let setting : Setting = setting_over net (first ∷ second ∷ []) in
-      let sound : IsSound setting =
+      let sound : IsFair setting =
       record {
         network = is;
         some_plan = omega arith;

@@ -14,10 +14,10 @@ use Rattle.sd_proof_bound.specs.Drill.declared.Budget.{Budget}
 use Rattle.sd_cmd_drill.specs.Adding.{Drills}
 use Rattle.sd_cmd_drill.specs.Writes.{IsDrillIn}
 use Rattle.sd_cmd_drill.proofs.Prefixes.{drill_bytes}
-use Rattle.sd_cmd_files.specs.Answering.{After, AtOnce, InWrites, May, MayWrite, WritesAfter}
+use Rattle.sd_cmd_files.specs.Answering.{After, AtOnce, InWrites, Allowed, MayWrite, WritesAfter}
 use Rattle.sd_cmd_files.specs.Loads.{Loads}
 use Rattle.sd_cmd_files.specs.Texts.{Texts, texts_of}
-use Rattle.sd_cmd_files.specs.Writes.{Adds, Tells, WritesOnce}
+use Rattle.sd_cmd_files.specs.Writes.{Adds, HasOutput, WritesOnce}
 use Rattle.sd_cmd_files.specs.declared.Status.{Status}
 use Rattle.sd_cmd_files.specs.declared.Status.TheVariants.{Done, PlanRefused}
 use Rattle.sd_cmd_files.specs.declared.command_error.CommandError.{CommandError}
@@ -64,14 +64,14 @@ module _ (net : Network) (plan : Plan) (budget : Budget) (old new : Option Piece
   refused breach (Err stop.Memory) is answered kept = inl kept
 
 -- what is written of a file that is refused, or cannot be loaded
-pub unloaded_leaves : {T X : Type 0} (view : T → X) (says : Result X Refusal) (Then : X → May) (Cuts : X → Pieces → Type 0) (old new : Option Pieces)
-    (result : Result Status IoError) (e : CommandError) → Loads {T = T} view says (Err e) → WritesOnce (Tells (Err e)) old new result
+pub unloaded_leaves : {T X : Type 0} (view : T → X) (says : Result X Refusal) (Then : X → Allowed) (Cuts : X → Pieces → Type 0) (old new : Option Pieces)
+    (result : Result Status IoError) (e : CommandError) → Loads {T = T} view says (Err e) → WritesOnce (HasOutput (Err e)) old new result
     → LeavesAt true (InWrites (WritesAfter says Cuts) (After says Then)) old new result
 unloaded_leaves {T = T} {X = X} view says Then Cuts old new result e loads writes =
-    leaves_more (InWrites AtOnce (Tells (Err e))) (InWrites (WritesAfter says Cuts) (After says Then)) old new result (by e loads)
-    (once_in_steps (InWrites AtOnce (Tells (Err e))) old new result (leaves_written (Tells (Err e)) old new result writes))
+    leaves_more (InWrites AtOnce (HasOutput (Err e))) (InWrites (WritesAfter says Cuts) (After says Then)) old new result (by e loads)
+    (once_in_steps (InWrites AtOnce (HasOutput (Err e))) old new result (leaves_written (HasOutput (Err e)) old new result writes))
   where
-    by : (e : CommandError) → Loads {T = T} view says (Err e) → (pieces : Pieces) (status : Status) → InWrites AtOnce (Tells (Err e)) pieces status
+    by : (e : CommandError) → Loads {T = T} view says (Err e) → (pieces : Pieces) (status : Status) → InWrites AtOnce (HasOutput (Err e)) pieces status
         → InWrites (WritesAfter says Cuts) (After says Then) pieces status
     by (ended.Refused why) is pieces status (told, once) = (
       subst (λ (s : Result X Refusal). After s Then (concat pieces) status) (sym is) told,
@@ -80,7 +80,7 @@ unloaded_leaves {T = T} {X = X} view says Then Cuts old new result e loads write
     by ended.Shelf is pieces status (told, once) = absurd told
     by ended.Memory is pieces status (told, once) = absurd told
 
-module _ {T X : Type 0} (view : T → X) (says : Texts → Result X Refusal) (Then : Texts → X → May) (Cuts : Texts → X → Pieces
+module _ {T X : Type 0} (view : T → X) (says : Texts → Result X Refusal) (Then : Texts → X → Allowed) (Cuts : Texts → X → Pieces
     → Type 0) (held : Option (List ℕ → Option (List ℕ))) (old new : Option Pieces) (result : Result Status IoError) where
   -- behind a file that is not refused
   pub told_leaves_on : (x : T) → IfSome held (λ h. Loads view (says (texts_of h)) (Ok x))
@@ -103,7 +103,7 @@ module _ {T X : Type 0} (view : T → X) (says : Texts → Result X Refusal) (Th
           )) leaves
 
   -- behind one that is, or cannot be loaded
-  pub told_unloaded : (e : CommandError) → IfSome held (λ h. Loads {T = T} view (says (texts_of h)) (Err e)) → WritesOnce (Tells (Err e)) old new result
+  pub told_unloaded : (e : CommandError) → IfSome held (λ h. Loads {T = T} view (says (texts_of h)) (Err e)) → WritesOnce (HasOutput (Err e)) old new result
       → IfSome held
       (λ h. LeavesAt true (InWrites (WritesAfter (says (texts_of h)) (Cuts (texts_of h))) (After (says (texts_of h)) (Then (texts_of h)))) old new result)
   told_unloaded e loads writes = by held loads

@@ -6,14 +6,15 @@ use Rattle.sd_cmd_files.specs.Checker.Verdicts.{IsAccepted, IsVerdict}
 use Rattle.sd_cmd_files.specs.Checker.declared.Verdict.{Verdict}
 use Rattle.sd_cmd_files.specs.Checker.declared.Verdict.TheVariants.{Accepted, Refused}
 use Rattle.sd_cmd_files.proofs.Checker.Exclusive.{accepted_unbroken}
-use Rattle.sd_cmd_files.specs.Answering.{May, After}
+use Rattle.sd_cmd_files.specs.Answering.{Allowed, After}
 use Rattle.sd_cmd_files.specs.declared.Status.{Status}
 use Rattle.sd_cmd_files.specs.declared.Status.TheVariants.{Done}
 use Rattle.sd_cmd_files.specs.declared.command_error.Refusal.{Refusal}
 use Rattle.sd_top.specs.Checks.{verdict_status}
 
 -- a file that is not refused
-pub after_file : {X : Type 0} (says : Result X Refusal) (x : X) (Then : X → May) (bytes : List ℕ) (status : Status) → says ≡ Ok x → After says Then bytes status
+pub after_file : {X : Type 0} (says : Result X Refusal) (x : X) (Then : X → Allowed) (bytes : List ℕ) (status : Status) → says ≡ Ok x
+    → After says Then bytes status
     → Then x bytes status
 after_file {X = X} says x Then bytes status is written = subst (λ (s : Result X Refusal). After s Then bytes status) is written
 

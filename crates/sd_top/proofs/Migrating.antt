@@ -16,7 +16,7 @@ use Rattle.sd_proof_bound.specs.Drill.declared.Budget.{Budget}
 use Rattle.sd_proof_bound.proofs.Drill.Versions.{IsDrill-with_version}
 use Rattle.sd_cmd_files.specs.planfiles.PlanFiles.{AfterJudged, AfterPlan, AfterVerdict}
 use Rattle.sd_planner.proofs.Versions.{IsGreedy-with_version}
-use Rattle.sd_cmd_files.specs.Answering.{May, After}
+use Rattle.sd_cmd_files.specs.Answering.{Allowed, After}
 use Rattle.sd_cmd_files.specs.Inputs.{topology_of, in_file, plan_in_file, absent_in_file}
 use Rattle.sd_cmd_files.specs.Texts.{Texts}
 use Rattle.sd_cmd_files.specs.declared.Status.{Status}
@@ -39,7 +39,7 @@ use Rattle.sd_top.proofs.Staying.{plans_stay, schedule_stays}
 use Rattle.sd_top.specs.Words.Command.{Solo, Plan as PlanOf, Check, Renew, Replay, Case, Migrate, Order, Twoway, Drill}
 
 -- what comes after a file that says the same
-after_carried : {X : Type 0} (before after : Result X Refusal) (Then Later : X → May) (bytes : List ℕ) (status : Status) → before ≡ after
+after_carried : {X : Type 0} (before after : Result X Refusal) (Then Later : X → Allowed) (bytes : List ℕ) (status : Status) → before ≡ after
     → ((x : X) → Then x bytes status → Later x bytes status) → After before Then bytes status
     → After after Later bytes status
 after_carried {X = X} before after Then Later bytes status same carried written =
@@ -50,7 +50,7 @@ after_carried {X = X} before after Then Later bytes status same carried written 
     by (Err why) h = h
 
 -- after a topology that is read with another version
-topology_carried : (text other : List ℕ) (old new : Network) (Then Later : Network → May) (bytes : List ℕ) (status : Status) → topology_of text ≡ Ok old
+topology_carried : (text other : List ℕ) (old new : Network) (Then Later : Network → Allowed) (bytes : List ℕ) (status : Status) → topology_of text ≡ Ok old
     → topology_of other ≡ Ok new → (Then old bytes status → Later new bytes status)
     → After (topology_of text) Then bytes status → After (topology_of other) Later bytes status
 topology_carried text other old new Then Later bytes status reads rereads carried written =
@@ -189,7 +189,7 @@ module _ (topology : List ℕ) (before after : Texts) (net : Network) (v w : ℕ
   rereads_at name same = subst (λ (t : List ℕ). topology_of (after t) ≡ Ok (with_version w net)) (sym same) rereads
 
   -- a command over plans and a schedule, which are the files behind its topology
-  schedule_stays_over : (Writes : (topology : List ℕ) (plans : List (List ℕ)) (schedule : List ℕ) → May) (text other : List ℕ)
+  schedule_stays_over : (Writes : (topology : List ℕ) (plans : List (List ℕ)) (schedule : List ℕ) → Allowed) (text other : List ℕ)
       → ((plans : List (List ℕ)) (schedule : List ℕ) → Writes text plans schedule bytes status → Writes other plans schedule bytes status)
       → (plans : List (List ℕ)) (schedule : List ℕ) (others : List File) → others ≡ plans_and_schedule plans schedule
       → All (λ file. name_of file ≢ topology) others → Writes text (map before plans) (before schedule) bytes status

@@ -8,11 +8,11 @@ use Rattle.sd_outside.specs.Shelves.{KeepsShelf}
 use Rattle.sd_outside.specs.declared.shelf.Shelf.{Ghosts}
 use Rattle.sd_cmd_files.proofs.Keeping.{keeps_for}
 use Rattle.sd_cmd_files.proofs.work.Leaving.{at_once, leaves_once}
-use Rattle.sd_cmd_files.specs.Answering.{AtOnce, InWrites, May}
+use Rattle.sd_cmd_files.specs.Answering.{AtOnce, InWrites, Allowed}
 use Rattle.sd_cmd_files.specs.Statuses.{is_among, stop_of}
 use Rattle.sd_cmd_files.specs.Stops.{status_of}
 use Rattle.sd_cmd_files.specs.Texts.{Texts, texts_of}
-use Rattle.sd_cmd_files.specs.Writes.{Makes, Tells, WritesOnce}
+use Rattle.sd_cmd_files.specs.Writes.{IsAllowed, HasOutput, WritesOnce}
 use Rattle.sd_cmd_files.specs.declared.Status.{Status}
 use Rattle.sd_cmd_files.specs.declared.Status.TheVariants.{ShelfFault, SinkFault, Memory}
 use Rattle.sd_cmd_files.specs.declared.command_error.Answer.{Answer}
@@ -28,7 +28,7 @@ use Rattle.sd_top.specs.Words.{Command, command_of}
 use Rattle.sd_top.specs.Words.Command.{Solo, Replay, Order, Twoway, Drill}
 
 -- what is written once is written by one write
-pub leaves_written : (Writes : May) (old new : Option Pieces) (result : Result Status IoError) → WritesOnce Writes old new result
+pub leaves_written : (Writes : Allowed) (old new : Option Pieces) (result : Result Status IoError) → WritesOnce Writes old new result
     → LeavesAt false (InWrites AtOnce Writes) old new result
 leaves_written Writes old new (Ok status) (bytes, written, added) = (piece_of bytes, at_once Writes bytes status written, added)
 leaves_written Writes old new (Err stop.Shelf) kept = kept
@@ -48,7 +48,7 @@ meets_told (Some h) words command old new result is leaves =
 pub meets_once : (held : Option (List ℕ → Option (List ℕ))) (words : List (List ℕ)) (command : Option Command) (made : Result Answer CommandError)
     (old new : Option Pieces) (result : Result Status IoError) → command ≡ command_of words
     → (task_of command).in_steps ≡ false → ((texts : Texts) → (task_of command).cuts texts ≡ AtOnce)
-    → IfSome held (λ h. Makes ((task_of command).Answers (texts_of h)) made) → WritesOnce (Tells made) old new result
+    → IfSome held (λ h. IsAllowed ((task_of command).Answers (texts_of h)) made) → WritesOnce (HasOutput made) old new result
     → MeetsResult held words old new result
 meets_once None words command made old new result is whole once makes writes = meets_told None words command old new result is tt
 meets_once (Some h) words command made old new result is whole once makes writes =

@@ -14,7 +14,7 @@ use Rattle.sd_planner.specs.declared.Planned.{Planned}
 use Rattle.sd_planner.specs.declared.Planned.TheVariants as planned
 use Rattle.sd_top.specs.PlannedAnswers.{IfPlan, text_of_planned, status_of_planned}
 use Rattle.sd_top.specs.Plannings.{IsPlanning}
-use Rattle.sd_cmd_files.specs.Writes.{Makes}
+use Rattle.sd_cmd_files.specs.Writes.{IsAllowed}
 use Rattle.sd_cmd_files.specs.declared.command_error.CommandError.{CommandError}
 use Rattle.sd_cmd_files.specs.declared.command_error.CommandError.TheVariants as ended
 use Rattle.sd_cmd_files.specs.declared.Status.{Status}
@@ -34,7 +34,7 @@ planning_is net root absent (planned.NoPlan plan breach) bytes status (greedy, f
 -- an answer with the text and the status of what the planner answers
 pub planning_makes : (net : Network) (root : ℕ) (absent : Absent) (what : Planned) (made : Result Answer CommandError) → IsPlanned net root absent what
     → IfOk made (λ answer. answer.text.items ≡ text_of_planned net what)
-    → IfOk made (λ answer. answer.status ≡ status_of_planned what) → IfErr made (λ why. why ≡ ended.Memory) → Makes (IsPlanning net root absent) made
+    → IfOk made (λ answer. answer.status ≡ status_of_planned what) → IfErr made (λ why. why ≡ ended.Memory) → IsAllowed (IsPlanning net root absent) made
 planning_makes net root absent what (Ok answer) is text status only = planning_is net root absent what answer.text.items answer.status is text status
 planning_makes net root absent what (Err ended.Memory) is text status only = tt
 planning_makes net root absent what (Err ended.Shelf) is text status only = tt
@@ -47,7 +47,7 @@ judged_is net plan verdict bytes status says text answered = (verdict, says, tex
 -- an answer with the text and the status of a verdict
 pub verdict_makes : (net : Network) (plan : Plan) (verdict : Verdict) (made : Result Answer CommandError) → IsVerdict net plan verdict
     → IfOk made (λ answer. answer.text.items ≡ verdict_text net verdict)
-    → IfOk made (λ answer. answer.status ≡ verdict_status verdict) → IfErr made (λ why. why ≡ ended.Memory) → Makes (IsJudged net plan) made
+    → IfOk made (λ answer. answer.status ≡ verdict_status verdict) → IfErr made (λ why. why ≡ ended.Memory) → IsAllowed (IsJudged net plan) made
 verdict_makes net plan verdict (Ok answer) says text status only = judged_is net plan verdict answer.text.items answer.status says text status
 verdict_makes net plan verdict (Err ended.Memory) says text status only = tt
 verdict_makes net plan verdict (Err ended.Shelf) says text status only = tt

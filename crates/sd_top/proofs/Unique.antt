@@ -13,7 +13,7 @@ use Rattle.sd_proof_bound.proofs.Drill.Unique.{one_drill}
 use Rattle.sd_cmd_files.specs.planfiles.PlanFiles.{AfterJudged, AfterVerdict}
 use Rattle.sd_cmd_files.proofs.Checker.Unique.{one_verdict}
 use Rattle.sd_planner.proofs.Single.{same_greedy}
-use Rattle.sd_cmd_files.specs.Answering.{May, After}
+use Rattle.sd_cmd_files.specs.Answering.{Allowed, After}
 use Rattle.sd_cmd_files.specs.Inputs.{topology_of, plan_in_file, absent_in_file}
 use Rattle.sd_cmd_files.specs.declared.Status.{Status}
 use Rattle.sd_cmd_files.specs.declared.command_error.Refusal.{Refusal}
@@ -29,12 +29,12 @@ use Rattle.sd_top.specs.Unique.{HasOneAnswer}
 use Rattle.sd_top.specs.Words.Command.{Solo, Plan as PlanOf, Check, Renew, Replay, Case, Migrate, Order, Twoway, Drill}
 
 -- at most one status, and bytes that are alike
-abbrev IsOne : (List ℕ → List ℕ → Type 0) → May → Type 0
+abbrev IsOne : (List ℕ → List ℕ → Type 0) → Allowed → Type 0
 IsOne Like Writes = (bytes other : List ℕ) (status also : Status) → Writes bytes status → Writes other also → (status ≡ also) × Like bytes other
 
 -- after a file there is one answer, where there is one after what it says
 after_one : {X : Type 0} (Like : List ℕ → List ℕ → Type 0) (same : (bytes other : List ℕ) → bytes ≡ other
-    → Like bytes other) (says : Result X Refusal) (Then : X → May) → ((x : X) → IsOne Like (Then x)) → IsOne Like (After says Then)
+    → Like bytes other) (says : Result X Refusal) (Then : X → Allowed) → ((x : X) → IsOne Like (Then x)) → IsOne Like (After says Then)
 after_one Like same (Ok x) Then one bytes other status also is too = one x bytes other status also is too
 after_one Like same (Err why) Then one bytes other status also (printed, answered) (printed', answered') =
     (answered ∙ sym answered', same bytes other (printed ∙ sym printed'))

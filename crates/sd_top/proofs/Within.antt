@@ -4,7 +4,7 @@ use Rattle.std.specs.Prelude.{◌-◌, ◌^◌, ◌&&◌, codes, if◌then◌els
 use Rattle.std.specs.Str.{bytes_eq}
 use Rattle.std.proofs.lemmas.Bool.{and_parts, leb-true}
 use Rattle.sd_num.specs.Decimals.{number}
-use Rattle.sd_num.specs.Lists.{of_some}
+use Rattle.sd_num.specs.Lists.{map_or}
 use Rattle.sd_num.specs.declared.NumFault.{NumFault}
 use Rattle.sd_cmd_case.specs.Sizes as sizes
 use Rattle.sd_cmd_case.specs.declared.Fabric.{Fabric}
@@ -25,7 +25,7 @@ where_so : (test : Bool) (command : Option Command) → (test ≡ true → IsWit
 where_so true command has = has refl
 where_so false command has = tt
 
-where_given : {A : Type 0} (given : Option A) (Then : A → Option Command) → ((a : A) → given ≡ Some a → IsWithin (Then a)) → IsWithin (of_some given None Then)
+where_given : {A : Type 0} (given : Option A) (Then : A → Option Command) → ((a : A) → given ≡ Some a → IsWithin (Then a)) → IsWithin (map_or given None Then)
 where_given None Then has = tt
 where_given (Some a) Then has = has a refl
 
@@ -65,7 +65,7 @@ fabric_within leaves spines fabric given =
     by (number_from 2 256 leaves) (number_from 3 32 spines) (given_within 2 256 (number leaves)) (given_within 3 32 (number spines)) given
   where
     by : (ls ss : Option ℕ) → ((n : ℕ) → ls ≡ Some n → (2 ≤ n) × (n ≤ 256)) → ((n : ℕ) → ss ≡ Some n → (3 ≤ n) × (n ≤ 32))
-        → of_some ls None (λ l. of_some ss None (λ s. Some (record { leaves = l; spines = s }))) ≡ Some fabric → sizes.IsWithin fabric
+        → map_or ls None (λ l. map_or ss None (λ s. Some (record { leaves = l; spines = s }))) ≡ Some fabric → sizes.IsWithin fabric
     by None ss first second given = cc
     by (Some l) None first second given = cc
     by (Some l) (Some s) first second given =
@@ -76,7 +76,7 @@ fabric_within leaves spines fabric given =
 
 case_within : (any leaves spines : List ℕ) → IsWithin (case_of any leaves spines)
 case_within any leaves spines =
-    where_given (number_from 0 (2 ^ 64 - 1) any) (λ n. of_some (fabric_of leaves spines) None (λ fabric. Some (Case n fabric))) (λ n is.
+    where_given (number_from 0 (2 ^ 64 - 1) any) (λ n. map_or (fabric_of leaves spines) None (λ fabric. Some (Case n fabric))) (λ n is.
     where_given (fabric_of leaves spines) (λ fabric. Some (Case n fabric)) (λ fabric given. fabric_within leaves spines fabric given))
 
 with_fixed_within : (word : List ℕ) (others : List (List ℕ)) → IsWithin (with_fixed word others)
@@ -93,7 +93,7 @@ with_fixed_within word (first ∷ second ∷ third ∷ []) =
     either (bytes_eq word (codes "renew")) (Some (Renew first second third)) (if bytes_eq word (codes "case") then case_of first second third else None) tt
     (where_so (bytes_eq word (codes "case")) (case_of first second third) (λ is. case_within first second third))
 with_fixed_within word (first ∷ second ∷ third ∷ fourth ∷ []) =
-    where_so (bytes_eq word (codes "drill")) (of_some (budget_of third fourth) None (λ budget. Some (Drill first second budget)))
+    where_so (bytes_eq word (codes "drill")) (map_or (budget_of third fourth) None (λ budget. Some (Drill first second budget)))
     (λ is. where_given (budget_of third fourth) (λ budget. Some (Drill first second budget)) (λ budget given. tt))
 with_fixed_within word (first ∷ second ∷ third ∷ fourth ∷ fifth ∷ others) = tt
 

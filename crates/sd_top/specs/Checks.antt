@@ -6,7 +6,7 @@ use Rattle.sd_cmd_files.specs.Checker.Text.{accepted_line, refused_line}
 use Rattle.sd_cmd_files.specs.Checker.Verdicts.{IsAccepted, IsVerdict}
 use Rattle.sd_cmd_files.specs.Checker.declared.Verdict.{Verdict}
 use Rattle.sd_cmd_files.specs.Checker.declared.Verdict.TheVariants.{Accepted, Refused}
-use Rattle.sd_cmd_files.specs.Answering.{May, After}
+use Rattle.sd_cmd_files.specs.Answering.{Allowed, After}
 use Rattle.sd_cmd_files.specs.Inputs.{topology_of, plan_in_file}
 use Rattle.sd_cmd_files.specs.declared.Status.{Status}
 use Rattle.sd_cmd_files.specs.declared.Status.TheVariants.{Done, PlanRefused}
@@ -16,15 +16,17 @@ abbrev pub verdict_text : Network → Verdict → List ℕ
 verdict_text net Accepted = accepted_line net
 verdict_text net (Refused breach) = refused_line net 1 breach
 
+-- the status of a verdict
 abbrev pub verdict_status : Verdict → Status
 verdict_status Accepted = Done
 verdict_status (Refused breach) = PlanRefused
 
 -- the line of the plan's verdict
-abbrev pub IsJudged : Network → Plan → May
+abbrev pub IsJudged : Network → Plan → Allowed
 IsJudged net plan bytes status = (verdict : Verdict) × IsVerdict net plan verdict × (bytes ≡ verdict_text net verdict) × (status ≡ verdict_status verdict)
 
-abbrev pub IsCheck : List ℕ → List ℕ → May
+-- what `check` may write
+abbrev pub IsCheck : List ℕ → List ℕ → Allowed
 IsCheck topology plan bytes status = After (topology_of topology) (λ net. After (plan_in_file net 1 plan) (IsJudged net)) bytes status
 
 -- the files of a plan that is accepted

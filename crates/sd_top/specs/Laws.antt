@@ -14,6 +14,7 @@ use Rattle.sd_top.specs.Twoways.{TwowayCompletes}
 use Rattle.sd_top.specs.Unique.{HasOneAnswer}
 use Rattle.sd_top.specs.Versions.{MigrationLaw}
 
+-- what holds of the answers
 pub record Laws : Type 0 where
   -- a command has one answer over the same texts
   pub one_answer : HasOneAnswer

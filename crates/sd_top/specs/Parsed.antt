@@ -7,6 +7,7 @@ use Rattle.sd_top.specs.Words.Command.{Solo, Plan, Check, Renew, Replay, Case, M
 use Rattle.sd_top.specs.declared.words.Command.{Command as Parsed}
 use Rattle.sd_top.specs.declared.words.Command.TheVariants as parsed
 
+-- the command that the words name
 abbrev pub named : Parsed → Command
 named (parsed.Solo schedule) = Solo schedule.now
 named (parsed.Plan topology) = Plan topology.now

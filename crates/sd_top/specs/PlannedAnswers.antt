@@ -9,10 +9,12 @@ use Rattle.sd_cmd_files.specs.declared.Status.{Status}
 use Rattle.sd_cmd_files.specs.declared.Status.TheVariants.{Done, PlanRefused}
 use Rattle.sd_top.specs.Plannings.{planned_text}
 
+-- the text of what the planner answers
 abbrev pub text_of_planned : Network → Planned → List ℕ
 text_of_planned net (planned.Plan plan) = planned_text net plan Accepted
 text_of_planned net (planned.NoPlan plan breach) = planned_text net plan (Refused breach)
 
+-- the status of what the planner answers
 abbrev pub status_of_planned : Planned → Status
 status_of_planned (planned.Plan plan) = Done
 status_of_planned (planned.NoPlan plan breach) = PlanRefused

@@ -10,7 +10,7 @@ use Rattle.sd_cmd_files.specs.Checker.Verdicts.{IsAccepted, IsVerdict}
 use Rattle.sd_cmd_files.specs.Checker.declared.Verdict.{Verdict}
 use Rattle.sd_cmd_files.specs.Checker.declared.Verdict.TheVariants.{Accepted, Refused}
 use Rattle.sd_planner.specs.Greedy.{IsGreedy}
-use Rattle.sd_cmd_files.specs.Answering.{May, After}
+use Rattle.sd_cmd_files.specs.Answering.{Allowed, After}
 use Rattle.sd_cmd_files.specs.Inputs.{topology_of, plan_in_file, absent_in_file}
 use Rattle.sd_cmd_files.specs.declared.Status.{Status}
 use Rattle.sd_cmd_files.specs.declared.Status.TheVariants.{Done}
@@ -22,7 +22,7 @@ planned_text net plan Accepted = text_of_plan net plan
 planned_text net plan (Refused breach) = refused_line net 1 breach
 
 -- the greedy plan from a root without what is absent: its text, or the line of its breach
-abbrev pub IsPlanning : Network → ℕ → Absent → May
+abbrev pub IsPlanning : Network → ℕ → Absent → Allowed
 IsPlanning net root absent bytes status =
     (plan : Plan) × (verdict : Verdict) × IsGreedy net root absent plan × IsVerdict net plan verdict × (bytes ≡ planned_text net plan verdict)
     × (status ≡ verdict_status verdict)
@@ -31,11 +31,12 @@ IsPlanning net root absent bytes status =
 abbrev pub first_root : Network → ℕ
 first_root net = at_place net.roots 0 0 (λ d. d)
 
+-- nothing is left out
 abbrev pub nothing : Absent
 nothing = record { devices = []; links = [] }
 
 -- `plan`: the greedy plan from the first candidate with all that there is
-abbrev pub IsPlanOf : List ℕ → May
+abbrev pub IsPlanOf : List ℕ → Allowed
 IsPlanOf topology bytes status = After (topology_of topology) (λ net. IsPlanning net (first_root net) nothing) bytes status
 
 -- the root of a renewed plan: the old one, or the backup root where the old one is absent
@@ -43,7 +44,7 @@ abbrev pub renewed_root : Plan → Absent → ℕ
 renewed_root plan absent = if has absent.devices plan.root then plan.backup_root else plan.root
 
 -- `renew`: the greedy plan without what is absent
-abbrev pub IsRenewal : List ℕ → List ℕ → List ℕ → May
+abbrev pub IsRenewal : List ℕ → List ℕ → List ℕ → Allowed
 IsRenewal topology plan absent bytes status =
     After (topology_of topology)
     (λ net. After (plan_in_file net 1 plan) (λ old. After (absent_in_file net absent) (λ left. IsPlanning net (renewed_root old left) left))) bytes status
@@ -74,6 +75,7 @@ pub record IsRightRenewal (topology plan absent : List ℕ) : Type 0 where
 abbrev pub PlanCompletes : Type 0
 PlanCompletes = (topology : List ℕ) → IsRightTopology topology → (bytes : List ℕ) (status : Status) → IsPlanOf topology bytes status → status ≡ Done
 
+-- `renew` ends with Done on files that are right
 abbrev pub RenewalCompletes : Type 0
 RenewalCompletes = (topology plan absent : List ℕ) → IsRightRenewal topology plan absent → (bytes : List ℕ) (status : Status)
     → IsRenewal topology plan absent bytes status → status ≡ Done

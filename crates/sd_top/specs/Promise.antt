@@ -3,7 +3,7 @@ use Rattle.std.specs.Prelude.{◌≡◌, ◌+◌, ◌≤◌, ℕ, Bool, true, fa
 use Rattle.sd_sched.specs.declared.Event.{Event}
 use Rattle.sd_proof_bound.specs.History.World.{Setting}
 use Rattle.sd_outside.specs.Pieces.{Pieces}
-use Rattle.sd_cmd_files.specs.Answering.{AtOnce, InWrites, May, MayWrite}
+use Rattle.sd_cmd_files.specs.Answering.{AtOnce, InWrites, Allowed, MayWrite}
 use Rattle.sd_cmd_files.specs.Inputs.{topology_of}
 use Rattle.sd_cmd_files.specs.Statuses.{stop_of}
 use Rattle.sd_cmd_files.specs.Texts.{Texts, texts_of}
@@ -27,7 +27,7 @@ use Rattle.sd_top.specs.Words.Command.{Solo, Plan as PlanOf, Check, Renew, Repla
 -- what is promised of a command
 pub record Task : Type 1 where
   -- what it writes, with its status, over the texts of its files
-  pub Answers : Texts → May
+  pub Answers : Texts → Allowed
   -- by which writes: all of it by one, or each step by one, and a step without lines by none
   pub cuts : Texts → Pieces → Type 0
   -- the statuses that it answers, whatever its files are
@@ -40,17 +40,17 @@ pub record Task : Type 1 where
   pub holds : Texts → Type 0
 
 -- a command that writes once, when its files are read whole
-abbrev pub once : List Status → (Texts → May) → Task
+abbrev pub once : List Status → (Texts → Allowed) → Task
 once statuses Writes =
     record { Answers = Writes; cuts = λ texts. AtOnce; gives = statuses; in_steps = false; refused_part = λ texts. None; holds = λ texts. Unit {0} }
 
 -- a command that reads its last file line by line, and writes as it goes
-abbrev pub line_by_line : List Status → (Texts → May) → (Texts → Pieces → Type 0) → (Texts → Option (List ℕ)) → (Texts → Type 0) → Task
+abbrev pub line_by_line : List Status → (Texts → Allowed) → (Texts → Pieces → Type 0) → (Texts → Option (List ℕ)) → (Texts → Type 0) → Task
 line_by_line statuses Writes Cuts refused Holds =
     record { Answers = Writes; cuts = Cuts; gives = statuses; in_steps = true; refused_part = refused; holds = Holds }
 
 -- a command that reads whole files, and writes as it goes
-abbrev pub step_by_step : List Status → (Texts → May) → (Texts → Pieces → Type 0) → Task
+abbrev pub step_by_step : List Status → (Texts → Allowed) → (Texts → Pieces → Type 0) → Task
 step_by_step statuses Writes Cuts =
     record { Answers = Writes; cuts = Cuts; gives = statuses; in_steps = true; refused_part = λ texts. None; holds = λ texts. Unit {0} }
 
@@ -62,7 +62,8 @@ over_schedule work topology plans schedule =
     (λ texts. refused_behind (topology_of (texts topology)) (map texts plans) (texts schedule))
     (λ texts. RunsTruly work (texts topology) (map texts plans) (texts schedule))
 
-abbrev pub IsUsage : May
+-- the usage line, with its status
+abbrev pub IsUsage : Allowed
 IsUsage bytes status =
     (bytes ≡ codes "usage: sundial solo SCHEDULE | plan TOPOLOGY | check TOPOLOGY PLAN | renew TOPOLOGY PLAN ABSENT | replay TOPOLOGY PLAN.. SCHEDULE | case NUMBER LEAVES SPINES | migrate TOPOLOGY | order TOPOLOGY PLAN.. SCHEDULE | twoway TOPOLOGY EXCHANGES | drill TOPOLOGY PLAN BASE HOLD\n") × (status ≡ Usage)
 
@@ -90,13 +91,14 @@ task_of (Some (Drill topology plan budget)) =
     (λ texts. DrillInSteps (texts topology) (texts plan) budget)
 
 -- the command writes these bytes and answers this status over the texts
-abbrev pub Answers : Option Command → Texts → May
+abbrev pub Answers : Option Command → Texts → Allowed
 Answers command texts bytes status = (task_of command).Answers texts bytes status
 
 -- what it may write, write by write
 abbrev pub WritesOf : Task → Texts → MayWrite
 WritesOf task texts = InWrites (task.cuts texts) (task.Answers texts)
 
+-- what a run wrote, with its status, is what the task allows
 abbrev pub Meets : Task → Texts → Option Pieces → Option Pieces → Status → Type 0
 Meets task texts old new status = Leaves (stop_of status) task.in_steps (WritesOf task texts) old new status
 

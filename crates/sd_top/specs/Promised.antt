@@ -21,6 +21,7 @@ module _ (topology : List ℕ) (plans : List (List ℕ)) (schedule : List ℕ) w
   abbrev pub ReplayKeepsAlarms : Type 0
   ReplayKeepsAlarms = 1 ≤ length plans → (bytes : List ℕ) (status : Status) → IsReplay topology plans schedule bytes status → IsTrue (no_early_alarm bytes)
 
+  -- `order` prints no alarm before the first line that names a premise as broken
   abbrev pub OrderKeepsAlarms : Type 0
   OrderKeepsAlarms = 1 ≤ length plans → (bytes : List ℕ) (status : Status) → IsOrder topology plans schedule bytes status → IsTrue (no_early_alarm bytes)
 

@@ -9,12 +9,13 @@ use Rattle.sd_solo.specs.Histories.{refusal, bytes_of, done_text}
 use Rattle.sd_solo.specs.Lines.{solo_event}
 use Rattle.sd_solo.specs.Promises.{start_holds, drift_holds, reports_truly}
 use Rattle.sd_outside.specs.Pieces.{piece_of}
-use Rattle.sd_cmd_files.specs.Answering.{May}
+use Rattle.sd_cmd_files.specs.Answering.{Allowed}
 use Rattle.sd_cmd_files.specs.declared.Status.{Status}
 use Rattle.sd_cmd_files.specs.declared.Status.TheVariants.{Done}
 use Rattle.sd_cmd_files.specs.work.Works.{IsOutcome, Work, reading}
 use Rattle.sd_cmd_replay.specs.Reasons.{line_reason}
 
+-- the event, unless there is a fault
 abbrev pub unless_refused : Option SoloFault → Event → Result Event (List ℕ)
 unless_refused None e = Ok e
 unless_refused (Some why) e = Err (fault_name why)
@@ -37,7 +38,7 @@ solo_work =
     }
 
 -- what `solo` writes and answers for the text of a schedule
-abbrev pub IsSolo : List ℕ → May
+abbrev pub IsSolo : List ℕ → Allowed
 IsSolo = IsOutcome solo_work
 
 -- of each of these events, the newest first: where the clock that each start and fix set was right, and the oscillator kept its rates, up to that event, the

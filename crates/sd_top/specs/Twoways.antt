@@ -2,7 +2,7 @@
 use Rattle.std.specs.Prelude.{◌≡◌, ℕ, List, Option, None, Some, Result, Ok, Err}
 use Rattle.sd_topo.specs.Network.{Network}
 use Rattle.sd_outside.specs.Pieces.{Pieces}
-use Rattle.sd_cmd_files.specs.Answering.{After, May, WritesAfter}
+use Rattle.sd_cmd_files.specs.Answering.{After, Allowed, WritesAfter}
 use Rattle.sd_cmd_files.specs.Inputs.{topology_of}
 use Rattle.sd_cmd_files.specs.declared.Status.{Status}
 use Rattle.sd_cmd_files.specs.declared.Status.TheVariants.{Done}
@@ -11,7 +11,8 @@ use Rattle.sd_cmd_files.specs.work.Works.{InSteps, IsOutcome, reading, refused_p
 use Rattle.sd_cmd_twoway.specs.Promises.{BoundsHold}
 use Rattle.sd_cmd_twoway.specs.Twoways.{twoway_work}
 
-abbrev pub IsTwoway : List ℕ → List ℕ → May
+-- what `twoway` may write
+abbrev pub IsTwoway : List ℕ → List ℕ → Allowed
 IsTwoway topology exchanges bytes status = After (topology_of topology) (λ net. IsOutcome (twoway_work net) exchanges) bytes status
 
 -- each link's line by one write, and the last line by one

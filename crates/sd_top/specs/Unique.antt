@@ -13,6 +13,7 @@ abbrev pub Alike : Option Command → List ℕ → List ℕ → Type 0
 Alike (Some (Migrate topology)) bytes other = network_of (tree_of bytes) ≡ network_of (tree_of other)
 Alike _ bytes other = bytes ≡ other
 
+-- a command has one answer over the same texts
 abbrev pub HasOneAnswer : Type 0
 HasOneAnswer =
     (command : Option Command) (texts : Texts) (bytes other : List ℕ) (status also : Status) → Answers command texts bytes status

@@ -2,7 +2,7 @@
 use Rattle.std.specs.Prelude.{ℕ, ◌-◌, ◌^◌, ◌&&◌, ◌||◌, Bool, List, [], ◌∷◌, ◌++◌, length, map, Option, None, Some, Result, Ok, Err, codes, nat_le, if◌then◌else◌}
 use Rattle.std.specs.Str.{bytes_eq}
 use Rattle.sd_num.specs.Decimals.{number}
-use Rattle.sd_num.specs.Lists.{of_some}
+use Rattle.sd_num.specs.Lists.{map_or}
 use Rattle.sd_num.specs.declared.NumFault.{NumFault}
 use Rattle.sd_proof_bound.specs.Drill.declared.Budget.{Budget}
 use Rattle.sd_cmd_case.specs.declared.Fabric.{Fabric}
@@ -46,11 +46,11 @@ number_from low high word = if_within low high (number word)
 
 -- the sizes of the words for leaves and spines
 abbrev pub fabric_of : List ℕ → List ℕ → Option Fabric
-fabric_of leaves spines = of_some (number_from 2 256 leaves) None (λ l. of_some (number_from 3 32 spines) None (λ s. Some (record { leaves = l; spines = s })))
+fabric_of leaves spines = map_or (number_from 2 256 leaves) None (λ l. map_or (number_from 3 32 spines) None (λ s. Some (record { leaves = l; spines = s })))
 
 -- the case of the words for its number and its sizes
 abbrev pub case_of : List ℕ → List ℕ → List ℕ → Option Command
-case_of number leaves spines = of_some (number_from 0 (2 ^ 64 - 1) number) None (λ n. of_some (fabric_of leaves spines) None (λ fabric. Some (Case n fabric)))
+case_of number leaves spines = map_or (number_from 0 (2 ^ 64 - 1) number) None (λ n. map_or (fabric_of leaves spines) None (λ fabric. Some (Case n fabric)))
 
 -- the command of a word with three words behind it
 abbrev pub with_three : List ℕ → List ℕ → List ℕ → List ℕ → Option Command
@@ -61,12 +61,12 @@ with_three word first second third =
 
 -- the budget of the words for its base and its hold, each up to the limit of a budget
 abbrev pub budget_of : List ℕ → List ℕ → Option Budget
-budget_of base hold = of_some (number_from 0 (2 ^ 60) base) None (λ b. of_some (number_from 0 (2 ^ 60) hold) None (λ h. Some (record { base = b; hold = h })))
+budget_of base hold = map_or (number_from 0 (2 ^ 60) base) None (λ b. map_or (number_from 0 (2 ^ 60) hold) None (λ h. Some (record { base = b; hold = h })))
 
 -- the command of a word with the names of two files and a budget
 abbrev pub with_budget : List ℕ → List ℕ → List ℕ → List ℕ → List ℕ → Option Command
 with_budget word first second base hold =
-    if bytes_eq word (codes "drill") then of_some (budget_of base hold) None (λ budget. Some (Drill first second budget))
+    if bytes_eq word (codes "drill") then map_or (budget_of base hold) None (λ budget. Some (Drill first second budget))
     else None
 
 -- the command of a word with a fixed count of words behind it
@@ -94,6 +94,7 @@ of_plans word topology plans schedule =
 abbrev pub over_plans : List ℕ → (topology : List ℕ) → (plans : List (List ℕ)) → (schedule : List ℕ) → Option Command
 over_plans word topology plans schedule = if nat_le 1 (length plans) && nat_le (length plans) 64 then of_plans word topology plans schedule else None
 
+-- the command of such a word over a topology, plans and a schedule, if there are some
 abbrev pub with_plans : List ℕ → List (List ℕ) → Option Command
 with_plans word [] = None
 with_plans word (topology ∷ []) = None
@@ -116,6 +117,7 @@ pub data File : Type 0 where
   OfSchedule : (name : List ℕ) → File
   OfExchanges : (name : List ℕ) → File
 
+-- the name of a file
 abbrev pub name_of : File → List ℕ
 name_of (OfTopology name) = name
 name_of (OfPlan name) = name

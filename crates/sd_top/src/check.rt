@@ -6,7 +6,7 @@ ghost use Rattle.sd_topo.specs.Topologies.{network};
 ghost use Rattle.sd_cmd_files.specs.Answering.{After};
 ghost use Rattle.sd_cmd_files.specs.Inputs.{plan_in_file};
 ghost use Rattle.sd_cmd_files.specs.Texts.{texts_of};
-ghost use Rattle.sd_cmd_files.specs.Writes.{Makes};
+ghost use Rattle.sd_cmd_files.specs.Writes.{IsAllowed};
 ghost use Rattle.sd_top.specs.Checks.{IsCheck, IsJudged, verdict_status, verdict_text};
 ghost use Rattle.sd_top.specs.Gives.{GivesAmong};
 
@@ -27,7 +27,7 @@ pub fn check<S: Shelf>(
     requires topology { IsTrue (S.serves shelf.old topology.now) }
     requires plan { IsTrue (S.serves shelf.old plan.now) }
     ensures makes { IfSome (S.held shelf.old)
-        (λ held. Makes (IsCheck (texts_of held topology.now) (texts_of held plan.now)) result) }
+        (λ held. IsAllowed (IsCheck (texts_of held topology.now) (texts_of held plan.now)) result) }
     ensures gives { GivesAmong
         (Status.Done ∷ Status.PlanRefused ∷ Status.InputRefused ∷ []) result }
     ensures shelf { KeepsShelf S.Shelf (result ≡ Err CommandError.Shelf) shelf.old shelf.new }
@@ -47,7 +47,7 @@ fn check_over<S: Shelf>(
 ) -> Result<Answer, CommandError>
     requires { IsTrue (S.serves shelf.old plan.now) }
     ensures makes { IfSome (S.held shelf.old)
-        (λ held. Makes
+        (λ held. IsAllowed
         (After (plan_in_file (network topo.now) 1 (texts_of held plan.now))
         (IsJudged (network topo.now))) result) }
     ensures gives { GivesAmong
@@ -61,7 +61,7 @@ fn check_over<S: Shelf>(
 /// Judges a plan.
 fn judge(alloc: Global, topo: &Topology, plan: &Plan) -> Result<Answer, CommandError>
     requires { Fits (network topo.now) plan.now }
-    ensures makes { Makes (IsJudged (network topo.now) plan.now) result }
+    ensures makes { IsAllowed (IsJudged (network topo.now) plan.now) result }
     ensures gives { GivesAmong
         (Status.Done ∷ Status.PlanRefused ∷ Status.InputRefused ∷ []) result }
     ensures only { IfErr result (λ why. why ≡ CommandError.Memory) }

@@ -3,7 +3,7 @@ ghost use Rattle.std.specs.Prelude.{◌≡◌, [], ◌∷◌, Err, IsTrue, IfErr
 ghost use Rattle.sd_outside.specs.Shelves.{KeepsShelf};
 ghost use Rattle.sd_topo.specs.Topologies.{network};
 ghost use Rattle.sd_cmd_files.specs.Texts.{texts_of};
-ghost use Rattle.sd_cmd_files.specs.Writes.{Makes};
+ghost use Rattle.sd_cmd_files.specs.Writes.{IsAllowed};
 ghost use Rattle.sd_top.specs.Gives.{GivesAmong};
 ghost use Rattle.sd_top.specs.Migration.{IsMigrated, IsMigration};
 
@@ -21,7 +21,7 @@ pub fn migrate<S: Shelf>(
 ) -> Result<Answer, CommandError>
     requires { IsTrue (S.serves shelf.old topology.now) }
     ensures makes { IfSome (S.held shelf.old)
-        (λ held. Makes (IsMigration (texts_of held topology.now)) result) }
+        (λ held. IsAllowed (IsMigration (texts_of held topology.now)) result) }
     ensures gives { GivesAmong (Status.Done ∷ Status.InputRefused ∷ []) result }
     ensures shelf { KeepsShelf S.Shelf (result ≡ Err CommandError.Shelf) shelf.old shelf.new }
 {
@@ -31,7 +31,7 @@ pub fn migrate<S: Shelf>(
 
 /// The text of a topology with version 2, which is lent and so dropped in one place, as in `check`.
 fn migrated(alloc: Global, topo: &Topology) -> Result<Answer, CommandError>
-    ensures makes { Makes (IsMigrated (network topo.now)) result }
+    ensures makes { IsAllowed (IsMigrated (network topo.now)) result }
     ensures gives { GivesAmong (Status.Done ∷ Status.InputRefused ∷ []) result }
     ensures only { IfErr result (λ why. why ≡ CommandError.Memory) }
 {

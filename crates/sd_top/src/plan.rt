@@ -3,7 +3,7 @@ ghost use Rattle.std.specs.Prelude.{◌≡◌, [], ◌∷◌, Err, IsTrue, IfErr
 ghost use Rattle.sd_outside.specs.Shelves.{KeepsShelf};
 ghost use Rattle.sd_topo.specs.Topologies.{network};
 ghost use Rattle.sd_cmd_files.specs.Texts.{texts_of};
-ghost use Rattle.sd_cmd_files.specs.Writes.{Makes};
+ghost use Rattle.sd_cmd_files.specs.Writes.{IsAllowed};
 ghost use Rattle.sd_top.specs.Gives.{GivesAmong};
 ghost use Rattle.sd_top.specs.Plannings.{IsPlanOf, IsPlanning, first_root, nothing};
 
@@ -18,7 +18,7 @@ use std::alloc::Global;
 pub fn plan<S: Shelf>(alloc: Global, shelf: &mut S, topology: &str) -> Result<Answer, CommandError>
     requires { IsTrue (S.serves shelf.old topology.now) }
     ensures makes { IfSome (S.held shelf.old)
-        (λ held. Makes (IsPlanOf (texts_of held topology.now)) result) }
+        (λ held. IsAllowed (IsPlanOf (texts_of held topology.now)) result) }
     ensures gives { GivesAmong
         (Status.Done ∷ Status.PlanRefused ∷ Status.InputRefused ∷ []) result }
     ensures shelf { KeepsShelf S.Shelf (result ≡ Err CommandError.Shelf) shelf.old shelf.new }
@@ -29,7 +29,7 @@ pub fn plan<S: Shelf>(alloc: Global, shelf: &mut S, topology: &str) -> Result<An
 
 /// The greedy plan from the first candidate, with nothing absent.
 fn plan_whole(alloc: Global, topo: &Topology) -> Result<Answer, CommandError>
-    ensures makes { Makes
+    ensures makes { IsAllowed
         (IsPlanning (network topo.now) (first_root (network topo.now)) nothing) result }
     ensures gives { GivesAmong
         (Status.Done ∷ Status.PlanRefused ∷ Status.InputRefused ∷ []) result }

@@ -2,11 +2,11 @@
 ghost use Rattle.std.specs.Prelude.{◌≡◌, ◌<◌, [], ◌∷◌, length, IsTrue, IfErr, IfOk};
 ghost use Rattle.sd_plan.specs.Plans.{Fits};
 ghost use Rattle.sd_topo.specs.Topologies.{network};
-ghost use Rattle.sd_cmd_files.specs.Writes.{Makes};
+ghost use Rattle.sd_cmd_files.specs.Writes.{IsAllowed};
 ghost use Rattle.sd_top.specs.Gives.{GivesAmong};
 ghost use Rattle.sd_top.specs.Plannings.{IsPlanning};
 ghost use Rattle.sd_top.specs.PlannedAnswers.{IfPlan, text_of_planned, status_of_planned};
-ghost use Rattle.sd_planner.specs.PlannerPlace.Absences.{IsAbsentOf};
+ghost use Rattle.sd_planner.specs.Absences.{IsAbsentOf};
 
 use sd_cmd_files::{Answer, CommandError, Status, refused_plan};
 use sd_plan::Absent;
@@ -42,7 +42,7 @@ pub fn planning(
 ) -> Result<Answer, CommandError>
     requires root { root < length (network topo.now).devices }
     requires absent { IsAbsentOf (network topo.now) absent.now }
-    ensures makes { Makes (IsPlanning (network topo.now) root absent.now) result }
+    ensures makes { IsAllowed (IsPlanning (network topo.now) root absent.now) result }
     ensures gives { GivesAmong
         (Status.Done ∷ Status.PlanRefused ∷ Status.InputRefused ∷ []) result }
     ensures only { IfErr result (λ why. why ≡ CommandError.Memory) }

@@ -6,7 +6,7 @@ ghost use Rattle.sd_topo.specs.Topologies.{network};
 ghost use Rattle.sd_cmd_files.specs.Answering.{After};
 ghost use Rattle.sd_cmd_files.specs.Inputs.{absent_in_file, plan_in_file};
 ghost use Rattle.sd_cmd_files.specs.Texts.{texts_of};
-ghost use Rattle.sd_cmd_files.specs.Writes.{Makes};
+ghost use Rattle.sd_cmd_files.specs.Writes.{IsAllowed};
 ghost use Rattle.sd_top.specs.Gives.{GivesAmong};
 ghost use Rattle.sd_top.specs.Plannings as plannings;
 ghost use Rattle.sd_top.specs.Plannings.{IsPlanning, IsRenewal};
@@ -31,7 +31,7 @@ pub fn renew<S: Shelf>(
     requires plan { IsTrue (S.serves shelf.old plan.now) }
     requires absent { IsTrue (S.serves shelf.old absent.now) }
     ensures makes { IfSome (S.held shelf.old)
-        (λ held. Makes
+        (λ held. IsAllowed
         (IsRenewal (texts_of held topology.now) (texts_of held plan.now) (texts_of held absent.now))
         result) }
     ensures gives { GivesAmong
@@ -54,7 +54,7 @@ fn renew_over<S: Shelf>(
     requires plan { IsTrue (S.serves shelf.old plan.now) }
     requires absent { IsTrue (S.serves shelf.old absent.now) }
     ensures makes { IfSome (S.held shelf.old)
-        (λ held. Makes
+        (λ held. IsAllowed
         (After (plan_in_file (network topo.now) 1 (texts_of held plan.now))
         (λ old. After (absent_in_file (network topo.now) (texts_of held absent.now))
         (λ left. IsPlanning (network topo.now) (plannings.renewed_root old left) left))) result) }

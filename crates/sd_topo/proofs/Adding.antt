@@ -11,7 +11,7 @@ use Rattle.sd_topo.specs.Network.{Link}
 use Rattle.sd_topo.specs.Seen.{names_seen, link_seen, Adds}
 
 -- two strings have the same bytes
-abbrev same_string : String Global → String Global → Bool
+abbrev pub same_string : String Global → String Global → Bool
 same_string a b = pointwise nat_eq (string_bytes a) (string_bytes b)
 
 -- a key whose bytes are none of the names goes last

@@ -1,9 +1,8 @@
 -- A table copied entry by entry.
-use Rattle.std.proofs.Common.{◌≡◌, ℕ, zero, suc, Bool, false, nat_eq, List, [], ◌∷◌, ◌++◌, map, take, Some, String, Global, string_bytes, refl, ap, sym, ◌∙◌, subst}
+use Rattle.std.proofs.Common.{◌≡◌, ℕ, zero, suc, false, List, [], ◌∷◌, ◌++◌, map, take, Some, String, Global, string_bytes, refl, ap, sym, ◌∙◌, subst}
 use Rattle.std.specs.List.{list_any, AllZip, IsDistinct, AllByRecursion, slice_get}
 use Rattle.std.specs.Str.{bytes_eq}
 use Rattle.std.specs.Map.{keys_of}
-use Rattle.std.specs.Cmp.Lexicographic.{pointwise}
 use Rattle.sd_topo.specs.declared.parts.Station.{Station}
 use Rattle.sd_topo.specs.declared.parts.Group.{Group}
 use Rattle.sd_topo.specs.declared.LinkEntry.{LinkEntry}
@@ -15,14 +14,11 @@ use Rattle.std.specs.declared.hash.FoldHasher.{FoldHasher}
 use Rattle.std.specs.declared.hash.BuildHasherDefault.{BuildHasherDefault}
 use Rattle.sd_topo.specs.Copies.{IsCopy}
 use Rattle.sd_topo.proofs.Lists.{names_equal}
+use Rattle.sd_topo.proofs.Adding.{same_string}
 
 -- the hasher of every table
 abbrev Hasher : Type 0
 Hasher = BuildHasherDefault FoldHasher
-
--- two strings have the same bytes
-abbrev same_string : String Global → String Global → Bool
-same_string a b = pointwise nat_eq (string_bytes a) (string_bytes b)
 
 module _ {V : Type 0} (same : V → V → Type 0) where
   -- what holds of each key holds of the key at a place

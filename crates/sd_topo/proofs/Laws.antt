@@ -3,14 +3,14 @@ use Rattle.std.proofs.Common.{◌≡◌, inl, inr, eq-eqb, ℕ, ◌<◌, true, �
 use Rattle.std.proofs.lemmas.Bool.{and_parts, ltb-true, or_cases, or_left, or_right, eqb-true}
 use Rattle.std.proofs.lemmas.List.Elements.{All-cons, All-nil}
 use Rattle.std.proofs.lemmas.Option.{slice_get-get_or}
-use Rattle.sd_num.specs.Lists.{ascends, all_below, of_some, at_place}
+use Rattle.sd_num.specs.Lists.{ascends, all_below, map_or, at_place}
 use Rattle.sd_topo.specs.Network.{Network, Domain, no_link, no_rates, rates_of, link_of, joins}
 use Rattle.sd_topo.specs.Limits.{IsNetwork, IsRates, IsLink}
 use Rattle.sd_topo.specs.Places.{no_device, no_named_link, no_domain, domain_of, is_end_of}
 
 -- an element that there is, at a place
 pub found_at : {A B : Type 0} (xs : List A) (i : ℕ) (d : A) (e : B) (f : A → B) → i < length xs → at_place xs i e f ≡ f (get_or xs i d)
-found_at xs i d e f within = ap (λ o. of_some o e f) (slice_get-get_or xs i d within)
+found_at xs i d e f within = ap (λ o. map_or o e f) (slice_get-get_or xs i d within)
 
 -- a device's rates are in range
 pub rates_law : (net : Network) (d : ℕ) → IsNetwork net → d < length net.devices → IsRates (rates_of net d)

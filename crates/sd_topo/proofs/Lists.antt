@@ -63,7 +63,7 @@ names_more name seen x known good new =
     })
 
 -- a mapped list is as long
-length-map : {A B : Type 0} (f : A → B) (xs : List A) → length (map f xs) ≡ length xs
+pub length-map : {A B : Type 0} (f : A → B) (xs : List A) → length (map f xs) ≡ length xs
 length-map f [] = refl
 length-map f (x ∷ xs) = rw (length-map f xs) refl
 
@@ -72,7 +72,7 @@ pub names_count : {B : Type 0} (name : B → List ℕ) (xs : List B) → length 
 names_count name xs = length-map name xs
 
 -- a rising list ascends
-ascends-rising : (a : ℕ) (xs : List ℕ) → Rises a xs → ascends xs ≡ true
+pub ascends-rising : (a : ℕ) (xs : List ℕ) → Rises a xs → ascends xs ≡ true
 ascends-rising a [] up = refl
 ascends-rising a (x ∷ []) up = refl
 ascends-rising a (x ∷ y ∷ ys) up =

@@ -5,7 +5,7 @@ use Rattle.std.specs.Str.{bytes_eq}
 use Rattle.std.proofs.lemmas.Bool.{false_from_ne_true, leb-true, lt-ltb, and_parts, ne_eqb}
 use Rattle.std.proofs.lemmas.Slice.Eq.{bytes_eq-Decides}
 use Rattle.std.proofs.lemmas.Option.{slice_get-get_or, slice_get_within}
-use Rattle.sd_num.specs.Lists.{has, ascends, of_some}
+use Rattle.sd_num.specs.Lists.{has, ascends, map_or}
 use Rattle.sd_topo.specs.Network.{name_at, number_in}
 use Rattle.sd_topo.specs.Limits.{AreDistinct}
 use Rattle.sd_topo.proofs.Ascending.{Rises}
@@ -75,7 +75,7 @@ prefix_back (y ∷ ys) (suc n) x apart at =
 pub number_back : (names : List (List ℕ)) (n : ℕ) → AreDistinct names → n < length names → number_in names (name_at names n) ≡ Some n
 number_back names n apart within =
     let at = slice_get-get_or names n [] within in
-    let named : name_at names n ≡ get_or names n [] = ap (λ o. of_some o [] (λ name. name)) at in
+    let named : name_at names n ≡ get_or names n [] = ap (λ o. map_or o [] (λ name. name)) at in
     let far : prefix_len (λ y. not (bytes_eq (get_or names n []) y)) names ≡ n = prefix_back names n (get_or names n []) apart at in
     ap (number_in names) named ∙ rw (far, lt-ltb n (length names) within) refl
 

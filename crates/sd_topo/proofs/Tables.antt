@@ -1,5 +1,5 @@
 -- What a table's entry at a place says of the network that the table stands for.
-use Rattle.std.proofs.Common.{◌≡◌, ℕ, zero, suc, Bool, not, List, [], ◌∷◌, length, map, Some, position, refl, ap, ◌∙◌, String, Global, string_bytes}
+use Rattle.std.proofs.Common.{◌≡◌, ℕ, zero, suc, Bool, not, List, [], ◌∷◌, map, Some, position, refl, ap, ◌∙◌, String, Global, string_bytes}
 use Rattle.std.specs.Str.{bytes_eq}
 use Rattle.std.specs.List.{slice_get, prefix_len}
 use Rattle.std.specs.Map.{keys_of}
@@ -9,6 +9,7 @@ use Rattle.sd_topo.specs.Network.{name_at, number_in}
 use Rattle.sd_topo.specs.Places.{no_domain}
 use Rattle.sd_topo.specs.Seen.{domain_seen}
 use Rattle.sd_topo.specs.declared.parts.Group.{Group}
+use Rattle.sd_topo.proofs.Lists.{length-map}
 
 -- what is at a place of a list, seen through a function
 pub at_place-map : {A B C : Type 0} (see : A → B) (xs : List A) (i : ℕ) (x : A) (d : C) (f : B → C) → slice_get xs i ≡ Some x
@@ -19,10 +20,6 @@ at_place-map see xs i x d f at = rw (slice_get-map see xs i, at) refl
 prefix_len-map : {A B : Type 0} (see : A → B) (test : B → Bool) (xs : List A) → prefix_len test (map see xs) ≡ prefix_len (λ x. test (see x)) xs
 prefix_len-map see test [] = refl
 prefix_len-map see test (x ∷ xs) = rw (prefix_len-map see test xs) refl
-
-length-map : {A B : Type 0} (see : A → B) (xs : List A) → length (map see xs) ≡ length xs
-length-map see [] = refl
-length-map see (x ∷ xs) = rw (length-map see xs) refl
 
 -- the place at which a test passes first, seen through a function
 pub position-map : {A B : Type 0} (see : A → B) (test : B → Bool) (xs : List A) → position test (map see xs) ≡ position (λ x. test (see x)) xs

@@ -18,6 +18,7 @@ pub record IsLink (devices : ℕ) (link : LinkEntry) : Type 0 where
   pub bounds : (link.min ≤ link.max) × (link.max ≤ 10 ^ 12)
   pub back_bounds : (link.back_min ≤ link.back_max) × (link.back_max ≤ 10 ^ 12)
 
+-- rates within the limits
 abbrev pub IsRates : Rates → Type 0
 IsRates rates = (rates.ppm ≤ 100000) × (rates.grain ≤ 10 ^ 12)
 

@@ -11,11 +11,13 @@ use Rattle.sd_topo.specs.declared.Params.{Params}
 use Rattle.sd_topo.specs.declared.LinkEntry.{LinkEntry}
 use Rattle.sd_topo.specs.declared.Delay.{Delay}
 
+-- a device: its name, its side and the rates of its own oscillator
 pub record Device : Type 0 where
   pub name : List ℕ
   pub side : Side
   pub rates : Rates
 
+-- a link: its name, its ends and the delay bounds of both directions
 pub record Link : Type 0 where
   pub name : List ℕ
   pub entry : LinkEntry
@@ -35,9 +37,11 @@ pub record Network : Type 0 where
   pub domains : List Domain
   pub roots : List ℕ
 
+-- the numbers of all devices, ascending
 abbrev pub device_numbers : Network → List ℕ
 device_numbers net = below (length net.devices)
 
+-- the numbers of all links, ascending
 abbrev pub link_numbers : Network → List ℕ
 link_numbers net = below (length net.links)
 
@@ -45,6 +49,7 @@ link_numbers net = below (length net.links)
 abbrev pub no_rates : Rates
 no_rates = record { ppm = 0; grain = 0 }
 
+-- the entry that stands where there is no link
 abbrev pub no_link : LinkEntry
 no_link = record { end_a = 0; end_b = 0; min = 0; max = 0; back_min = 0; back_max = 0 }
 
@@ -52,6 +57,7 @@ no_link = record { end_a = 0; end_b = 0; min = 0; max = 0; back_min = 0; back_ma
 abbrev pub rates_of : Network → ℕ → Rates
 rates_of net d = at_place net.devices d no_rates (λ device. device.rates)
 
+-- the entry of the link with this number
 abbrev pub link_of : Network → ℕ → LinkEntry
 link_of net l = at_place net.links l no_link (λ link. link.entry)
 
@@ -61,6 +67,7 @@ delay_towards link receiver =
     if nat_eq receiver link.end_b then record { min = link.min; max = link.max }
     else record { min = link.back_min; max = link.back_max }
 
+-- the delay bounds of the link with this number, in its direction towards the receiver
 abbrev pub delay_of : Network → ℕ → ℕ → Delay
 delay_of net l receiver = delay_towards (link_of net l) receiver
 
@@ -76,6 +83,7 @@ greatest_delay net = greatest (flat_map (λ link. link.entry.max ∷ link.entry.
 abbrev pub device_names : Network → List (List ℕ)
 device_names net = map (λ device. device.name) net.devices
 
+-- the names of the links, by number
 abbrev pub link_names : Network → List (List ℕ)
 link_names net = map (λ link. link.name) net.links
 
@@ -83,9 +91,11 @@ link_names net = map (λ link. link.name) net.links
 abbrev pub device_name : Network → ℕ → List ℕ
 device_name net d = at_place net.devices d [] (λ device. device.name)
 
+-- the name of the link with this number
 abbrev pub link_name : Network → ℕ → List ℕ
 link_name net l = at_place net.links l [] (λ link. link.name)
 
+-- the name of the listed domain with this number
 abbrev pub domain_name : Network → ℕ → List ℕ
 domain_name net k = at_place net.domains k [] (λ listed. listed.name)
 

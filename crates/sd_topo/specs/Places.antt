@@ -6,15 +6,19 @@ use Rattle.sd_topo.specs.declared.Side.TheVariants.{Root}
 use Rattle.sd_topo.specs.declared.LinkEntry.{LinkEntry}
 use Rattle.sd_topo.specs.Network.{Device, Link, Domain, Network, no_rates, no_link}
 
+-- what stands where there is no device
 abbrev pub no_device : Device
 no_device = record { name = []; side = Root; rates = no_rates }
 
+-- what stands where there is no link
 abbrev pub no_named_link : Link
 no_named_link = record { name = []; entry = no_link }
 
+-- what stands where there is no listed domain
 abbrev pub no_domain : Domain
 no_domain = record { name = []; devices = []; links = [] }
 
+-- the names of the listed domains, by number
 abbrev pub domain_names : Network → List (List ℕ)
 domain_names net = map (λ domain. domain.name) net.domains
 

@@ -28,9 +28,11 @@ names_seen table = map string_bytes (keys table)
 abbrev pub devices_seen : {S : Type 0} → IndexMap (String Global) Station S → List Device
 devices_seen table = map device_seen table.entries
 
+-- the links of a table
 abbrev pub links_seen : {S : Type 0} → IndexMap (String Global) LinkEntry S → List Link
 links_seen table = map link_seen table.entries
 
+-- the listed domains of a table
 abbrev pub domains_seen : {S : Type 0} → IndexMap (String Global) Group S → List Domain
 domains_seen table = map domain_seen table.entries
 

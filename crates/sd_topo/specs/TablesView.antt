@@ -4,6 +4,7 @@ use Rattle.sd_topo.specs.declared.topology.Tables.TheInside.{Inside}
 use Rattle.sd_topo.specs.Network.{Network, greatest_delay}
 use Rattle.sd_topo.specs.Seen.{network_seen}
 
+-- the network that the tables stand for
 abbrev pub tables_seen : Inside → Network
 tables_seen t = network_seen t.parts
 

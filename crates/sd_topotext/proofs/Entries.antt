@@ -1,5 +1,5 @@
 -- One more entry of a table, and of the list that the table stands for.
-use Rattle.std.proofs.Common.{◌≡◌, ◌≢◌, ℕ, ◌+◌, List, [], ◌∷◌, ◌++◌, length, get_or, map, refl, ap, ◌∙◌, String, Global, string_bytes, Ok, Err, length-append, add-one, nat_le, arith}
+use Rattle.std.proofs.Common.{◌≡◌, ◌≢◌, ℕ, ◌+◌, List, [], ◌∷◌, ◌++◌, length, get_or, map, refl, ap, ◌∙◌, String, Global, string_bytes, Ok, Err, add-one, nat_le, arith}
 use Rattle.std.proofs.lemmas.List.{map-append}
 use Rattle.std.specs.Map.{keys_of}
 use Rattle.indexmap.specs.IndexMap.{IndexMap, index_map_len}
@@ -18,6 +18,7 @@ use Rattle.sd_topotext.specs.declared.fault.Place.{Place}
 use Rattle.std.proofs.lemmas.List.Sums.{sum_by-append}
 use Rattle.toml.specs.View.{view, items_view}
 use Rattle.toml.specs.declared.value.Value.{Value}
+use Rattle.sd_topo.proofs.Lists.{length-map}
 
 -- the names of the things that entries stand for are the entries' names
 names_of_entries : {V B : Type 0} (see : String Global × V → B) (name : B → List ℕ) → ((e : String Global × V) → name (see e) ≡ string_bytes e.0)
@@ -25,11 +26,6 @@ names_of_entries : {V B : Type 0} (see : String Global × V → B) (name : B →
     → map name (map see es) ≡ map string_bytes (keys_of es)
 names_of_entries see name same [] = refl
 names_of_entries see name same (e ∷ es) = rw (same e, names_of_entries see name same es) refl
-
--- a mapped list is as long
-length-map : {A B : Type 0} (see : A → B) (xs : List A) → length (map see xs) ≡ length xs
-length-map see [] = refl
-length-map see (x ∷ xs) = rw (length-map see xs) refl
 
 -- the next device, by the table of those before
 pub one_more_device_seen : {S : Type 0} (version : ℕ) (top : Rates) (table : IndexMap (String Global) Station S) (d : Data)

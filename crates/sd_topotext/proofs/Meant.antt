@@ -2,7 +2,7 @@
 use Rattle.std.proofs.Common.{◌≡◌, ◌≢◌, inl, inr, ℕ, ◌+◌, ◌<◌, ◌≤◌, ◌^◌, Bool, true, false, not, ◌&&◌, ◌||◌, nat_le, nat_eq, List, [], ◌∷◌, ◌++◌, length, map, length-append, Option, None, Some, is_none, Result, Ok, All, IsTrue, refl, ap, sym, ◌∙◌, subst, arith}
 use Rattle.std.specs.List.{list_any}
 use Rattle.std.specs.Str.{bytes_eq}
-use Rattle.std.proofs.lemmas.Bool.{leb-true, eqb-false}
+use Rattle.std.proofs.lemmas.Bool.{leb-true, eqb-false, not-true}
 use Rattle.std.proofs.lemmas.List.Elements.{All-push, All-nil}
 use Rattle.toml.specs.Data.{Data, Items, Members, as_table}
 use Rattle.sd_num.specs.declared.Rates.{Rates}
@@ -143,11 +143,6 @@ back_ok version forth entry ms delay good h =
 abbrev AreEnds : ℕ → ℕ × ℕ → Type 0
 AreEnds devices ends = (ends.0 < devices) × (ends.1 < devices) × (ends.0 ≢ ends.1)
 
--- what is not true is false
-not_true : (b : Bool) → not b ≡ true → b ≡ false
-not_true true h = cc
-not_true false h = refl
-
 -- the ends are devices and differ
 ends_ok : (devices : List (List ℕ)) (entry : ℕ) (ms : Members) (ends : ℕ × ℕ) → ends_in devices entry ms ≡ Ok ends → AreEnds (length devices) ends
 unfolding ends_in
@@ -162,7 +157,7 @@ ends_ok devices entry ms ends h =
     let (second, f, h4) = bind_ok (referred p devices pair.1) (apart first) ends h3 in
     let (differ, same) = allowed_ok (not (nat_eq first second)) (SelfLink p) (first, second) ends h4 in
     subst (AreEnds (length devices)) same
-    (referred_ok p devices pair.0 first e, referred_ok p devices pair.1 second f, eqb-false first second (not_true (nat_eq first second) differ))
+    (referred_ok p devices pair.0 first e, referred_ok p devices pair.1 second f, eqb-false first second (not-true (nat_eq first second) differ))
 
 -- what an entry's link is
 record IsLinkEntry (devices : ℕ) (names : List (List ℕ)) (link : Link) : Type 0 where

@@ -9,7 +9,7 @@ use Rattle.toml.specs.declared.value.Value.{Value}
 use Rattle.toml.proofs.Views.{items_view-push}
 use Rattle.std.proofs.lemmas.Option.{slice_get-map, slice_get-get_or}
 use Rattle.sd_num.specs.declared.Rates.{Rates}
-use Rattle.sd_num.specs.Lists.{of_some, at_place}
+use Rattle.sd_num.specs.Lists.{map_or}
 use Rattle.sd_topo.specs.declared.Side.{Side}
 use Rattle.sd_topo.specs.declared.Side.TheVariants.{Root}
 use Rattle.sd_topo.specs.declared.Params.{Params}
@@ -17,6 +17,7 @@ use Rattle.sd_topo.specs.declared.LinkEntry.{LinkEntry}
 use Rattle.sd_topotext.specs.declared.fault.Key.TheVariants as keys
 use Rattle.sd_topo.specs.Network.{Network, Device, Link, Domain, no_rates, no_link, device_names, link_names, name_at, rates_of, link_of}
 use Rattle.sd_topo.specs.Places.{no_device, no_named_link, no_domain, domain_names, side_of, domain_of}
+use Rattle.sd_topo.proofs.Laws.{found_at}
 use Rattle.sd_topotext.specs.Printed.{put_word, put, whole, side_word, names_data, device_tree, link_tree, domain_tree, params_tree, network_tree}
 
 -- an entry goes to the place of its key
@@ -35,7 +36,7 @@ put_view (e ∷ es) key v = by (string_cmp key e.0) (put_view es key v)
     by Greater rest = ap (member (string_bytes e.0) (view e.1)) rest
 
 -- one more item at the end
-items_of-push : (ds : List Data) (d : Data) → items_of (ds ++ d ∷ []) ≡ push_item (items_of ds) d
+pub items_of-push : (ds : List Data) (d : Data) → items_of (ds ++ d ∷ []) ≡ push_item (items_of ds) d
 items_of-push [] d = refl
 items_of-push (x ∷ ds) d = ap (item x) (items_of-push ds d)
 
@@ -55,11 +56,7 @@ items_more tree xs i d vs new v within so_far one is =
 
 -- the name at a place where there is a thing
 named : {A : Type 0} (name : A → List ℕ) (xs : List A) (i : ℕ) (d : A) → i < length xs → name_at (map name xs) i ≡ name (get_or xs i d)
-named name xs i d within = ap (λ o. of_some o [] (λ n. n)) (slice_get-map name xs i ∙ ap (option_map name) (slice_get-get_or xs i d within))
-
--- what a place tells where there is an element
-told : {A B : Type 0} (xs : List A) (i : ℕ) (d : A) (e : B) (f : A → B) → i < length xs → at_place xs i e f ≡ f (get_or xs i d)
-told xs i d e f within = ap (λ o. of_some o e f) (slice_get-get_or xs i d within)
+named name xs i d within = ap (λ o. map_or o [] (λ n. n)) (slice_get-map name xs i ∙ ap (option_map name) (slice_get-get_or xs i d within))
 
 -- a device as its accessors tell it
 pub device_told : (net : Network) (d : ℕ) → d < length net.devices
@@ -67,22 +64,22 @@ pub device_told : (net : Network) (d : ℕ) → d < length net.devices
     × (rates_of net d ≡ (get_or net.devices d no_device).rates)
 device_told net d within = (
   named (λ (device : Device). device.name) net.devices d no_device within,
-  told net.devices d no_device Root
+  found_at net.devices d no_device Root
       (λ device. device.side) within,
-  told net.devices d no_device no_rates (λ device. device.rates) within,
+  found_at net.devices d no_device no_rates (λ device. device.rates) within,
 )
 
 -- a link as its accessors tell it
 pub link_told : (net : Network) (l : ℕ) → l < length net.links
     → (name_at (link_names net) l ≡ (get_or net.links l no_named_link).name) × (link_of net l ≡ (get_or net.links l no_named_link).entry)
 link_told net l within =
-    (named (λ (link : Link). link.name) net.links l no_named_link within, told net.links l no_named_link no_link (λ link. link.entry) within)
+    (named (λ (link : Link). link.name) net.links l no_named_link within, found_at net.links l no_named_link no_link (λ link. link.entry) within)
 
 -- a domain as its accessors tell it
 pub domain_told : (net : Network) (f : ℕ) → f < length net.domains
     → (name_at (domain_names net) f ≡ (get_or net.domains f no_domain).name) × (domain_of net f ≡ get_or net.domains f no_domain)
 domain_told net f within =
-    (named (λ (domain : Domain). domain.name) net.domains f no_domain within, told net.domains f no_domain no_domain (λ domain. domain) within)
+    (named (λ (domain : Domain). domain.name) net.domains f no_domain within, found_at net.domains f no_domain no_domain (λ domain. domain) within)
 
 -- a device's members put one by one
 pub device_made : (device : Device) (t0 t1 t2 t3 t4 : Members) (name : List ℕ) (side : Side) (rates : Rates) (ppm : ℕ) (word : Data) → name ≡ device.name

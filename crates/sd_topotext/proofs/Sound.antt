@@ -3,7 +3,7 @@ use Rattle.std.proofs.Common.{◌≡◌, ◌⊎◌, inl, inr, ℕ, ◌+◌, ◌<
 use Rattle.std.specs.List.{list_any, IsDistinct}
 use Rattle.std.specs.Str.{bytes_eq}
 use Rattle.std.specs.Cmp.{nat_eq_equiv}
-use Rattle.std.proofs.lemmas.Bool.{leb-true, and_parts}
+use Rattle.std.proofs.lemmas.Bool.{leb-true, and_parts, not-true}
 use Rattle.std.proofs.lemmas.Map.Keys.{IsDistinct-push}
 use Rattle.std.proofs.lemmas.List.Elements.{All-push, All-nil}
 use Rattle.std.proofs.lemmas.List.Quantifiers.{position-Some}
@@ -35,11 +35,6 @@ one_of false x y r h = inr h
 -- equal answers hold equal values
 pub ok_inside : {X : Type 0} (x y : X) → let made : X → Result X TopoFault = λ z. Ok z in made x ≡ made y → x ≡ y
 ok_inside x y h = cc
-
--- what is not true is false
-not_true : (b : Bool) → not b ≡ true → b ≡ false
-not_true true h = cc
-not_true false h = refl
 
 -- what is known was found
 known_ok : (p : Place) (o : Option ℕ) (n : ℕ) → known p o ≡ Ok n → o ≡ Some n
@@ -83,7 +78,7 @@ own_name_ok key entry names ms name h =
     let (second, limits, last) = bind_ok (allowed (is_name first) (Range p) first) fresh name more in
     let (good, same) = allowed_ok (is_name first) (Range p) first second limits in
     let (new, end) = allowed_ok (not (list_any (bytes_eq second) names)) (TwiceNamed p) second name last in
-    (subst (λ (n : List ℕ). is_name n ≡ true) (same ∙ end) good, not_true _ (subst (λ (n : List ℕ). not (list_any (bytes_eq n) names) ≡ true) end new))
+    (subst (λ (n : List ℕ). is_name n ≡ true) (same ∙ end) good, not-true _ (subst (λ (n : List ℕ). not (list_any (bytes_eq n) names) ≡ true) end new))
 
 -- a thing that was named is there
 pub referred_ok : (p : Place) (names : List (List ℕ)) (d : Data) (n : ℕ) → referred p names d ≡ Ok n → n < length names
@@ -99,7 +94,7 @@ unfolding one_more
 one_more_ok p names seen d more h =
     let (n, at, last) = bind_ok (referred p names d) (λ n. allowed (not (has seen n)) (TwiceNamed p) (seen ++ n ∷ [])) more h in
     let (new, same) = allowed_ok (not (has seen n)) (TwiceNamed p) (seen ++ n ∷ []) more last in
-    (n, sym same, referred_ok p names d n at, not_true (has seen n) new)
+    (n, sym same, referred_ok p names d n at, not-true (has seen n) new)
 
 -- what each step keeps is kept
 pub each_ok : {B : Type 0} (step : List B → Data → Result (List B) TopoFault) (Keeps : List B → Type 0)

@@ -36,6 +36,7 @@ abbrev pub there : {X : Type 0} → Place → Option X → Result X TopoFault
 there p None = Err (Missing p)
 there p (Some x) = Ok x
 
+-- what is there, or the fault that it is of another kind
 abbrev pub of_kind : {X : Type 0} → Place → Option X → Result X TopoFault
 of_kind p None = Err (WrongKind p)
 of_kind p (Some x) = Ok x
@@ -72,6 +73,7 @@ array key entry ms = do
 unfoldable pub array_or_none : Key → ℕ → Members → Result Items TopoFault
 array_or_none key entry ms = if is_none (value key ms) then Ok no_items else array key entry ms
 
+-- how many items there are
 abbrev pub count_of : Items → ℕ
 count_of no_items = 0
 count_of (item d ds) = count_of ds + 1
@@ -208,6 +210,7 @@ one_more_link version devices seen d = do
   link ← link_in version devices (map (λ link. link.name) seen) (length seen + 1) d
   Ok (seen ++ link ∷ [])
 
+-- the links that a text lists, or its first fault there
 unfoldable pub links_in : ℕ → List (List ℕ) → Members → Result (List LinkMeant) TopoFault
 links_in version devices ms = do
   ds ← array_or_none Link 0 ms
@@ -240,6 +243,7 @@ one_more_domain devices links seen d = do
   domain ← domain_in devices links (map (λ domain. domain.name) seen) (length seen + 1) d
   allowed (nat_le (things_listed (seen ++ domain ∷ [])) 262144) (Limit kinds.Item) (seen ++ domain ∷ [])
 
+-- the domains that a text lists, or its first fault there
 unfoldable pub domains_in : List (List ℕ) → List (List ℕ) → Members → Result (List DomainMeant) TopoFault
 domains_in devices links ms = do
   ds ← array_or_none Domain 0 ms

@@ -16,6 +16,7 @@ abbrev pub put_word : List ℕ → Data → Members → Members
 put_word k d no_members = member k d no_members
 put_word k d (member l e ms) = match_ordering (slice_cmp nat_cmp k l) (member k d (member l e ms)) (member l d ms) (member l e (put_word k d ms))
 
+-- the members with a value at a key
 abbrev pub put : Key → Data → Members → Members
 put key d ms = put_word (word_of key) d ms
 
@@ -32,11 +33,13 @@ side_word sides.Backup = codes "backup"
 abbrev pub names_data : List (List ℕ) → List ℕ → Data
 names_data names numbers = array (items_of (map (λ n. string (name_at names n)) numbers))
 
+-- the table of a device
 unfoldable pub device_tree : Device → Members
 device_tree device =
     put keys.DeviceName (string device.name) (put keys.DeviceSide (string (side_word device.side))
     (put keys.DevicePpm (whole device.rates.ppm) (put keys.DeviceGrain (whole device.rates.grain) no_members)))
 
+-- the table of a link, whose ends stand by their names
 unfoldable pub link_tree : List (List ℕ) → Link → Members
 link_tree names link =
     put keys.LinkName (string link.name)
@@ -44,6 +47,7 @@ link_tree names link =
     (put keys.LinkMin (whole link.entry.min) (put keys.LinkMax (whole link.entry.max)
     (put keys.LinkBackMin (whole link.entry.back_min) (put keys.LinkBackMax (whole link.entry.back_max) no_members)))))
 
+-- the table of a listed domain, whose things stand by their names
 unfoldable pub domain_tree : List (List ℕ) → List (List ℕ) → Domain → Members
 domain_tree devices links domain =
     put keys.DomainName (string domain.name)
@@ -55,6 +59,7 @@ params_tree net =
     put keys.Version (whole 2) (put keys.Ppm (whole net.params.ppm) (put keys.Grain (whole net.params.grain) (put keys.Period (whole net.params.period)
     (put keys.Tick (whole net.params.tick) (put keys.Loss (whole net.params.loss) (put keys.Depth (whole net.params.depth) no_members))))))
 
+-- the tables of a network, with its roots and its parameters
 unfoldable pub network_tree : Network → Members
 network_tree net =
     put keys.Device (array (items_of (map (λ device. table (device_tree device)) net.devices)))

@@ -4,7 +4,7 @@ use Rattle.std.specs.Prelude.{codes, unwrap_or}
 use Rattle.std.proofs.lemmas.Bool.{ne_eqb, eq-eqb, or_parts}
 use Rattle.std.proofs.lemmas.List.{append-nil, get_or-set_same, get_or-set_other, length-append, length-set, length-take-le, take_all, take_more, take_more_set}
 use Rattle.std.proofs.lemmas.Grind.{common_steps}
-use Rattle.sd_num.specs.Lists.{of_some}
+use Rattle.sd_num.specs.Lists.{map_or}
 use Rattle.sd_num.specs.Decimals.{number}
 use Rattle.sd_sched.specs.Lines.{fields, first_field, number_within, same_bytes, then_numbers}
 use Rattle.sd_sched.specs.Reading.{fields_behind}
@@ -27,15 +27,15 @@ and_number (Ok ns) place (Some n) = Ok (ns ++ n ∷ [])
 
 -- a field in front of others and of one behind them
 in_front : (front : Option ℕ) (place behind : ℕ) (rest : Result (List ℕ) ℕ) (last : Option ℕ)
-    → of_some front (Err place) (λ n. then_numbers n (and_number rest behind last))
-    ≡ and_number (of_some front (Err place) (λ n. then_numbers n rest)) behind last
+    → map_or front (Err place) (λ n. then_numbers n (and_number rest behind last))
+    ≡ and_number (map_or front (Err place) (λ n. then_numbers n rest)) behind last
 in_front None place behind rest last = refl
 in_front (Some n) place behind (Err earlier) last = refl
 in_front (Some n) place behind (Ok ns) None = refl
 in_front (Some n) place behind (Ok ns) (Some m) = refl
 
 -- one field alone
-alone : (front : Option ℕ) (place : ℕ) → of_some front (Err place) (λ n. then_numbers n (Ok [])) ≡ and_number (Ok []) place front
+alone : (front : Option ℕ) (place : ℕ) → map_or front (Err place) (λ n. then_numbers n (Ok [])) ≡ and_number (Ok []) place front
 alone None place = refl
 alone (Some n) place = refl
 
@@ -50,9 +50,9 @@ one_more place (m ∷ ms) [] most text same = absurd (omega (arith, same))
 one_more place (m ∷ ms) (t ∷ ts) most text same =
     let later = one_more (place + 1) ms ts most text (omega (arith, same)) in
     let behind : place + 1 + length ms ≡ place + suc (length ms) = omega arith in
-    ap (λ (rest : Result (List ℕ) ℕ). of_some (number_within m (number t)) (Err place) (λ n. then_numbers n rest)) later
+    ap (λ (rest : Result (List ℕ) ℕ). map_or (number_within m (number t)) (Err place) (λ n. then_numbers n rest)) later
     ∙ in_front (number_within m (number t)) place (place + 1 + length ms) (numbers_within (place + 1) ms ts) (number_within most (number text))
-    ∙ ap (λ (p : ℕ). and_number (of_some (number_within m (number t)) (Err place) (λ n. then_numbers n (numbers_within (place + 1) ms ts))) p
+    ∙ ap (λ (p : ℕ). and_number (map_or (number_within m (number t)) (Err place) (λ n. then_numbers n (numbers_within (place + 1) ms ts))) p
     (number_within most (number text))) behind
 
 -- the fields before a place were read, and those from there on are left

@@ -1,6 +1,6 @@
 -- What is kept of the spans of links, and for which spans it stands.
 use Rattle.std.specs.Prelude.{◌≡◌, ℕ, ◌+◌, ◌<◌, ◌≤◌, List, length, filter_map, min, max, slice_get, slice_index_or, nat_eq, Option, Some, None, IfSome, Ok, if◌then◌else◌}
-use Rattle.sd_num.specs.Lists.{of_some}
+use Rattle.sd_num.specs.Lists.{map_or}
 use Rattle.sd_num.specs.declared.Rates.{Rates}
 use Rattle.sd_twoway.specs.Spans.{span_of, joint_span, Covers}
 use Rattle.sd_twoway.specs.declared.Exchange.{Exchange}
@@ -10,11 +10,13 @@ use Rattle.sd_twoway.specs.declared.Span.{Span}
 abbrev pub Joints : Type 0
 Joints = List (Option (Span × ℕ))
 
+-- what there is of the link with this number
 abbrev pub joint_at : Joints → ℕ → Option (Span × ℕ)
 joint_at joints l = slice_index_or joints l None
 
+-- how many spans were added
 abbrev pub count_of : Option (Span × ℕ) → ℕ
-count_of joint = of_some joint 0 (λ j. j.1)
+count_of joint = map_or joint 0 (λ j. j.1)
 
 -- a joint span and its number with one span more
 abbrev pub joined : Option (Span × ℕ) → Span → Span × ℕ

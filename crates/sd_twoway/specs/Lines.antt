@@ -1,6 +1,6 @@
 -- Lines of an exchanges text, and what they say of a network's links.
 use Rattle.std.specs.Prelude.{ℕ, ◌+◌, ◌-◌, ◌^◌, Bool, true, false, List, ◌∷◌, length, filter_map, nat_eq, slice_index, Option, Some, None, Result, Ok, Err, codes, if◌then◌else◌, []}
-use Rattle.sd_num.specs.Lists.{of_some}
+use Rattle.sd_num.specs.Lists.{map_or}
 use Rattle.sd_num.specs.Decimals.{number}
 use Rattle.sd_num.specs.declared.Rates.{Rates}
 use Rattle.sd_topo.specs.Network.{Network, rates_of, link_of}
@@ -24,7 +24,7 @@ numbers_within place [] texts = Ok []
 numbers_within place (most ∷ others) [] = Ok []
 numbers_within place (most ∷ others) (text ∷ texts) =
     let rest = numbers_within (place + 1) others texts in
-    of_some (number_within most (number text)) (Err place) (λ n. then_numbers n rest)
+    map_or (number_within most (number text)) (Err place) (λ n. then_numbers n rest)
 
 -- the exchange of seven numbers
 abbrev pub exchange_of : List ℕ → ExchangeLine
@@ -32,6 +32,7 @@ exchange_of v =
     Exchanged (slice_index v 0) (slice_index v 1)
     (record { asym = slice_index v 2; t1 = slice_index v 3; t2 = slice_index v 4; t3 = slice_index v 5; t4 = slice_index v 6 })
 
+-- the numbers, or the fault that the field at this place has none
 abbrev pub numbers_or_fault : Result (List ℕ) ℕ → Result (List ℕ) ExchangeLineFault
 numbers_or_fault (Ok v) = Ok v
 numbers_or_fault (Err place) = Err (Number place)
@@ -40,6 +41,7 @@ numbers_or_fault (Err place) = Err (Number place)
 abbrev pub seven_numbers : List (List ℕ) → Result (List ℕ) ExchangeLineFault
 seven_numbers texts = if nat_eq (length texts) 7 then numbers_or_fault (numbers_within 1 limits texts) else Err FieldCount
 
+-- the exchange of the numbers, or the fault of the line
 abbrev pub exchange_or_fault : Result (List ℕ) ExchangeLineFault → Result ExchangeLine ExchangeLineFault
 exchange_or_fault (Ok v) = Ok (exchange_of v)
 exchange_or_fault (Err why) = Err why
@@ -51,6 +53,7 @@ line_of_word word texts =
     else if same_bytes (codes "end") word then (if nat_eq (length texts) 0 then Ok End else Err FieldCount)
     else Err UnknownWord
 
+-- the line with these fields, of which the first is its word
 abbrev pub line_of_fields : List (List ℕ) → Result ExchangeLine ExchangeLineFault
 line_of_fields [] = Err UnknownWord
 line_of_fields (word ∷ texts) = line_of_word word texts
@@ -61,6 +64,7 @@ exchange_line bytes = line_of_fields (fields bytes)
 
 -- Lines over a network
 
+-- the line ends the exchanges
 abbrev pub is_end_line : ExchangeLine → Bool
 is_end_line (Exchanged link side exchange) = false
 is_end_line End = true
@@ -80,6 +84,7 @@ span_if true (Ok span) = Some span
 span_if true (Err why) = None
 span_if false span = None
 
+-- the span that a line adds to a link, if it is of that link
 abbrev pub span_on : Network → ℕ → ExchangeLine → Option Span
 span_on net l (Exchanged link side x) = span_if (nat_eq link l) (span_over net link side x)
 span_on net l End = None

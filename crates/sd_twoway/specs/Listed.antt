@@ -1,6 +1,6 @@
 -- The lines of links.
 use Rattle.std.specs.Prelude.{ℕ, List, [], flat_map}
-use Rattle.sd_num.specs.Lists.{of_some}
+use Rattle.sd_num.specs.Lists.{map_or}
 use Rattle.sd_topo.specs.Network.{Network, link_numbers}
 use Rattle.sd_twoway.specs.declared.ExchangeLine.{ExchangeLine}
 use Rattle.sd_twoway.specs.Lines.{span_after}
@@ -8,4 +8,4 @@ use Rattle.sd_twoway.specs.Printed.{link_line}
 
 -- the lines of the links that have an exchange, by ascending number
 abbrev pub link_lines : Network → List ExchangeLine → List ℕ
-link_lines net taken = flat_map (λ l. of_some (span_after net taken l) [] (link_line net l)) (link_numbers net)
+link_lines net taken = flat_map (λ l. map_or (span_after net taken l) [] (link_line net l)) (link_numbers net)

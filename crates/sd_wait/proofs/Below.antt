@@ -3,7 +3,7 @@ use Rattle.std.specs.Prelude.{◌≡◌, ℕ, zero, suc, ◌+◌, ◌<◌, ◌�
 use Rattle.std.specs.List.{list_any}
 use Rattle.std.specs.Option.{option_or}
 use Rattle.std.proofs.Common.{refl, sym, ap, ◌∙◌, arith, inl, inr, cond}
-use Rattle.std.proofs.lemmas.Bool.{cases_lt, cases_Bool, or_left, or_right, or_from, and_from, false_from_ne_true, and_parts}
+use Rattle.std.proofs.lemmas.Bool.{cases_lt, cases_Bool, or_from, and_from, false_from_ne_true, and_parts}
 use Rattle.std.proofs.lemmas.List.{append-nil, map-append}
 use Rattle.std.proofs.lemmas.List.Elements.{filter-append}
 use Rattle.std.proofs.lemmas.List.Folds.{find-append, list_any-append}
@@ -66,13 +66,6 @@ any_none p zero none = refl
 any_none p (suc n) none =
     list_any-append p (below n) (n ∷ [])
     ∙ or_from (list_any p (below n)) (p n || false) (any_none p n (λ i less. none i (omega arith))) (or_from (p n) false (none n (omega arith)) refl)
-
-pub any_here : (p : ℕ → Bool) (n i : ℕ) → i < n → p i ≡ true → list_any p (below n) ≡ true
-any_here p zero i less passes = absurd (omega arith)
-any_here p (suc n) i less passes = list_any-append p (below n) (n ∷ []) ∙ elim (cases_lt i n) [
-  | inl before ↦ or_left (list_any p (below n)) (p n || false) (any_here p n i before passes)
-  | inr last ↦ (let same : n ≡ i = omega arith in or_right (list_any p (below n)) (p n || false) (or_left (p n) false (ap p same ∙ passes)))
-]
 
 -- what is found is below the bound and passes
 pub found_below : (p : ℕ → Bool) (n j : ℕ) → find p (below n) ≡ Some j → j < n

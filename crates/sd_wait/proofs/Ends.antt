@@ -7,7 +7,7 @@ use Rattle.std.proofs.lemmas.List.{length-append, map-append}
 use Rattle.std.proofs.lemmas.List.Elements.{All-push, All-weaker}
 use Rattle.std.proofs.lemmas.List.Folds.{find-append}
 use Rattle.std.proofs.lemmas.List.Sums.{sum_by-cons, sum_by_push}
-use Rattle.sd_num.specs.Lists.{below, of_some, at_place, same_number}
+use Rattle.sd_num.specs.Lists.{below, map_or, at_place, same_number}
 use Rattle.sd_num.proofs.Firsts.{find_below_none}
 use Rattle.sd_num.proofs.Places.{at_last}
 use Rattle.sd_msg.specs.Observed.{ReportAt}
@@ -38,14 +38,14 @@ length_more xs y = omega (arith, length-append xs (y ∷ []))
 pub place_is : (told : List ReportAt) (i : ℕ) → (transaction_at told i).place ≡ i
 place_is told i = by (slice_get told i)
   where
-    by : (o : Option ReportAt) → (of_some o (record { device = 0; stamp = 0; place = i; line = 0 }) (transaction i)).place ≡ i
+    by : (o : Option ReportAt) → (map_or o (record { device = 0; stamp = 0; place = i; line = 0 }) (transaction i)).place ≡ i
     by None = refl
     by (Some x) = refl
 
 pub stamp_is : (told : List ReportAt) (i : ℕ) → (transaction_at told i).stamp ≡ stamp_at told i
 stamp_is told i = by (slice_get told i)
   where
-    by : (o : Option ReportAt) → (of_some o (record { device = 0; stamp = 0; place = i; line = 0 }) (transaction i)).stamp ≡ of_some o 0 stamp_of
+    by : (o : Option ReportAt) → (map_or o (record { device = 0; stamp = 0; place = i; line = 0 }) (transaction i)).stamp ≡ map_or o 0 stamp_of
     by None = refl
     by (Some x) = refl
 
@@ -69,23 +69,23 @@ module _ (told : List ReportAt) (x : ReportAt) where
   ends_now i = at_place told i false (λ earlier. surely_after earlier x)
 
   pub transaction_before : (i : ℕ) → i < length told → transaction_at now i ≡ transaction_at told i
-  transaction_before i within = ap (λ o. of_some o (record { device = 0; stamp = 0; place = i; line = 0 }) (transaction i)) (at_before_more told x i within)
+  transaction_before i within = ap (λ o. map_or o (record { device = 0; stamp = 0; place = i; line = 0 }) (transaction i)) (at_before_more told x i within)
 
   pub transaction_new : transaction_at now (length told) ≡ transaction (length told) x
-  transaction_new = ap (λ o. of_some o (record { device = 0; stamp = 0; place = length told; line = 0 }) (transaction (length told))) (at_last told x)
+  transaction_new = ap (λ o. map_or o (record { device = 0; stamp = 0; place = length told; line = 0 }) (transaction (length told))) (at_last told x)
 
   pub stamp_before : (i : ℕ) → i < length told → stamp_at now i ≡ stamp_at told i
-  stamp_before i within = ap (λ o. of_some o 0 stamp_of) (at_before_more told x i within)
+  stamp_before i within = ap (λ o. map_or o 0 stamp_of) (at_before_more told x i within)
 
   ends_before : (i j : ℕ) → i < length told → j < length told → ends_by now i j ≡ ends_by told i j
   ends_before i j in_i in_j =
-      ap (λ o. of_some o false (λ earlier. at_place now j false (surely_after earlier))) (at_before_more told x i in_i)
-      ∙ ap (λ o. of_some (slice_get told i) false (λ earlier. of_some o false (surely_after earlier))) (at_before_more told x j in_j)
+      ap (λ o. map_or o false (λ earlier. at_place now j false (surely_after earlier))) (at_before_more told x i in_i)
+      ∙ ap (λ o. map_or (slice_get told i) false (λ earlier. map_or o false (surely_after earlier))) (at_before_more told x j in_j)
 
   ends_at_new : (i : ℕ) → i < length told → ends_by now i (length told) ≡ ends_now i
   ends_at_new i within =
-      ap (λ o. of_some o false (λ earlier. at_place now (length told) false (surely_after earlier))) (at_before_more told x i within)
-      ∙ ap (λ o. of_some (slice_get told i) false (λ earlier. of_some o false (surely_after earlier))) (at_last told x)
+      ap (λ o. map_or o false (λ earlier. at_place now (length told) false (surely_after earlier))) (at_before_more told x i within)
+      ∙ ap (λ o. map_or (slice_get told i) false (λ earlier. map_or o false (surely_after earlier))) (at_last told x)
 
   -- An earlier transaction ends where it did, or else at the new report if that ends it.
   pub end_before : (i : ℕ) → i < length told → end_place now i ≡ option_or (end_place told i) (if ends_now i then Some (length told) else None)
@@ -112,7 +112,7 @@ module _ (told : List ReportAt) (x : ReportAt) where
   ends_is i within = by (slice_get told i) refl
     where
       by : (o : Option ReportAt) → slice_get told i ≡ o
-          → ends_at_x (of_some o (record { device = 0; stamp = 0; place = i; line = 0 }) (transaction i)) ≡ of_some o false (λ earlier. surely_after earlier x)
+          → ends_at_x (map_or o (record { device = 0; stamp = 0; place = i; line = 0 }) (transaction i)) ≡ map_or o false (λ earlier. surely_after earlier x)
       by None none = absurd (there told i within none)
         where
           there : (xs : List ReportAt) (p : ℕ) → p < length xs → slice_get xs p ≡ None → ⊥

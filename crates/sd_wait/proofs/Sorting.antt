@@ -5,6 +5,7 @@ use Rattle.std.specs.List.Sorted.{IsPartitionedBy}
 use Rattle.std.proofs.Common.{refl, sym, ap, ◌∙◌, arith, inl, inr, get_or, cond}
 use Rattle.std.proofs.lemmas.Bool.{and_parts, and_from, or_cases, or_left, or_right, ltb-true, lt-ltb, eqb-true, eq-eqb, both_ways, false_from_ne_true, not-true, not_from_false, cases_order, cases_lt}
 use Rattle.std.proofs.lemmas.List.Sums.{sum_by-cons}
+use Rattle.sd_num.proofs.Shared.{all_imply}
 use Rattle.sd_wait.specs.Waiting.{is_before, AreSorted, IsPlaceOf, placed, sorted, ends_below, without}
 use Rattle.sd_wait.specs.declared.transactions.Transaction.{Transaction}
 
@@ -73,12 +74,6 @@ all_at p [] k d all within = absurd (omega arith)
 all_at p (x ∷ xs) zero d all within = (and_parts (p x) (list_all p xs) all).0
 all_at p (x ∷ xs) (suc k) d all within = all_at p xs k d (and_parts (p x) (list_all p xs) all).1 (omega arith)
 
-all_weaker : {X : Type 0} (p q : X → Bool) (xs : List X) → ((x : X) → p x ≡ true → q x ≡ true) → list_all p xs ≡ true → list_all q xs ≡ true
-all_weaker p q [] weaker all = refl
-all_weaker p q (x ∷ xs) weaker all =
-    let parts : (p x ≡ true) × (list_all p xs ≡ true) = and_parts (p x) (list_all p xs) all in
-    and_from (q x) (list_all q xs) (weaker x parts.0) (all_weaker p q xs weaker parts.1)
-
 all_filter : {X : Type 0} (p q : X → Bool) (xs : List X) → list_all p xs ≡ true → list_all p (filter q xs) ≡ true
 all_filter p q [] all = refl
 all_filter p q (x ∷ xs) all =
@@ -103,7 +98,7 @@ all_placed p t (u ∷ us) it all =
 all_behind : (t u : Transaction) (us : List Transaction) → is_before u t.device t.stamp ≡ false → AllBehind u us → AllBehind t (u ∷ us)
 all_behind t u us behind later =
     and_from (not (is_before u t.device t.stamp)) (list_all (λ z. not (is_before z t.device t.stamp)) us) (not_from_false (is_before u t.device t.stamp) behind)
-    (all_weaker (λ z. not (is_before z u.device u.stamp)) (λ z. not (is_before z t.device t.stamp)) us
+    (all_imply (λ z. not (is_before z u.device u.stamp)) (λ z. not (is_before z t.device t.stamp)) us
     (λ z more. not_from_false (is_before z t.device t.stamp) (behind_later t u z behind (not-true (is_before z u.device u.stamp) more))) later)
 
 -- Halving may be asked of sorted ones.

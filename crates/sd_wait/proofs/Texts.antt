@@ -5,7 +5,7 @@ use Rattle.std.proofs.lemmas.List.{append-nil}
 use Rattle.std.proofs.lemmas.List.Concat.{flat_map-append}
 use Rattle.std.proofs.lemmas.Option.{same_Some}
 use Rattle.std.proofs.lemmas.Bool.{lt-ltb}
-use Rattle.sd_num.specs.Lists.{of_some, at_place}
+use Rattle.sd_num.specs.Lists.{map_or, at_place}
 use Rattle.sd_num.specs.Texts.{text_of}
 use Rattle.sd_msg.specs.Observed.{ReportAt}
 use Rattle.sd_wait.specs.Waits.{WaitLine, Ended, Disorder, Begin, stamp_of, line_at, ended_at, worst_disorder}
@@ -22,7 +22,7 @@ module _ (told : List ReportAt) (k : ℕ) (name : List ℕ) where
   line_is : (i : ℕ) → (transaction_at told i).line ≡ line_at told i
   line_is i = by (slice_get told i)
     where
-      by : (o : Option ReportAt) → (of_some o (record { device = 0; stamp = 0; place = i; line = 0 }) (transaction i)).line ≡ of_some o 0 (λ x. x.line)
+      by : (o : Option ReportAt) → (map_or o (record { device = 0; stamp = 0; place = i; line = 0 }) (transaction i)).line ≡ map_or o 0 (λ x. x.line)
       by None = refl
       by (Some x) = refl
 
@@ -37,9 +37,9 @@ module _ (told : List ReportAt) (k : ℕ) (name : List ℕ) where
       ++ flat_map line_bytes (map (λ i. Ended (line_at told k) (line_at told i)) is)) (line_is i)
 
   disorder_lines : (o : Option ℕ)
-      → of_some (option_map (transaction_at told) o) []
+      → map_or (option_map (transaction_at told) o) []
       (λ (t : Transaction). text_of (codes "disorder" ∷ decimal (transaction_at told k).line ∷ decimal t.line ∷ []))
-      ≡ flat_map line_bytes (of_some o [] (λ i. Disorder (line_at told k) (line_at told i) ∷ []))
+      ≡ flat_map line_bytes (map_or o [] (λ i. Disorder (line_at told k) (line_at told i) ∷ []))
   disorder_lines None = refl
   disorder_lines (Some i) =
       ap (λ n. text_of (codes "disorder" ∷ decimal n ∷ decimal (transaction_at told i).line ∷ [])) (line_is k)
@@ -57,18 +57,18 @@ module _ (told : List ReportAt) (k : ℕ) (name : List ℕ) where
       some_there (x ∷ xs) (suc i) less = some_there xs i (omega arith)
 
       by : (o : Option ReportAt) → (x : ReportAt) × (o ≡ Some x)
-          → text_of (codes "begin" ∷ decimal (of_some o (record { device = 0; stamp = 0; place = k; line = 0 }) (transaction k)).line ∷ name ∷ decimal
-          (of_some o (record { device = 0; stamp = 0; place = k; line = 0 }) (transaction k)).stamp ∷ [])
-          ≡ flat_map line_bytes (of_some o [] (λ x. Begin x.line x.device (stamp_of x) ∷ []))
+          → text_of (codes "begin" ∷ decimal (map_or o (record { device = 0; stamp = 0; place = k; line = 0 }) (transaction k)).line ∷ name ∷ decimal
+          (map_or o (record { device = 0; stamp = 0; place = k; line = 0 }) (transaction k)).stamp ∷ [])
+          ≡ flat_map line_bytes (map_or o [] (λ x. Begin x.line x.device (stamp_of x) ∷ []))
       by None there = cc (there.1)
       by (Some x) there = sym (append-nil (line_bytes (Begin x.line x.device (stamp_of x))))
 
   pub printed : k < length told → shown_bytes (map (transaction_at told) (ended_at told k)) (shown_at told k) name ≡ bytes_at told k name
   printed within =
       let ended = map (λ i. Ended (line_at told k) (line_at told i)) (ended_at told k) in
-      let disorder = of_some (worst_disorder told k) [] (λ i. Disorder (line_at told k) (line_at told i) ∷ []) in
+      let disorder = map_or (worst_disorder told k) [] (λ i. Disorder (line_at told k) (line_at told i) ∷ []) in
       let begin = at_place told k [] (λ x. Begin x.line x.device (stamp_of x) ∷ []) in
-      ap (λ bytes. bytes ++ of_some (option_map (transaction_at told) (worst_disorder told k)) []
+      ap (λ bytes. bytes ++ map_or (option_map (transaction_at told) (worst_disorder told k)) []
       (λ (t : Transaction). text_of (codes "disorder" ∷ decimal (transaction_at told k).line ∷ decimal t.line ∷ []))
       ++ text_of (codes "begin" ∷ decimal (transaction_at told k).line ∷ name ∷ decimal (transaction_at told k).stamp ∷ [])) (ended_lines (ended_at told k))
       ∙ ap (λ bytes. flat_map line_bytes ended ++ bytes ++ text_of

@@ -6,14 +6,15 @@ use Rattle.std.proofs.Common.{refl, sym, ap, ◌∙◌, arith, inl, inr, cond, s
 use Rattle.std.proofs.lemmas.Bool.{cases_lt, lt-ltb, le-ltb, le-leb, lt-leb, leb-true, leb-false, ltb-true, ltb-false, eqb-true, eq-eqb, and_parts, and_from, or_cases, or_parts, or_left, or_right, and_left, and_right, both_ways, false_from_ne_true}
 use Rattle.std.proofs.lemmas.Option.{same_Some}
 use Rattle.std.proofs.lemmas.List.Folds.{list_any-append}
-use Rattle.sd_num.specs.Lists.{below, has, of_some, greatest, same_number}
+use Rattle.sd_num.specs.Lists.{below, has, map_or, greatest, same_number}
 use Rattle.sd_num.proofs.Places.{kept_parts, kept_from, has_below, below_has}
+use Rattle.sd_num.proofs.Shared.{any_below_at}
 use Rattle.sd_msg.specs.Observed.{ReportAt}
 use Rattle.sd_wait.specs.Waits.{ends_by, end_place, stamp_at, ended_at, has_ended_by, is_disorder, worst_disorder, has_disorder}
 use Rattle.sd_wait.specs.Waiting.{worse, worst_among, disordered_by}
 use Rattle.sd_wait.specs.Standing.{transaction_at, IsWorst, HasWorst}
 use Rattle.sd_wait.specs.declared.transactions.Transaction.{Transaction}
-use Rattle.sd_wait.proofs.Below.{Agree, NonePasses, filter_none, any_none, any_here, same_any, found_below, first_most}
+use Rattle.sd_wait.proofs.Below.{Agree, NonePasses, filter_none, any_none, same_any, found_below, first_most}
 use Rattle.sd_wait.proofs.Ends.{now, ends_now, ends_last, last_is, place_is, stamp_is, length_more, transaction_before, stamp_before, end_before, end_new, ended_now}
 
 -- a has a greater stamp than b, or the same and did not begin behind it
@@ -256,7 +257,7 @@ module _ (told : List ReportAt) (k : ℕ) (last : length told ≡ suc k) where
       let inner = and_parts (has_ended_by told i k) (nat_lt i k) outer.0 in
       (by (end_place told i) inner.0, leb-true (stamp_at told k) (stamp_at told i) outer.1)
     where
-      by : (o : Option ℕ) → of_some o false (λ j. nat_le j k) ≡ true → is_some o ≡ true
+      by : (o : Option ℕ) → map_or o false (λ j. nat_le j k) ≡ true → is_some o ≡ true
       by None is = cc
       by (Some j) is = refl
 
@@ -268,7 +269,7 @@ module _ (told : List ReportAt) (k : ℕ) (last : length told ≡ suc k) where
       (and_parts (nat_lt i end.0) (ends_by told i end.0) (find_passes (λ j. nat_lt i j && ends_by told i j) (below (length told)) end.0 end.1)).0 in
       let order : i < end.0 = ltb-true i end.0 behind in
       and_from (has_ended_by told i k && nat_lt i k) (nat_le (stamp_at told k) (stamp_at told i))
-      (and_from (has_ended_by told i k) (nat_lt i k) (ap (λ o. of_some o false (λ j. nat_le j k)) end.1 ∙ le-leb end.0 k (omega arith))
+      (and_from (has_ended_by told i k) (nat_lt i k) (ap (λ o. map_or o false (λ j. nat_le j k)) end.1 ∙ le-leb end.0 k (omega arith))
       (lt-ltb i k (omega arith)))
       (le-leb (stamp_at told k) (stamp_at told i) more)
 
@@ -290,7 +291,7 @@ module _ (told : List ReportAt) (k : ℕ) (last : length told ≡ suc k) where
         first_most (stamp_at told) shows (length told) w.place is.within here
             (λ j less it. let most : stamp_at told j ≤ w.stamp = is.greatest j less (shows_parts j it).0 in omega arith)
             (λ j less it same. is.first j less (shows_parts j it).0 (same ∙ stamp)) nat_eq eqb-true eq-eqb,
-        any_here shows (length told) w.place is.within here,
+        any_below_at shows (length told) w.place is.within here,
       )
 
   pub found : (worst : Option Transaction) → HasWorst told worst → Found (disordered_by worst (stamp_at told k))
@@ -328,10 +329,10 @@ module _ (told : List ReportAt) (x : ReportAt) (k : ℕ) (earlier : k < length t
       ∙ ap (λ s. has_ended_by told i k && nat_lt i k && nat_le (stamp_at told k) s) (stamp_before told x i within)
     where
       ended : has_ended_by (now told x) i k ≡ has_ended_by told i k
-      ended = ap (λ o. of_some o false (λ j. nat_le j k)) (end_before told x i within) ∙ by (end_place told i) (ends_now told x i)
+      ended = ap (λ o. map_or o false (λ j. nat_le j k)) (end_before told x i within) ∙ by (end_place told i) (ends_now told x i)
         where
           by : (o : Option ℕ) (b : Bool)
-              → of_some (option_or o (if b then Some (length told) else None)) false (λ j. nat_le j k) ≡ of_some o false (λ j. nat_le j k)
+              → map_or (option_or o (if b then Some (length told) else None)) false (λ j. nat_le j k) ≡ map_or o false (λ j. nat_le j k)
           by (Some j) b = refl
           by None true = lt-leb (length told) k earlier
           by None false = refl

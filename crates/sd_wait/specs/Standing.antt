@@ -11,6 +11,7 @@ use Rattle.sd_wait.specs.declared.printing.Shown.{Shown}
 abbrev pub transaction : ℕ → ReportAt → Transaction
 transaction place x = record { device = x.device; stamp = stamp_of x; place = place; line = x.line }
 
+-- the transaction that the report at a place begins
 abbrev pub transaction_at : List ReportAt → ℕ → Transaction
 transaction_at told i = at_place told i (record { device = 0; stamp = 0; place = i; line = 0 }) (transaction i)
 
@@ -40,6 +41,7 @@ shown_at told k = record { begin = transaction_at told k; disorder = option_map 
 abbrev pub last_shown : List ReportAt → Option Shown
 last_shown told = if nat_lt 0 (length told) then Some (shown_at told (length told - 1)) else None
 
+-- what is held is that of these reports
 pub record StandsFor (held : Held) (told : List ReportAt) : Type 0 where
   -- those that have not ended wait
   pub waiting : held.waiting ≡ sorted (unended told (length told))

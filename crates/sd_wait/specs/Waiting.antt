@@ -1,7 +1,7 @@
 -- What is kept of commit wait: the transactions that wait, sorted, those that ended last, and the worst that ended.
 use Rattle.std.specs.Prelude.{◌≡◌, ℕ, ◌<◌, ◌≤◌, Bool, true, false, ◌&&◌, ◌||◌, not, List, [], ◌∷◌, ◌++◌, length, slice_index_or, take, drop, flat_map, nat_eq, nat_le, nat_lt, Option, Some, None, codes, decimal, if◌then◌else◌}
 use Rattle.std.specs.List.{list_all}
-use Rattle.sd_num.specs.Lists.{of_some}
+use Rattle.sd_num.specs.Lists.{map_or}
 use Rattle.sd_num.specs.Texts.{text_of}
 use Rattle.sd_wait.specs.declared.transactions.Transaction.{Transaction}
 use Rattle.sd_wait.specs.declared.printing.Shown.{Shown}
@@ -62,7 +62,7 @@ ended_bytes line ended = flat_map (λ (t : Transaction). text_of (codes "ended" 
 abbrev pub shown_bytes : List Transaction → Shown → (name : List ℕ) → List ℕ
 shown_bytes ended shown name =
     ended_bytes shown.begin.line ended
-    ++ of_some shown.disorder [] (λ (t : Transaction). text_of (codes "disorder" ∷ decimal shown.begin.line ∷ decimal t.line ∷ []))
+    ++ map_or shown.disorder [] (λ (t : Transaction). text_of (codes "disorder" ∷ decimal shown.begin.line ∷ decimal t.line ∷ []))
     ++ text_of (codes "begin" ∷ decimal shown.begin.line ∷ name ∷ decimal shown.begin.stamp ∷ [])
 
 -- what is seen of it: who waits, who ended at the last report, the first with the greatest stamp of all that ended, what the last report shows, how many

@@ -16,6 +16,7 @@ waits_seen w =
       room = min (vec_capacity w.waiting - vec_len w.waiting) (min (vec_capacity w.ended + 1 - vec_len w.waiting) (2 ^ 64 - 1 - w.begun));
     }
 
+-- the fields stand for what waits
 pub record AreWaits (w : Inside) : Type 0 where
   pub sorted : AreSorted w.waiting.items
   pub counted : vec_len w.waiting ≤ w.begun

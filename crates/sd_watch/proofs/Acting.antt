@@ -4,12 +4,12 @@ use Rattle.std.proofs.Common.{refl, ap, ◌∙◌, arith, inl, inr, add-one, get
 use Rattle.std.proofs.lemmas.Bool.{cases_lt}
 use Rattle.std.proofs.lemmas.List.Elements.{filter-append}
 use Rattle.std.proofs.lemmas.Option.{slice_get-get_or}
-use Rattle.sd_num.specs.Lists.{below, of_some, at_place}
+use Rattle.sd_num.specs.Lists.{below, map_or, at_place}
 use Rattle.sd_watch.specs.Watch.{two_least}
 
 -- what the list says at a place
 pub acts_at : (acting : List Bool) (d : ℕ) → d < length acting → at_place acting d false (λ acts. acts) ≡ get_or acting d false
-acts_at acting d within = ap (λ o. of_some o false (λ acts. acts)) (slice_get-get_or acting d false within)
+acts_at acting d within = ap (λ o. map_or o false (λ acts. acts)) (slice_get-get_or acting d false within)
 
 module _ (p : ℕ → Bool) where
   -- one number more

@@ -3,7 +3,7 @@
 use Rattle.std.specs.Prelude.{◌≡◌, ◌≢◌, ℕ, zero, suc, Bool, true, false, List, Option, Some, None, nat_eq, ◌⊎◌}
 use Rattle.std.proofs.Common.{sym, ap, ◌∙◌, inl, inr, subst, set}
 use Rattle.std.proofs.lemmas.Bool.{cases_Bool, eqb-true, eqb-false}
-use Rattle.sd_num.specs.Lists.{of_some}
+use Rattle.sd_num.specs.Lists.{map_or}
 use Rattle.sd_num.proofs.Places.{at_unwritten}
 use Rattle.sd_watch.specs.Watch.{parent_in, follow, IsOnLoop, HasNoLoop}
 use Rattle.sd_watch.proofs.Following.{one_more, before_last, led_on_loop}
@@ -58,4 +58,4 @@ pub through_written : (parents : List (Option ℕ)) (d : ℕ) (entry : Option �
     → IsOnLoop (parent_in (set parents d entry)) e → IsOnLoop (parent_in (set parents d entry)) d
 through_written parents d entry =
     through_one (parent_in parents) (parent_in (set parents d entry)) d
-    (λ e apart x at. sym (ap (λ o. of_some o None (λ parent. parent)) (at_unwritten parents d e entry apart)) ∙ at)
+    (λ e apart x at. sym (ap (λ o. map_or o None (λ parent. parent)) (at_unwritten parents d e entry apart)) ∙ at)

@@ -2,13 +2,14 @@
 use Rattle.std.specs.Prelude.{◌≡◌, ◌↔◌, ℕ, zero, suc, ◌+◌, ◌<◌, Bool, true, false, [], ◌∷◌, find, Option, Some, None, MatchOption}
 use Rattle.std.specs.List.{list_any}
 use Rattle.std.proofs.Common.{sym, ap, ◌∙◌, arith, inl, inr, add-one}
-use Rattle.std.proofs.lemmas.Bool.{or_cases, or_left, or_right, false_from_ne_true, cases_lt}
+use Rattle.std.proofs.lemmas.Bool.{or_cases, false_from_ne_true}
 use Rattle.std.proofs.lemmas.List.Folds.{list_any-append}
 use Rattle.sd_num.specs.Lists.{below, same_number}
 use Rattle.sd_num.proofs.Firsts.{find_below_none, find_below_here}
+use Rattle.sd_num.proofs.Shared.{same_number-some, some-same_number, any_below_at}
 use Rattle.sd_watch.specs.Watch.{follow, IsOnLoop, HasNoLoop, IsFirstOnLoop}
 use Rattle.sd_watch.proofs.Following.{on_the_way}
-use Rattle.sd_watch.proofs.Within.{back_within, same_number-some, some-same_number}
+use Rattle.sd_watch.proofs.Within.{back_within}
 
 -- some number below a bound passes a test
 any_below : (p : ℕ → Bool) (n : ℕ) → list_any p (below n) ≡ true → (k : ℕ) × (p k ≡ true)
@@ -16,13 +17,6 @@ any_below p zero some = cc
 any_below p (suc n) some = elim (or_cases (list_any p (below n)) (list_any p (n ∷ [])) (sym (list_any-append p (below n) (n ∷ [])) ∙ some)) [
   | inl before ↦ any_below p n before
   | inr last ↦ elim (or_cases (p n) false last) [ inl it ↦ (n, it) | inr none ↦ cc ]
-]
-
-below_any : (p : ℕ → Bool) (n k : ℕ) → k < n → p k ≡ true → list_any p (below n) ≡ true
-below_any p zero k within passes = absurd (omega arith)
-below_any p (suc n) k within passes = list_any-append p (below n) (n ∷ []) ∙ elim (cases_lt k n) [
-  | inl before ↦ or_left (list_any p (below n)) (list_any p (n ∷ [])) (below_any p n k before passes)
-  | inr last ↦ (let same : n ≡ k = omega arith in or_right (list_any p (below n)) (list_any p (n ∷ [])) (or_left (p n) false (ap p same ∙ passes)))
 ]
 
 module _ (parent : ℕ → Option ℕ) (count : ℕ) (only : (e p : ℕ) → parent e ≡ Some p → e < count) where
@@ -38,7 +32,7 @@ module _ (parent : ℕ → Option ℕ) (count : ℕ) (only : (e p : ℕ) → par
   pub by_on_loop : (d : ℕ) → IsOnLoop parent d → comes_back d ≡ true
   by_on_loop d loop =
       let back = back_within parent d count only loop in
-      below_any (λ n. same_number (follow parent (n + 1) d) d) count back.0 back.1
+      any_below_at (λ n. same_number (follow parent (n + 1) d) d) count back.0 back.1
       (some-same_number (follow parent (back.0 + 1) d) d (ap (λ n. follow parent n d) (add-one back.0) ∙ back.2))
 
   -- it is on a loop exactly where it does

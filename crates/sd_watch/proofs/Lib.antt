@@ -5,3 +5,4 @@ pub mod Marking
 pub mod Acting
 pub mod Changed
 pub mod Counted
+pub mod Shared

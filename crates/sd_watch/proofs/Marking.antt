@@ -6,7 +6,7 @@ use Rattle.std.proofs.lemmas.List.{get_or-set_same, get_or-set_other}
 use Rattle.std.proofs.Math.ListN.{length-set}
 use Rattle.std.proofs.lemmas.List.Sums.{sum_by-set}
 use Rattle.std.proofs.lemmas.Option.{slice_get_within, slice_get-get_or, get_or_from_slice_get}
-use Rattle.sd_num.specs.Lists.{of_some}
+use Rattle.sd_num.specs.Lists.{map_or}
 use Rattle.sd_watch.specs.Watch.{IsOnLoop, HasNoLoop, IsFirstOnLoop}
 use Rattle.sd_watch.specs.Settled.{NoneBefore, IsSettled, mark_at, has_mark, AreAtMost, AreSettled, IsWalk, one_if_new, new_count}
 use Rattle.sd_watch.proofs.Following.{one_more}
@@ -16,13 +16,13 @@ use Rattle.sd_watch.proofs.Settling.{settled_end, settled_leading}
 pub marked_parts : (marks : List ℕ) (d mark : ℕ) → has_mark marks d mark ≡ true → (d < length marks) × (mark_at marks d ≡ mark)
 marked_parts marks d mark has = by (slice_get marks d) refl has
   where
-    by : (o : Option ℕ) → slice_get marks d ≡ o → of_some o false (λ m. nat_eq m mark) ≡ true → (d < length marks) × (mark_at marks d ≡ mark)
+    by : (o : Option ℕ) → slice_get marks d ≡ o → map_or o false (λ m. nat_eq m mark) ≡ true → (d < length marks) × (mark_at marks d ≡ mark)
     by None is has = cc
     by (Some m) is has = (slice_get_within marks d m is, get_or_from_slice_get marks d m 0 is ∙ eqb-true m mark has)
 
 pub has_this_mark : (marks : List ℕ) (d mark : ℕ) → d < length marks → mark_at marks d ≡ mark → has_mark marks d mark ≡ true
 has_this_mark marks d mark within at =
-    ap (λ o. of_some o false (λ m. nat_eq m mark)) (slice_get-get_or marks d 0 within) ∙ eq-eqb (mark_at marks d) mark at
+    ap (λ o. map_or o false (λ m. nat_eq m mark)) (slice_get-get_or marks d 0 within) ∙ eq-eqb (mark_at marks d) mark at
 
 pub has_other_mark : (marks : List ℕ) (d mark : ℕ) → d < length marks → has_mark marks d mark ≡ false → mark_at marks d ≢ mark
 has_other_mark marks d mark within hasnt at = both_ways (has_mark marks d mark) hasnt (has_this_mark marks d mark within at)

@@ -3,7 +3,7 @@ use Rattle.std.specs.Prelude.{◌≡◌, ℕ, zero, suc, ◌≤◌, ◌<◌, Lis
 use Rattle.std.proofs.Common.{refl, sym, ap, ◌∙◌, arith, subst, inl, inr}
 use Rattle.std.proofs.lemmas.Bool.{cases_lt}
 use Rattle.std.proofs.lemmas.Option.{same_Some, slice_get_within, none-some}
-use Rattle.sd_num.specs.Lists.{of_some}
+use Rattle.sd_num.specs.Lists.{map_or}
 use Rattle.sd_watch.specs.Watch.{parent_in, follow}
 use Rattle.sd_watch.specs.Settled.{NoneBefore, IsSettled}
 use Rattle.sd_watch.proofs.Following.{one_more, before_last, from_parent, has_parent, on_the_way}
@@ -12,7 +12,7 @@ use Rattle.sd_watch.proofs.Following.{one_more, before_last, from_parent, has_pa
 pub only_within : (parents : List (Option ℕ)) (d p : ℕ) → parent_in parents d ≡ Some p → d < length parents
 only_within parents d p follows = by (slice_get parents d) refl follows
   where
-    by : (o : Option (Option ℕ)) → slice_get parents d ≡ o → of_some o None (λ parent. parent) ≡ Some p → d < length parents
+    by : (o : Option (Option ℕ)) → slice_get parents d ≡ o → map_or o None (λ parent. parent) ≡ Some p → d < length parents
     by None is follows = cc
     by (Some entry) is follows = slice_get_within parents d entry is
 
@@ -67,6 +67,6 @@ module _ (parent : ℕ → Option ℕ) (first : Option ℕ) where
 pub entry_there : (parents : List (Option ℕ)) (d p : ℕ) → parent_in parents d ≡ Some p → slice_get parents d ≡ Some (Some p)
 entry_there parents d p follows = by (slice_get parents d) refl follows
   where
-    by : (o : Option (Option ℕ)) → slice_get parents d ≡ o → of_some o None (λ parent. parent) ≡ Some p → slice_get parents d ≡ Some (Some p)
+    by : (o : Option (Option ℕ)) → slice_get parents d ≡ o → map_or o None (λ parent. parent) ≡ Some p → slice_get parents d ≡ Some (Some p)
     by None is follows = cc
     by (Some entry) is follows = is ∙ ap (λ e. Some e) follows

@@ -1,9 +1,9 @@
 -- A device on a loop comes back within as many steps as there are devices with parents: the devices up to its first return are different.
-use Rattle.std.specs.Prelude.{◌≡◌, ◌≢◌, ℕ, zero, suc, ◌+◌, ◌-◌, ◌<◌, ◌≤◌, Bool, true, false, nat_eq, Option, Some, None, cond, ◌⊎◌}
+use Rattle.std.specs.Prelude.{◌≡◌, ◌≢◌, ℕ, zero, suc, ◌+◌, ◌-◌, ◌<◌, ◌≤◌, Bool, true, false, nat_eq, Option, Some, cond, ◌⊎◌}
 use Rattle.std.proofs.Common.{refl, sym, ap, ◌∙◌, inl, inr, arith}
-use Rattle.std.proofs.lemmas.Bool.{cases_Bool, eqb-true, eqb-false, eq-eqb, both_ways, cases_lt}
-use Rattle.std.proofs.lemmas.Option.{same_Some}
-use Rattle.sd_num.specs.Lists.{of_some, same_number}
+use Rattle.std.proofs.lemmas.Bool.{cases_Bool, eqb-true, eqb-false, both_ways, cases_lt}
+use Rattle.sd_num.specs.Lists.{map_or, same_number}
+use Rattle.sd_num.proofs.Shared.{same_number-some, some-same_number}
 use Rattle.sd_watch.specs.Watch.{follow, IsOnLoop}
 use Rattle.sd_watch.proofs.Following.{before_last, further, on_the_way}
 
@@ -69,14 +69,6 @@ some_least test (suc n) = by (some_least test n) (cases_Bool (test n))
       | inr at ↦ (let same : k ≡ n = omega arith in ap test same ∙ fails)
     ])
 
-pub same_number-some : (o : Option ℕ) (x : ℕ) → same_number o x ≡ true → o ≡ Some x
-same_number-some None x same = cc
-same_number-some (Some y) x same = ap Some (eqb-true y x same)
-
-pub some-same_number : (o : Option ℕ) (x : ℕ) → o ≡ Some x → same_number o x ≡ true
-some-same_number None x is = cc
-some-same_number (Some y) x is = eq-eqb y x (same_Some y x is)
-
 module _ (parent : ℕ → Option ℕ) (d : ℕ) where
   -- so many steps and one lead from d back to d
   abbrev pub returns_at : ℕ → Bool
@@ -87,7 +79,7 @@ module _ (parent : ℕ → Option ℕ) (d : ℕ) where
 
   -- up to the first return no device comes twice
   abbrev device_at : ℕ → ℕ
-  device_at i = of_some (follow parent i d) 0 (λ x. x)
+  device_at i = map_or (follow parent i d) 0 (λ x. x)
 
   way : (m : ℕ) → IsLeastPassing returns_at m → (i : ℕ) → i ≤ m → (x : ℕ) × (follow parent i d ≡ Some x)
   way m first i within =
@@ -95,7 +87,7 @@ module _ (parent : ℕ → Option ℕ) (d : ℕ) where
       (split.0, split.1)
 
   device_there : (i x : ℕ) → follow parent i d ≡ Some x → device_at i ≡ x
-  device_there i x at = ap (λ o. of_some o 0 (λ y. y)) at
+  device_there i x at = ap (λ o. map_or o 0 (λ y. y)) at
 
   -- a device that came twice would lead back to d earlier
   no_shortcut : (m : ℕ) → IsLeastPassing returns_at m → (i j x : ℕ) → i < j → j ≤ m → follow parent i d ≡ Some x → follow parent j d ≡ Some x → ⊥

@@ -38,6 +38,7 @@ pub record IsWalk (parent : ℕ → Option ℕ) (before now : List ℕ) (walk he
   pub leads : (d : ℕ) → mark_at now d ≡ walk → (n : ℕ) × (follow parent (suc n) d ≡ Some here)
   pub others : (d : ℕ) → mark_at now d ≢ walk → mark_at now d ≡ mark_at before d
 
+-- 1 for a mark that is new, else 0
 abbrev pub one_if_new : ℕ → ℕ
 one_if_new mark = if nat_eq mark 0 then 1 else 0
 

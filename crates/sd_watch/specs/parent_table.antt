@@ -1,3 +1,3 @@
--- What is kept of the parent_table of devices.
+-- What a `ParentTable` keeps of devices.
 pub mod ParentTable
 pub mod ParentTableView

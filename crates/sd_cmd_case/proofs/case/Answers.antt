@@ -1,6 +1,6 @@
 use Rattle.std.proofs.Common.{◌≤◌, length, sym, subst}
 use Rattle.sd_topo.specs.Network.{Network}
-use Rattle.sd_cmd_files.specs.Writes.{Makes}
+use Rattle.sd_cmd_files.specs.Writes.{IsAllowed}
 use Rattle.sd_cmd_case.specs.Cases.{IsCaseOver}
 use Rattle.sd_cmd_case.proofs.Sized.{has_two_devices}
 use Rattle.sd_cmd_case.proofs.case.Goals as goal
@@ -11,4 +11,4 @@ case_over-requires c =
     (has_two_devices c.args.fabric.leaves c.args.fabric.spines c.requires.some_spines)
 
 pub returns-clause-makes : goal.returns-clause-makes
-returns-clause-makes c = subst (λ (net : Network). Makes (IsCaseOver net c.args.number) c.case_over.result) c.in_ok-topo.ensures c.case_over.ensures.makes
+returns-clause-makes c = subst (λ (net : Network). IsAllowed (IsCaseOver net c.args.number) c.case_over.result) c.in_ok-topo.ensures c.case_over.ensures.makes

@@ -1,6 +1,6 @@
 use Rattle.std.proofs.Common.{sym, subst}
 use Rattle.sd_topo.specs.Topologies.{network}
-use Rattle.sd_cmd_files.specs.Writes.{Makes}
+use Rattle.sd_cmd_files.specs.Writes.{IsAllowed}
 use Rattle.sd_cmd_case.specs.Cases.{IsCaseOver}
 use Rattle.sd_cmd_case.proofs.Judging.{case_early, case_told}
 use Rattle.sd_cmd_case.proofs.case_over.Goals as goal
@@ -11,5 +11,5 @@ returns-in-Ok-clause-makes c =
 
 pub returns-in-Err-clause-makes : goal.returns-in-Err-clause-makes
 returns-in-Err-clause-makes c =
-    subst (Makes (IsCaseOver (network c.args.topo) c.args.number)) (sym c.made.ensures)
+    subst (IsAllowed (IsCaseOver (network c.args.topo) c.args.number)) (sym c.made.ensures)
     (case_early (network c.args.topo) c.args.number c.in-Err.early c.in-Err.ensures.makes)

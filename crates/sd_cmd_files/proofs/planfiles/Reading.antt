@@ -10,13 +10,11 @@ use Rattle.sd_plan.specs.declared.Plan.{Plan}
 use Rattle.sd_checker.specs.Verdicts.{IsAccepted}
 use Rattle.sd_checker.specs.declared.Verdict.{Verdict}
 use Rattle.sd_checker.specs.declared.Verdict.TheVariants.{Accepted, Refused}
-use Rattle.sd_cmd_files.specs.Answering.{May, After}
+use Rattle.sd_cmd_files.specs.Answering.{Allowed, After}
 use Rattle.sd_cmd_files.specs.Inputs.{plan_in_file}
-use Rattle.sd_cmd_files.specs.Reasons.{refusal_line}
 use Rattle.sd_cmd_files.specs.Texts.{texts_of}
-use Rattle.sd_cmd_files.specs.Writes.{Makes}
+use Rattle.sd_cmd_files.specs.Writes.{IsAllowed}
 use Rattle.sd_cmd_files.specs.declared.Status.{Status}
-use Rattle.sd_cmd_files.specs.declared.Status.TheVariants.{InputRefused}
 use Rattle.sd_cmd_files.specs.declared.command_error.Answer.{Answer}
 use Rattle.sd_cmd_files.specs.declared.command_error.CommandError.{CommandError}
 use Rattle.sd_cmd_files.specs.declared.command_error.CommandError.TheVariants as ended
@@ -24,27 +22,28 @@ use Rattle.sd_cmd_files.specs.declared.command_error.Refusal.{Refusal}
 use Rattle.sd_cmd_files.specs.declared.planfiles.setup_error.SetupError.{SetupError}
 use Rattle.sd_cmd_files.specs.planfiles.PlanFiles.{AfterAllPlans, AfterJudged, AfterPlan, AfterPlans, AfterVerdict, AreRead}
 use Rattle.sd_cmd_files.specs.planfiles.Refusing.{Nothing}
+use Rattle.sd_cmd_files.proofs.Shared.{makes_more}
 
 -- what is written early, before anything comes after a plan, is written early whatever comes after
-early_verdict : (net : Network) (place : ℕ) (verdict : Verdict) (Never Then : May) (bytes : List ℕ) (status : Status)
+early_verdict : (net : Network) (place : ℕ) (verdict : Verdict) (Never Then : Allowed) (bytes : List ℕ) (status : Status)
     → ((b : List ℕ) (s : Status) → Never b s → ⊥) → AfterVerdict net place verdict Never bytes status
     → AfterVerdict net place verdict Then bytes status
 early_verdict net place Accepted Never Then bytes status never written = absurd (never bytes status written)
 early_verdict net place (Refused breach) Never Then bytes status never written = written
 
-early_file : (net : Network) (place : ℕ) (says : Result Plan Refusal) (Then : Plan → May) (bytes : List ℕ) (status : Status)
+early_file : (net : Network) (place : ℕ) (says : Result Plan Refusal) (Then : Plan → Allowed) (bytes : List ℕ) (status : Status)
     → After says (λ plan. AfterJudged net place plan (Nothing plan)) bytes status
     → After says (λ plan. AfterJudged net place plan (Then plan)) bytes status
 early_file net place (Ok plan) Then bytes status (verdict, says, written) =
     (verdict, says, early_verdict net place verdict (Nothing plan) (Then plan) bytes status (λ b s never. never) written)
 early_file net place (Err why) Then bytes status written = written
 
-pub early_plan : (net : Network) (place : ℕ) (text : List ℕ) (Then : Plan → May) (bytes : List ℕ) (status : Status)
+pub early_plan : (net : Network) (place : ℕ) (text : List ℕ) (Then : Plan → Allowed) (bytes : List ℕ) (status : Status)
     → AfterPlan net place text Nothing bytes status → AfterPlan net place text Then bytes status
 early_plan net place text Then bytes status written = early_file net place (plan_in_file net place text) Then bytes status written
 
 -- a plan that was read and accepted leads to what comes after it
-goes_on : (net : Network) (place : ℕ) (says : Result Plan Refusal) (plan : Plan) (Then : Plan → May) (bytes : List ℕ) (status : Status) → says ≡ Ok plan
+goes_on : (net : Network) (place : ℕ) (says : Result Plan Refusal) (plan : Plan) (Then : Plan → Allowed) (bytes : List ℕ) (status : Status) → says ≡ Ok plan
     → IsAccepted net plan → Then plan bytes status
     → After says (λ p. AfterJudged net place p (Then p)) bytes status
 goes_on net place says plan Then bytes status is accepted written =
@@ -66,7 +65,7 @@ behind_front : (front plans : List Plan) (plan : Plan) → front ++ (plan ∷ pl
 behind_front front plans plan = sym (append_assoc front (plan ∷ []) plans)
 
 -- plans that were read and accepted lead to what comes after them, behind those before
-pub through : (net : Network) (place : ℕ) (front plans : List Plan) (texts more : List (List ℕ)) (Then : List Plan → May) (bytes : List ℕ) (status : Status)
+pub through : (net : Network) (place : ℕ) (front plans : List Plan) (texts more : List (List ℕ)) (Then : List Plan → Allowed) (bytes : List ℕ) (status : Status)
     → AreRead net place texts plans → Each (IsAccepted net) plans
     → AfterPlans net (place + length texts) (front ++ plans) more Then bytes status → AfterPlans net place front (texts ++ more) Then bytes status
 through net place front [] [] more Then bytes status read accepted written =
@@ -116,13 +115,6 @@ reads_none (Some h) net texts plans none = subst (λ (ps : List Plan). AreRead n
 pub each_none : (P : Plan → Type 0) (plans : List Plan) → plans ≡ [] → Each P plans
 each_none P plans none = subst (Each P) (sym none) (λ i x is. cc)
 
-makes_more : (Writes More : May) (made : Result Answer CommandError) → ((bytes : List ℕ) (status : Status) → Writes bytes status → More bytes status)
-    → Makes Writes made → Makes More made
-makes_more Writes More (Ok answer) more makes = more answer.text.items answer.status makes
-makes_more Writes More (Err (ended.Refused why)) more makes = more (refusal_line why) InputRefused makes
-makes_more Writes More (Err ended.Shelf) more makes = tt
-makes_more Writes More (Err ended.Memory) more makes = tt
-
 -- the texts of the first names, the next one, and the others
 split_at : {A : Type 0} (xs : List A) (n : ℕ) (d : A) → n < length xs → xs ≡ take n xs ++ (get_or xs n d ∷ drop (suc n) xs)
 split_at xs n d within = sym (take-append-drop n xs) ∙ ap (λ (r : List _). take n xs ++ r) (drop-cons xs n d within)
@@ -133,7 +125,7 @@ first_place n = omega arith
 -- a plan that ends the command early ends it whatever was accepted before
 ends_early : (net : Network) (texts : List (List ℕ)) (plans : List Plan) (text : List ℕ) (made : Result Answer CommandError)
     → AreRead net 1 (take (length plans) texts) plans → Each (IsAccepted net) plans → length plans < length texts
-    → text ≡ get_or texts (length plans) [] → Makes (AfterPlan net (length plans + 1) text Nothing) made → Makes (AfterAllPlans net texts Nothing) made
+    → text ≡ get_or texts (length plans) [] → IsAllowed (AfterPlan net (length plans + 1) text Nothing) made → IsAllowed (AfterAllPlans net texts Nothing) made
 ends_early net texts plans text made read accepted within is makes =
     makes_more (AfterPlan net (length plans + 1) text Nothing) (AfterAllPlans net texts Nothing) made more makes
   where
@@ -171,8 +163,8 @@ told_early_of : (held : Option (List ℕ → Option (List ℕ))) (net : Network)
     (made : Result Answer CommandError)
     → IfSome held (λ h. AreRead net 1 (take (length plans) (map (λ n. texts_of h n) (map string_bytes names))) plans) → Each (IsAccepted net) plans
     → length plans < length names → name ≡ get_or names (length plans) name
-    → IfSome held (λ h. Makes (AfterPlan net (length plans + 1) (texts_of h (string_bytes name)) Nothing) made)
-    → IfSome held (λ h. Makes (AfterAllPlans net (map (λ n. texts_of h n) (map string_bytes names)) Nothing) made)
+    → IfSome held (λ h. IsAllowed (AfterPlan net (length plans + 1) (texts_of h (string_bytes name)) Nothing) made)
+    → IfSome held (λ h. IsAllowed (AfterAllPlans net (map (λ n. texts_of h n) (map string_bytes names)) Nothing) made)
 told_early_of None net names plans name made read accepted within is makes = tt
 told_early_of (Some h) net names plans name made read accepted within is makes =
     ends_early net (map (λ n. texts_of h n) (map string_bytes names)) plans (texts_of h (string_bytes name)) made read accepted
@@ -234,13 +226,14 @@ pub told_early : (held : Option (List ℕ → Option (List ℕ))) (net : Network
     (made : Result Answer CommandError) → n ≡ length plans
     → IfSome held (λ h. AreRead net 1 (take (length plans) (map (λ x. texts_of h x) (map string_bytes names))) plans) → Each (IsAccepted net) plans
     → n < length names → name ≡ get_or names n name
-    → IfSome held (λ h. Makes (AfterPlan net (n + 1) (texts_of h (string_bytes name)) Nothing) made)
-    → IfSome held (λ h. Makes (AfterAllPlans net (map (λ x. texts_of h x) (map string_bytes names)) Nothing) made)
+    → IfSome held (λ h. IsAllowed (AfterPlan net (n + 1) (texts_of h (string_bytes name)) Nothing) made)
+    → IfSome held (λ h. IsAllowed (AfterAllPlans net (map (λ x. texts_of h x) (map string_bytes names)) Nothing) made)
 told_early held net names plans n name made same read accepted =
     subst
     (
-    λ (k : ℕ). k < length names → name ≡ get_or names k name → IfSome held (λ h. Makes (AfterPlan net (k + 1) (texts_of h (string_bytes name)) Nothing) made)
-    → IfSome held (λ h. Makes (AfterAllPlans net (map (λ x. texts_of h x) (map string_bytes names)) Nothing) made)
+    λ (k : ℕ). k < length names → name ≡ get_or names k name
+    → IfSome held (λ h. IsAllowed (AfterPlan net (k + 1) (texts_of h (string_bytes name)) Nothing) made)
+    → IfSome held (λ h. IsAllowed (AfterAllPlans net (map (λ x. texts_of h x) (map string_bytes names)) Nothing) made)
     )
     (sym same) (told_early_of held net names plans name made read accepted)
 

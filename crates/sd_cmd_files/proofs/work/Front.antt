@@ -6,8 +6,8 @@ use Rattle.sd_cmd_files.specs.declared.command_error.IoError.{IoError}
 use Rattle.sd_cmd_files.specs.declared.work.LineWork.{Ghosts}
 use Rattle.sd_cmd_files.specs.declared.work.progress.Progress.{Progress}
 use Rattle.sd_cmd_files.specs.declared.work.Taken.TheVariants as taken
-use Rattle.sd_cmd_files.specs.work.Comes.{Makes}
-use Rattle.sd_cmd_files.specs.work.Progresses.{Holds}
+use Rattle.sd_cmd_files.specs.work.Comes.{HasMadeStep}
+use Rattle.sd_cmd_files.specs.work.Progresses.{HasAccepted}
 use Rattle.sd_cmd_files.specs.work.Steps.{step_for, step_pieces}
 use Rattle.sd_cmd_files.specs.work.Taking.{Takes, TakesFront}
 use Rattle.sd_cmd_files.specs.work.Works.{Work}
@@ -20,7 +20,7 @@ module _ {W E : Type 0} (g : Ghosts W E) (middle : W) (w : Work E) (xs : List E)
       (subst (λ (f : Option ℕ). TakesFront w xs text (g.does middle w) (g.printing middle) f) is takes)
 
   pub front_makes : (old new : Progress W) → new.work ≡ middle → old.taken ≡ length xs → new.taken ≡ old.taken + 1
-      → Makes (step_for w xs (w.says xs (take len window))) xs (Holds g new w) (Ok None)
+      → HasMadeStep (step_for w xs (w.says xs (take len window))) xs (HasAccepted g new w) (Ok None)
   front_makes old new stays counted more =
       (took.0, ap (step_for w xs) took.1, (subst (λ (v : W). g.does v w (took.0 ∷ xs)) (sym stays) took.3, omega (arith, counted, more)))
 

@@ -2,8 +2,8 @@
 use Rattle.std.proofs.Common.{ℕ, true, false, List, Option, Result, Ok, Err, inl, inr, sym, ap, subst}
 use Rattle.sd_outside.specs.Pieces.{Pieces, piece_of}
 use Rattle.sd_outside.proofs.Adding.{concat_piece}
-use Rattle.sd_cmd_files.specs.Answering.{AtOnce, InWrites, May, MayWrite}
-use Rattle.sd_cmd_files.specs.Writes.{Makes, Tells, WritesOnce}
+use Rattle.sd_cmd_files.specs.Answering.{AtOnce, InWrites, Allowed, MayWrite}
+use Rattle.sd_cmd_files.specs.Writes.{IsAllowed, HasOutput, WritesOnce}
 use Rattle.sd_cmd_files.specs.declared.Status.{Status}
 use Rattle.sd_cmd_files.specs.declared.command_error.Answer.{Answer}
 use Rattle.sd_cmd_files.specs.declared.command_error.CommandError.{CommandError}
@@ -14,7 +14,7 @@ use Rattle.sd_cmd_files.specs.work.Leaving.{WritesPart}
 use Rattle.sd_cmd_files.specs.work.Ending.{LeavesAt}
 
 -- what may be written is written by one write
-pub at_once : (Writes : May) (bytes : List ℕ) (status : Status) → Writes bytes status → InWrites AtOnce Writes (piece_of bytes) status
+pub at_once : (Writes : Allowed) (bytes : List ℕ) (status : Status) → Writes bytes status → InWrites AtOnce Writes (piece_of bytes) status
 at_once Writes bytes status written =
     (subst (λ (b : List ℕ). Writes b status) (sym (concat_piece bytes)) written, ap piece_of (sym (concat_piece bytes)))
 
@@ -32,7 +32,7 @@ leaves_more Writes More old new (Err stop.Shelf) more part = part_more Writes Mo
 leaves_more Writes More old new (Err stop.Memory) more part = part_more Writes More old new more part
 
 -- what was made and told may be written
-pub told : (Writes : May) (made : Result Answer CommandError) (bytes : List ℕ) (status : Status) → Makes Writes made → Tells made bytes status
+pub told : (Writes : Allowed) (made : Result Answer CommandError) (bytes : List ℕ) (status : Status) → IsAllowed Writes made → HasOutput made bytes status
     → Writes bytes status
 told Writes (Ok answer) bytes status makes (text, answered) =
     subst (λ (b : List ℕ). Writes b status) (sym text) (subst (Writes answer.text.items) (sym answered) makes)
@@ -41,8 +41,8 @@ told Writes (Err ended.Shelf) bytes status makes tells = absurd tells
 told Writes (Err ended.Memory) bytes status makes tells = absurd tells
 
 -- by a command that writes once, whatever it is asked for
-pub leaves_once : (Writes : May) (made : Result Answer CommandError) (old new : Option Pieces) (result : Result Status IoError) → Makes Writes made
-    → WritesOnce (Tells made) old new result → LeavesAt false (InWrites AtOnce Writes) old new result
+pub leaves_once : (Writes : Allowed) (made : Result Answer CommandError) (old new : Option Pieces) (result : Result Status IoError) → IsAllowed Writes made
+    → WritesOnce (HasOutput made) old new result → LeavesAt false (InWrites AtOnce Writes) old new result
 leaves_once Writes made old new (Ok status) makes (bytes, tells, added) =
     (piece_of bytes, at_once Writes bytes status (told Writes made bytes status makes tells), added)
 leaves_once Writes made old new (Err stop.Shelf) makes kept = kept

@@ -6,10 +6,11 @@ use Rattle.std.specs.Borrow.{Bor}
 use Rattle.std.proofs.lemmas.Bool.{and_parts, ltb-true}
 use Rattle.sd_stream.specs.Lines.{lines, line_len}
 use Rattle.sd_stream.specs.Next.{next_of}
-use Rattle.sd_stream.specs.Limits.{Answers, answer_of, is_long, is_past}
+use Rattle.sd_stream.specs.Limits.{IsAnswerTo, answer_of, is_long, is_past}
 use Rattle.sd_stream.specs.declared.faults.StreamFault.{StreamFault}
 use Rattle.sd_stream.specs.declared.faults.StreamFault.TheVariants as stream
 use Rattle.sd_stream.proofs.LineLaws.{line_len-le-length, length-take-line_len, next_of-none, length-next_of, lines-more, lines-some}
+use Rattle.sd_stream.proofs.AnswerLaws.{line_cases}
 use Rattle.sd_cmd_files.specs.work.Works.{Work}
 use Rattle.sd_cmd_files.specs.work.Steps.{Step, step_for, step_of, end_step, refused_step}
 
@@ -25,12 +26,6 @@ past_holds : (long past : Bool) (line : Option (List ℕ)) → cond long (Err st
 past_holds true past line same = cc
 past_holds false true line same = (refl, refl)
 past_holds false false line same = cc
-
-none_holds : (long past : Bool) (line other : Option (List ℕ)) → cond long (Err stream.LongLine) (cond past (Err stream.Limit) (Ok line)) ≡ Ok other
-    → (long ≡ false) × (past ≡ false) × (line ≡ other)
-none_holds true past line other same = cc
-none_holds false true line other same = cc
-none_holds false false line other same = (refl, refl, cc)
 
 -- a text whose next line is too long
 pub step_long : {E : Type 0} (work : Work E) (before : ℕ) (text : List ℕ) (xs : List E) → answer_of before text ≡ Err stream.LongLine
@@ -60,7 +55,7 @@ pub step_line : {E : Type 0} (work : Work E) (before : ℕ) (text line : List �
 unfolding answer_of
 step_line work before text line xs answer =
     let tests : (is_long before text ≡ false) × (is_past before text ≡ false) × (next_of text ≡ Some line) =
-    none_holds (is_long before text) (is_past before text) (next_of text) (Some line) answer in
+    line_cases (is_long before text) (is_past before text) (next_of text) (Some line) answer in
     rw (lines-some text line tests.2, length-next_of text line tests.2, tests.0, tests.1) refl
 
 -- a text that is used up
@@ -69,7 +64,7 @@ pub step_end : {E : Type 0} (work : Work E) (before : ℕ) (text : List ℕ) (xs
 unfolding answer_of
 step_end work before text xs answer =
     let tests : (is_long before text ≡ false) × (is_past before text ≡ false) × (next_of text ≡ None) =
-    none_holds (is_long before text) (is_past before text) (next_of text) None answer in
+    line_cases (is_long before text) (is_past before text) (next_of text) None answer in
     let used_up : text ≡ [] = next_of-none text tests.2 in
     rw used_up refl
 
@@ -85,27 +80,27 @@ next_passed P None before line answer holds = tt
 next_passed P (Some text) before line answer holds = λ w xs. subst (P w xs) (sym (step_line w before text line xs answer)) (holds w xs)
 
 pub next_line : {E : Type 0} (P : Work E → List E → Step E → Type 0) (left : Option (List ℕ)) (before : ℕ) (field : Option (Bor (List ℕ))) (line : Bor (List ℕ))
-    → field ≡ Some line → IfSome left (λ text. Answers (answer_of before text) (Ok field))
+    → field ≡ Some line → IfSome left (λ text. IsAnswerTo (answer_of before text) (Ok field))
     → ((w : Work E) (xs : List E) → P w xs (step_for w xs (w.says xs line.now))) → HoldsNext P left before
 next_line P None before field line is answer holds = tt
 next_line P (Some text) before field line is answer holds =
     λ w xs. subst (P w xs) (sym (step_line w before text line.now xs (answer ∙ ap (λ (f : Option (Bor (List ℕ))). Ok (option_copied f)) is))) (holds w xs)
 
 pub next_end : {E : Type 0} (P : Work E → List E → Step E → Type 0) (left : Option (List ℕ)) (before : ℕ) (field : Option (Bor (List ℕ)))
-    → field ≡ None → IfSome left (λ text. Answers (answer_of before text) (Ok field))
+    → field ≡ None → IfSome left (λ text. IsAnswerTo (answer_of before text) (Ok field))
     → ((w : Work E) (xs : List E) → P w xs (end_step w xs)) → HoldsNext P left before
 next_end P None before field is answer holds = tt
 next_end P (Some text) before field is answer holds =
     λ w xs. subst (P w xs) (sym (step_end w before text xs (answer ∙ ap (λ (f : Option (Bor (List ℕ))). Ok (option_copied f)) is))) (holds w xs)
 
 pub next_long : {E : Type 0} (P : Work E → List E → Step E → Type 0) (left : Option (List ℕ)) (before : ℕ) (why : StreamFault) → why ≡ stream.LongLine
-    → IfSome left (λ text. Answers (answer_of before text) (Err why))
+    → IfSome left (λ text. IsAnswerTo (answer_of before text) (Err why))
     → ((w : Work E) (xs : List E) → P w xs (refused_step w xs (codes "LongLine"))) → HoldsNext P left before
 next_long P None before why is answer holds = tt
 next_long P (Some text) before why is answer holds = λ w xs. subst (P w xs) (sym (step_long w before text xs (rw is at answer))) (holds w xs)
 
 pub next_past : {E : Type 0} (P : Work E → List E → Step E → Type 0) (left : Option (List ℕ)) (before : ℕ) (why : StreamFault) → before ≤ 2 ^ 32
-    → why ≡ stream.Limit → IfSome left (λ text. Answers (answer_of before text) (Err why))
+    → why ≡ stream.Limit → IfSome left (λ text. IsAnswerTo (answer_of before text) (Err why))
     → ((w : Work E) (xs : List E) → P w xs (refused_step w xs (codes "Limit"))) → HoldsNext P left before
 next_past P None before why within is answer holds = tt
 next_past P (Some text) before why within is answer holds = λ w xs. subst (P w xs) (sym (step_past w before text xs within (rw is at answer))) (holds w xs)

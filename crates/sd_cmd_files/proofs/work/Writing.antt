@@ -9,7 +9,7 @@ use Rattle.sd_cmd_files.specs.declared.Status.TheVariants.{InputRefused}
 use Rattle.sd_cmd_files.specs.declared.command_error.IoError.{IoError}
 use Rattle.sd_cmd_files.specs.work.Works.{Work}
 use Rattle.sd_cmd_files.specs.work.Steps.{Step, Last, end_step, step_pieces}
-use Rattle.sd_cmd_files.specs.work.Comes.{Makes}
+use Rattle.sd_cmd_files.specs.work.Comes.{HasMadeStep}
 use Rattle.sd_cmd_files.proofs.work.Stepping.{HoldsNext}
 
 -- a stop is handed on
@@ -25,7 +25,7 @@ AddsStep Stood old new result w xs step = Stood w xs → Adds (step_pieces w xs 
 
 -- a step was made, whatever work is done
 abbrev pub MakesStep : {E : Type 0} → (Stood Stands : Work E → List E → Type 0) → Result (Option Status) IoError → Work E → List E → Step E → Type 0
-MakesStep Stood Stands result w xs step = Stood w xs → Makes step xs (Stands w) result
+MakesStep Stood Stands result w xs step = Stood w xs → HasMadeStep step xs (Stands w) result
 
 -- the same of the next step of the text that is left
 abbrev pub AddsNext : {E T : Type 0} → Option (List ℕ) → ℕ → (Stood : Work E → List E → Type 0) → Option Pieces → Option Pieces → Result T IoError → Type 0

@@ -14,10 +14,10 @@ use Rattle.sd_cmd_files.specs.work.Works.{Work, all_pieces, reading, reading_fro
 use Rattle.sd_cmd_files.specs.work.Steps.{Step, Next, Last}
 
 -- a step was made: after a line that was accepted one more is held, and the last step has its status
-abbrev pub Makes : {E : Type 0} → Step E → (xs : List E) → (Stands : List E → Type 0) → Result (Option Status) IoError → Type 0
-Makes {E = E} step xs Stands (Ok None) = (x : E) × (step ≡ Next x) × Stands (x ∷ xs)
-Makes step xs Stands (Ok (Some status)) = (pieces : Pieces) × (step ≡ Last pieces status)
-Makes step xs Stands (Err why) = Unit {0}
+abbrev pub HasMadeStep : {E : Type 0} → Step E → (xs : List E) → (Stands : List E → Type 0) → Result (Option Status) IoError → Type 0
+HasMadeStep {E = E} step xs Stands (Ok None) = (x : E) × (step ≡ Next x) × Stands (x ∷ xs)
+HasMadeStep step xs Stands (Ok (Some status)) = (pieces : Pieces) × (step ≡ Last pieces status)
+HasMadeStep step xs Stands (Err why) = Unit {0}
 
 -- what taking a line leaves of the reader; `Ok None` is a line that was accepted
 pub record HasTaken {S : Type 0} (g : Ghosts S) (old : LineReader S Buffer g) (result : Result (Option Status) IoError) (new : LineReader S Buffer g) : Type 0

@@ -16,6 +16,7 @@ module _ {E : Type 0} (work : Work E) where
   abbrev pub refused_step : List E → List ℕ → Step E
   refused_step taken why = Last (piece_of (refused_line work (length taken + 1) why)) InputRefused
 
+  -- the step that a line makes: it is accepted, or the text is refused
   abbrev pub step_for : List E → Result E (List ℕ) → Step E
   step_for taken (Ok x) = Next x
   step_for taken (Err why) = refused_step taken why

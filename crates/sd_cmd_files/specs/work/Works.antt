@@ -4,7 +4,7 @@ use Rattle.std.specs.List.{concat, list_any}
 use Rattle.sd_num.specs.Texts.{text_of}
 use Rattle.sd_outside.specs.Pieces.{Pieces, piece_of}
 use Rattle.sd_stream.specs.Lines.{lines, after_line}
-use Rattle.sd_cmd_files.specs.Answering.{May}
+use Rattle.sd_cmd_files.specs.Answering.{Allowed}
 use Rattle.sd_cmd_files.specs.declared.Status.{Status}
 use Rattle.sd_cmd_files.specs.declared.Status.TheVariants.{InputRefused}
 
@@ -39,10 +39,12 @@ length_fault total start line =
     else if nat_lt (2 ^ 32) total && nat_lt (2 ^ 32) (start + length line + 1) then Some (codes "Limit")
     else None
 
+-- what a line says, unless it is refused for a length
 abbrev pub unless_too_long : {E : Type 0} → Option (List ℕ) → Result E (List ℕ) → Result E (List ℕ)
 unless_too_long (Some why) said = Err why
 unless_too_long None said = said
 
+-- the reading ends with a refused line, and goes on behind an accepted one
 abbrev pub read_on : {E : Type 0} → Result E (List ℕ) → List E → (E → Reading E) → Reading E
 read_on (Err why) taken next = record { taken = taken; refused = Some why }
 read_on (Ok x) taken next = next x
@@ -58,6 +60,7 @@ module _ {E : Type 0} (work : Work E) where
   reading_from total start taken (line ∷ others) =
       read_on (judged total start taken line) taken (λ x. reading_from total (start + length line + 1) (x ∷ taken) others)
 
+  -- the reading of a text
   unfoldable pub reading : List ℕ → Reading E
   reading text = reading_from (length text) 0 [] (lines text)
 
@@ -75,6 +78,7 @@ module _ {E : Type 0} (work : Work E) where
   last_bytes taken None = concat (work.last_pieces taken)
   last_bytes taken (Some why) = refused_line (length taken + 1) why
 
+  -- the status of a reading
   abbrev pub status_for : List E → Option (List ℕ) → Status
   status_for taken None = work.last_status taken
   status_for taken (Some why) = InputRefused
@@ -88,18 +92,21 @@ module _ {E : Type 0} (work : Work E) where
   all_pieces [] = []
   all_pieces (x ∷ earlier) = all_pieces earlier ++ piece_of (work.bytes earlier x)
 
+  -- the last writes, in place of a line that is refused its refusal
   abbrev pub last_pieces_for : List E → Option (List ℕ) → Pieces
   last_pieces_for taken None = work.last_pieces taken
   last_pieces_for taken (Some why) = piece_of (refused_line (length taken + 1) why)
 
+  -- all writes of a reading
   abbrev pub pieces_for : Reading E → Pieces
   pieces_for r = all_pieces r.taken ++ last_pieces_for r.taken r.refused
 
+  -- the pieces are the writes of the text's reading
   abbrev pub InSteps : List ℕ → Pieces → Type 0
   InSteps text pieces = pieces ≡ pieces_for (reading text)
 
   -- what a run over a text writes and answers
-  abbrev pub IsOutcome : List ℕ → May
+  abbrev pub IsOutcome : List ℕ → Allowed
   IsOutcome text bytes status = (bytes ≡ written_for (reading text)) × (status ≡ status_for (reading text).taken (reading text).refused)
 
   -- what stands in the text from the line on at which it is refused

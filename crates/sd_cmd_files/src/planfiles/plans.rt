@@ -7,7 +7,7 @@ ghost use Rattle.sd_topo.specs.Topologies.{network};
 ghost use Rattle.sd_checker.specs.Verdicts.{IsAccepted};
 ghost use Rattle.sd_cmd_files.specs.Inputs.{plan_in_file};
 ghost use Rattle.sd_cmd_files.specs.Texts.{texts_of};
-ghost use Rattle.sd_cmd_files.specs.Writes.{Makes};
+ghost use Rattle.sd_cmd_files.specs.Writes.{IsAllowed};
 ghost use Rattle.sd_cmd_files.specs.planfiles.SetupError.{IsPlanRefused, made_of};
 ghost use Rattle.sd_cmd_files.specs.planfiles.PlanFiles.{AfterAllPlans, AfterJudged, AfterPlan, AreRead};
 ghost use Rattle.sd_cmd_files.specs.planfiles.Refusing.{Nothing};
@@ -38,7 +38,7 @@ pub fn load_plans<S: Shelf>(
     ensures fit { IfOk result (λ plans. Each (Fits (network topo.now)) plans.items) }
     ensures accepted { IfOk result (λ plans. Each (IsAccepted (network topo.now)) plans.items) }
     ensures makes { IfErr result (λ early. IfSome (S.held shelf.old) (λ held.
-        Makes (AfterAllPlans (network topo.now)
+        IsAllowed (AfterAllPlans (network topo.now)
         (map (λ name. texts_of held name) (map string_bytes names.now)) Nothing) (made_of early))) }
     ensures answered { IfErr result IsPlanRefused }
     ensures shelf { KeepsShelf S.Shelf (result ≡ Err (SetupError.Stopped CommandError.Shelf))
@@ -73,7 +73,7 @@ fn load_accepted<S: Shelf>(
     ensures accepted { IfOk result (IsAccepted (network topo.now)) }
     ensures makes { IfErr result
         (λ early. IfSome (S.held shelf.old)
-        (λ held. Makes (AfterPlan (network topo.now) place (texts_of held name.now) Nothing)
+        (λ held. IsAllowed (AfterPlan (network topo.now) place (texts_of held name.now) Nothing)
         (made_of early))) }
     ensures answered { IfErr result IsPlanRefused }
     ensures shelf { KeepsShelf S.Shelf (result ≡ Err (SetupError.Stopped CommandError.Shelf))
@@ -89,7 +89,7 @@ fn judge(alloc: Global, topo: &Topology, plan: &Plan, place: u32) -> Result<(), 
     requires { Fits (network topo.now) plan.now }
     ensures accepted { IfOk result (λ done. IsAccepted (network topo.now) plan.now) }
     ensures makes { IfErr result
-        (λ early. Makes (AfterJudged (network topo.now) place plan.now (Nothing plan.now))
+        (λ early. IsAllowed (AfterJudged (network topo.now) place plan.now (Nothing plan.now))
         (made_of early)) }
     ensures answered { IfErr result IsPlanRefused }
     ensures never { IfErr result (λ early. early ≡ SetupError.Stopped CommandError.Shelf → ⊥) }

@@ -11,8 +11,8 @@ ghost use Rattle.sd_cmd_files.specs.work.Ending.{LeavesAt};
 ghost use Rattle.sd_cmd_files.specs.work.Works.{Work, InSteps, IsOutcome, refused_part};
 ghost use Rattle.sd_cmd_files.specs.work.WholeLines.{WritesWhole};
 ghost use Rattle.sd_cmd_files.specs.work.Steps.{step_of, step_pieces};
-ghost use Rattle.sd_cmd_files.specs.work.Comes.{HasTaken, Makes};
-ghost use Rattle.sd_cmd_files.specs.work.Progresses.{Holds};
+ghost use Rattle.sd_cmd_files.specs.work.Comes.{HasTaken, HasMadeStep};
+ghost use Rattle.sd_cmd_files.specs.work.Progresses.{HasAccepted};
 
 use crate::work::LineWork;
 use crate::work::progress::Progress;
@@ -74,12 +74,13 @@ fn take_line<S: Shelf, O: Sink, W: LineWork>(
     requires more { progress.old.taken ≤ 2 ^ 32 }
     ensures makes { IfSome (text_left S.Shelf reader.old)
         (λ text. (w : Work W.Item) (xs : List W.Item)
-        → Holds W.LineWork progress.old w xs
-        → Makes (step_of w (bytes_before reader.old + length text) (bytes_before reader.old) xs
-        (lines text)) xs (Holds W.LineWork progress.new w) result) }
+        → HasAccepted W.LineWork progress.old w xs
+        → HasMadeStep
+        (step_of w (bytes_before reader.old + length text) (bytes_before reader.old) xs
+        (lines text)) xs (HasAccepted W.LineWork progress.new w) result) }
     ensures writes { IfSome (text_left S.Shelf reader.old)
         (λ text. (w : Work W.Item) (xs : List W.Item)
-        → Holds W.LineWork progress.old w xs
+        → HasAccepted W.LineWork progress.old w xs
         → Adds (step_pieces w xs
         (step_of w (bytes_before reader.old + length text) (bytes_before reader.old) xs
         (lines text))) (O.written out.old) (O.written out.new) result) }
@@ -110,12 +111,13 @@ fn take_lent<S: Shelf, O: Sink, W: LineWork>(
     requires more { progress.old.taken ≤ 2 ^ 32 }
     ensures makes { IfSome (text_left S.Shelf reader.old)
         (λ text. (w : Work W.Item) (xs : List W.Item)
-        → Holds W.LineWork progress.old w xs
-        → Makes (step_of w (bytes_before reader.old + length text) (bytes_before reader.old) xs
-        (lines text)) xs (Holds W.LineWork progress.new w) result) }
+        → HasAccepted W.LineWork progress.old w xs
+        → HasMadeStep
+        (step_of w (bytes_before reader.old + length text) (bytes_before reader.old) xs
+        (lines text)) xs (HasAccepted W.LineWork progress.new w) result) }
     ensures writes { IfSome (text_left S.Shelf reader.old)
         (λ text. (w : Work W.Item) (xs : List W.Item)
-        → Holds W.LineWork progress.old w xs
+        → HasAccepted W.LineWork progress.old w xs
         → Adds (step_pieces w xs
         (step_of w (bytes_before reader.old + length text) (bytes_before reader.old) xs
         (lines text))) (O.written out.old) (O.written out.new) result) }

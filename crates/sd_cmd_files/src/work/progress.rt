@@ -7,8 +7,8 @@ ghost use Rattle.sd_cmd_files.specs.Statuses.{is_among};
 ghost use Rattle.sd_cmd_files.specs.Writes.{Adds};
 ghost use Rattle.sd_cmd_files.specs.work.Works.{Work, refused_line};
 ghost use Rattle.sd_cmd_files.specs.work.Steps.{Last, end_step, step_for, step_pieces};
-ghost use Rattle.sd_cmd_files.specs.work.Comes.{Makes};
-ghost use Rattle.sd_cmd_files.specs.work.Progresses.{Holds};
+ghost use Rattle.sd_cmd_files.specs.work.Comes.{HasMadeStep};
+ghost use Rattle.sd_cmd_files.specs.work.Progresses.{HasAccepted};
 
 use crate::work::{LineWork, Taken};
 use crate::{IoError, Status, send};
@@ -72,9 +72,10 @@ impl<W: LineWork> Progress<W> {
         out: &mut O,
     ) -> Result<Option<Status>, IoError>
         requires more { self.old.taken < 2 ^ 63 }
-        ensures makes { (w : Work W.Item) (xs : List W.Item) → Holds W.LineWork self.old w xs
-            → Makes (step_for w xs (w.says xs line.now)) xs (Holds W.LineWork self.new w) result }
-        ensures writes { (w : Work W.Item) (xs : List W.Item) → Holds W.LineWork self.old w xs
+        ensures makes { (w : Work W.Item) (xs : List W.Item) → HasAccepted W.LineWork self.old w xs
+            → HasMadeStep (step_for w xs (w.says xs line.now)) xs
+            (HasAccepted W.LineWork self.new w) result }
+        ensures writes { (w : Work W.Item) (xs : List W.Item) → HasAccepted W.LineWork self.old w xs
             → Adds (step_pieces w xs (step_for w xs (w.says xs line.now))) (O.written out.old)
             (O.written out.new) result }
         ensures counts { result ≡ Ok None → self.new.taken ≡ self.old.taken + 1 }
@@ -116,7 +117,7 @@ impl<W: LineWork> Progress<W> {
     fn refuse<O: Sink>(&mut self, out: &mut O) -> Result<Status, IoError>
         requires more { self.old.taken < 2 ^ 63 }
         requires short { length (W.printing self.old.work) ≤ 64 }
-        ensures writes { (w : Work W.Item) (xs : List W.Item) → Holds W.LineWork self.old w xs
+        ensures writes { (w : Work W.Item) (xs : List W.Item) → HasAccepted W.LineWork self.old w xs
             → Adds (piece_of (refused_line w (length xs + 1) (W.printing self.old.work)))
             (O.written out.old) (O.written out.new) result }
         ensures status { IfOk result (λ status. status ≡ Status.InputRefused) }
@@ -136,7 +137,7 @@ impl<W: LineWork> Progress<W> {
     pub fn refuse_for<O: Sink>(&mut self, why: &[u8], out: &mut O) -> Result<Status, IoError>
         requires more { self.old.taken < 2 ^ 63 }
         requires short { length why.now ≤ 64 }
-        ensures writes { (w : Work W.Item) (xs : List W.Item) → Holds W.LineWork self.old w xs
+        ensures writes { (w : Work W.Item) (xs : List W.Item) → HasAccepted W.LineWork self.old w xs
             → Adds (piece_of (refused_line w (length xs + 1) why.now)) (O.written out.old)
             (O.written out.new) result }
         ensures status { IfOk result (λ status. status ≡ Status.InputRefused) }
@@ -155,10 +156,10 @@ impl<W: LineWork> Progress<W> {
     /// Writes what is due at the end of the text.
     pub fn finish<O: Sink>(&mut self, alloc: Global, out: &mut O) -> Result<Status, IoError>
         requires more { self.old.taken < 2 ^ 63 }
-        ensures writes { (w : Work W.Item) (xs : List W.Item) → Holds W.LineWork self.old w xs
+        ensures writes { (w : Work W.Item) (xs : List W.Item) → HasAccepted W.LineWork self.old w xs
             → Adds (step_pieces w xs (end_step w xs)) (O.written out.old)
             (O.written out.new) result }
-        ensures makes { (w : Work W.Item) (xs : List W.Item) → Holds W.LineWork self.old w xs
+        ensures makes { (w : Work W.Item) (xs : List W.Item) → HasAccepted W.LineWork self.old w xs
             → IfOk result (λ status. (pieces : Pieces) × (end_step w xs ≡ Last pieces status)) }
         ensures gives { IfOk result
             (λ status. IsTrue (is_among (Status.InputRefused ∷ W.gives) status)) }

@@ -10,6 +10,7 @@ use Rattle.sd_plan.specs.declared.Plan.{Plan}
 use Rattle.sd_plan.specs.Plans.{is_member, is_root, is_backup_root}
 use Rattle.sd_plan.specs.Walks.{ends_walks, is_hit}
 use Rattle.sd_checker.specs.CheckReach.Reach.{Fed, acts, stands_by, spared, turns, is_sound, acting_end, next_hop}
+use Rattle.sd_checker.proofs.Shared.{backup_root_ends}
 use Rattle.sd_drill.specs.recovery.Feeding.{IsFedOver}
 use Rattle.sd_drill.specs.recovery.Hops.{hops_at, next_of}
 
@@ -26,15 +27,12 @@ acting_ends net plan f = by (holds_device net f plan.root)
     by true = or_right (is_root plan plan.backup_root) (is_backup_root plan plan.backup_root) (eq-eqb plan.backup_root plan.backup_root refl)
     by false = or_left (is_root plan plan.root) (is_backup_root plan plan.root) (eq-eqb plan.root plan.root refl)
 
-backup_ends : (plan : Plan) (d : ℕ) → d ≡ plan.backup_root → ends_walks plan d ≡ true
-backup_ends plan d same = or_right (is_root plan d) (is_backup_root plan d) (eq-eqb plan.backup_root d (sym same))
-
 -- a device that is hit, and at which no walk ends, is fed where it turns
 fed_over : {net : Network} {plan : Plan} {f : DomainId} {d : ℕ} → Fed net plan f d → is_hit net plan f d ≡ true → ends_walks plan d ≡ false
     → IsFedOver net plan f (next_hop plan d)
 fed_over {net} {plan} {f} {d} (acts sound equal) hit other =
     absurd (both_ways (ends_walks plan d) other (subst (λ (x : ℕ). ends_walks plan x ≡ true) (sym equal) (acting_ends net plan f)))
-fed_over {net} {plan} {f} {d} (stands_by sound equal) hit other = absurd (both_ways (ends_walks plan d) other (backup_ends plan d equal))
+fed_over {net} {plan} {f} {d} (stands_by sound equal) hit other = absurd (both_ways (ends_walks plan d) other (backup_root_ends plan d equal))
 fed_over {net} {plan} {f} {d} (spared sound free) hit other = absurd (both_ways (is_hit net plan f d) (not-true (is_hit net plan f d) free) hit)
 fed_over {net} {plan} {f} {d} (turns hop sound is_hit next link parent fed) hit other =
     subst (λ (o : Option Hop). IsFedOver net plan f o) (sym next) (link, parent, fed)

@@ -10,11 +10,11 @@ use Rattle.sd_plan.specs.declared.Hop.{Hop}
 use Rattle.sd_plan.specs.declared.Plan.{Plan}
 use Rattle.sd_plan.specs.Walks.{end_of}
 use Rattle.sd_checker.specs.CheckLoop.Loops.{hops_of, same_hop, is_walk, HasNoCycle}
+use Rattle.sd_checker.proofs.Exclusive.{same_self}
 use Rattle.sd_drill.specs.recovery.Hops.{listed}
 use Rattle.sd_drill.specs.recovery.Searches.{Leads}
 use Rattle.sd_drill.specs.recovery.Walks.{IsWalk}
 use Rattle.sd_drill.specs.declared.recovery.hops.Hops.{Hops}
-use Rattle.sd_drill.proofs.recovery.Reached.{same_self}
 
 end_append : (d : ℕ) (hs gs : List Hop) → end_of d (hs ++ gs) ≡ end_of (end_of d hs) gs
 end_append d [] gs = refl

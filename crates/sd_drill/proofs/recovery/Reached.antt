@@ -1,8 +1,8 @@
 -- What walks reach, by what those reach that begin with each hop.
 use Rattle.std.specs.Prelude.{◌≡◌, ℕ, ◌+◌, ◌^◌, ◌<◌, ◌≤◌, Bool, true, false, ◌||◌, List, [], ◌∷◌, length, max, nat_eq, option_to_list, Option, Some, None, if◌then◌else◌}
 use Rattle.std.specs.List.{list_any}
-use Rattle.std.proofs.Common.{arith, refl, sym, ap, ap₂, ◌∙◌, subst, ◌⊎◌, inl, inr}
-use Rattle.std.proofs.lemmas.Bool.{and_parts, and_from, or_cases, or_left, or_right, eqb-true, eq-eqb, cases_lt}
+use Rattle.std.proofs.Common.{arith, refl, sym, ap, ◌∙◌, subst, ◌⊎◌, inl, inr}
+use Rattle.std.proofs.lemmas.Bool.{and_parts, and_from, or_cases, or_left, or_right, cases_lt}
 use Rattle.std.proofs.lemmas.List.Folds.{list_any-append}
 use Rattle.sd_topo.specs.Network.{Network, bounds_of, link_of, delay_towards}
 use Rattle.sd_topo.specs.Limits.{IsNetwork, IsLink}
@@ -13,11 +13,13 @@ use Rattle.sd_domain.specs.declared.DomainId.{DomainId}
 use Rattle.sd_plan.specs.declared.Hop.{Hop}
 use Rattle.sd_plan.specs.declared.Plan.{Plan}
 use Rattle.sd_checker.specs.CheckLoop.Loops.{hops_of, same_hop, is_walk}
+use Rattle.sd_checker.proofs.Exclusive.{same_self}
 use Rattle.sd_drill.specs.recovery.Walks.{halves, IsWalk, IsGreatestOf}
 use Rattle.sd_drill.specs.recovery.Reaches.{IsReachOf, IsOverlong, ReachesOf, ReachesFrom, BeginsWith, farther}
 use Rattle.sd_drill.specs.recovery.Hops.{listed}
 use Rattle.sd_drill.specs.declared.recovery.hops.Hops.{Hops}
 use Rattle.sd_drill.specs.declared.recovery.reach.Reach.{Reach}
+use Rattle.sd_drill.proofs.Shared.{same_hop_same}
 
 -- the greatest of two kinds of lists together
 module _ (A B C : List Hop → Type 0) (left : (hs : List Hop) → A hs → C hs) (right : (hs : List Hop) → B hs → C hs) (parts : (hs : List Hop) → C hs
@@ -56,21 +58,12 @@ module _ (A B C : List Hop → Type 0) (left : (hs : List Hop) → A hs → C hs
 abbrev hop_of : ℕ → ℕ → Hop
 hop_of parent link = record { parent = parent; link = link }
 
--- the same hop is the same
-same_is : (a b : Hop) → same_hop a b ≡ true → a ≡ b
-same_is a b same =
-    let both = and_parts (nat_eq a.parent b.parent) (nat_eq a.link b.link) same in
-    ap₂ hop_of (eqb-true a.parent b.parent both.0) (eqb-true a.link b.link both.1)
-
-pub same_self : (hop : Hop) → same_hop hop hop ≡ true
-same_self hop = and_from (nat_eq hop.parent hop.parent) (nat_eq hop.link hop.link) (eq-eqb hop.parent hop.parent refl) (eq-eqb hop.link hop.link refl)
-
 wrong : {X : Type 0} → false ≡ true → X
 wrong same = cc
 
 -- the one hop of a list
 pub one_is : (h hop : Hop) → list_any (same_hop h) (option_to_list (Some hop)) ≡ true → h ≡ hop
-one_is h hop some = elim (or_cases (same_hop h hop) false some) [ inl here ↦ same_is h hop here | inr none ↦ wrong none ]
+one_is h hop some = elim (or_cases (same_hop h hop) false some) [ inl here ↦ same_hop_same h hop here | inr none ↦ wrong none ]
 
 one_has : (hop : Hop) → list_any (same_hop hop) (option_to_list (Some hop)) ≡ true
 one_has hop = or_left (same_hop hop hop) false (same_self hop)

@@ -2,7 +2,7 @@
 use Rattle.std.specs.Prelude.{◌≡◌, ℕ, ◌<◌, Bool, true, false, ◌&&◌, not, [], ◌++◌, length, option_to_list, Option, Some, None, option_map, IfSome, if◌then◌else◌}
 use Rattle.std.proofs.Common.{refl, ◌∙◌}
 use Rattle.std.proofs.lemmas.Bool.{or_parts, cond-true, cond-false}
-use Rattle.sd_num.specs.Lists.{of_some}
+use Rattle.sd_num.specs.Lists.{map_or}
 use Rattle.sd_topo.specs.Network.{Network}
 use Rattle.sd_domain.specs.declared.DomainId.{DomainId}
 use Rattle.sd_plan.specs.declared.Hop.{Hop}
@@ -37,7 +37,7 @@ listed_by false false hit primary backup none = none_listed hit primary backup (
 rowless : (plan : Plan) (d : ℕ) → has_row plan d ≡ false → (primary_of plan d ≡ None) × (backup_of plan d ≡ None)
 rowless plan d none = by (row_of plan d) none
   where
-    by : (row : Option PlanRow) → of_some row false (λ r. true) ≡ false → (option_map (λ r. r.primary) row ≡ None) × (of_some row None (λ r. r.backup) ≡ None)
+    by : (row : Option PlanRow) → map_or row false (λ r. true) ≡ false → (option_map (λ r. r.primary) row ≡ None) × (map_or row None (λ r. r.backup) ≡ None)
     by None off = (refl, refl)
     by (Some row) off = cc
 

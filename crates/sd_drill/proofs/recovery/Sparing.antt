@@ -16,7 +16,7 @@ use Rattle.sd_checker.specs.CheckLoop.Loops.{hops_of, same_hop, is_walk}
 use Rattle.sd_checker.specs.CheckReach.Reach.{Fed, spared}
 use Rattle.sd_drill.specs.recovery.Walks.{halves, IsWalk, IsGreatestOfWalks}
 use Rattle.sd_drill.specs.Drill.{IsWorst, IsListed}
-use Rattle.sd_drill.specs.Spared.{spares, IsSparedBound, AreSparedBounds}
+use Rattle.sd_drill.specs.Spared.{is_spared, IsSparedBound, AreSparedBounds}
 use Rattle.sd_drill.specs.declared.Budget.{Budget}
 use Rattle.sd_drill.proofs.recovery.Hearing.{sound_of}
 use Rattle.sd_drill.proofs.recovery.Reached.{one_is}
@@ -56,11 +56,11 @@ module _ (net : Network) (plan : Plan) where
       same_by (is_member plan d) (ends_walks plan d) (is_hit net plan f d) (is_hit net plan g d) (option_to_list (primary_of plan d))
       (option_to_list (backup_of plan d)) one two
 
-  unhit_of : (f : DomainId) (d : ℕ) → IsTrue (spares net plan f d) → Unhit f d
+  unhit_of : (f : DomainId) (d : ℕ) → IsTrue (is_spared net plan f d) → Unhit f d
   unhit_of f d free other = not-true (is_hit net plan f d) (and_parts (not (is_hit net plan f d)) (not (holds_device net f d)) free).0
 
   -- what is fed under one domain is fed under another that spares it
-  same_fed : (f g : DomainId) (d : ℕ) → IsTrue (spares net plan g d) → Fed net plan f d → Fed net plan g d
+  same_fed : (f g : DomainId) (d : ℕ) → IsTrue (is_spared net plan g d) → Fed net plan f d → Fed net plan g d
   same_fed f g d free fed =
       let parts = and_parts (not (is_hit net plan g d)) (not (holds_device net g d)) free in
       let member : is_member plan d ≡ true = (and_parts (is_member plan d) (not (holds_device net f d)) (sound_of fed)).0 in
@@ -110,7 +110,7 @@ module _ (net : Network) (plan : Plan) where
         }
 
     -- and so is the bound
-    same_worst : (budget : Budget) (f g : DomainId) (d w : ℕ) → d < length net.devices → IsTrue (spares net plan f d) → IsTrue (spares net plan g d)
+    same_worst : (budget : Budget) (f g : DomainId) (d w : ℕ) → d < length net.devices → IsTrue (is_spared net plan f d) → IsTrue (is_spared net plan g d)
         → IsWorst net plan budget f d w → IsWorst net plan budget g d w
     same_worst budget f g d w within one two worst =
         record {
@@ -126,7 +126,7 @@ module _ (net : Network) (plan : Plan) where
         }
 
     -- what is listed under one domain that spares the device is its bound under all of them
-    pub bound_spared : (budget : Budget) (f : DomainId) (d : ℕ) (o : Option ℕ) → d < length net.devices → IsTrue (spares net plan f d)
+    pub bound_spared : (budget : Budget) (f : DomainId) (d : ℕ) (o : Option ℕ) → d < length net.devices → IsTrue (is_spared net plan f d)
         → IsListed net plan budget f d o → IsSparedBound net plan budget d o
     bound_spared budget f d None within free listed = tt
     bound_spared budget f d (Some w) within free listed = λ g also. same_worst budget f g d w within free also listed

@@ -10,6 +10,7 @@ use Rattle.sd_plan.specs.Tables.{EndsAt}
 use Rattle.sd_plan.specs.Walks.{ends_walks, is_hit}
 use Rattle.sd_drill.specs.declared.recovery.hops.Hops.{Hops}
 
+-- the hops, the primary first
 abbrev pub listed : Hops → List Hop
 listed hops = option_to_list hops.primary ++ option_to_list hops.backup
 
@@ -17,6 +18,7 @@ listed hops = option_to_list hops.primary ++ option_to_list hops.backup
 abbrev pub backup_under : Network → Plan → DomainId → ℕ → Option Hop
 backup_under net plan f d = if is_hit net plan f d then backup_of plan d else None
 
+-- no hop at all
 abbrev pub no_hops : Hops
 no_hops = record { primary = None; backup = None }
 

@@ -22,6 +22,7 @@ pub record IsOverlong (net : Network) (Has : List Hop → Type 0) : Type 0 where
   pub has : Has hops
   pub more : net.params.depth + 1 < length hops
 
+-- what the walks reach, where none of them is too long
 abbrev pub ReachesOf : Network → (List Hop → Type 0) → ℕ → Option Reach → Type 0
 ReachesOf net Has d None = IsOverlong net Has
 ReachesOf net Has d (Some reach) = IsReachOf net Has d reach

@@ -7,6 +7,7 @@ use Rattle.sd_checker.specs.CheckReach.Reach.{Fed}
 use Rattle.sd_drill.specs.recovery.Reaches.{ReachesFrom}
 use Rattle.sd_drill.specs.declared.recovery.Recovery.{Recovery}
 
+-- the recovery tells whether the device comes to hear, and what its walks reach
 pub record IsRecovery (net : Network) (plan : Plan) (f : DomainId) (d : ℕ) (recovery : Recovery) : Type 0 where
   pub fed : Decides recovery.fed (Fed net plan f d)
   pub reach : ReachesFrom net plan f d recovery.reach

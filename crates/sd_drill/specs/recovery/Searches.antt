@@ -18,6 +18,7 @@ use Rattle.sd_drill.specs.declared.recovery.search.Recoveries.{Recoveries}
 abbrev pub mark_at : List Mark → ℕ → Mark
 mark_at marks d = slice_index_or marks d mark.New
 
+-- the device was not entered yet
 abbrev pub is_new : Mark → Bool
 is_new mark.New = true
 is_new mark.Entered = false
@@ -34,6 +35,7 @@ abbrev pub new_parent : List Mark → Option Hop → Option ℕ
 new_parent marks None = None
 new_parent marks (Some hop) = if is_new (mark_at marks hop.parent) then Some hop.parent else None
 
+-- the first of the two parents that is new
 abbrev pub first_new : List Mark → Hops → Option ℕ
 first_new marks hops = option_or (new_parent marks hops.primary) (new_parent marks hops.backup)
 

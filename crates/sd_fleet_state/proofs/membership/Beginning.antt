@@ -10,9 +10,9 @@ use Rattle.sd_history.specs.World.{Setting}
 use Rattle.sd_fleet_state.specs.world.Registers.{first_registers}
 use Rattle.sd_fleet_state.specs.world.Registers as world
 use Rattle.sd_fleet_state.specs.world.Standing as standing
-use Rattle.sd_fleet_state.specs.declared.membership.Answered.{Answered}
+use Rattle.sd_fleet_state.specs.declared.membership.AnswerSummary.{AnswerSummary}
 use Rattle.sd_fleet_state.specs.declared.membership.settled_count.SettledCount.{SettledCount}
-use Rattle.sd_fleet_state.specs.declared.membership.plans.Numbered.{Numbered}
+use Rattle.sd_fleet_state.specs.declared.membership.plans.NumberedPlan.{NumberedPlan}
 use Rattle.sd_fleet_state.specs.membership.Plans.{AreSound, numbered}
 use Rattle.sd_fleet_state.specs.membership.Memberships.{Registers, IsSound}
 use Rattle.sd_fleet_state.specs.membership.Counts.{none_counted, settled_count_of}
@@ -29,19 +29,19 @@ pub record IsFirst (r : Registers) (net : Network) (plans : List Plan) (devices 
   pub device_count : devices ≡ length net.devices
   pub link_count : links ≡ length net.links
 
-pub same_nothing : (answers : List (Option Answered)) (n m k : ℕ) → answers ≡ replicate n None → n ≡ k → m ≡ k → answers ≡ replicate m None
+pub same_nothing : (answers : List (Option AnswerSummary)) (n m k : ℕ) → answers ≡ replicate n None → n ≡ k → m ≡ k → answers ≡ replicate m None
 same_nothing answers n m k nothing one other = nothing ∙ ap (λ (x : ℕ). replicate x None) (one ∙ sym other)
 
-abbrev made : List Numbered → world.Registers → List (Option Answered) → Registers
+abbrev made : List NumberedPlan → world.Registers → List (Option AnswerSummary) → Registers
 made plans world answers = record { plans = plans; world = world; answers = answers }
 
 is_first : (r : Registers) (net : Network) (plans : List Plan) (devices links : ℕ) → IsFirst r net plans devices links
     → r ≡ made (numbered net plans) (first_registers (length net.devices) (length net.links)) (replicate (length net.devices) None)
 is_first r net plans devices links first =
-    ap (λ (ps : List Numbered). made ps r.world r.answers) first.numbers
+    ap (λ (ps : List NumberedPlan). made ps r.world r.answers) first.numbers
     ∙ ap (λ (w : world.Registers). made (numbered net plans) w r.answers)
     (first.begun ∙ ap (λ (n : ℕ). first_registers n links) first.device_count ∙ ap (λ (n : ℕ). first_registers (length net.devices) n) first.link_count)
-    ∙ ap (λ (xs : List (Option Answered)). made (numbered net plans) (first_registers (length net.devices) (length net.links)) xs)
+    ∙ ap (λ (xs : List (Option AnswerSummary)). made (numbered net plans) (first_registers (length net.devices) (length net.links)) xs)
     (first.nothing ∙ ap (λ (n : ℕ). replicate n None) first.device_count)
 
 sound_first : (net : Network) (plans : List Plan) → IsNetwork net → AreSound net plans → 1 ≤ length plans → length plans < 2 ^ 32
@@ -68,7 +68,7 @@ pub counted_beginning : (r : Registers) (net : Network) (plans : List Plan) (dev
 counted_beginning r net plans devices links settled_count first none =
     none ∙ sym (settled_count_shut r (ap (λ (w : world.Registers). world.is_open w.window) first.begun))
 
-nothing_at : (n d : ℕ) → at_place (replicate n None) d None (λ (a : Option Answered). a) ≡ None
+nothing_at : (n d : ℕ) → at_place (replicate n None) d None (λ (a : Option AnswerSummary). a) ≡ None
 nothing_at zero d = refl
 nothing_at (suc n) zero = refl
 nothing_at (suc n) (suc d) = nothing_at n d
@@ -83,8 +83,8 @@ stands_beginning r net plans devices links first sound follows stands setting sa
     record {
       sound = sound;
       sound_plans = subst (λ (n : Network). AreSound n setting.plans) (sym same_net) (subst (λ (ps : List Plan). AreSound net ps) (sym same_plans) follows);
-      device_count = ap (λ (xs : List (Option Answered)). length xs) first.nothing ∙ length-replicate devices None ∙ sym device_count;
+      device_count = ap (λ (xs : List (Option AnswerSummary)). length xs) first.nothing ∙ length-replicate devices None ∙ sym device_count;
       plans = first.numbers ∙ ap (λ (n : Network). numbered n plans) (sym same_net) ∙ ap (λ (ps : List Plan). numbered setting.net ps) (sym same_plans);
       world = stands setting device_count link_count;
-      answers = λ d within. ap (λ (xs : List (Option Answered)). at_place xs d None (λ a. a)) first.nothing ∙ nothing_at devices d;
+      answers = λ d within. ap (λ (xs : List (Option AnswerSummary)). at_place xs d None (λ a. a)) first.nothing ∙ nothing_at devices d;
     }

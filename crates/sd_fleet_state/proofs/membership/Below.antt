@@ -5,7 +5,8 @@ use Rattle.std.specs.List.{cons_option}
 use Rattle.std.proofs.Common.{arith, sym, ◌∙◌, ap, subst, inl, inr}
 use Rattle.std.proofs.lemmas.Bool.{and_parts, or_cases, eqb-true, false_from_ne_true}
 use Rattle.std.proofs.lemmas.Option.{slice_get-get_or}
-use Rattle.sd_num.specs.Lists.{of_some}
+use Rattle.sd_num.specs.Lists.{map_or}
+use Rattle.sd_num.proofs.Firsts.{find_below_none}
 use Rattle.sd_topo.specs.Network.{Network, device_numbers, link_numbers, joins}
 use Rattle.sd_plan.specs.declared.Hop.{Hop}
 use Rattle.sd_plan.specs.declared.Plan.{Plan}
@@ -14,7 +15,6 @@ use Rattle.sd_plan.specs.Plans.{Fits, IsHop, is_member, is_present, primary_of, 
 use Rattle.sd_plan.specs.Structure.{hop_is_right}
 use Rattle.sd_plan.specs.Duties.{duty_of, ends_of, leads_to, follows_over}
 use Rattle.sd_plan.specs.Tables.{TableRow, table_row}
-use Rattle.sd_plan.proofs.Numbered.{find_none}
 use Rattle.sd_plan.proofs.Rules.{KeepsRules, keeps_rules, hops_within}
 use Rattle.sd_history.specs.World.{Setting, Seen, window, window_is_open, epoch_in_force, staged_epoch, in_force, staged, plan_numbered, no_plan}
 use Rattle.sd_history.specs.Steps.{Step, seen_of, ends_at}
@@ -53,7 +53,7 @@ pub none_below : (net : Network) (plan : Plan) (d : ℕ) → KeepsRules net plan
 none_below net plan d rules out =
     none_mapped (λ l. option_map (λ c. record { link = l; device = c }) (find (follows_over plan d l) (device_numbers net))) (link_numbers net)
     (λ l. ap (option_map (λ c. record { link = l; device = c }))
-    (find_none (follows_over plan d l) (length net.devices)
+    (find_below_none (follows_over plan d l) (length net.devices)
     (λ c within. false_from_ne_true (follows_over plan d l c) (λ follows.
     let member : is_member plan d ≡ true = follows_member net plan d l c rules within follows in cc))))
 
@@ -76,17 +76,17 @@ pub none_below_unknown : (net : Network) (plan : Plan) (d : ℕ) → Fits net pl
 none_below_unknown net plan d fits out =
     none_mapped (λ l. option_map (λ c. record { link = l; device = c }) (find (follows_over plan d l) (device_numbers net))) (link_numbers net)
     (λ l. ap (option_map (λ c. record { link = l; device = c }))
-    (find_none (follows_over plan d l) (length net.devices)
+    (find_below_none (follows_over plan d l) (length net.devices)
     (λ c within. false_from_ne_true (follows_over plan d l c) (λ follows.
     let known : d < length net.devices = follows_device net plan d l c fits follows in omega (arith, known, out)))))
 
 -- what the table has below a device
 downstream_is : (net : Network) (plan : Plan) (epoch d : ℕ) → KeepsRules net plan
-    → of_some (table_row net plan epoch d) [] (λ (row : TableRow). row.downstream) ≡ ends_of net plan d
+    → map_or (table_row net plan epoch d) [] (λ (row : TableRow). row.downstream) ≡ ends_of net plan d
 downstream_is net plan epoch d rules = go (is_member plan d) refl
   where
     go : (b : Bool) → is_member plan d ≡ b
-        → of_some (option_map (λ duty. record { duty = duty; downstream = ends_of net plan d }) (if b then Some (duty_of net plan epoch d) else None)) []
+        → map_or (option_map (λ duty. record { duty = duty; downstream = ends_of net plan d }) (if b then Some (duty_of net plan epoch d) else None)) []
         (λ (row : TableRow). row.downstream) ≡ ends_of net plan d
     go true member = refl
     go false out = sym (none_below net plan d rules out)
@@ -101,7 +101,7 @@ module _ (r : Registers) (setting : Setting) (steps : List Step) (stands : Stand
       let within : epoch - 1 < length setting.plans = omega (arith, plan_count r setting steps stands, there.first, there.last) in
       let it : slice_get setting.plans (epoch - 1) ≡ Some (get_or setting.plans (epoch - 1) no_plan) =
       slice_get-get_or setting.plans (epoch - 1) no_plan within in
-      subst (λ o. IsFollowable setting.net (of_some o no_plan (λ plan. plan))) (sym it) (plans (epoch - 1) (get_or setting.plans (epoch - 1) no_plan) it)
+      subst (λ o. IsFollowable setting.net (map_or o no_plan (λ plan. plan))) (sym it) (plans (epoch - 1) (get_or setting.plans (epoch - 1) no_plan) it)
 
   -- and keeps the rules
   keeps : (epoch : ℕ) → IsNumber r.plans epoch → KeepsRules setting.net (plan_numbered setting epoch)
@@ -109,9 +109,9 @@ module _ (r : Registers) (setting : Setting) (steps : List Step) (stands : Stand
 
   -- below a device in a plan that there is
   below_in : (epoch d : ℕ) → IsNumber r.plans epoch → d < length setting.net.devices
-      → of_some (row_numbered r.plans epoch d) [] (λ (row : TableRow). row.downstream) ≡ ends_of setting.net (plan_numbered setting epoch) d
+      → map_or (row_numbered r.plans epoch d) [] (λ (row : TableRow). row.downstream) ≡ ends_of setting.net (plan_numbered setting epoch) d
   below_in epoch d there within =
-      ap (λ o. of_some o [] (λ (row : TableRow). row.downstream)) (row_numbered_is r setting steps stands epoch d there within)
+      ap (λ o. map_or o [] (λ (row : TableRow). row.downstream)) (row_numbered_is r setting steps stands epoch d there within)
       ∙ downstream_is setting.net (plan_numbered setting epoch) epoch d (keeps epoch there)
 
   -- what lies below a device in a plan, where this is in force or staged
@@ -123,10 +123,10 @@ module _ (r : Registers) (setting : Setting) (steps : List Step) (stands : Stand
       ∙ by (nat_eq epoch (epoch_in_force seen)) refl
     where
       row : List End
-      row = of_some (row_numbered r.plans epoch d) [] (λ (x : TableRow). x.downstream)
+      row = map_or (row_numbered r.plans epoch d) [] (λ (x : TableRow). x.downstream)
 
       by_window : epoch ≡ staged_epoch seen → (w : Option (List Seen)) → window seen ≡ w
-          → (if is_some w then row else []) ≡ of_some (option_map (λ x. plan_numbered setting (staged_epoch seen)) w) [] (λ plan. ends_of setting.net plan d)
+          → (if is_some w then row else []) ≡ map_or (option_map (λ x. plan_numbered setting (staged_epoch seen)) w) [] (λ plan. ends_of setting.net plan d)
       by_window here None none = refl
       by_window here (Some x) some =
           let open_ : is_open r.world.window ≡ true = stands.world.open_window ∙ ap is_some some in
@@ -135,13 +135,13 @@ module _ (r : Registers) (setting : Setting) (steps : List Step) (stands : Stand
           ∙ ap (λ n. ends_of setting.net (plan_numbered setting n) d) here
 
       second : (b : Bool) → nat_eq epoch (staged_epoch seen) ≡ b
-          → (if b && window_is_open seen then row else []) ≡ of_some (if b then staged setting seen else None) [] (λ plan. ends_of setting.net plan d)
+          → (if b && window_is_open seen then row else []) ≡ map_or (if b then staged setting seen else None) [] (λ plan. ends_of setting.net plan d)
       second true here = by_window (eqb-true epoch (staged_epoch seen) here) (window seen) refl
       second false other = refl
 
       by : (b : Bool) → nat_eq epoch (epoch_in_force seen) ≡ b
           → (if b || (nat_eq epoch (staged_epoch seen) && window_is_open seen) then row else [])
-          ≡ of_some (if b then Some (in_force setting seen) else if nat_eq epoch (staged_epoch seen) then staged setting seen else None) []
+          ≡ map_or (if b then Some (in_force setting seen) else if nat_eq epoch (staged_epoch seen) then staged setting seen else None) []
           (λ plan. ends_of setting.net plan d)
       by true here =
           let same : epoch ≡ epoch_in_force seen = eqb-true epoch (epoch_in_force seen) here in

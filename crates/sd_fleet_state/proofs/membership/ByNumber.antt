@@ -9,7 +9,7 @@ use Rattle.sd_plan.specs.Tables.{table_of, table_row, row_at, has_row_at}
 use Rattle.sd_plan.proofs.Numbered.{length-numbered, at-numbered}
 use Rattle.sd_plan.proofs.TableLaws.{row_at-table, row_at-member, has_row_at-table}
 use Rattle.sd_history.specs.World.{Setting, plan_numbered}
-use Rattle.sd_fleet_state.specs.declared.membership.plans.Numbered.{Numbered}
+use Rattle.sd_fleet_state.specs.declared.membership.plans.NumberedPlan.{NumberedPlan}
 use Rattle.sd_fleet_state.specs.membership.Plans.{numbered, numbered_at, IsNumber, table_numbered, root_numbered, row_numbered, is_member_numbered}
 
 -- as many as there are plans
@@ -17,7 +17,7 @@ pub length-plans : (net : Network) (plans : List Plan) → length (numbered net 
 length-plans net plans = length-numbered (numbered_at net plans) (length plans)
 
 module _ (setting : Setting) (epoch : ℕ) (there : IsNumber (numbered setting.net setting.plans) epoch) where
-  abbrev plans : List Numbered
+  abbrev plans : List NumberedPlan
   plans = numbered setting.net setting.plans
 
   abbrev plan : Plan

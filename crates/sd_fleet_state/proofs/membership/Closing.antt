@@ -1,38 +1,28 @@
 -- The window can close by what is kept exactly where it can by the words on histories.
-use Rattle.std.specs.Prelude.{◌≡◌, ℕ, ◌<◌, zero, suc, Bool, true, false, ◌&&◌, List, [], ◌∷◌, length, filter, nat_eq, nat_le, Option, Some, None, is_some, option_map, refl}
+use Rattle.std.specs.Prelude.{◌≡◌, ℕ, ◌<◌, Bool, true, false, ◌&&◌, List, [], ◌∷◌, length, filter, nat_eq, nat_le, Option, Some, None, is_some, option_map, refl}
 use Rattle.std.specs.List.{list_all, list_any}
-use Rattle.std.proofs.Common.{arith, sym, ◌∙◌, ap, inl, inr}
-use Rattle.sd_num.specs.Lists.{of_some, below}
+use Rattle.std.proofs.Common.{sym, ◌∙◌, ap}
+use Rattle.sd_num.specs.Lists.{map_or, below}
 use Rattle.sd_plan.specs.declared.Plan.{Plan}
 use Rattle.sd_plan.specs.Plans.{is_member, members}
 use Rattle.sd_sched.specs.Events.{is_commit}
 use Rattle.sd_history.specs.World.{Setting, Seen, is_up, window, window_is_open, has_commit, staged, staged_epoch, plan_numbered}
 use Rattle.sd_history.specs.Steps.{Answers, Step, seen_of, live_answers, has_settled, can_close}
-use Rattle.sd_history.proofs.Among.{Among, first, later, either_side}
+use Rattle.sd_history.proofs.Among.{Among}
 use Rattle.sd_history.proofs.Filters.{kept_alike, both_tests, kept_among, all_alike}
+use Rattle.sd_history.proofs.flights.Places.{among_below}
 use Rattle.sd_fleet_state.specs.world.Registers.{is_committed}
-use Rattle.sd_fleet_state.specs.declared.membership.Answered.{Answered}
+use Rattle.sd_fleet_state.specs.declared.membership.AnswerSummary.{AnswerSummary}
 use Rattle.sd_fleet_state.specs.membership.Memberships.{Registers, staged_number, is_in_staged, is_present, has_settled_at, can_close_in}
 use Rattle.sd_fleet_state.specs.membership.Standing.{Stands, summary}
 use Rattle.sd_fleet_state.proofs.membership.Queries.{at_device, live_is, staged_number_is, staged_when, in_staged_is}
 
 -- Counts
 
-among_below : (n d : ℕ) → Among d (below n) → d < n
-among_below zero d a = elim a [ ]
-among_below (suc n) d a = elim (either_side (below n) (n ∷ []) a) [
-  | inl before ↦ (let less : d < n = among_below n d before in omega arith)
-  | inr last ↦ at_last d n last
-]
-  where
-    at_last : (c m : ℕ) → Among c (m ∷ []) → c < suc m
-    at_last c m first = omega arith
-    at_last c m (later b) = elim b [ ]
-
 -- Who is present, and who has settled
 
 settled_by : (epoch : ℕ) (o : Option Answers)
-    → of_some (option_map summary o) false (λ (a : Answered). nat_eq a.epoch epoch && a.sealed) ≡ of_some o false (λ a. nat_eq a.epoch epoch && a.sealed)
+    → map_or (option_map summary o) false (λ (a : AnswerSummary). nat_eq a.epoch epoch && a.sealed) ≡ map_or o false (λ a. nat_eq a.epoch epoch && a.sealed)
 settled_by epoch None = refl
 settled_by epoch (Some a) = refl
 
@@ -59,7 +49,7 @@ module _ (r : Registers) (setting : Setting) (steps : List Step) (stands : Stand
 
   settled_is : (d : ℕ) → d < devices → has_settled_at r d ≡ has_settled steps (staged_epoch seen) d
   settled_is d within =
-      ap (λ o. of_some o false (λ (x : Answered). nat_eq x.epoch (staged_number r) && x.sealed)) (live_is r setting steps stands d within)
+      ap (λ o. map_or o false (λ (x : AnswerSummary). nat_eq x.epoch (staged_number r) && x.sealed)) (live_is r setting steps stands d within)
       ∙ settled_by (staged_number r) (live_answers steps d)
       ∙ ap (λ n. has_settled steps n d) (staged_number_is r setting steps stands)
 
@@ -69,7 +59,7 @@ module _ (r : Registers) (setting : Setting) (steps : List Step) (stands : Stand
         let within : d < devices = among_below devices d a in
         ap (λ b. b && is_in_staged r d) (at_device r setting steps stands d within).up
         ∙ ap (λ b. is_up seen d && b)
-        (in_staged_is r setting steps stands d within ∙ ap (λ o. of_some o false (λ plan. is_member plan d)) (staged_when r setting steps stands open_))
+        (in_staged_is r setting steps stands d within ∙ ap (λ o. map_or o false (λ plan. is_member plan d)) (staged_when r setting steps stands open_))
 
     present_are : filter (is_present r) (below (length r.answers)) ≡ present
     present_are =
@@ -98,12 +88,12 @@ module _ (r : Registers) (setting : Setting) (steps : List Step) (stands : Stand
     where
       by : (w : Option (List Seen)) → window seen ≡ w → can_close_in r ≡ can_close setting steps
       by None none =
-          let never : has_commit seen ≡ false = ap (λ w. of_some w false (list_any (λ (s : Seen). is_commit s.event))) none in
+          let never : has_commit seen ≡ false = ap (λ w. map_or w false (list_any (λ (s : Seen). is_commit s.event))) none in
           ap (λ b. b && nat_le 1 (length (filter (is_present r) (below (length r.answers))))
           && list_all (has_settled_at r) (filter (is_present r) (below (length r.answers)))) (stands.world.commit ∙ never)
-          ∙ sym (ap (λ b. b && of_some (staged setting seen) false (λ plan. closes (filter (is_up seen) (members setting.net plan)))) never)
+          ∙ sym (ap (λ b. b && map_or (staged setting seen) false (λ plan. closes (filter (is_up seen) (members setting.net plan)))) never)
       by (Some x) some =
           let open_ : window_is_open seen ≡ true = ap is_some some in
           asked_alike open_
-          ∙ sym (ap (λ o. has_commit seen && of_some o false (λ plan. closes (filter (is_up seen) (members setting.net plan))))
+          ∙ sym (ap (λ o. has_commit seen && map_or o false (λ plan. closes (filter (is_up seen) (members setting.net plan))))
           (staged_when r setting steps stands open_))

@@ -7,7 +7,7 @@ use Rattle.sd_topo.proofs.Laws.{found_at}
 use Rattle.sd_plan.specs.declared.Plan.{Plan}
 use Rattle.sd_plan.proofs.Numbered.{numbered_more}
 use Rattle.sd_history.specs.World.{no_plan}
-use Rattle.sd_fleet_state.specs.declared.membership.plans.Numbered.{Numbered}
+use Rattle.sd_fleet_state.specs.declared.membership.plans.NumberedPlan.{NumberedPlan}
 use Rattle.sd_fleet_state.specs.membership.Plans.{numbered_as, numbered_at}
 
 -- one plan more
@@ -18,11 +18,11 @@ plans_more net plans i plan within at =
     ap (λ (p : Plan). map (numbered_at net plans) (below i) ++ numbered_as net (i + 1) p ∷ []) (sym here) ∙ sym (numbered_more (numbered_at net plans) i)
 
 -- the same, as a loop has it
-pub plans_added : (net : Network) (plans : List Plan) (i epoch : ℕ) (plan : Plan) (all new : List Numbered) (added : Numbered) → i < length plans
+pub plans_added : (net : Network) (plans : List Plan) (i epoch : ℕ) (plan : Plan) (all new : List NumberedPlan) (added : NumberedPlan) → i < length plans
     → plan ≡ get_or plans i plan
     → all ≡ map (numbered_at net plans) (below i) → epoch ≡ i → added ≡ numbered_as net (epoch + 1) plan → new ≡ all ++ added ∷ []
     → new ≡ map (numbered_at net plans) (below (i + 1))
 plans_added net plans i epoch plan all new added within at kept same is pushed =
-    pushed ∙ ap (λ (ns : List Numbered). ns ++ added ∷ []) kept
-    ∙ ap (λ (n : Numbered). map (numbered_at net plans) (below i) ++ n ∷ []) (is ∙ ap (λ (k : ℕ). numbered_as net (k + 1) plan) same)
+    pushed ∙ ap (λ (ns : List NumberedPlan). ns ++ added ∷ []) kept
+    ∙ ap (λ (n : NumberedPlan). map (numbered_at net plans) (below i) ++ n ∷ []) (is ∙ ap (λ (k : ℕ). numbered_as net (k + 1) plan) same)
     ∙ plans_more net plans i plan within at

@@ -1,7 +1,7 @@
 -- What is asked of a membership is what the words on histories say of the steps for which it stands.
 use Rattle.std.specs.Prelude.{◌≡◌, ℕ, ◌+◌, ◌<◌, Bool, true, false, ◌&&◌, ◌||◌, List, length, nat_eq, Option, Some, None, is_some, option_map, option_and_then, refl, if◌then◌else◌}
 use Rattle.std.proofs.Common.{sym, ◌∙◌, ap, subst}
-use Rattle.sd_num.specs.Lists.{at_place, of_some, same_number}
+use Rattle.sd_num.specs.Lists.{at_place, map_or, same_number}
 use Rattle.sd_plan.specs.declared.Plan.{Plan}
 use Rattle.sd_plan.specs.declared.Duty.{Duty}
 use Rattle.sd_plan.specs.Plans.{is_member}
@@ -11,7 +11,7 @@ use Rattle.sd_history.specs.World.{Setting, Seen, is_up, window, window_is_open,
 use Rattle.sd_history.specs.Steps.{Answers, Step, seen_of, answers_in, live_answers, parent_in, acts_in, epoch_in, given_in}
 use Rattle.sd_fleet_state.specs.world.Registers.{joins_at, is_open}
 use Rattle.sd_fleet_state.specs.world.Standing as worlds
-use Rattle.sd_fleet_state.specs.declared.membership.Answered.{Answered}
+use Rattle.sd_fleet_state.specs.declared.membership.AnswerSummary.{AnswerSummary}
 use Rattle.sd_fleet_state.specs.membership.Plans.{IsNumber, root_numbered, row_numbered, is_member_numbered}
 use Rattle.sd_fleet_state.specs.membership.Memberships.{Registers, staged_number, live_at, acts_at, parent_at, is_of, holds_given, is_in_force, is_in_staged, is_counted_at}
 use Rattle.sd_fleet_state.specs.membership.Standing.{Stands, summary}
@@ -19,21 +19,21 @@ use Rattle.sd_fleet_state.proofs.membership.ByNumber.{length-plans, root_is, row
 
 -- What devices answer
 
-acts_by : (o : Option Answers) → of_some (option_map summary o) false (λ (a : Answered). a.acts) ≡ of_some o false (λ a. a.acts)
+acts_by : (o : Option Answers) → map_or (option_map summary o) false (λ (a : AnswerSummary). a.acts) ≡ map_or o false (λ a. a.acts)
 acts_by None = refl
 acts_by (Some a) = refl
 
-parent_by : (o : Option Answers) → option_and_then (λ (a : Answered). a.parent) (option_map summary o) ≡ option_and_then (λ a. a.parent) o
+parent_by : (o : Option Answers) → option_and_then (λ (a : AnswerSummary). a.parent) (option_map summary o) ≡ option_and_then (λ a. a.parent) o
 parent_by None = refl
 parent_by (Some a) = refl
 
 follows_by : (epoch : ℕ) (o : Option Answers)
-    → of_some (option_map summary o) false (λ (a : Answered). nat_eq a.epoch epoch) ≡ same_number (option_map (λ a. a.epoch) o) epoch
+    → map_or (option_map summary o) false (λ (a : AnswerSummary). nat_eq a.epoch epoch) ≡ same_number (option_map (λ a. a.epoch) o) epoch
 follows_by epoch None = refl
 follows_by epoch (Some a) = refl
 
 holds_by : (epoch : ℕ) (o : Option Answers)
-    → of_some (option_map summary o) false (λ (a : Answered). same_number a.given epoch)
+    → map_or (option_map summary o) false (λ (a : AnswerSummary). same_number a.given epoch)
     ≡ same_number (option_and_then (λ a. option_map (λ (duty : Duty). duty.epoch) a.given) o) epoch
 holds_by epoch None = refl
 holds_by epoch (Some a) = refl
@@ -54,22 +54,22 @@ module _ (r : Registers) (setting : Setting) (steps : List Step) (stands : Stand
       ∙ by (is_up seen d)
     where
       by : (b : Bool)
-          → (if b then at_place r.answers d None (λ (answered : Option Answered). answered) else None)
+          → (if b then at_place r.answers d None (λ (answered : Option AnswerSummary). answered) else None)
           ≡ option_map summary (if b then answers_in steps d else None)
       by true = stands.answers d within
       by false = refl
 
   pub acts_is : (d : ℕ) → d < devices → acts_at r d ≡ acts_in steps d
-  acts_is d within = ap (λ o. of_some o false (λ (a : Answered). a.acts)) (live_is d within) ∙ acts_by (live_answers steps d)
+  acts_is d within = ap (λ o. map_or o false (λ (a : AnswerSummary). a.acts)) (live_is d within) ∙ acts_by (live_answers steps d)
 
   pub parent_is : (d : ℕ) → d < devices → parent_at r d ≡ parent_in steps d
-  parent_is d within = ap (λ o. option_and_then (λ (a : Answered). a.parent) o) (live_is d within) ∙ parent_by (live_answers steps d)
+  parent_is d within = ap (λ o. option_and_then (λ (a : AnswerSummary). a.parent) o) (live_is d within) ∙ parent_by (live_answers steps d)
 
   pub is_of_is : (epoch d : ℕ) → d < devices → is_of r epoch d ≡ same_number (epoch_in steps d) epoch
-  is_of_is epoch d within = ap (λ o. of_some o false (λ (a : Answered). nat_eq a.epoch epoch)) (live_is d within) ∙ follows_by epoch (live_answers steps d)
+  is_of_is epoch d within = ap (λ o. map_or o false (λ (a : AnswerSummary). nat_eq a.epoch epoch)) (live_is d within) ∙ follows_by epoch (live_answers steps d)
 
   pub holds_given_is : (epoch d : ℕ) → d < devices → holds_given r epoch d ≡ same_number (given_in steps d) epoch
-  holds_given_is epoch d within = ap (λ o. of_some o false (λ (a : Answered). same_number a.given epoch)) (live_is d within)
+  holds_given_is epoch d within = ap (λ o. map_or o false (λ (a : AnswerSummary). same_number a.given epoch)) (live_is d within)
       ∙ holds_by epoch (live_answers steps d)
 
   -- Numbers of plans
@@ -119,16 +119,16 @@ module _ (r : Registers) (setting : Setting) (steps : List Step) (stands : Stand
 
   -- a test of the staged plan is that of the plan with the next number, where a window is open
   staged_is : (p : Bool) (q : Plan → Bool) → (window_is_open seen ≡ true → p ≡ q (plan_numbered setting (staged_epoch seen)))
-      → (is_open r.world.window && p) ≡ of_some (staged setting seen) false q
+      → (is_open r.world.window && p) ≡ map_or (staged setting seen) false q
   staged_is p q same = ap (λ b. b && p) stands.world.open_window ∙ by (window seen) same
     where
       by : (w : Option (List Seen)) → (is_some w ≡ true → p ≡ q (plan_numbered setting (staged_epoch seen)))
-          → (is_some w && p) ≡ of_some (option_map (λ x. plan_numbered setting (staged_epoch seen)) w) false q
+          → (is_some w && p) ≡ map_or (option_map (λ x. plan_numbered setting (staged_epoch seen)) w) false q
       by None same' = refl
       by (Some x) same' = same' refl
 
   pub staged_root_is : (d : ℕ)
-      → (is_open r.world.window && nat_eq (root_numbered r.plans (staged_number r)) d) ≡ of_some (staged setting seen) false (λ plan. nat_eq plan.root d)
+      → (is_open r.world.window && nat_eq (root_numbered r.plans (staged_number r)) d) ≡ map_or (staged setting seen) false (λ plan. nat_eq plan.root d)
   staged_root_is d =
       staged_is (nat_eq (root_numbered r.plans (staged_number r)) d) (λ plan. nat_eq plan.root d)
       (λ open_. ap (λ n. nat_eq n d) (root_numbered_is (staged_number r) (staged_there open_) ∙ ap (λ n. (plan_numbered setting n).root) staged_number_is))

@@ -6,7 +6,7 @@ use Rattle.std.specs.List.{cons_option}
 use Rattle.std.proofs.lemmas.List.{append-nil}
 use Rattle.std.proofs.lemmas.List.Elements.{filter_map-append}
 use Rattle.std.proofs.lemmas.Option.{slice_get-get_or, slice_get_past, same_Some}
-use Rattle.sd_num.specs.Lists.{below, of_some}
+use Rattle.sd_num.specs.Lists.{below, map_or}
 use Rattle.sd_num.proofs.Places.{at_cases}
 use Rattle.sd_topo.specs.Network.{Network, Each, device_numbers, link_of}
 use Rattle.sd_topo.specs.Limits.{IsNetwork, IsLink}
@@ -22,7 +22,7 @@ use Rattle.sd_plan.proofs.Numbered.{length-below, found_passes}
 use Rattle.sd_plan.proofs.Rules.{KeepsRules, keeps_rules, both_led, both_end}
 use Rattle.sd_plan.proofs.TableLaws.{length-table, row_at-table}
 use Rattle.sd_history.specs.Core.Limits.{IsEdge, IsDuty}
-use Rattle.sd_fleet_state.specs.declared.membership.plans.Numbered.{Numbered}
+use Rattle.sd_fleet_state.specs.declared.membership.plans.NumberedPlan.{NumberedPlan}
 use Rattle.sd_history.specs.World.{Setting, no_plan, plan_numbered}
 use Rattle.sd_fleet_state.specs.membership.Plans.{IsFollowable, AreSound, IsNumber, IsEnd, IsSoundRow, AreTables, numbered, root_numbered, row_numbered}
 use Rattle.sd_fleet_state.proofs.membership.ByNumber.{length-plans, table_is, root_is}
@@ -126,7 +126,7 @@ row_there net plan epoch d row at =
       | inl within ↦ (within, by (is_member plan d) (sym (row_at-table net plan epoch d within) ∙ at))
       | inr past ↦
           (let nothing : row_at (table_of net plan epoch) d ≡ None =
-          ap (λ (o : Option (Option TableRow)). of_some o None (λ r. r))
+          ap (λ (o : Option (Option TableRow)). map_or o None (λ r. r))
           (slice_get_past (table_of net plan epoch) d (let size = length-table net plan epoch in omega arith))
           in
           cc)
@@ -153,7 +153,7 @@ root_role : (plan : Plan) → role_of plan plan.root ≡ Root
 root_role plan = ap (λ (b : Bool). if b then Root else if is_backup_root plan plan.root then BackupRoot else Ordinary) (eq-eqb plan.root plan.root refl)
 
 module _ (setting : Setting) (law : IsNetwork setting.net) (sound : AreSound setting.net setting.plans) where
-  abbrev plans : List Numbered
+  abbrev plans : List NumberedPlan
   plans = numbered setting.net setting.plans
 
   -- a row of the plan with a number

@@ -7,7 +7,7 @@ use Rattle.sd_num.specs.Lists.{below}
 use Rattle.sd_fleet_state.specs.world.Registers.{is_committed}
 use Rattle.sd_fleet_state.specs.declared.membership.settled_count.SettledCount.{SettledCount}
 use Rattle.sd_fleet_state.specs.membership.Memberships.{Registers, IsSound, is_present, has_settled_at, can_close_in}
-use Rattle.sd_fleet_state.specs.membership.Counts.{both, is_settled, count_at, count_named, count_below, settled_count_of}
+use Rattle.sd_fleet_state.specs.membership.Counts.{add_counts, is_settled, count_at, count_named, count_below, settled_count_of}
 use Rattle.sd_fleet_state.proofs.membership.Counting.{count_more, one_of_all, count_bound, all_pass}
 
 abbrev counts : ℕ → ℕ → SettledCount
@@ -18,10 +18,10 @@ pub same_settled_count : (a b : SettledCount) → a.present ≡ b.present → a.
 same_settled_count a b present settled = ap (λ (n : ℕ). counts n a.settled) present ∙ ap (λ (n : ℕ). counts b.present n) settled
 
 -- one device more
-pub count_below_more : (r : Registers) (n : ℕ) → both (count_below r n) (count_at r n) ≡ count_below r (n + 1)
+pub count_below_more : (r : Registers) (n : ℕ) → add_counts (count_below r n) (count_at r n) ≡ count_below r (n + 1)
 count_below_more r n =
-    subst (λ (m : ℕ). both (count_below r n) (count_at r n) ≡ count_below r m) (sym (add-one n))
-    (same_settled_count (both (count_below r n) (count_at r n)) (count_below r (suc n)) (sym (count_more (is_present r) n)) (sym (count_more (is_settled r) n)))
+    subst (λ (m : ℕ). add_counts (count_below r n) (count_at r n) ≡ count_below r m) (sym (add-one n))
+    (same_settled_count (add_counts (count_below r n) (count_at r n)) (count_below r (suc n)) (sym (count_more (is_present r) n)) (sym (count_more (is_settled r) n)))
 
 one_most : (b : Bool) → cond b 1 0 ≤ 1
 one_most true = omega arith
@@ -51,7 +51,7 @@ pub settled_count_most : (r : Registers) → ((settled_count_of r).present ≤ l
 settled_count_most r = (count_bound (is_present r) (length r.answers), count_bound (is_settled r) (length r.answers))
 
 -- nor do the counts of the others
-pub others_most : (r : Registers) (device : Option ℕ) (others : SettledCount) → both others (count_named r device) ≡ settled_count_of r
+pub others_most : (r : Registers) (device : Option ℕ) (others : SettledCount) → add_counts others (count_named r device) ≡ settled_count_of r
     → (others.present ≤ length r.answers) × (others.settled ≤ length r.answers)
 others_most r device others whole =
     let most = settled_count_most r in (
@@ -66,7 +66,7 @@ regroup : (a b c : Bool) → (a && (b && c)) ≡ ((a && b) && c)
 regroup true b c = refl
 regroup false b c = refl
 
--- a settled_count tells whether the window can close
+-- a settled count tells whether the window can close
 pub closes : (r : Registers) (settled_count : SettledCount) → settled_count ≡ settled_count_of r
     → (is_committed r.world.window && (nat_le 1 settled_count.present && nat_eq settled_count.settled settled_count.present)) ≡ can_close_in r
 closes r settled_count counted =

@@ -2,7 +2,7 @@
 use Rattle.std.specs.Prelude.{◌≡◌, ℕ, ◌<◌, false, List, length, nat_le, Option, Some, None, IfSome}
 use Rattle.std.proofs.Common.{subst, sym}
 use Rattle.std.proofs.lemmas.Bool.{leb-false}
-use Rattle.sd_num.specs.Lists.{of_some}
+use Rattle.sd_num.specs.Lists.{map_or}
 use Rattle.sd_topo.specs.declared.Thing.{Thing}
 use Rattle.sd_topo.specs.declared.Thing.TheVariants as thing
 use Rattle.sd_sched.specs.declared.Event.{Event}
@@ -41,7 +41,7 @@ failed_stands r setting seen (thing.Device d) stands within = (stands.devices d 
 failed_stands r setting seen (thing.Link l) stands within = stands.links l within
 
 -- an event that names no unknown device and no unknown link names what is in range
-in_range : (count : ℕ) (o : Option ℕ) → of_some o false (λ x. nat_le count x) ≡ false → IfSome o (λ x. x < count)
+in_range : (count : ℕ) (o : Option ℕ) → map_or o false (λ x. nat_le count x) ≡ false → IfSome o (λ x. x < count)
 in_range count None known = tt
 in_range count (Some x) known = leb-false count x known
 

@@ -2,7 +2,7 @@
 use Rattle.std.specs.Prelude.{◌≡◌, ℕ, true, false, ◌||◌, nat_eq, None, refl, if◌then◌else◌}
 use Rattle.std.proofs.Common.{sym}
 use Rattle.std.proofs.lemmas.Bool.{eqb-true, eq-eqb, ne_eqb, eqb-false}
-use Rattle.sd_num.specs.Lists.{of_some, same_number}
+use Rattle.sd_num.specs.Lists.{map_or, same_number}
 use Rattle.sd_topo.specs.declared.Thing.TheVariants as thing
 use Rattle.sd_sched.specs.declared.Event.{Event}
 use Rattle.sd_sched.specs.declared.Event.TheVariants as event
@@ -13,11 +13,11 @@ use Rattle.sd_fleet_state.specs.declared.world.device.DeviceState.{DeviceState}
 
 -- the words of one event on the device give its state after it
 pub record Changes (e : Event) (d windows : ℕ) (before after : DeviceState) : Type 0 where
-  pub up : after.up ≡ of_some (up_after d e) before.up (λ told. told)
-  pub failed : after.failed ≡ of_some (failed_after (thing.Device d) e) before.failed (λ told. told)
+  pub up : after.up ≡ map_or (up_after d e) before.up (λ told. told)
+  pub failed : after.failed ≡ map_or (failed_after (thing.Device d) e) before.failed (λ told. told)
   pub ever_failed : after.ever_failed ≡ (fails (thing.Device d) e || before.ever_failed)
   pub made : after.made ≡ (makes d e || before.made)
-  pub reading : after.reading ≡ of_some (if same_number (device_of e) d then counter_of e else None) before.reading (λ told. told)
+  pub reading : after.reading ≡ map_or (if same_number (device_of e) d then counter_of e else None) before.reading (λ told. told)
   pub joined : after.joined ≡ (if same_number (joined e) d then windows else before.joined)
 
 -- the device that the event names

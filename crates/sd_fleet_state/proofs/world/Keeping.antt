@@ -2,7 +2,7 @@
 use Rattle.std.specs.Prelude.{◌≡◌, ℕ, ◌+◌, ◌<◌, ◌≤◌, Bool, true, false, ◌||◌, List, ◌∷◌, length, count_by, None, refl, if◌then◌else◌}
 use Rattle.std.proofs.Common.{cond, ap, ◌∙◌, sym, subst, arith}
 use Rattle.std.proofs.lemmas.List.Sums.{sum_by-cons}
-use Rattle.sd_num.specs.Lists.{of_some, same_number}
+use Rattle.sd_num.specs.Lists.{map_or, same_number}
 use Rattle.sd_topo.specs.declared.Thing.TheVariants as thing
 use Rattle.sd_sched.specs.declared.Event.{Event}
 use Rattle.sd_sched.specs.Events.{device_of, joined, counter_of, is_stage, is_end_event}
@@ -35,11 +35,11 @@ device_keeps r seen s setting d stays stands within =
     let at : StandsAt r seen d = stands.devices d within in
     let c : Changes s.event d r.windows (device_at r d) (device_at (registers_after r s.event) d) = slot_changes r s.event d within in
     record {
-      up = c.up ∙ ap (λ (b : Bool). of_some (up_after d s.event) b (λ told. told)) at.up;
-      failed = c.failed ∙ ap (λ (b : Bool). of_some (failed_after (thing.Device d) s.event) b (λ told. told)) at.failed;
+      up = c.up ∙ ap (λ (b : Bool). map_or (up_after d s.event) b (λ told. told)) at.up;
+      failed = c.failed ∙ ap (λ (b : Bool). map_or (failed_after (thing.Device d) s.event) b (λ told. told)) at.failed;
       ever_failed = c.ever_failed ∙ ap (λ (b : Bool). fails (thing.Device d) s.event || b) at.ever_failed;
       made = c.made ∙ ap (λ (b : Bool). makes d s.event || b) at.made;
-      reading = c.reading ∙ ap (λ (n : ℕ). of_some (if same_number (device_of s.event) d then counter_of s.event else None) n (λ told. told)) at.reading;
+      reading = c.reading ∙ ap (λ (n : ℕ). map_or (if same_number (device_of s.event) d then counter_of s.event else None) n (λ told. told)) at.reading;
       joins = joins r.window r.windows (device_at r d).joined
           (device_at (registers_after r s.event) d).joined d s seen stays stands.open_window at.joined_before c.joined at.joins;
       joined_before =
@@ -86,7 +86,7 @@ stands_after r setting seen s stays stands =
           λ l within.
           (let inside : l < length r.failed_links = subst (λ (n : ℕ). l < n) links_stay within in
           slot_link s.event r.failed_links l inside
-          ∙ ap (λ (b : Bool). of_some (failed_after (thing.Link l) s.event) b (λ told. told)) (stands.links l inside));
+          ∙ ap (λ (b : Bool). map_or (failed_after (thing.Link l) s.event) b (λ told. told)) (stands.links l inside));
       reference = refl;
       events = omega (arith, stands.events);
       ended = ap (λ (b : Bool). is_end_event s.event || b) stands.ended;

@@ -3,7 +3,7 @@ use Rattle.std.specs.Prelude.{◌≡◌, ℕ, ◌+◌, ◌≤◌, Bool, true, fa
 use Rattle.std.specs.List.{list_any}
 use Rattle.std.proofs.Common.{ap, ◌∙◌, sym, subst, arith}
 use Rattle.std.proofs.lemmas.Bool.{eq-eqb, ne_eqb}
-use Rattle.sd_num.specs.Lists.{of_some, same_number}
+use Rattle.sd_num.specs.Lists.{map_or, same_number}
 use Rattle.sd_sched.specs.declared.Event.{Event}
 use Rattle.sd_sched.specs.declared.Event.TheVariants as event
 use Rattle.sd_sched.specs.Events.{joined, is_stage, is_commit}
@@ -42,12 +42,12 @@ opens w s seen stays open_ = by (is_stage s.event) (is_commit s.event) (window s
 pub commits : (w : Window) (s : Seen) (seen : List Seen) → s.closed ≡ false → is_open w ≡ window_is_open seen → is_committed w ≡ has_commit seen
     → is_committed (window_after s.event w) ≡ has_commit (s ∷ seen)
 commits w s seen stays open_ commit = by (is_stage s.event) (is_commit s.event) (window seen) w refl open_ commit
-    ∙ ap (λ (o : Option (List Seen)). of_some o false (list_any (λ x. is_commit x.event))) (sym (window_next s seen stays))
+    ∙ ap (λ (o : Option (List Seen)). map_or o false (list_any (λ x. is_commit x.event))) (sym (window_next s seen stays))
   where
     by : (stage c : Bool) (o : Option (List Seen)) (w : Window) → is_commit s.event ≡ c → is_open w ≡ is_some o
-        → is_committed w ≡ of_some o false (list_any (λ x. is_commit x.event))
+        → is_committed w ≡ map_or o false (list_any (λ x. is_commit x.event))
         → is_committed (if stage then Preparing else if c && is_open w then Committed else w)
-        ≡ of_some (if stage then Some [] else option_map (λ w. s ∷ w) o) false (list_any (λ x. is_commit x.event))
+        ≡ map_or (if stage then Some [] else option_map (λ w. s ∷ w) o) false (list_any (λ x. is_commit x.event))
     by true c o w is same commit' = refl
     by false true None Closed is same commit' = refl
     by false true None Preparing is same commit' = cc
@@ -66,14 +66,14 @@ joins w windows before after d s seen stays open_ low is kept =
     subst (λ (b : Bool). (b && nat_eq after (if is_stage s.event then windows + 1 else windows)) ≡ joined_in_window (s ∷ seen) d)
     (sym (opens w s seen stays open_))
     (subst (λ (o : Option (List Seen)). (is_some o && nat_eq after (if is_stage s.event then windows + 1 else windows))
-    ≡ of_some o false (list_any (λ x. same_number (joined x.event) d))) (sym (window_next s seen stays))
+    ≡ map_or o false (list_any (λ x. same_number (joined x.event) d))) (sym (window_next s seen stays))
     (by (is_stage s.event) (same_number (joined s.event) d) (window seen) refl refl open_ is kept))
   where
     by : (stage j : Bool) (o : Option (List Seen)) → is_stage s.event ≡ stage → same_number (joined s.event) d ≡ j → is_open w ≡ is_some o
         → after ≡ (if j then windows else before)
-        → (is_open w && nat_eq before windows) ≡ of_some o false (list_any (λ x. same_number (joined x.event) d))
+        → (is_open w && nat_eq before windows) ≡ map_or o false (list_any (λ x. same_number (joined x.event) d))
         → (is_some (if stage then Some [] else option_map (λ w. s ∷ w) o) && nat_eq after (if stage then windows + 1 else windows))
-        ≡ of_some (if stage then Some [] else option_map (λ w. s ∷ w) o) false (list_any (λ x. same_number (joined x.event) d))
+        ≡ map_or (if stage then Some [] else option_map (λ w. s ∷ w) o) false (list_any (λ x. same_number (joined x.event) d))
     by true true o stage j same is' kept' = absurd (never (joined s.event) (stage_alone s.event stage).1 j)
       where
         never : (p : Option ℕ) → p ≡ None → same_number p d ≡ true → ⊥

@@ -2,15 +2,16 @@
 use Rattle.std.specs.Prelude.{ℕ, ◌+◌, Bool, ◌&&◌, length, count_by, cond, Option, Some, None}
 use Rattle.sd_num.specs.Lists.{below}
 use Rattle.sd_fleet_state.specs.declared.membership.settled_count.SettledCount.{SettledCount}
-use Rattle.sd_fleet_state.specs.declared.membership.settled_count.Sight.{Sight}
+use Rattle.sd_fleet_state.specs.declared.membership.settled_count.MemberStates.{MemberStates}
 use Rattle.sd_fleet_state.specs.membership.Memberships.{Registers, is_present, has_settled_at}
 
+-- nobody is counted
 abbrev pub none_counted : SettledCount
 none_counted = record { present = 0; settled = 0 }
 
 -- both counts together
-abbrev pub both : SettledCount → SettledCount → SettledCount
-both a b = record { present = a.present + b.present; settled = a.settled + b.settled }
+abbrev pub add_counts : SettledCount → SettledCount → SettledCount
+add_counts a b = record { present = a.present + b.present; settled = a.settled + b.settled }
 
 -- the device is present, and has settled
 abbrev pub is_settled : Registers → ℕ → Bool
@@ -33,6 +34,6 @@ count_below r n = record { present = count_by (is_present r) (below n); settled 
 abbrev pub settled_count_of : Registers → SettledCount
 settled_count_of r = count_below r (length r.answers)
 
--- what a sight looks at
-abbrev pub seen_by : Sight → Registers
+-- what a count looks at
+abbrev pub seen_by : MemberStates → Registers
 seen_by s = record { plans = s.plans.now; world = s.world.now; answers = s.answers.now }

@@ -4,10 +4,11 @@ use Rattle.sd_fleet_state.specs.membership.Memberships.{Registers, IsSound}
 use Rattle.sd_fleet_state.specs.membership.Counts.{settled_count_of}
 use Rattle.sd_fleet_state.specs.declared.membership.Membership.TheInside.{Inside}
 
+-- the registers that the fields stand for
 abbrev pub registers_seen : Inside → Registers
 registers_seen r = record { plans = r.plans.items; world = r.world; answers = r.answers.items }
 
--- the settled_count is that of the staged plan's members, and counts nobody where none is staged
+-- the settled count is that of the staged plan's members, and counts nobody where none is staged
 pub record IsMembership (r : Inside) : Type 0 where
   pub sound : IsSound (registers_seen r)
   pub counted : r.settled_count ≡ settled_count_of (registers_seen r)

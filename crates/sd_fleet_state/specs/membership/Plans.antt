@@ -11,44 +11,48 @@ use Rattle.sd_plan.specs.Structure.{structure_breach}
 use Rattle.sd_plan.specs.Tables.{TableRow, table_of, row_at, has_row_at}
 use Rattle.sd_history.specs.Core.Limits.{IsDuty}
 use Rattle.sd_history.specs.World.{no_plan}
-use Rattle.sd_fleet_state.specs.declared.membership.plans.Numbered.{Numbered}
+use Rattle.sd_fleet_state.specs.declared.membership.plans.NumberedPlan.{NumberedPlan}
 
 -- a plan that can be followed: it speaks of the network, and has the right structure
 pub record IsFollowable (net : Network) (plan : Plan) : Type 0 where
   pub fits : Fits net plan
   pub structured : structure_breach net plan ≡ None
 
+-- plans that can be followed
 abbrev pub AreSound : Network → List Plan → Type 0
 AreSound net plans = Each (IsFollowable net) plans
 
 -- a plan as the one with this number
-abbrev pub numbered_as : Network → ℕ → Plan → Numbered
+abbrev pub numbered_as : Network → ℕ → Plan → NumberedPlan
 numbered_as net epoch plan = record { root = plan.root; table = table_of net plan epoch }
 
 -- the plan at this place, which has the next number
-abbrev pub numbered_at : Network → List Plan → ℕ → Numbered
+abbrev pub numbered_at : Network → List Plan → ℕ → NumberedPlan
 numbered_at net plans i = numbered_as net (i + 1) (at_place plans i no_plan (λ plan. plan))
 
 -- the plans with their numbers
-abbrev pub numbered : Network → List Plan → List Numbered
+abbrev pub numbered : Network → List Plan → List NumberedPlan
 numbered net plans = map (numbered_at net plans) (below (length plans))
 
 -- there is a plan with this number
-pub record IsNumber (plans : List Numbered) (epoch : ℕ) : Type 0 where
+pub record IsNumber (plans : List NumberedPlan) (epoch : ℕ) : Type 0 where
   pub first : 1 ≤ epoch
   pub last : epoch ≤ length plans
 
 -- the table of the plan with this number
-abbrev pub table_numbered : List Numbered → ℕ → List (Option TableRow)
+abbrev pub table_numbered : List NumberedPlan → ℕ → List (Option TableRow)
 table_numbered plans epoch = at_place plans (epoch - 1) [] (λ plan. plan.table)
 
-abbrev pub root_numbered : List Numbered → ℕ → ℕ
+-- the root of the plan with this number
+abbrev pub root_numbered : List NumberedPlan → ℕ → ℕ
 root_numbered plans epoch = at_place plans (epoch - 1) 0 (λ plan. plan.root)
 
-abbrev pub row_numbered : List Numbered → ℕ → ℕ → Option TableRow
+-- the row of a device in the plan with this number
+abbrev pub row_numbered : List NumberedPlan → ℕ → ℕ → Option TableRow
 row_numbered plans epoch d = row_at (table_numbered plans epoch) d
 
-abbrev pub is_member_numbered : List Numbered → ℕ → ℕ → Bool
+-- the device is a member of the plan with this number
+abbrev pub is_member_numbered : List NumberedPlan → ℕ → ℕ → Bool
 is_member_numbered plans epoch d = has_row_at (table_numbered plans epoch) d
 
 -- the end lies at a link of the network, and is one of its devices
@@ -63,7 +67,7 @@ pub record IsSoundRow (net : Network) (row : TableRow) : Type 0 where
   pub few : length row.downstream ≤ length net.links
 
 -- the tables have a place for each device, and sound rows, with the number of their plan; that of a plan's root has this role
-pub record AreTables (net : Network) (plans : List Numbered) : Type 0 where
+pub record AreTables (net : Network) (plans : List NumberedPlan) : Type 0 where
   pub places : (epoch : ℕ) → IsNumber plans epoch → length (table_numbered plans epoch) ≡ length net.devices
   pub rows : (epoch d : ℕ) (row : TableRow) → IsNumber plans epoch → row_numbered plans epoch d ≡ Some row → IsSoundRow net row
   pub roots : (epoch : ℕ) (row : TableRow) → IsNumber plans epoch → row_numbered plans epoch (root_numbered plans epoch) ≡ Some row → row.duty.role ≡ Root

@@ -7,16 +7,16 @@ use Rattle.sd_history.specs.World.{Setting}
 use Rattle.sd_history.specs.Steps as steps
 use Rattle.sd_history.specs.Steps.{Step, seen_of, answers_in, changed}
 use Rattle.sd_fleet_state.specs.world.Standing as world
-use Rattle.sd_fleet_state.specs.declared.membership.Answered.{Answered}
+use Rattle.sd_fleet_state.specs.declared.membership.AnswerSummary.{AnswerSummary}
 use Rattle.sd_fleet_state.specs.membership.Plans.{AreSound, numbered}
 use Rattle.sd_fleet_state.specs.membership.Memberships.{Registers, IsSound}
 
 -- what of its answers is kept: of a given duty its number alone
-abbrev pub summary : steps.Answers → Answered
+abbrev pub summary : steps.Answers → AnswerSummary
 summary a = record { parent = a.parent; acts = a.acts; epoch = a.epoch; given = option_map (λ (duty : Duty). duty.epoch) a.given; sealed = a.sealed }
 
 -- the membership is told what the device of the step answers, just where the step makes or calls it
-pub record IsTold (s : Step) (told : Option Answered) : Type 0 where
+pub record IsTold (s : Step) (told : Option AnswerSummary) : Type 0 where
   pub changed_named : IfSome (changed s.act) (λ d. device_of s.seen.event ≡ Some d)
   pub changed_answers : IfSome (changed s.act) (λ d. IsSome s.told.answers)
   pub changed_told : IfSome (changed s.act) (λ d. told ≡ option_map summary s.told.answers)

@@ -1,6 +1,6 @@
 -- The registers of a world, and what an event makes of them.
 use Rattle.std.specs.Prelude.{ℕ, ◌+◌, ◌^◌, ◌<◌, Bool, true, false, ◌&&◌, ◌||◌, not, List, length, replicate, slice_index_or, slice_set, nat_eq, nat_le, nat_lt, IfSome, if◌then◌else◌}
-use Rattle.sd_num.specs.Lists.{of_some}
+use Rattle.sd_num.specs.Lists.{map_or}
 use Rattle.sd_topo.specs.declared.Thing.{Thing}
 use Rattle.sd_topo.specs.declared.Thing.TheVariants as thing
 use Rattle.sd_sched.specs.declared.Event.{Event}
@@ -41,9 +41,11 @@ first_registers devices links =
 
 -- What they tell
 
+-- the state of a device
 abbrev pub device_at : Registers → ℕ → DeviceState
 device_at r d = slice_index_or r.devices d untouched
 
+-- the device is up
 abbrev pub up_at : Registers → ℕ → Bool
 up_at r d = (device_at r d).up
 
@@ -52,20 +54,25 @@ abbrev pub failed_at : Registers → Thing → Bool
 failed_at r (thing.Device d) = (device_at r d).failed
 failed_at r (thing.Link l) = slice_index_or r.failed_links l false
 
+-- the device has failed at some time
 abbrev pub ever_failed_at : Registers → ℕ → Bool
 ever_failed_at r d = (device_at r d).ever_failed
 
+-- the device was made at some time
 abbrev pub made_at : Registers → ℕ → Bool
 made_at r d = (device_at r d).made
 
+-- the latest reading of the device
 abbrev pub reading_at : Registers → ℕ → ℕ
 reading_at r d = (device_at r d).reading
 
+-- the window is open
 abbrev pub is_open : Window → Bool
 is_open Closed = false
 is_open Preparing = true
 is_open Committed = true
 
+-- the window is open, and there was a commit in it
 abbrev pub is_committed : Window → Bool
 is_committed Closed = false
 is_committed Preparing = false
@@ -83,6 +90,7 @@ admits_call r reference d counter =
 
 -- What is in range
 
+-- the registers have the device or the link
 abbrev pub HasThing : Registers → Thing → Type 0
 HasThing r (thing.Device d) = d < length r.devices
 HasThing r (thing.Link l) = l < length r.failed_links
@@ -107,10 +115,12 @@ device_after (event.FailDevice reference device) windows s = record s { up = fal
 device_after (event.MendDevice reference device) windows s = record s { failed = false }
 device_after _ windows s = s
 
+-- the states of devices after an event
 abbrev pub devices_after : Event → ℕ → List DeviceState → List DeviceState
 devices_after e windows devices =
-    of_some (device_of e) devices (λ d. slice_set devices d (device_after e windows (slice_index_or devices d untouched)))
+    map_or (device_of e) devices (λ d. slice_set devices d (device_after e windows (slice_index_or devices d untouched)))
 
+-- which links are failed after an event
 abbrev pub links_after : Event → List Bool → List Bool
 links_after (event.FailLink reference link) failed = slice_set failed link true
 links_after (event.MendLink reference link) failed = slice_set failed link false

@@ -3,6 +3,7 @@ use Rattle.std.specs.Prelude.{◌≤◌}
 use Rattle.sd_fleet_state.specs.world.Registers.{Registers}
 use Rattle.sd_fleet_state.specs.declared.world.World.TheInside.{Inside}
 
+-- the registers that the fields stand for
 abbrev pub registers_seen : Inside → Registers
 registers_seen w =
     record {

@@ -11,22 +11,27 @@ use std::alloc::Global;
 
 /// A plan with its number.
 #[derive(Drop)]
-pub struct Numbered {
+pub struct NumberedPlan {
     pub root: u32,
     pub table: PlanTable,
 }
 
-impl Numbered {
+impl NumberedPlan {
     ghost use Rattle.sd_fleet_state.specs.membership.Plans.{numbered_as};
 
     /// The plan as the one with this number.
-    fn new(alloc: Global, topo: &Topology, plan: &Plan, epoch: u32) -> Result<Numbered, NoMemory>
+    fn new(
+        alloc: Global,
+        topo: &Topology,
+        plan: &Plan,
+        epoch: u32,
+    ) -> Result<NumberedPlan, NoMemory>
         requires fits { Fits (network topo.now) plan.now }
         requires structured { structure_breach (network topo.now) plan.now ≡ None }
         ensures { IfOk result (λ n. n ≡ numbered_as (network topo.now) epoch plan.now) }
     {
         let table = PlanTable::new(alloc, topo, plan, epoch)?;
-        Ok(Numbered {
+        Ok(NumberedPlan {
             root: plan.root,
             table,
         })
@@ -36,7 +41,7 @@ impl Numbered {
 ghost use Rattle.sd_fleet_state.specs.membership.Plans.{AreSound, IsNumber, numbered, table_numbered, is_member_numbered};
 
 /// Whether the device is a member of the plan with this number.
-pub fn is_member(plans: &[Numbered], epoch: u32, d: u32) -> bool
+pub fn is_member(plans: &[NumberedPlan], epoch: u32, d: u32) -> bool
     requires number { IsNumber plans.now epoch }
     requires range { d < length (table_numbered plans.now epoch) }
     ensures { result ≡ is_member_numbered plans.now epoch d }
@@ -45,7 +50,11 @@ pub fn is_member(plans: &[Numbered], epoch: u32, d: u32) -> bool
 }
 
 /// The plans with their numbers, of which the first has 1.
-pub fn number_all(alloc: Global, topo: &Topology, plans: &[Plan]) -> Result<Vec<Numbered>, NoMemory>
+pub fn number_all(
+    alloc: Global,
+    topo: &Topology,
+    plans: &[Plan],
+) -> Result<Vec<NumberedPlan>, NoMemory>
     requires sound { AreSound (network topo.now) plans.now }
     requires count { length plans.now < 2 ^ 32 }
     ensures { IfOk result (λ all. all.items ≡ numbered (network topo.now) plans.now) }
@@ -54,7 +63,7 @@ pub fn number_all(alloc: Global, topo: &Topology, plans: &[Plan]) -> Result<Vec<
     let mut epoch = 0;
     for plan in plans {
         epoch += 1;
-        let numbered = Numbered::new(alloc, topo, plan, epoch)?;
+        let numbered = NumberedPlan::new(alloc, topo, plan, epoch)?;
         let Ok(()) = all.push(numbered) else {
             return Err(NoMemory);
         };

@@ -3,8 +3,8 @@ ghost use Rattle.std.specs.Prelude.{◌≡◌, ◌&&◌, nat_le, nat_eq, true, �
 ghost use Rattle.sd_sched.specs.Events.{device_of, is_stage};
 ghost use Rattle.sd_fleet_state.specs.membership.Memberships.{IsSound};
 
-use crate::membership::Answered;
-use crate::membership::plans::{Numbered, is_member};
+use crate::membership::AnswerSummary;
+use crate::membership::plans::{NumberedPlan, is_member};
 use crate::world::World;
 use sd_sched::Event;
 
@@ -18,7 +18,7 @@ pub struct SettledCount {
 }
 
 impl SettledCount {
-    ghost use Rattle.sd_fleet_state.specs.membership.Counts.{none_counted, both};
+    ghost use Rattle.sd_fleet_state.specs.membership.Counts.{none_counted, add_counts};
 
     /// None at all.
     pub fn none() -> SettledCount
@@ -41,7 +41,7 @@ impl SettledCount {
     fn plus(self, other: SettledCount) -> SettledCount
         requires present { self.present + other.present < 2 ^ 32 }
         requires settled { self.settled + other.settled < 2 ^ 32 }
-        ensures { result ≡ both self other }
+        ensures { result ≡ add_counts self other }
     {
         SettledCount {
             present: self.present + other.present,
@@ -53,7 +53,7 @@ impl SettledCount {
     fn minus(self, other: SettledCount) -> SettledCount
         requires present { other.present ≤ self.present }
         requires settled { other.settled ≤ self.settled }
-        ensures { both result other ≡ self }
+        ensures { add_counts result other ≡ self }
     {
         SettledCount {
             present: self.present - other.present,
@@ -64,17 +64,17 @@ impl SettledCount {
 
 /// What a count looks at.
 #[derive(Clone, Copy)]
-pub struct Sight<'a> {
-    pub plans: &'a [Numbered],
+pub struct MemberStates<'a> {
+    pub plans: &'a [NumberedPlan],
     pub world: &'a World,
-    pub answers: &'a [Option<Answered>],
+    pub answers: &'a [Option<AnswerSummary>],
 }
 
-impl Sight<'_> {
+impl MemberStates<'_> {
     ghost use Rattle.sd_fleet_state.specs.world.Registers.{is_open};
     ghost use Rattle.sd_fleet_state.specs.membership.Plans.{IsNumber};
     ghost use Rattle.sd_fleet_state.specs.membership.Memberships.{staged_number, live_at, is_present, has_settled_at};
-    ghost use Rattle.sd_fleet_state.specs.membership.Counts.{seen_by, count_at, count_named, settled_count_of, both};
+    ghost use Rattle.sd_fleet_state.specs.membership.Counts.{seen_by, count_at, count_named, settled_count_of, add_counts};
 
     /// The number of the staged plan.
     fn staged(&self) -> u32
@@ -87,7 +87,7 @@ impl Sight<'_> {
     }
 
     /// What the device answers, where it is up.
-    pub fn answered(&self, d: u32) -> Option<Answered>
+    pub fn answered(&self, d: u32) -> Option<AnswerSummary>
         requires sound { IsSound (seen_by self.now) }
         requires range { d < length self.now.answers.now }
         ensures { result ≡ live_at (seen_by self.now) d }
@@ -162,18 +162,18 @@ impl Sight<'_> {
         settled_count
     }
 
-    /// The settled_count without that of the named device.
+    /// The settled count without that of the named device.
     pub fn others(&self, settled_count: SettledCount, device: Option<u32>) -> SettledCount
         requires sound { IsSound (seen_by self.now) }
         requires settled_count { settled_count ≡ settled_count_of (seen_by self.now) }
         requires range { IfSome device (λ d. d < length self.now.answers.now) }
-        ensures { both result (count_named (seen_by self.now) device)
+        ensures { add_counts result (count_named (seen_by self.now) device)
             ≡ settled_count_of (seen_by self.now) }
     {
         settled_count.minus(self.count_named(device))
     }
 
-    /// The settled_count after the event, where that of all devices but the named one was this before. A
+    /// The settled count after the event, where that of all devices but the named one was this before. A
     /// stage counts the members of another plan.
     pub fn after(&self, event: &Event, others: SettledCount) -> SettledCount
         requires sound { IsSound (seen_by self.now) }
@@ -181,7 +181,7 @@ impl Sight<'_> {
         requires present { others.present ≤ length self.now.answers.now }
         requires settled { others.settled ≤ length self.now.answers.now }
         ensures { result ≡ (if is_stage event.now then settled_count_of (seen_by self.now)
-            else both others (count_named (seen_by self.now) (device_of event.now))) }
+            else add_counts others (count_named (seen_by self.now) (device_of event.now))) }
     {
         match event {
             Event::Stage { .. } => self.count_all(),

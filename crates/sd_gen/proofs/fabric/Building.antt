@@ -2,19 +2,16 @@
 use Rattle.std.specs.Prelude.{◌≡◌, ℕ, ◌+◌, ◌-◌, ◌*◌, ◌/◌, ◌%◌, ◌<◌, ◌≤◌, List, [], ◌∷◌, ◌++◌, map, flat_map, refl}
 use Rattle.std.proofs.Common.{arith, ap, sym, ◌∙◌, add-one, subst}
 use Rattle.std.proofs.lemmas.Bool.{lt-ltb, le-ltb}
-use Rattle.toml.specs.Data.{Data, Members, item, push_item, string, array, table, depth, items_depth, members_depth}
+use Rattle.toml.specs.Data.{Data, Members, push_item, string, array, table, depth, items_depth, members_depth}
 use Rattle.toml.specs.View.{view, items_of, items_view}
 use Rattle.toml.specs.declared.value.Value.{Value}
 use Rattle.toml.proofs.Views.{items_view-push}
 use Rattle.sd_num.specs.Lists.{below}
+use Rattle.sd_topotext.proofs.Printing.{items_of-push}
 use Rattle.sd_gen.specs.fabric.Fabrics.{spine_name, leaf_name, link_name}
 use Rattle.sd_gen.specs.fabric.Numbered.{numbered_device_name}
 use Rattle.sd_gen.specs.fabric.Trees.{tables, strings, device_tree, link_tree, rack_tree, fabric_tree}
-use Rattle.sd_gen.proofs.fabric.Numbering.{numbered, one_more, alike, both, grid}
-
-items_of-push : (ds : List Data) (e : Data) → items_of (ds ++ e ∷ []) ≡ push_item (items_of ds) e
-items_of-push [] e = refl
-items_of-push (d ∷ ds) e = ap (item d) (items_of-push ds e)
+use Rattle.sd_gen.proofs.fabric.Numbering.{numbered, one_more, alike, numbered_append, grid}
 
 -- one item more
 pub items_more : (tree : ℕ → Data) (n : ℕ) (new vs : List Value) (v : Value) → items_view vs ≡ items_of (numbered tree n) → view v ≡ tree n → new ≡ vs ++ v ∷ []
@@ -42,7 +39,7 @@ pub devices_numbered : (leaves spines : ℕ)
     → tables (map device_tree (map spine_name (below spines) ++ map leaf_name (below leaves)))
     ≡ array (items_of (numbered (λ d. table (device_tree (numbered_device_name spines d))) (spines + leaves)))
 devices_numbered leaves spines =
-    ap (λ names. tables (map device_tree names)) (both spine_name leaf_name spines leaves)
+    ap (λ names. tables (map device_tree names)) (numbered_append spine_name leaf_name spines leaves)
     ∙ ap tables (map_twice device_tree (numbered_device_name spines) (below (spines + leaves)))
     ∙ ap (λ ds. array (items_of ds)) (map_twice table (λ d. device_tree (numbered_device_name spines d)) (below (spines + leaves)))
 

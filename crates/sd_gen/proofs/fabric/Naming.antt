@@ -8,13 +8,11 @@ use Rattle.std.proofs.lemmas.Fmt.{decimal_by_steps, decimal_injective, length-de
 use Rattle.std.proofs.lemmas.Nat.{mod_below}
 use Rattle.std.proofs.lemmas.List.{length-append}
 use Rattle.std.proofs.lemmas.List.Folds.{list_all-append}
+use Rattle.sd_num.specs.Decimals.{is_digit}
 use Rattle.sd_topo.specs.Network.{is_name, is_name_byte}
 use Rattle.sd_topo.proofs.Places.{same_bytes}
 use Rattle.sd_gen.specs.fabric.Fabrics.{spine_name, leaf_name, link_name}
 use Rattle.sd_gen.specs.fabric.Numbered.{numbered_device_name}
-
-abbrev is_digit : ℕ → Bool
-is_digit b = nat_le 48 b && nat_le b 57
 
 -- a decimal number has digits alone
 all_digits : (n : ℕ) → n < 2 ^ 64 → list_all is_digit (decimal n) ≡ true

@@ -35,8 +35,8 @@ plus f m (suc n) =
     ∙ ap (λ xs. numbered f m ++ xs) (sym (one_more (λ k. f (m + k)) n))
 
 -- two lists, one behind the other
-pub both : {A : Type 0} (f g : ℕ → A) (m n : ℕ) → numbered f m ++ numbered g n ≡ numbered (λ k. if nat_lt k m then f k else g (k - m)) (m + n)
-both {A} f g m n =
+pub numbered_append : {A : Type 0} (f g : ℕ → A) (m n : ℕ) → numbered f m ++ numbered g n ≡ numbered (λ k. if nat_lt k m then f k else g (k - m)) (m + n)
+numbered_append {A} f g m n =
     let h : ℕ → A = λ k. if nat_lt k m then f k else g (k - m) in
     ap (λ xs. xs ++ numbered g n) (alike f h m (λ k less. rw (lt-ltb k m less) refl))
     ∙ ap (λ xs. numbered h m ++ xs)

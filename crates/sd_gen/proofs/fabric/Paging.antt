@@ -16,7 +16,7 @@ use Rattle.sd_gen.specs.fabric.Numbered.{numbered_device_name}
 use Rattle.sd_gen.specs.fabric.Pages.{HasLines, front_tree, section_of}
 use Rattle.sd_gen.specs.fabric.Trees.{tables, strings, device_tree, link_tree, rack_tree, numbers_tree, fabric_tree}
 use Rattle.sd_gen.proofs.fabric.Building.{map_twice}
-use Rattle.sd_gen.proofs.fabric.Numbering.{numbered, both, grid}
+use Rattle.sd_gen.proofs.fabric.Numbering.{numbered, numbered_append, grid}
 
 -- Lines, and more behind them
 
@@ -135,7 +135,7 @@ module _ (leaves spines : ℕ) (some_leaves : 0 < leaves) (some_spines : 0 < spi
   pub some_devices : 0 < length devices
   some_devices =
       let same : devices ≡ numbered (λ d. device_tree (numbered_device_name spines d)) (spines + leaves) =
-      ap (map device_tree) (both spine_name leaf_name spines leaves) ∙ map_twice device_tree (numbered_device_name spines) (below (spines + leaves)) in
+      ap (map device_tree) (numbered_append spine_name leaf_name spines leaves) ∙ map_twice device_tree (numbered_device_name spines) (below (spines + leaves)) in
       let count : length devices ≡ spines + leaves = ap length same ∙ length-numbered (λ d. device_tree (numbered_device_name spines d)) (spines + leaves) in
       omega (arith, count, some_spines)
 

@@ -16,7 +16,7 @@ use Rattle.toml.proofs.ReadBack.{parse_document-printed}
 use Rattle.sd_num.specs.Lists.{below, has, ascending}
 use Rattle.sd_num.specs.declared.Rates.{Rates}
 use Rattle.sd_topo.specs.Network.{Network, Device, Link, Domain, is_name, number_in, name_at}
-use Rattle.sd_topo.specs.Limits.{AreDistinct}
+use Rattle.sd_topo.specs.Limits.{AreDistinct, IsNetwork}
 use Rattle.sd_topo.proofs.Ascending.{Rises, ascending-itself}
 use Rattle.sd_topo.proofs.Places.{number_back}
 use Rattle.sd_plan.proofs.Numbered.{length-numbered, at-numbered, get_or-numbered, length-below}
@@ -26,12 +26,13 @@ use Rattle.sd_topotext.specs.declared.fault.Key.TheVariants as keys
 use Rattle.sd_topotext.specs.Meaning.{place, value, count_of, each_from, number, text, array as array_at, array_or_none, own_name, referred, one_more as one_more_listed, params_in, side_in, rates_in, device_in, one_more_device, devices_in, ends_in, delay_in, back_in, link_in, one_more_link, links_in, members_in, domain_in, things_listed, one_more_domain, domains_in, roots_in, network_in, network_of}
 use Rattle.sd_topotext.specs.Then.{◌>>=◌}
 use Rattle.sd_topotext.specs.Reading.{tree_of}
+use Rattle.sd_topotext.proofs.Meant.{network_in_ok}
 use Rattle.sd_topotext.proofs.Trees.{tree_known}
 use Rattle.sd_gen.specs.fabric.Fabrics.{params, spine_name, leaf_name, link_name, device_named, link_between, rack, fabric}
 use Rattle.sd_gen.specs.fabric.Texts.{IsFabricText}
-use Rattle.sd_gen.specs.fabric.Numbered.{numbered_device_name}
+use Rattle.sd_gen.specs.fabric.Numbered.{device_at, link_at, numbered_device_name}
 use Rattle.sd_gen.specs.fabric.Trees.{device_tree, link_tree, rack_tree, fabric_tree}
-use Rattle.sd_gen.proofs.fabric.Numbering.{numbered, one_more, alike, both, grid, none_below, sum_alike}
+use Rattle.sd_gen.proofs.fabric.Numbering.{numbered, one_more, alike, numbered_append, grid, none_below, sum_alike}
 use Rattle.sd_gen.proofs.fabric.Naming.{device_is_name, link_is_name, rack_is_name, told_apart, devices_apart, racks_apart, links_same}
 use Rattle.sd_gen.proofs.fabric.Building.{map_twice, devices_numbered, links_numbered, tables_numbered, strings_numbered, roots_numbered, spine_named, leaf_named, fabric_depth}
 use Rattle.sd_gen.proofs.fabric.Paging.{fabric_sorted, fabric_dated}
@@ -96,7 +97,7 @@ found_by name n k apart less =
     ap (number_in (numbered name n)) (sym named) ∙ number_back (numbered name n) k (distinct name n apart) (omega (arith, less, count))
 
 -- a name is none of those before
-new_name : {B : Type 0} (name_of : B → List ℕ) (make : ℕ → B) (k n : ℕ) → ((i j : ℕ) → i < n → j < n → i ≢ j → name_of (make i) ≢ name_of (make j)) → k < n
+pub new_name : {B : Type 0} (name_of : B → List ℕ) (make : ℕ → B) (k n : ℕ) → ((i j : ℕ) → i < n → j < n → i ≢ j → name_of (make i) ≢ name_of (make j)) → k < n
     → list_any (bytes_eq (name_of (make k))) (map name_of (numbered make k)) ≡ false
 new_name name_of make k n apart less =
     ap (list_any (bytes_eq (name_of (make k)))) (map_twice name_of make (below k))
@@ -134,6 +135,14 @@ itself count base n within = ascending-itself count (numbered (λ j. base + j) n
 -- a number is none of those before
 new_number : (base k : ℕ) → has (numbered (λ j. base + j) k) (base + k) ≡ false
 new_number base k = none_below (nat_eq (base + k)) (λ j. base + j) k (λ i h. ne_eqb (base + k) (base + i) (λ same. omega (arith, same, h)))
+
+-- the numbers from 0 on
+pub from_zero : (n : ℕ) → numbered (λ j. 0 + j) n ≡ below n
+from_zero n = alike (λ j. 0 + j) (λ j. j) n (λ j h. let same : 0 + j ≡ j = omega arith in same) ∙ map_itself (below n)
+  where
+    map_itself : (ks : List ℕ) → map (λ k. k) ks ≡ ks
+    map_itself [] = refl
+    map_itself (k ∷ ks) = ap (λ xs. k ∷ xs) (map_itself ks)
 
 -- one name of a list is read
 listed_read : (p : Place) (names : List (List ℕ)) (seen : List ℕ) (name : List ℕ) (n : ℕ) → number_in names name ≡ Some n → has seen n ≡ false
@@ -179,6 +188,12 @@ array_or_none_read : (key : _) (entry : ℕ) (ms : Members) (ds : Items) → val
 unfolding array_or_none
 array_or_none_read key entry ms ds at = rw at (array_read key entry ms ds at)
 
+-- parts that are the fabric's make the fabric
+pub parts_are : (leaves spines : ℕ) (devices : List Device) (links : List Link) (domains : List Domain) (roots : List ℕ)
+    → devices ≡ (fabric leaves spines).devices → links ≡ (fabric leaves spines).links → domains ≡ (fabric leaves spines).domains → roots ≡ below spines
+    → ◌≡◌ {A = Network} (record { version = 1; params = params; devices = devices; links = links; domains = domains; roots = roots }) (fabric leaves spines)
+parts_are leaves spines devices links domains roots a b c d = rw (a, b, c, d) refl
+
 module _ (leaves spines : ℕ) (some : 1 ≤ spines) (few_leaves : leaves ≤ 256) (few_spines : spines ≤ 32) where
   abbrev tree : Members
   tree = fabric_tree leaves spines
@@ -197,12 +212,6 @@ module _ (leaves spines : ℕ) (some : 1 ≤ spines) (few_leaves : leaves ≤ 25
 
   abbrev link_names : List (List ℕ)
   link_names = numbered link_named links
-
-  abbrev device_at : ℕ → Device
-  device_at d = device_named (numbered_device_name spines d)
-
-  abbrev link_at : ℕ → Link
-  link_at l = link_between spines (l / spines) (l % spines)
 
   at_devices : value keys.Device tree ≡ Some (array (items_of (numbered (λ d. table (device_tree (numbered_device_name spines d))) devices)))
   unfolding fabric_tree
@@ -230,10 +239,10 @@ module _ (leaves spines : ℕ) (some : 1 ≤ spines) (few_leaves : leaves ≤ 25
 
   -- Devices
 
-  devices_differ : (m n : ℕ) → m < devices → n < devices → m ≢ n → numbered_device_name spines m ≢ numbered_device_name spines n
+  pub devices_differ : (m n : ℕ) → m < devices → n < devices → m ≢ n → numbered_device_name spines m ≢ numbered_device_name spines n
   devices_differ m n a b differ = devices_apart spines m n (omega (arith, a, few_leaves, few_spines)) (omega (arith, b, few_leaves, few_spines)) differ
 
-  devices_read : devices_in 1 top tree ≡ Ok (numbered device_at devices)
+  devices_read : devices_in 1 top tree ≡ Ok (numbered (device_at spines) devices)
   unfolding devices_in
   devices_read =
       rw (
@@ -243,9 +252,9 @@ module _ (leaves spines : ℕ) (some : 1 ≤ spines) (few_leaves : leaves ≤ 25
         count_read (λ d. table (device_tree (numbered_device_name spines d))) devices,
         le-leb devices 4096 (omega (arith, few_leaves, few_spines)),
       )
-      (each_read (one_more_device 1 top) (λ d. table (device_tree (numbered_device_name spines d))) device_at devices
-      (λ k less. one_device_read (numbered device_at k) (numbered_device_name spines k) (device_is_name spines k (omega (arith, less, few_leaves, few_spines)))
-      (new_name (λ (d : Device). d.name) device_at k devices devices_differ less)))
+      (each_read (one_more_device 1 top) (λ d. table (device_tree (numbered_device_name spines d))) (device_at spines) devices
+      (λ k less. one_device_read (numbered (device_at spines) k) (numbered_device_name spines k) (device_is_name spines k (omega (arith, less, few_leaves, few_spines)))
+      (new_name (λ (d : Device). d.name) (device_at spines) k devices devices_differ less)))
 
   spine_found : (j : ℕ) → j < spines → number_in device_names (spine_name j) ≡ Some j
   spine_found j less = ap (number_in device_names) (sym (spine_named spines j less))
@@ -263,7 +272,7 @@ module _ (leaves spines : ℕ) (some : 1 ≤ spines) (few_leaves : leaves ≤ 25
   spine_of : (l : ℕ) → l % spines < spines
   spine_of l = mod_below l spines (omega (arith, some))
 
-  links_differ : (l m : ℕ) → l < links → m < links → l ≢ m → link_named l ≢ link_named m
+  pub links_differ : (l m : ℕ) → l < links → m < links → l ≢ m → link_named l ≢ link_named m
   links_differ l m a b differ same =
       let first = leaf_of l a in
       let second = leaf_of m b in
@@ -276,7 +285,7 @@ module _ (leaves spines : ℕ) (some : 1 ≤ spines) (few_leaves : leaves ≤ 25
   links_few : links ≤ 8192
   links_few = mul-le leaves spines 256 32 few_leaves few_spines
 
-  links_read : (names : List (List ℕ)) → names ≡ device_names → links_in 1 names tree ≡ Ok (numbered link_at links)
+  links_read : (names : List (List ℕ)) → names ≡ device_names → links_in 1 names tree ≡ Ok (numbered (link_at spines) links)
   unfolding links_in
   links_read names is =
       rw (
@@ -285,17 +294,17 @@ module _ (leaves spines : ℕ) (some : 1 ≤ spines) (few_leaves : leaves ≤ 25
         le-leb links 32768 (let few = links_few in omega (arith, few)),
         is,
       )
-      (each_read (one_more_link 1 device_names) (λ l. table (link_tree (l / spines) (l % spines))) link_at links (λ k less. one k less))
+      (each_read (one_more_link 1 device_names) (λ l. table (link_tree (l / spines) (l % spines))) (link_at spines) links (λ k less. one k less))
     where
       one : (k : ℕ) → k < links
-          → one_more_link 1 device_names (numbered link_at k) (table (link_tree (k / spines) (k % spines))) ≡ Ok (numbered link_at k ++ link_at k ∷ [])
+          → one_more_link 1 device_names (numbered (link_at spines) k) (table (link_tree (k / spines) (k % spines))) ≡ Ok (numbered (link_at spines) k ++ link_at spines k ∷ [])
       one k less =
           let leaf = leaf_of k less in
           let spine = spine_of k in
-          one_link_read spines (k / spines) (k % spines) device_names (numbered link_at k) (spine_found (k % spines) spine) (leaf_found (k / spines) leaf)
+          one_link_read spines (k / spines) (k % spines) device_names (numbered (link_at spines) k) (spine_found (k % spines) spine) (leaf_found (k / spines) leaf)
           (ne_eqb (k % spines) (spines + k / spines) (λ same. omega (arith, same, spine)))
           (link_is_name (k / spines) (k % spines) (omega (arith, leaf, few_leaves)) (omega (arith, spine, few_spines)))
-          (new_name (λ (l : Link). l.name) link_at k links links_differ less)
+          (new_name (λ (l : Link). l.name) (link_at spines) k links links_differ less)
 
   -- a leaf's link to a spine is found
   link_found : (i j : ℕ) → i < leaves → j < spines → number_in link_names (link_name i j) ≡ Some (spines * i + j)
@@ -348,7 +357,7 @@ module _ (leaves spines : ℕ) (some : 1 ≤ spines) (few_leaves : leaves ≤ 25
           let one : suc i * spines ≡ i * spines + spines = omega arith in
           omega (arith, more, turned, one)
 
-  racks_differ : (m n : ℕ) → m < leaves → n < leaves → m ≢ n → (codes "rack" ++ decimal m) ≢ (codes "rack" ++ decimal n)
+  pub racks_differ : (m n : ℕ) → m < leaves → n < leaves → m ≢ n → (codes "rack" ++ decimal m) ≢ (codes "rack" ++ decimal n)
   racks_differ m n a b differ = racks_apart m n (omega (arith, a, few_leaves)) (omega (arith, b, few_leaves)) differ
 
   few_listed : (k : ℕ) → k < leaves → things_listed (numbered (rack spines) k ++ rack spines k ∷ []) ≤ 262144
@@ -398,18 +407,14 @@ module _ (leaves spines : ℕ) (some : 1 ≤ spines) (few_leaves : leaves ≤ 25
       (λ k less. listed_read (place keys.Roots 0) device_names (numbered (λ j. 0 + j) k) (numbered_device_name spines k) (0 + k)
       (found_by (numbered_device_name spines) devices k devices_differ (omega (arith, less)) ∙ ap (λ n. Some n) (let same : k ≡ 0 + k = omega arith in same))
       (new_number 0 k))
-      ∙ ap (λ ks. Ok ks) (alike (λ k. 0 + k) (λ k. k) spines (λ k h. let same : 0 + k ≡ k = omega arith in same) ∙ map_itself (below spines)))
-    where
-      map_itself : (ks : List ℕ) → map (λ k. k) ks ≡ ks
-      map_itself [] = refl
-      map_itself (k ∷ ks) = ap (λ xs. k ∷ xs) (map_itself ks)
+      ∙ ap (λ ks. Ok ks) (from_zero spines))
 
   -- The whole
 
-  devices_are : numbered device_at devices ≡ (fabric leaves spines).devices
+  pub devices_are : numbered (device_at spines) devices ≡ (fabric leaves spines).devices
   devices_are =
-      sym (both (λ j. device_named (spine_name j)) (λ i. device_named (leaf_name i)) spines leaves
-      ∙ alike (λ k. if nat_lt k spines then device_named (spine_name k) else device_named (leaf_name (k - spines))) device_at devices
+      sym (numbered_append (λ j. device_named (spine_name j)) (λ i. device_named (leaf_name i)) spines leaves
+      ∙ alike (λ k. if nat_lt k spines then device_named (spine_name k) else device_named (leaf_name (k - spines))) (device_at spines) devices
       (λ k h. by k (nat_lt k spines)))
     where
       by : (k : ℕ) (b : Bool)
@@ -418,28 +423,28 @@ module _ (leaves spines : ℕ) (some : 1 ≤ spines) (few_leaves : leaves ≤ 25
       by k true = refl
       by k false = refl
 
-  links_are : numbered link_at links ≡ (fabric leaves spines).links
+  pub links_are : numbered (link_at spines) links ≡ (fabric leaves spines).links
   links_are = sym (grid (link_between spines) leaves spines)
-
-  all_is : (ds : List Device) (ls : List Link) → ds ≡ (fabric leaves spines).devices → ls ≡ (fabric leaves spines).links
-      → ◌≡◌ {A = Result Network TopoFault}
-      (Ok (record { version = 1; params = params; devices = ds; links = ls; domains = numbered (rack spines) leaves; roots = below spines }))
-      (Ok (fabric leaves spines))
-  all_is ds ls a b = rw (a, b) refl
 
   pub fabric_read : network_in tree ≡ Ok (fabric leaves spines)
   unfolding network_in
   fabric_read =
-      let named : map (λ (d : Device). d.name) (numbered device_at devices) ≡ device_names = map_twice (λ (d : Device). d.name) device_at (below devices) in
-      let joined : map (λ (l : Link). l.name) (numbered link_at links) ≡ link_names = map_twice (λ (l : Link). l.name) link_at (below links) in
+      let ok : Network → Result Network TopoFault = λ net. Ok net in
+      let named : map (λ (d : Device). d.name) (numbered (device_at spines) devices) ≡ device_names = map_twice (λ (d : Device). d.name) (device_at spines) (below devices) in
+      let joined : map (λ (l : Link). l.name) (numbered (link_at spines) links) ≡ link_names = map_twice (λ (l : Link). l.name) (link_at spines) (below links) in
       rw (
         version_read,
         params_read,
         devices_read,
-        links_read (map (λ d. d.name) (numbered device_at devices)) named,
-        racks_read (map (λ d. d.name) (numbered device_at devices)) (map (λ l. l.name) (numbered link_at links)) named joined,
-        roots_read (map (λ d. d.name) (numbered device_at devices)) named,
-      ) (all_is (numbered device_at devices) (numbered link_at links) devices_are links_are)
+        links_read (map (λ d. d.name) (numbered (device_at spines) devices)) named,
+        racks_read (map (λ d. d.name) (numbered (device_at spines) devices)) (map (λ l. l.name) (numbered (link_at spines) links)) named joined,
+        roots_read (map (λ d. d.name) (numbered (device_at spines) devices)) named,
+      ) (ap ok (parts_are leaves spines (numbered (device_at spines) devices) (numbered (link_at spines) links) (numbered (rack spines) leaves) (below spines)
+      devices_are links_are refl refl))
+
+  -- so it is within the limits of networks
+  pub fabric_is_network : IsNetwork (fabric leaves spines)
+  fabric_is_network = network_in_ok tree (fabric leaves spines) fabric_read
 
   -- a text that is parsed to the tree
   pub text_read : (bytes : List ℕ) → IsUtf8 bytes → parse_document bytes ≡ Some tree → (tree_of bytes ≡ Some tree) × IsFabricText leaves spines bytes

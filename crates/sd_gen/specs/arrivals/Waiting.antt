@@ -6,9 +6,11 @@ use Rattle.sd_gen.specs.declared.arrivals.Arrival.{Arrival}
 abbrev pub comes_before : Arrival → Arrival → Bool
 comes_before a b = nat_lt a.moment b.moment || (nat_eq a.moment b.moment && nat_lt a.number b.number)
 
+-- the one of two that is received first
 abbrev pub sooner : Arrival → Arrival → Arrival
 sooner a b = if comes_before b a then b else a
 
+-- the one of these that is received first
 abbrev pub soonest_of : Arrival → List Arrival → Arrival
 soonest_of w [] = w
 soonest_of w (v ∷ vs) = soonest_of (sooner w v) vs
@@ -18,6 +20,7 @@ abbrev pub soonest : List Arrival → Option Arrival
 soonest [] = None
 soonest (w ∷ ws) = Some (soonest_of w ws)
 
+-- the message, if it is received by the moment
 abbrev pub if_by : ℕ → Option Arrival → Option Arrival
 if_by moment None = None
 if_by moment (Some w) = if nat_le w.moment moment then Some w else None

@@ -6,6 +6,7 @@ use Rattle.sd_topo.specs.declared.Params.{Params}
 use Rattle.sd_topo.specs.declared.Side.TheVariants as side
 use Rattle.sd_plan.specs.declared.Absent.{Absent}
 
+-- the parameters of the network
 abbrev pub params : Params
 params = record { ppm = 200; grain = 1000; period = 100000000; tick = 60000000; loss = 1; depth = 3 }
 
@@ -13,12 +14,15 @@ params = record { ppm = 200; grain = 1000; period = 100000000; tick = 60000000; 
 abbrev pub spine_name : ℕ → List ℕ
 spine_name j = codes "s" ++ decimal j
 
+-- the name of leaf i
 abbrev pub leaf_name : ℕ → List ℕ
 leaf_name i = codes "l" ++ decimal i
 
+-- the name of the link between leaf i and spine j
 abbrev pub link_name : ℕ → ℕ → List ℕ
 link_name i j = codes "k" ++ decimal i ++ codes "-" ++ decimal j
 
+-- the device with a name
 abbrev pub device_named : List ℕ → Device
 device_named name = record { name = name; side = side.Root; rates = record { ppm = 200; grain = 1000 } }
 
@@ -51,5 +55,6 @@ fabric leaves spines =
 abbrev pub first_absent : Absent
 first_absent = record { devices = []; links = [] }
 
+-- what the second plan leaves out: the first spine
 abbrev pub second_absent : Absent
 second_absent = record { devices = 0 ∷ []; links = [] }

@@ -15,10 +15,10 @@ use toml::Value;
 use toml::value::{Array, Table};
 
 /// The least delay of a link, in ps.
-const MIN: u32 = 400_000;
+pub(crate) const MIN: u32 = 400_000;
 
 /// The greatest delay of a link, in ps.
-const MAX: u32 = 1_000_000;
+pub(crate) const MAX: u32 = 1_000_000;
 
 /// A device, by its name alone.
 fn device_value(alloc: Global, name: String) -> Result<Value, NoMemory>

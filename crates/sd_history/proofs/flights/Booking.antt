@@ -5,7 +5,7 @@ use Rattle.std.proofs.Common.{sym, ◌∙◌, ap, append_assoc}
 use Rattle.std.proofs.lemmas.Bool.{eqb-true, le-leb, ltb-false, or_parts, not-false}
 use Rattle.std.proofs.lemmas.List.{append-nil}
 use Rattle.std.proofs.lemmas.List.Elements.{filter-append}
-use Rattle.sd_sched.specs.Num.Lists.{of_some, same_number}
+use Rattle.sd_sched.specs.Num.Lists.{map_or, same_number}
 use Rattle.sd_core.specs.Topo.declared.Thing.{Thing}
 use Rattle.sd_core.specs.Msg.declared.Flight.{Flight}
 use Rattle.sd_core.specs.Msg.declared.TakeFault.{TakeFault}
@@ -59,7 +59,7 @@ known_message : (setting : Setting) (steps : List Step) (e : Event) (n : ℕ) �
 known_message setting steps e n none names =
     let known : unknown_message steps e ≡ false = none_holds (causes setting steps e) _ none (later (later (later (later first)))) in
     not-false (is_given (flight_count steps) n)
-    (sym (unknown_test (flight_count steps) n) ∙ sym (ap (λ o. of_some o false (λ m. nat_eq m 0 || nat_lt (flight_count steps) m)) names) ∙ known)
+    (sym (unknown_test (flight_count steps) n) ∙ sym (ap (λ o. map_or o false (λ m. nat_eq m 0 || nat_lt (flight_count steps) m)) names) ∙ known)
 
 module _ (setting : Setting) (steps : List Step) (e : Event) (n : ℕ) (is : AreSteps setting steps) (none : refusal setting steps e ≡ None)
     (names : message_of e ≡ Some n) where
@@ -67,14 +67,14 @@ module _ (setting : Setting) (steps : List Step) (e : Event) (n : ℕ) (is : Are
   takes_flight f there =
       let fresh : spent_message steps e ≡ false = none_holds (causes setting steps e) _ none (later (later (later (later (later first))))) in
       let unspent_ : is_spent steps (reference_of e) f ≡ false =
-      sym (ap (λ o. of_some o false (is_spent steps (reference_of e))) there)
-      ∙ sym (ap (λ o. of_some o false (λ m. of_some (flight_numbered steps m) false (is_spent steps (reference_of e)))) names) ∙ fresh in
+      sym (ap (λ o. map_or o false (is_spent steps (reference_of e))) there)
+      ∙ sym (ap (λ o. map_or o false (λ m. map_or (flight_numbered steps m) false (is_spent steps (reference_of e)))) names) ∙ fresh in
       let parts : (is_spent steps 0 f ≡ false) × (nat_lt f.last (reference_of e) ≡ false) =
       or_parts (is_spent steps 0 f) (nat_lt f.last (reference_of e)) (sym (spent_at steps (reference_of e) f) ∙ unspent_) in
       let current : is_current (reference_of e) f ≡ true = le-leb (reference_of e) f.last (ltb-false f.last (reference_of e) parts.1) in
       let looks : found (flight_count steps) (unspent steps 0) n ≡ Ok f =
       look_is setting steps n is
-      ∙ ap (λ o. of_some o (Err fault.Unknown) (λ g. if is_spent steps 0 g then Err fault.Spent else Ok g)) there
+      ∙ ap (λ o. map_or o (Err fault.Unknown) (λ g. if is_spent steps 0 g then Err fault.Spent else Ok g)) there
       ∙ ap (λ b. if b then Err fault.Spent else Ok f) parts.0 in
       record {
         flight = f;
@@ -83,8 +83,8 @@ module _ (setting : Setting) (steps : List Step) (e : Event) (n : ℕ) (is : Are
         current = current;
         stays = found_kept (flight_count steps) n (is_current (reference_of e)) (unspent steps 0) f (unspent_given setting steps 0 is) looks current;
         receiver = λ receives. receiver_by (device_of e)
-            (sym (ap (λ o. of_some o false (λ g. not (same_number (device_of e) g.receiver))) there)
-            ∙ sym (ap (λ o. of_some o false (λ m. of_some (flight_numbered steps m) false (λ g. not (same_number (device_of e) g.receiver)))) receives)
+            (sym (ap (λ o. map_or o false (λ g. not (same_number (device_of e) g.receiver))) there)
+            ∙ sym (ap (λ o. map_or o false (λ m. map_or (flight_numbered steps m) false (λ g. not (same_number (device_of e) g.receiver)))) receives)
             ∙ none_holds (causes setting steps e) _ none (later (later (later (later (later (later first)))))));
       }
     where

@@ -5,7 +5,7 @@ use Rattle.std.proofs.Common.{arith, sym, ap, subst}
 use Rattle.std.proofs.Math.Nat.{mul-le-mul_left, mul-le-mul_right}
 use Rattle.std.proofs.lemmas.Bool.{leb-false}
 use Rattle.std.proofs.lemmas.List.{length-map}
-use Rattle.sd_sched.specs.Num.Lists.{of_some}
+use Rattle.sd_sched.specs.Num.Lists.{map_or}
 use Rattle.sd_core.specs.Topo.Network.{Network, device_numbers, link_numbers}
 use Rattle.sd_core.specs.Plan.declared.Plan.{Plan}
 use Rattle.sd_core.specs.Plan.declared.End.{End}
@@ -47,7 +47,7 @@ ends_few net plan d =
     let count : length (link_numbers net) ≡ length net.links = length-below (length net.links) in
     omega (arith, few, count)
 
-planned_few : (net : Network) (d : ℕ) (o : Option Plan) → length (of_some o [] (λ plan. ends_of net plan d)) ≤ length net.links
+planned_few : (net : Network) (d : ℕ) (o : Option Plan) → length (map_or o [] (λ plan. ends_of net plan d)) ≤ length net.links
 planned_few net d None = omega arith
 planned_few net d (Some plan) = ends_few net plan d
 
@@ -64,7 +64,7 @@ module _ (setting : Setting) (steps : List Step) (r : ℕ) where
       omega (arith, count, few)
 
   by_answers : (effect : Effect) (o : Option ℕ) (a : Option Answers)
-      → length (of_some o [] (λ d. of_some a [] (λ b. flights_by setting steps r d b.epoch effect))) ≤ links
+      → length (map_or o [] (λ d. map_or a [] (λ b. flights_by setting steps r d b.epoch effect))) ≤ links
   by_answers effect None a = omega arith
   by_answers effect (Some d) None = omega arith
   by_answers effect (Some d) (Some b) = by_effect d b.epoch effect

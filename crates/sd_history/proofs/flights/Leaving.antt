@@ -2,9 +2,9 @@
 use Rattle.std.specs.Prelude.{◌≡◌, ℕ, ◌+◌, ◌<◌, ◌≤◌, max, Bool, true, false, ◌&&◌, ◌||◌, not, List, [], ◌∷◌, ◌++◌, filter, nat_eq, nat_le, nat_lt, Option, Some, None, refl, if◌then◌else◌}
 use Rattle.std.specs.List.{list_any}
 use Rattle.std.proofs.Common.{arith, sym, ◌∙◌, ap, inl, inr}
-use Rattle.std.proofs.lemmas.Bool.{eq-eqb, ne_eqb, lt-ltb, le-ltb, le-leb, lt-leb, cases_eq, cases_lt, or_parts, ltb-false, ltb-true}
+use Rattle.std.proofs.lemmas.Bool.{ne_eqb, lt-ltb, le-ltb, le-leb, lt-leb, cases_lt, or_parts, ltb-false, ltb-true}
 use Rattle.std.proofs.lemmas.List.Elements.{filter-append}
-use Rattle.sd_sched.specs.Num.Lists.{of_some, same_number}
+use Rattle.sd_sched.specs.Num.Lists.{map_or, same_number}
 use Rattle.sd_core.specs.Topo.declared.Thing.{Thing}
 use Rattle.sd_core.specs.Topo.declared.Thing.TheVariants as thing
 use Rattle.sd_core.specs.Msg.declared.Flight.{Flight}
@@ -12,6 +12,7 @@ use Rattle.sd_core.specs.Msg.Books.{has_number, is_current}
 use Rattle.sd_core.proofs.Msg.Finding.{beyond}
 use Rattle.sd_sched.specs.declared.Event.{Event}
 use Rattle.sd_sched.specs.Events.{reference_of, message_of}
+use Rattle.sd_sched.proofs.Num.Shared.{equal_swap}
 use Rattle.sd_history.specs.Things.{failure_of}
 use Rattle.sd_history.specs.World.{Setting, is_thing, fails, latest_reference}
 use Rattle.sd_history.specs.Steps.{Step, seen_of, flight_count}
@@ -26,14 +27,6 @@ use Rattle.sd_history.proofs.flights.Finds.{within, finds, none_has, some_has}
 use Rattle.sd_history.proofs.flights.Sending.{step_numbered, counted, ends_later}
 use Rattle.sd_history.proofs.flights.Numbers.{one_more_step, length_in_order, numbered_in_order, step_given}
 
-swapped : (a b : ℕ) → nat_eq a b ≡ nat_eq b a
-swapped a b =
-    elim (cases_eq a b) [
-      | inl same ↦ eq-eqb a b same ∙ sym (eq-eqb b a (sym same))
-      | inr apart ↦ ne_eqb a b apart
-          ∙ sym (ne_eqb b a (λ same. apart (sym same)))
-    ]
-
 -- Each event leaves those that pass three tests.
 
 -- the event fails the link or the receiver of the flight
@@ -46,7 +39,7 @@ uses e f = same_number (message_of e) f.number
 
 taken_out : (number : Option ℕ) (fs : List Flight) → without_taken number fs ≡ filter (λ f. not (same_number number f.number)) fs
 taken_out None fs = all_pass_kept fs
-taken_out (Some n) fs = kept_alike (λ f. not (has_number n f)) (λ f. not (nat_eq n f.number)) fs (λ f a. ap not (swapped f.number n))
+taken_out (Some n) fs = kept_alike (λ f. not (has_number n f)) (λ f. not (nat_eq n f.number)) fs (λ f a. ap not (equal_swap f.number n))
 
 or_none : (b : Bool) → b ≡ (b || false)
 or_none true = refl
@@ -75,7 +68,7 @@ named_message : (setting : Setting) (steps : List Step) (e : Event) (n : ℕ) �
     → same_number (message_of e) n ≡ false
 named_message setting steps e n none past = go (message_of e) (none_holds (causes setting steps e) _ none (later (later (later (later first)))))
   where
-    go : (o : Option ℕ) → of_some o false (λ m. nat_eq m 0 || nat_lt (flight_count steps) m) ≡ false → same_number o n ≡ false
+    go : (o : Option ℕ) → map_or o false (λ m. nat_eq m 0 || nat_lt (flight_count steps) m) ≡ false → same_number o n ≡ false
     go None known = refl
     go (Some m) known =
         let high : m ≤ flight_count steps = ltb-false (flight_count steps) m (or_parts (nat_eq m 0) (nat_lt (flight_count steps) m) known).1 in

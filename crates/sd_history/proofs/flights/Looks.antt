@@ -2,7 +2,7 @@
 use Rattle.std.specs.Prelude.{◌≡◌, ℕ, max, Bool, true, false, ◌||◌, not, List, find, nat_eq, nat_lt, ok_or, Option, Some, None, option_and_then, Result, Ok, Err, refl, if◌then◌else◌}
 use Rattle.std.proofs.Common.{arith, sym, ◌∙◌, ap, inl, inr}
 use Rattle.std.proofs.lemmas.Bool.{eq-eqb, ne_eqb, lt-ltb, le-ltb, le-leb, lt-leb, cases_eq, cases_lt}
-use Rattle.sd_sched.specs.Num.Lists.{of_some, same_number}
+use Rattle.sd_sched.specs.Num.Lists.{map_or, same_number}
 use Rattle.sd_core.specs.Msg.declared.Flight.{Flight}
 use Rattle.sd_core.specs.Msg.declared.TakeFault.{TakeFault}
 use Rattle.sd_core.specs.Msg.declared.TakeFault.TheVariants as fault
@@ -46,8 +46,8 @@ look_is setting steps n is = by (is_given (flight_count steps) n) refl
         let it : (f : Flight) × (flight_numbered steps n ≡ Some f) × (f.number ≡ n) = numbered_there setting steps n is given in
         ap (λ o. ok_or o fault.Spent) (unspent_found setting steps n is ∙ ap (option_and_then (if_unspent steps)) it.1)
         ∙ by_spent it.0 (is_spent steps 0 it.0)
-        ∙ sym (ap (λ o. of_some o (Err fault.Unknown) (if_there steps)) it.1)
-    by false other = sym (ap (λ o. of_some o (Err fault.Unknown) (if_there steps)) (numbered_none setting steps n is other))
+        ∙ sym (ap (λ o. map_or o (Err fault.Unknown) (if_there steps)) it.1)
+    by false other = sym (ap (λ o. map_or o (Err fault.Unknown) (if_there steps)) (numbered_none setting steps n is other))
 
 -- the flight that is found is the one with the number
 pub found_is : (setting : Setting) (steps : List Step) (n : ℕ) (f : Flight) → AreSteps setting steps → found (flight_count steps) (unspent steps 0) n ≡ Ok f
@@ -59,7 +59,7 @@ found_is setting steps n f is looks = by (flight_numbered steps n) (sym (look_is
     on g true spent same = cc
     on g false spent same = let equal : g ≡ f = cc in (ap (λ (x : Flight). Some x) equal, ap (is_spent steps 0) (sym equal) ∙ spent)
 
-    by : (o : Option Flight) → of_some o (Err fault.Unknown) (if_there steps) ≡ Ok f → (o ≡ Some f) × (is_spent steps 0 f ≡ false)
+    by : (o : Option Flight) → map_or o (Err fault.Unknown) (if_there steps) ≡ Ok f → (o ≡ Some f) × (is_spent steps 0 f ≡ false)
     by None same = cc
     by (Some g) same = on g (is_spent steps 0 g) refl same
 
@@ -83,7 +83,7 @@ says_by false o = refl
 pub unknown_is : (setting : Setting) (steps : List Step) (e : Event) (n : ℕ) → AreSteps setting steps → message_of e ≡ Some n
     → unknown_message steps e ≡ says_unknown (found (flight_count steps) (unspent steps 0) n)
 unknown_is setting steps e n is names =
-    ap (λ o. of_some o false (λ m. nat_eq m 0 || nat_lt (flight_count steps) m)) names
+    ap (λ o. map_or o false (λ m. nat_eq m 0 || nat_lt (flight_count steps) m)) names
     ∙ unknown_test (flight_count steps) n
     ∙ says_by (is_given (flight_count steps) n) (find (has_number n) (unspent steps 0))
 
@@ -112,7 +112,7 @@ spent_at steps reference f =
     ∙ regroup (was_used steps f.number) (was_swept steps f) (nat_lt f.last (max 0 (latest_reference (seen_of steps)))) (nat_lt f.last reference) (not f.reaches)
 
 spent_by : (steps : List Step) (reference : ℕ) (o : Option Flight)
-    → of_some o false (is_spent steps reference) ≡ says_spent reference (of_some o (Err fault.Unknown) (if_there steps))
+    → map_or o false (is_spent steps reference) ≡ says_spent reference (map_or o (Err fault.Unknown) (if_there steps))
 spent_by steps reference None = refl
 spent_by steps reference (Some f) = spent_at steps reference f ∙ go (is_spent steps 0 f)
   where
@@ -124,7 +124,7 @@ spent_by steps reference (Some f) = spent_at steps reference f ∙ go (is_spent 
 pub spent_is : (setting : Setting) (steps : List Step) (e : Event) (n : ℕ) → AreSteps setting steps → message_of e ≡ Some n
     → spent_message steps e ≡ says_spent (reference_of e) (found (flight_count steps) (unspent steps 0) n)
 spent_is setting steps e n is names =
-    ap (λ o. of_some o false (λ m. of_some (flight_numbered steps m) false (is_spent steps (reference_of e)))) names
+    ap (λ o. map_or o false (λ m. map_or (flight_numbered steps m) false (is_spent steps (reference_of e)))) names
     ∙ spent_by steps (reference_of e) (flight_numbered steps n)
     ∙ sym (ap (says_spent (reference_of e)) (look_is setting steps n is))
 
@@ -133,9 +133,9 @@ pub wrong_is : (setting : Setting) (steps : List Step) (e : Event) (n : ℕ) (f 
     → found (flight_count steps) (unspent steps 0) n ≡ Ok f
     → wrong_device steps e ≡ not (same_number (device_of e) f.receiver)
 wrong_is setting steps e n f is names looks =
-    ap (λ o. of_some o false (λ m. of_some (flight_numbered steps m) false (λ g. not (same_number (device_of e) g.receiver)))) names
-    ∙ ap (λ o. of_some o false (λ g. not (same_number (device_of e) g.receiver))) (found_is setting steps n f is looks).0
+    ap (λ o. map_or o false (λ m. map_or (flight_numbered steps m) false (λ g. not (same_number (device_of e) g.receiver)))) names
+    ∙ ap (λ o. map_or o false (λ g. not (same_number (device_of e) g.receiver))) (found_is setting steps n f is looks).0
 
 -- and an event that receives nothing names none
 pub wrong_none : (steps : List Step) (e : Event) → received e ≡ None → wrong_device steps e ≡ false
-wrong_none steps e names = ap (λ o. of_some o false (λ m. of_some (flight_numbered steps m) false (λ g. not (same_number (device_of e) g.receiver)))) names
+wrong_none steps e names = ap (λ o. map_or o false (λ m. map_or (flight_numbered steps m) false (λ g. not (same_number (device_of e) g.receiver)))) names

@@ -4,7 +4,7 @@ use Rattle.std.specs.Prelude.{◌≡◌, ℕ, zero, suc, ◌-◌, ◌<◌, ◌�
 use Rattle.std.specs.List.{cons_option}
 use Rattle.std.proofs.Common.{arith, sym, ap, subst, inl, inr}
 use Rattle.std.proofs.lemmas.Bool.{or_cases}
-use Rattle.sd_sched.specs.Num.Lists.{of_some, below}
+use Rattle.sd_sched.specs.Num.Lists.{map_or, below}
 use Rattle.sd_core.specs.Topo.Network.{Network, Each, device_numbers, link_numbers, link_of, joins}
 use Rattle.sd_core.specs.Topo.Places.{is_end_of}
 use Rattle.sd_core.proofs.Topo.Laws.{joined_end}
@@ -30,7 +30,7 @@ use Rattle.sd_history.proofs.flights.Sending.{WasSent, was_sent}
 
 -- Ends
 
-among_below : (n d : ℕ) → Among d (below n) → d < n
+pub among_below : (n d : ℕ) → Among d (below n) → d < n
 among_below zero d a = elim a [ ]
 among_below (suc n) d a = elim (either_side (below n) (n ∷ []) a) [
   | inl before ↦ (let less : d < n = among_below n d before in omega arith)
@@ -90,18 +90,18 @@ ends_planned setting steps epoch d e a = by (nat_eq epoch (epoch_in_force seen))
     seen = seen_of steps
 
     by_window : (w : Option (List Seen))
-        → Among e (of_some (option_map (λ x. plan_numbered setting (staged_epoch seen)) w) [] (λ plan. ends_of setting.net plan d))
+        → Among e (map_or (option_map (λ x. plan_numbered setting (staged_epoch seen)) w) [] (λ plan. ends_of setting.net plan d))
         → (n : ℕ) × Among e (ends_of setting.net (plan_numbered setting n) d)
     by_window None b = elim b [ ]
     by_window (Some w) b = (staged_epoch seen, b)
 
-    second : (t : Bool) → Among e (of_some (if t then staged setting seen else None) [] (λ plan. ends_of setting.net plan d))
+    second : (t : Bool) → Among e (map_or (if t then staged setting seen else None) [] (λ plan. ends_of setting.net plan d))
         → (n : ℕ) × Among e (ends_of setting.net (plan_numbered setting n) d)
     second true b = by_window (window seen) b
     second false b = elim b [ ]
 
     by : (t : Bool)
-        → Among e (of_some (if t then Some (in_force setting seen) else if nat_eq epoch (staged_epoch seen) then staged setting seen else None) []
+        → Among e (map_or (if t then Some (in_force setting seen) else if nat_eq epoch (staged_epoch seen) then staged setting seen else None) []
         (λ plan. ends_of setting.net plan d))
         → (n : ℕ) × Among e (ends_of setting.net (plan_numbered setting n) d)
     by true b = (epoch_in_force seen, b)
@@ -114,13 +114,13 @@ changed_named setting steps (event.Join r m c clock eps) d is = is
 changed_named setting steps (event.Tick r m c) d is = is
 changed_named setting steps (event.Recv r m c n) d is = by (flight_numbered steps n) is
   where
-    by : (o : Option Flight) → changed (of_some o Passes (λ f. Calls m (Receive f.link f.message c))) ≡ Some d → Some m ≡ Some d
+    by : (o : Option Flight) → changed (map_or o Passes (λ f. Calls m (Receive f.link f.message c))) ≡ Some d → Some m ≡ Some d
     by None same = cc
     by (Some f) same = same
 changed_named setting steps (event.Fix r m c clock eps) d is = is
 changed_named setting steps (event.Give r m) d is = by (staged setting (seen_of steps)) is
   where
-    by : (o : Option Plan) → changed (of_some o Passes (λ plan. Calls m (Give (duty_of setting.net plan (staged_epoch (seen_of steps)) m)))) ≡ Some d
+    by : (o : Option Plan) → changed (map_or o Passes (λ plan. Calls m (Give (duty_of setting.net plan (staged_epoch (seen_of steps)) m)))) ≡ Some d
         → Some m ≡ Some d
     by None same = cc
     by (Some plan) same = same
@@ -184,7 +184,7 @@ follower_joined : (setting : Setting) (n d l c : ℕ) → AreStructured setting 
     → follows_over (plan_numbered setting n) d l c ≡ true → joins setting.net l c d ≡ true
 follower_joined setting n d l c right within follows = by (slice_get setting.plans (n - 1)) refl follows
   where
-    by : (o : Option Plan) → slice_get setting.plans (n - 1) ≡ o → follows_over (of_some o no_plan (λ plan. plan)) d l c ≡ true → joins setting.net l c d ≡ true
+    by : (o : Option Plan) → slice_get setting.plans (n - 1) ≡ o → follows_over (map_or o no_plan (λ plan. plan)) d l c ≡ true → joins setting.net l c d ≡ true
     by None none follows' = cc
     by (Some plan) there follows' =
         let both = both_led setting.net plan d l c (keeps_rules setting.net plan (right (n - 1) plan there)) within in

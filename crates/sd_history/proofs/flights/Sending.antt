@@ -2,7 +2,7 @@
 use Rattle.std.specs.Prelude.{◌≡◌, ℕ, ◌+◌, ◌*◌, ◌≤◌, List, [], ◌∷◌, length, Option, Some, None, refl}
 use Rattle.std.proofs.Common.{arith, sym, ap, subst}
 use Rattle.std.proofs.lemmas.List.Sums.{sum_by-cons}
-use Rattle.sd_sched.specs.Num.Lists.{of_some}
+use Rattle.sd_sched.specs.Num.Lists.{map_or}
 use Rattle.sd_core.specs.Topo.Network.{delay_of}
 use Rattle.sd_core.specs.Plan.declared.End.{End}
 use Rattle.sd_core.specs.Msg.declared.Message.{Message}
@@ -18,18 +18,18 @@ use Rattle.sd_history.specs.flights.Flights.{AreNumberedOn}
 
 -- Numbers
 
-numbered_to : (setting : Setting) (steps : List Step) (r d : ℕ) (m : Message) (n : ℕ) (ends : List End)
+pub numbered_to : (setting : Setting) (steps : List Step) (r d : ℕ) (m : Message) (n : ℕ) (ends : List End)
     → AreNumberedOn n (flights_to setting steps r d m n ends)
 numbered_to setting steps r d m n [] = tt
 numbered_to setting steps r d m n (e ∷ ends) = (refl, numbered_to setting steps r d m (n + 1) ends)
 
-numbered_by : (setting : Setting) (steps : List Step) (r d epoch : ℕ) (effect : Effect)
+pub numbered_by : (setting : Setting) (steps : List Step) (r d epoch : ℕ) (effect : Effect)
     → AreNumberedOn (flight_count steps + 1) (flights_by setting steps r d epoch effect)
 numbered_by setting steps r d epoch Quiet = tt
 numbered_by setting steps r d epoch (Send m) = numbered_to setting steps r d m (flight_count steps + 1) (ends_at setting steps epoch d)
 
 numbered_of : (setting : Setting) (steps : List Step) (r : ℕ) (effect : Effect) (o : Option ℕ) (a : Option Answers)
-    → AreNumberedOn (flight_count steps + 1) (of_some o [] (λ d. of_some a [] (λ b. flights_by setting steps r d b.epoch effect)))
+    → AreNumberedOn (flight_count steps + 1) (map_or o [] (λ d. map_or a [] (λ b. flights_by setting steps r d b.epoch effect)))
 numbered_of setting steps r effect None a = tt
 numbered_of setting steps r effect (Some d) None = tt
 numbered_of setting steps r effect (Some d) (Some b) = numbered_by setting steps r d b.epoch effect
@@ -91,7 +91,7 @@ module _ (setting : Setting) (s : Step) (earlier : List Step) (f : Flight) where
       }
 
   by_answers : (o : Option ℕ) (a : Option Answers) → changed (act_by setting earlier s.seen.event) ≡ o → s.told.answers ≡ a
-      → Among f (of_some o [] (λ d. of_some a [] (λ b. flights_by setting earlier (reference_of s.seen.event) d b.epoch s.told.effect)))
+      → Among f (map_or o [] (λ d. map_or a [] (λ b. flights_by setting earlier (reference_of s.seen.event) d b.epoch s.told.effect)))
       → WasSent setting s earlier f
   by_answers None a calls tells among = elim among [ ]
   by_answers (Some d) None calls tells among = elim among [ ]

@@ -1,6 +1,6 @@
 -- The flights of accepted steps: in which order they were sent, which of them an event leaves, and what is found under a number.
 use Rattle.std.specs.Prelude.{◌≡◌, ℕ, ◌+◌, Bool, true, false, not, List, [], ◌∷◌, reverse, flat_map, filter, nat_lt, Option, Result, Ok, Err, if◌then◌else◌}
-use Rattle.sd_sched.specs.Num.Lists.{of_some}
+use Rattle.sd_sched.specs.Num.Lists.{map_or}
 use Rattle.sd_core.specs.Topo.declared.Thing.{Thing}
 use Rattle.sd_core.specs.Msg.declared.Flight.{Flight}
 use Rattle.sd_core.specs.Msg.declared.TakeFault.{TakeFault}
@@ -25,11 +25,11 @@ AreNumberedOn n (f ∷ fs) = (f.number ≡ n) × AreNumberedOn (n + 1) fs
 
 -- those that are left where the flight of this number is taken or lost
 abbrev pub without_taken : Option ℕ → List Flight → List Flight
-without_taken number flights = of_some number flights (λ n. without n flights)
+without_taken number flights = map_or number flights (λ n. without n flights)
 
 -- those that are left where this thing fails
 abbrev pub without_swept : Option Thing → List Flight → List Flight
-without_swept thing flights = of_some thing flights (λ x. filter (λ f. not (is_swept x f)) flights)
+without_swept thing flights = map_or thing flights (λ x. filter (λ f. not (is_swept x f)) flights)
 
 -- Those of the flights that an event leaves: they are kept at its reference, it does not receive or lose them, and fails neither their link
 -- nor their receiver.
@@ -40,7 +40,7 @@ left_by e flights = without_swept (failure_of e) (without_taken (message_of e) (
 
 -- the flight of the steps with this number, unless it is spent at the latest reference
 abbrev pub look_in : List Step → ℕ → Result Flight TakeFault
-look_in steps n = of_some (flight_numbered steps n) (Err fault.Unknown) (λ f. if is_spent steps 0 f then Err fault.Spent else Ok f)
+look_in steps n = map_or (flight_numbered steps n) (Err fault.Unknown) (λ f. if is_spent steps 0 f then Err fault.Spent else Ok f)
 
 -- what was found says that no flight has the number
 abbrev pub says_unknown : Result Flight TakeFault → Bool

@@ -4,7 +4,7 @@ ghost use Rattle.sd_topo.specs.Network.{link_numbers};
 ghost use Rattle.sd_topo.specs.Topologies.{network};
 ghost use Rattle.sd_plan.specs.Plans.{Fits, primary_of};
 ghost use Rattle.sd_plan.specs.Structure.{structure_breach};
-ghost use Rattle.sd_plan.specs.Indexed.{carried_over, goes_over};
+ghost use Rattle.sd_plan.specs.IndexedPlan.{carried_over, goes_over};
 
 use crate::{Plan, hops};
 use sd_num::NoMemory;

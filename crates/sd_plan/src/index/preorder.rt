@@ -1,6 +1,6 @@
 //! The members in preorder of the primary tree, and where those below each device stand.
 ghost use Rattle.std.specs.Prelude.{◌≡◌, ◌+◌, ◌^◌, ◌<◌, [], length, replicate, OnOk, IfOk};
-ghost use Rattle.sd_plan.specs.Indexed.{no_span};
+ghost use Rattle.sd_plan.specs.IndexedPlan.{no_span};
 ghost use Rattle.sd_plan.specs.Subtrees.{subtree, IsWithin, ArePlaced};
 
 use super::Span;

@@ -5,7 +5,7 @@ ghost use Rattle.sd_topo.specs.Network.{device_numbers};
 ghost use Rattle.sd_topo.specs.Topologies.{network};
 ghost use Rattle.sd_plan.specs.Plans.{Fits, is_present};
 ghost use Rattle.sd_plan.specs.Structure.{structure_breach};
-ghost use Rattle.sd_plan.specs.Indexed as indexed;
+ghost use Rattle.sd_plan.specs.IndexedPlan as indexed;
 ghost use Rattle.sd_plan.specs.Usable.{usable_before, usable_below};
 
 use crate::flags::present;

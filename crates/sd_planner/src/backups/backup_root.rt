@@ -2,7 +2,7 @@
 ghost use Rattle.std.specs.Prelude.{◌≡◌, ◌<◌, ℕ, find, length, Some, IfOk};
 ghost use Rattle.sd_num.specs.Lists.{has};
 ghost use Rattle.sd_plan.specs.Walks.{links_of};
-ghost use Rattle.sd_planner_place.specs.Spreading.{placed_at};
+ghost use Rattle.sd_planner.specs.Spreading.{placed_at};
 ghost use Rattle.sd_planner.specs.Climbs.{way_up};
 ghost use Rattle.sd_planner.specs.Serving as serving;
 ghost use Rattle.sd_planner.specs.Surveys.{net_in, absent_in, order_of};
@@ -12,9 +12,9 @@ use super::flags::is_set;
 use super::over::led_over;
 use super::survey::Survey;
 use super::things::Things;
+use crate::Placed;
 use sd_num::NoMemory;
 use sd_plan::Hop;
-use sd_planner_place::Placed;
 use std::alloc::Global;
 
 impl Survey<'_> {

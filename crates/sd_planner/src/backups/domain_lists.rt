@@ -2,7 +2,7 @@
 ghost use Rattle.std.specs.Prelude.{◌≡◌, ◌<◌, ℕ, ◌&&◌, ◌||◌, true, length, nat_eq, IfOk, OnOk};
 ghost use Rattle.sd_num.specs.Lists.{has};
 ghost use Rattle.sd_topo.specs.Topologies.{network};
-ghost use Rattle.sd_planner.specs.Listed as words;
+ghost use Rattle.sd_plan.specs.Subtrees.{listed};
 ghost use Rattle.sd_planner.specs.Listed.{AreListed};
 
 use sd_num::NoMemory;
@@ -34,8 +34,8 @@ fn add_domain(
     domain: u32,
 ) -> Result<(), NoMemory>
     requires { (x : ℕ) → has things.now x ≡ true → x < length lists.old }
-    ensures { OnOk result ((x k : ℕ) → has (words.listed lists.new x) k
-        ≡ (has (words.listed lists.old x) k || (nat_eq k domain && has things.now x))) }
+    ensures { OnOk result ((x k : ℕ) → has (listed lists.new x) k
+        ≡ (has (listed lists.old x) k || (nat_eq k domain && has things.now x))) }
 {
     for thing in things {
         lists[*thing as usize].push(alloc, domain)?;
@@ -59,7 +59,7 @@ impl DomainLists {
 
     /// The domains that have a device.
     pub(crate) fn of_device(&self, d: u32) -> &[u32]
-        ensures { result.now ≡ words.listed self.now.devices d }
+        ensures { result.now ≡ listed self.now.devices d }
     {
         match self.devices.get(d as usize) {
             Some(list) => list.as_slice(),
@@ -69,7 +69,7 @@ impl DomainLists {
 
     /// The domains that have a link.
     pub(crate) fn of_link(&self, l: u32) -> &[u32]
-        ensures { result.now ≡ words.listed self.now.links l }
+        ensures { result.now ≡ listed self.now.links l }
     {
         match self.links.get(l as usize) {
             Some(list) => list.as_slice(),

@@ -1,15 +1,15 @@
 //! The backups of the devices other than the backup root.
 ghost use Rattle.std.specs.Prelude.{◌≡◌, ◌<◌, ◌≢◌, ℕ, ◌||◌, find, length, Some};
 ghost use Rattle.sd_plan.specs.declared.Hop.{Hop};
-ghost use Rattle.sd_planner_place.specs.Spreading.{placed_at};
-ghost use Rattle.sd_planner_place.specs.Usable.{hops_from};
+ghost use Rattle.sd_planner.specs.Spreading.{placed_at};
+ghost use Rattle.sd_planner.specs.Usable.{hops_from};
 ghost use Rattle.sd_planner.specs.Serving as serving;
 ghost use Rattle.sd_planner.specs.Surveys.{net_in, absent_in, order_of, AreClear, AreJoining};
 
 use super::flags::{is_any_set, set_flags};
 use super::survey::Survey;
+use crate::Placed;
 use sd_plan::Hop;
-use sd_planner_place::Placed;
 
 impl Survey<'_> {
     /// Flags the listed domains that join a primary hop of a device to others: those that have its

@@ -1,18 +1,18 @@
 //! Which placed devices follow the root over some devices and links.
 ghost use Rattle.std.specs.Prelude.{◌≡◌, ◌||◌, false, length, IfOk};
-ghost use Rattle.sd_num.specs.Lists.{of_some};
+ghost use Rattle.sd_num.specs.Lists.{map_or};
 ghost use Rattle.sd_planner.specs.Flags as words;
 ghost use Rattle.sd_planner.specs.Flags.{AreOver, HaveGrown};
 
 use super::flags::{is_set, no_flags};
+use crate::{Placed, Placement};
 use sd_num::NoMemory;
-use sd_planner_place::{Placed, Placement};
 use std::alloc::Global;
 
 /// Whether the device or its hop is flagged, or its parent leads over something that is.
 fn is_over(placed: Placed, devices: &[bool], links: &[bool], over: &[bool]) -> bool
     ensures { result ≡ (words.is_set devices.now placed.device
-        || of_some placed.hop false
+        || map_or placed.hop false
         (λ hop. words.is_set links.now hop.link || words.is_set over.now hop.parent)) }
 {
     is_set(devices, placed.device)

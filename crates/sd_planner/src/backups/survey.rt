@@ -2,10 +2,10 @@
 ghost use Rattle.std.specs.Prelude.{◌≡◌, ◌<◌, ℕ, length, slice_get, Some, IfOk, IfSome};
 ghost use Rattle.sd_num.specs.Lists.{has};
 ghost use Rattle.sd_plan.specs.Walks.{devices_of};
-ghost use Rattle.sd_planner_place.specs.Views.{net_of, left_out};
-ghost use Rattle.sd_planner_place.specs.declared.placement.Placed.{Placed};
-ghost use Rattle.sd_planner_place.specs.Spreading.{placed_at};
-ghost use Rattle.sd_planner_place.specs.Placing as placing;
+ghost use Rattle.sd_planner.specs.Views.{net_of, left_out};
+ghost use Rattle.sd_planner.specs.declared.placement.Placed.{Placed};
+ghost use Rattle.sd_planner.specs.Spreading.{placed_at};
+ghost use Rattle.sd_planner.specs.Placing as placing;
 ghost use Rattle.sd_planner.specs.Climbs.{way_up};
 ghost use Rattle.sd_planner.specs.Flags as words;
 ghost use Rattle.sd_planner.specs.Flags.{HaveGrown};
@@ -15,8 +15,8 @@ ghost use Rattle.sd_planner.specs.Serving as serving;
 use super::domain_lists::DomainLists;
 use super::flags::{is_set, no_flags};
 use super::over::led_over;
+use crate::{Neighbour, Placed, Placement, Present, backup_root_of};
 use sd_num::NoMemory;
-use sd_planner_place::{Neighbour, Placed, Placement, Present, backup_root_of};
 use std::alloc::Global;
 
 /// Which placed devices are a given one, or follow the root over it.
@@ -64,7 +64,7 @@ pub(crate) struct Survey<'a> {
 }
 
 impl<'a> Survey<'a> {
-    ghost use Rattle.sd_planner_place.specs.Usable.{neighbours_of};
+    ghost use Rattle.sd_planner.specs.Usable.{neighbours_of};
     ghost use Rattle.sd_planner.specs.Surveys.{net_in, absent_in, order_of};
 
     /// The survey of what is present, with its devices placed below a root.

@@ -1,9 +1,10 @@
 -- The premise of loss holds exactly where no more consecutive rounds than its limit are spoiled.
 use Rattle.std.proofs.Common.{◌≡◌, ℕ, zero, suc, ◌+◌, ◌<◌, ◌≤◌, Bool, true, false, ◌&&◌, not, List, [], ◌∷◌, ◌++◌, nat_eq, ◌⊎◌, inl, inr, refl, sym, ◌∙◌, ap, subst, arith}
 use Rattle.std.specs.List.{Contains, list_any, list_all}
-use Rattle.std.proofs.lemmas.Bool.{or_cases, and_parts, and_cases, and_from, eqb-true, not-false, not_from_true, cases_lt}
+use Rattle.std.proofs.lemmas.Bool.{or_cases, and_parts, and_cases, eqb-true, not-false, not_from_true, cases_lt}
 use Rattle.std.proofs.lemmas.List.Folds.{list_all-append, list_all_at}
 use Rattle.sd_num.specs.Lists.{below}
+use Rattle.sd_num.proofs.Shared.{all_below, and_true}
 use Rattle.sd_msg.specs.declared.Stamp.{Stamp}
 use Rattle.sd_history.specs.World.{Setting, Seen}
 use Rattle.sd_history.specs.Premises.{spoiled_rounds, is_round, all_from, loss_holds}
@@ -12,17 +13,8 @@ use Rattle.sd_premise_loss.specs.rounds.Loss.{is_spoiled}
 
 -- Tests of all and of some
 
-and_true : (b : Bool) → (b && true) ≡ b
-and_true true = refl
-and_true false = refl
-
 all_push : (p : ℕ → Bool) (xs : List ℕ) (x : ℕ) → list_all p (xs ++ x ∷ []) ≡ (list_all p xs && p x)
 all_push p xs x = list_all-append p xs (x ∷ []) ∙ ap (λ b. list_all p xs && b) (and_true (p x))
-
-all_below : (p : ℕ → Bool) (k : ℕ) → ((i : ℕ) → i < k → p i ≡ true) → list_all p (below k) ≡ true
-all_below p zero each = refl
-all_below p (suc k) each =
-    all_push p (below k) k ∙ and_from (list_all p (below k)) (p k) (all_below p k (λ i less. each i (omega (arith, less)))) (each k (omega arith))
 
 below_at : (p : ℕ → Bool) (k i : ℕ) → list_all p (below k) ≡ true → i < k → p i ≡ true
 below_at p zero i all less = absurd (omega (arith, less))

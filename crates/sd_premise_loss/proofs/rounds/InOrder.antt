@@ -3,7 +3,8 @@ use Rattle.std.proofs.Common.{◌≡◌, ℕ, zero, suc, ◌+◌, ◌<◌, ◌�
 use Rattle.std.specs.List.{Contains, list_any}
 use Rattle.std.proofs.lemmas.Bool.{or_parts, or_cases, or_from, not-true, and_parts, ltb-false, le-ltb, leb-true, eqb-true, eq-eqb, ne_eqb}
 use Rattle.std.proofs.lemmas.List.Folds.{list_any_at}
-use Rattle.sd_num.specs.Lists.{of_some, ascends}
+use Rattle.sd_num.specs.Lists.{map_or, ascends}
+use Rattle.sd_num.proofs.Shared.{or_first}
 use Rattle.sd_msg.specs.declared.Flight.{Flight}
 use Rattle.sd_sched.specs.declared.Event.{Event}
 use Rattle.sd_sched.specs.Events.{reference_of}
@@ -16,15 +17,12 @@ use Rattle.sd_premise_loss.proofs.rounds.Sending.{greatest_of}
 
 -- An event that may be seen
 
-first : (x y : Bool) → (x || y) ≡ false → x ≡ false
-first x y none = (or_parts x y none).0
-
 parts : (a b c d e f g h i j k l m n : Bool) → not (a || b || c || d || e || f || g || h || i || j || k || l || m || n) ≡ true
     → (a ≡ false) × (b ≡ false) × (e ≡ false)
 parts a b c d e f g h i j k l m n all =
     let five : (a || b || c || d || e) ≡ false =
-    first _ f (first _ g (first _ h (first _ i (first _ j (first _ k (first _ l (first _ m (first _ n (not-true _ all))))))))) in
-    let two : (a || b) ≡ false = first _ c (first _ d (first _ e five)) in
+    or_first _ f (or_first _ g (or_first _ h (or_first _ i (or_first _ j (or_first _ k (or_first _ l (or_first _ m (or_first _ n (not-true _ all))))))))) in
+    let two : (a || b) ≡ false = or_first _ c (or_first _ d (or_first _ e five)) in
     ((or_parts a b two).0, (or_parts a b two).1, (or_parts (a || b || c || d) e five).1)
 
 seen_parts : (setting : Setting) (earlier : List Seen) (e : Event) → may_be_seen setting earlier e ≡ true
@@ -90,8 +88,8 @@ not_overdue setting (s ∷ earlier) f order late =
     or_from (nat_lt f.due (reference_of s.event)) (is_overdue earlier f) (le-ltb f.due (reference_of s.event) late)
     (not_overdue setting earlier f order.0 (omega (arith, late, time_rises setting earlier s.event order.1.allowed)))
 
-pub taken_low : (taken : Option Flight) (n last : ℕ) → of_some taken true (λ f. nat_le f.number last) ≡ true
-    → of_some taken false (λ f. nat_eq f.number n) ≡ true → n ≤ last
+pub taken_low : (taken : Option Flight) (n last : ℕ) → map_or taken true (λ f. nat_le f.number last) ≡ true
+    → map_or taken false (λ f. nat_eq f.number n) ≡ true → n ≤ last
 taken_low None n last low here = cc
 taken_low (Some f) n last low here = omega (arith, leb-true f.number last low, eqb-true f.number n here)
 
@@ -99,9 +97,9 @@ taken_low (Some f) n last low here = omega (arith, leb-true f.number last low, e
 pub received_low : (setting : Setting) (seen : List Seen) (n : ℕ) → IsInOrder setting seen → was_received seen n ≡ true → n ≤ last_sent seen
 received_low setting [] n order was = cc
 received_low setting (s ∷ earlier) n order was =
-    by_case (or_cases (of_some s.taken false (λ f. nat_eq f.number n)) (was_received earlier n) was) (λ before. received_low setting earlier n order.0 before)
+    by_case (or_cases (map_or s.taken false (λ f. nat_eq f.number n)) (was_received earlier n) was) (λ before. received_low setting earlier n order.0 before)
   where
-    by_case : (of_some s.taken false (λ f. nat_eq f.number n) ≡ true) ⊎ (was_received earlier n ≡ true)
+    by_case : (map_or s.taken false (λ f. nat_eq f.number n) ≡ true) ⊎ (was_received earlier n ≡ true)
         → (was_received earlier n ≡ true → n ≤ last_sent earlier) → n ≤ last_sent (s ∷ earlier)
     by_case (inl here) rest = let low : n ≤ last_sent earlier = taken_low s.taken n (last_sent earlier) order.1.taken here in
         omega (arith, low, last_sent_more s earlier)

@@ -1,7 +1,8 @@
 -- What is kept stands for one event more.
 use Rattle.std.proofs.Common.{◌≡◌, ℕ, ◌<◌, Bool, true, false, cond, ◌&&◌, List, ◌∷◌, length, Option, nat_eq, ◌⊎◌, inl, inr, refl, sym, ◌∙◌, ap, subst, arith}
 use Rattle.std.proofs.lemmas.Bool.{both_ways, true_from_ne_false, leb-false, lt-ltb, and_parts, eqb-true}
-use Rattle.sd_num.specs.Lists.{of_some}
+use Rattle.sd_num.specs.Lists.{map_or}
+use Rattle.sd_num.proofs.Shared.{same_from_both, and_true}
 use Rattle.sd_topo.specs.declared.Thing.{Thing}
 use Rattle.sd_topo.specs.declared.Thing.TheVariants as thing
 use Rattle.sd_history.specs.Domain.Things.{same_thing}
@@ -33,14 +34,10 @@ stays_broken setting s earlier broken =
 
 -- Interruptions
 
-and_true : (b : Bool) → (b && true) ≡ b
-and_true true = refl
-and_true false = refl
-
 -- there is a place for the thing that fails
 has_its_place : (setting : Setting) (e : Event) (i : Interruptions) → device_places i ≡ length setting.net.devices → link_places i ≡ length setting.net.links
     → unknown_device setting e ≡ false → unknown_link setting e ≡ false → (x : Thing)
-    → of_some (failure_of e) false (λ f. same_thing x f && has_place i f) ≡ fails x e
+    → map_or (failure_of e) false (λ f. same_thing x f && has_place i f) ≡ fails x e
 has_its_place setting (FailDevice reference d) i devices links device link x =
     let place : d < device_places i = omega (arith, devices, leb-false (length setting.net.devices) d device) in
     ap (λ b. same_thing x (thing.Device d) && b) (lt-ltb d (device_places i) place) ∙ and_true (same_thing x (thing.Device d))
@@ -53,7 +50,7 @@ has_its_place setting _ i devices links device link x = refl
 pub mark_next : (setting : Setting) (earlier : List Seen) (s : Seen) (old new : Interruptions) → Follows setting earlier s
     → device_places old ≡ length setting.net.devices → link_places old ≡ length setting.net.links
     → last_number old ≡ last_sent earlier → ((x : Thing) → mark_of old x ≡ mark_in earlier x)
-    → ((x : Thing) → mark_of new x ≡ cond (of_some (failure_of s.event) false (λ f. same_thing x f && has_place old f)) (last_number old) (mark_of old x))
+    → ((x : Thing) → mark_of new x ≡ cond (map_or (failure_of s.event) false (λ f. same_thing x f && has_place old f)) (last_number old) (mark_of old x))
     → (x : Thing) → mark_of new x ≡ mark_in (s ∷ earlier) x
 mark_next setting earlier s old new follows devices links last marked is x =
     is x
@@ -72,11 +69,6 @@ lost_same left marks other reference f same lost =
     record { waits = lost.waits; overdue = lost.overdue; whole = sym (interrupted_same f marks other same) ∙ lost.whole }
 
 -- Spoiled rounds
-
-bool_same : (a b : Bool) → (a ≡ true → b ≡ true) → (b ≡ true → a ≡ true) → a ≡ b
-bool_same true b on back = sym (on refl)
-bool_same false true on back = back refl
-bool_same false false on back = refl
 
 same_stamp : (f : Flight) (t r : ℕ) (rounds : ℕ → ℕ → Bool) → is_round_of f t r ≡ true → rounds f.message.stamp.term f.message.stamp.round ≡ true
     → rounds t r ≡ true
@@ -104,7 +96,7 @@ module _ (setting : Setting) (earlier : List Seen) (s : Seen) (order : IsInOrder
   -- where all are kept, what is spoiled is kept
   pub spoiled_next : AddsLost left marks (reference_of s.event) old new → (t r : ℕ) → new t r ≡ is_spoiled (s ∷ earlier) t r
   spoiled_next adds t r =
-      bool_same (new t r) (is_spoiled (s ∷ earlier) t r) (new_is_spoiled t r)
+      same_from_both (new t r) (is_spoiled (s ∷ earlier) t r) (new_is_spoiled t r)
       (λ is. by_case (spoiled_only setting earlier s order follows was left waiting received t r is))
     where
       by_case : (is_spoiled earlier t r ≡ true) ⊎ ((f : Flight) × IsLost left (mark_in (s ∷ earlier)) (reference_of s.event) f × (is_round_of f t r ≡ true))

@@ -7,6 +7,7 @@ use Rattle.sd_msg.specs.declared.Flight.{Flight}
 use Rattle.sd_sched.specs.Events.{reference_of}
 use Rattle.sd_history.specs.World.{Setting, Seen}
 use Rattle.sd_history.specs.Premises.{reaching_flights, is_overdue, was_received, was_interrupted, spoils, is_round}
+use Rattle.sd_history.proofs.Shared.{spoiled_is_overdue, stays_spoiled}
 use Rattle.sd_premise_loss.specs.rounds.Order.{Follows, IsInOrder}
 use Rattle.sd_premise_loss.specs.rounds.Loss.{Waits, AreWaiting, mark_in, is_spoiled, is_round_of, IsLost, HasOnlyLost}
 use Rattle.sd_premise_loss.proofs.rounds.Marks.{was_interrupted_by}
@@ -67,18 +68,6 @@ is_spoiled_by seen t r by =
 abbrev spoils_now : Seen → List Seen → Flight → Bool
 spoils_now s earlier f = nat_lt f.due (reference_of s.event) && not (was_received (s ∷ earlier) f.number) && not (was_interrupted (s ∷ earlier) f)
 
-settled : (seen : List Seen) (f : Flight) → spoils seen f ≡ true → is_overdue seen f ≡ true
-settled [] f spoilt = cc
-settled (s ∷ earlier) f spoilt = by_case (is_overdue earlier f) refl spoilt
-  where
-    by_case : (b : Bool) → is_overdue earlier f ≡ b → cond b (spoils earlier f) (spoils_now s earlier f) ≡ true
-        → (nat_lt f.due (reference_of s.event) || is_overdue earlier f) ≡ true
-    by_case true is now = or_right (nat_lt f.due (reference_of s.event)) (is_overdue earlier f) is
-    by_case false is now = or_left (nat_lt f.due (reference_of s.event)) (is_overdue earlier f) ((and_parts _ _ (and_parts _ _ now).0).0)
-
-pub spoils_still : (s : Seen) (earlier : List Seen) (f : Flight) → spoils earlier f ≡ true → spoils (s ∷ earlier) f ≡ true
-spoils_still s earlier f spoilt = rw (settled earlier f spoilt) spoilt
-
 -- a round that is spoiled stays so
 pub spoiled_still : (s : Seen) (earlier : List Seen) (t r : ℕ) → is_spoiled earlier t r ≡ true → is_spoiled (s ∷ earlier) t r ≡ true
 spoiled_still s earlier t r is =
@@ -87,7 +76,7 @@ spoiled_still s earlier t r is =
     (record {
       flight = by.flight;
       sent = Contains-append_right s.sent (reaching_flights earlier) by.flight by.sent;
-      spoils_it = spoils_still s earlier by.flight by.spoils_it;
+      spoils_it = stays_spoiled s earlier by.flight by.spoils_it;
       of_round = by.of_round;
     })
 
@@ -96,7 +85,7 @@ spoiled_still s earlier t r is =
 module _ (setting : Setting) (earlier : List Seen) (s : Seen) (order : IsInOrder setting earlier) (follows : Follows setting earlier s)
     (was left : ℕ → Option Flight) (waiting : AreWaiting earlier was)
     (received : LeavesTaken s was left) where
-  -- a flight that was sent before and is not settled is spoiled where it is lost
+  -- a flight that was sent before and is not spoiled_is_overdue is spoiled where it is lost
   lost_where : (f : Flight) → Contains (reaching_flights earlier) f → is_overdue earlier f ≡ false → spoils (s ∷ earlier) f ≡ true
       → IsLost left (mark_in (s ∷ earlier)) (reference_of s.event) f
   lost_where f held unsettled spoilt =
@@ -151,5 +140,5 @@ module _ (setting : Setting) (earlier : List Seen) (s : Seen) (order : IsInOrder
           → (is_spoiled earlier t r ≡ true) ⊎ ((f : Flight) × IsLost left (mark_in (s ∷ earlier)) (reference_of s.event) f × (is_round_of f t r ≡ true))
       by_place (inl held) =
           absurd (both_ways (is_overdue (s ∷ earlier) by.flight) (sent_waits setting earlier s order follows by.flight held).in_time
-          (settled (s ∷ earlier) by.flight by.spoils_it))
+          (spoiled_is_overdue (s ∷ earlier) by.flight by.spoils_it))
       by_place (inr held) = by_settled held (is_overdue earlier by.flight) refl

@@ -4,7 +4,7 @@ use Rattle.std.specs.List.{Contains}
 use Rattle.std.proofs.lemmas.Bool.{or_from, or_parts, or_cases, and_parts, cases_eq, cases_lt, eq-eqb, ne_eqb, le-ltb, le-leb, lt-leb, ltb-false, leb-true, false_from_ne_true}
 use Rattle.std.proofs.lemmas.Option.{same_Some, none-some}
 use Rattle.std.proofs.lemmas.List.Elements.{Contains-append_cases, Contains-append_left, Contains-append_right, All-contains}
-use Rattle.sd_num.specs.Lists.{of_some, same_number, ascends}
+use Rattle.sd_num.specs.Lists.{map_or, same_number, ascends}
 use Rattle.sd_msg.specs.declared.Flight.{Flight}
 use Rattle.sd_sched.specs.Events.{reference_of}
 use Rattle.sd_history.specs.World.{Setting, Seen, latest_reference}
@@ -62,10 +62,10 @@ sent_stands floor (g ∷ gs) w f up (suc k, within, at) =
 -- Flights that were sent before
 
 -- whether the event receives the number, in the two ways in which it is said
-pub received_now : (s : Seen) (n : ℕ) → of_some s.taken false (λ f. nat_eq f.number n) ≡ same_number (number_taken s) n
+pub received_now : (s : Seen) (n : ℕ) → map_or s.taken false (λ f. nat_eq f.number n) ≡ same_number (number_taken s) n
 received_now s n = by_flight s.taken
   where
-    by_flight : (taken : Option Flight) → of_some taken false (λ f. nat_eq f.number n) ≡ same_number (option_map (λ (f : Flight). f.number) taken) n
+    by_flight : (taken : Option Flight) → map_or taken false (λ f. nat_eq f.number n) ≡ same_number (option_map (λ (f : Flight). f.number) taken) n
     by_flight None = refl
     by_flight (Some f) = refl
 
@@ -109,10 +109,10 @@ module _ (setting : Setting) (earlier : List Seen) (s : Seen) (order : IsInOrder
       }
     where
       received_before : (n : ℕ) → was_received (s ∷ earlier) n ≡ true
-          → (of_some s.taken false (λ g. nat_eq g.number n) ≡ true) ⊎ (was_received earlier n ≡ true)
+          → (map_or s.taken false (λ g. nat_eq g.number n) ≡ true) ⊎ (was_received earlier n ≡ true)
       received_before n was = or_cases _ _ was
 
-      by_receipt : (of_some s.taken false (λ g. nat_eq g.number f.number) ≡ true) ⊎ (was_received earlier f.number ≡ true) → f.number ≤ last_sent earlier
+      by_receipt : (map_or s.taken false (λ g. nat_eq g.number f.number) ≡ true) ⊎ (was_received earlier f.number ≡ true) → f.number ≤ last_sent earlier
       by_receipt (inl here) = taken_low s.taken f.number (last_sent earlier) follows.taken here
       by_receipt (inr before) = received_low setting earlier f.number order before
 
@@ -123,7 +123,7 @@ module _ (setting : Setting) (earlier : List Seen) (s : Seen) (order : IsInOrder
         sent = Contains-append_right s.sent (reaching_flights earlier) f waited.sent;
         in_time = or_from (nat_lt f.due (reference_of s.event)) (is_overdue earlier f) (le-ltb f.due (reference_of s.event) late) waited.in_time;
         unreceived =
-            or_from (of_some s.taken false (λ g. nat_eq g.number f.number)) (was_received earlier f.number) (received_now s f.number ∙ other) waited.unreceived;
+            or_from (map_or s.taken false (λ g. nat_eq g.number f.number)) (was_received earlier f.number) (received_now s f.number ∙ other) waited.unreceived;
       }
 
   -- and one that waits now, and was sent before, waited
@@ -131,7 +131,7 @@ module _ (setting : Setting) (earlier : List Seen) (s : Seen) (order : IsInOrder
       → Waits earlier f × (same_number (number_taken s) f.number ≡ false) × (reference_of s.event ≤ f.due)
   waited_before f waits held =
       let time = or_parts (nat_lt f.due (reference_of s.event)) (is_overdue earlier f) waits.in_time in
-      let receipt = or_parts (of_some s.taken false (λ g. nat_eq g.number f.number)) (was_received earlier f.number) waits.unreceived in (
+      let receipt = or_parts (map_or s.taken false (λ g. nat_eq g.number f.number)) (was_received earlier f.number) waits.unreceived in (
         record { sent = held; in_time = time.1; unreceived = receipt.1 },
         sym (received_now s f.number)
             ∙ receipt.0,

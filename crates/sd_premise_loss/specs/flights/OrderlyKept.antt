@@ -18,5 +18,6 @@ IsBefore f g = (f.number < g.number) × (f.due ≤ g.due)
 abbrev pub AreInOrder : List Entry → Type 0
 AreInOrder entries = AllPairs (λ x y. IsBefore x.flight y.flight) entries
 
+-- that they are is one fact, however it was shown
 pub AreInOrder-prop : (entries : List Entry) → IsProp (AreInOrder entries)
 AreInOrder-prop entries = Prim.hlevel props

@@ -31,8 +31,10 @@ pub record ReachesOn (ends : ℕ → Option ℕ) (round last : ℕ) : Type 0 whe
 abbrev pub HasLongRun : ℕ → (ℕ → ℕ → Bool) → Type 0
 HasLongRun limit rounds = (term : ℕ) × (round : ℕ) × ((i : ℕ) → i ≤ limit → rounds term (round + i) ≡ true)
 
+-- that it is a run is one fact, however it was shown
 pub IsRun-prop : (ends : ℕ → Option ℕ) (first last : ℕ) → IsProp (IsRun ends first last)
 IsRun-prop ends first last = Prim.hlevel props
 
+-- and so is this
 pub AreRuns-prop : (ends : ℕ → Option ℕ) → IsProp (AreRuns ends)
 AreRuns-prop ends = Prim.hlevel (props, IsRun-prop)

@@ -21,5 +21,6 @@ beside ends term round = get same_round ends (term, round)
 abbrev pub is_there : Ends → ℕ → ℕ → Bool
 is_there ends term round = is_some (beside ends term round)
 
+-- the rounds of each term are runs
 abbrev pub AllRuns : Ends → Type 0
 AllRuns ends = (term : ℕ) → AreRuns (beside ends term)

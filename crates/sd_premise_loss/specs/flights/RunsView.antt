@@ -4,9 +4,11 @@ use Rattle.std.specs.HashMap.{spare}
 use Rattle.sd_premise_loss.specs.flights.RunsKept.{beside, is_there}
 use Rattle.sd_premise_loss.specs.declared.flights.runs.Runs.{Runs}
 
+-- what stands beside the round of the term
 abbrev pub end_beside : Runs → ℕ → ℕ → Option ℕ
 end_beside runs term round = beside runs.ends term round
 
+-- the round of the term is spoiled
 abbrev pub has_round : Runs → ℕ → ℕ → Bool
 has_round runs term round = is_there runs.ends term round
 

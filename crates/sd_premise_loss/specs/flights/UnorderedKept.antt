@@ -22,6 +22,7 @@ flight_in flights n = get nat_eq flights n
 abbrev pub Entry : Type 0
 Entry = Reverse (ℕ × ℕ)
 
+-- the entry of a flight with this due and this number
 abbrev pub entry : ℕ → ℕ → Entry
 entry due number = record { 0 = (due, number) }
 
@@ -38,5 +39,6 @@ pub record AreListed (flights : ℕ → Option Flight) (entries : List Entry) : 
   pub numbered : (n : ℕ) (f : Flight) → flights n ≡ Some f → f.number ≡ n
   pub listed : (n : ℕ) (f : Flight) → flights n ≡ Some f → list_any (is_entry_of f) entries ≡ true
 
+-- that they are is one fact, however it was shown
 pub AreListed-prop : (flights : ℕ → Option Flight) (entries : List Entry) → IsProp (AreListed flights entries)
 AreListed-prop flights entries = Prim.hlevel props

@@ -12,5 +12,6 @@ either_at first second n = option_or (first n) (second n)
 abbrev pub AreApart : (ℕ → Option Flight) → (ℕ → Option Flight) → Type 0
 AreApart first second = (n : ℕ) → (is_some (first n) && is_some (second n)) ≡ false
 
+-- that they are is one fact, however it was shown
 pub AreApart-prop : (first second : ℕ → Option Flight) → IsProp (AreApart first second)
 AreApart-prop first second = Prim.hlevel props

@@ -1,7 +1,7 @@
 -- What is kept of the flights that were seen: those that wait, up to which number a failure interrupted them, and the rounds that are spoiled.
 use Rattle.std.specs.Prelude.{◌≡◌, ℕ, ◌<◌, Bool, true, false, ◌⊎◌, List, [], ◌∷◌, Contains, Option, Some, None, option_map, nat_eq, nat_le, if◌then◌else◌}
 use Rattle.std.specs.List.{list_any}
-use Rattle.sd_num.specs.Lists.{of_some}
+use Rattle.sd_num.specs.Lists.{map_or}
 use Rattle.sd_topo.specs.declared.Thing.{Thing}
 use Rattle.sd_msg.specs.declared.Flight.{Flight}
 use Rattle.sd_history.specs.World.{Seen, fails}
@@ -33,7 +33,7 @@ with_sent (f ∷ fs) waiting n = with_sent fs (λ m. if nat_eq f.number m then S
 
 -- the flight where its due does not lie before the reference
 abbrev pub if_in_time : ℕ → Option Flight → Option Flight
-if_in_time reference waiting = of_some waiting None (λ f. if nat_le reference f.due then Some f else None)
+if_in_time reference waiting = map_or waiting None (λ f. if nat_le reference f.due then Some f else None)
 
 -- Interruptions
 

@@ -1,6 +1,6 @@
 -- What is seen comes in order: references do not fall, and flights are numbered as they are sent.
 use Rattle.std.specs.Prelude.{◌≡◌, ℕ, ◌≤◌, true, List, [], ◌∷◌, All, map, nat_le}
-use Rattle.sd_num.specs.Lists.{of_some, greatest, ascends}
+use Rattle.sd_num.specs.Lists.{map_or, greatest, ascends}
 use Rattle.sd_sched.specs.Events.{reference_of}
 use Rattle.sd_history.specs.World.{Setting, Seen}
 use Rattle.sd_history.specs.Open.{may_be_seen}
@@ -16,7 +16,7 @@ pub record Follows (setting : Setting) (earlier : List Seen) (s : Seen) : Type 0
   pub allowed : may_be_seen setting earlier s.event ≡ true
   pub due : All (λ f. reference_of s.event ≤ f.due) s.sent
   pub numbers : ascends (last_sent earlier ∷ map (λ f. f.number) s.sent) ≡ true
-  pub taken : of_some s.taken true (λ f. nat_le f.number (last_sent earlier)) ≡ true
+  pub taken : map_or s.taken true (λ f. nat_le f.number (last_sent earlier)) ≡ true
 
 -- each event follows those before it
 abbrev pub IsInOrder : Setting → List Seen → Type 0

@@ -2,7 +2,6 @@
 use Rattle.std.specs.Prelude.{◌≡◌, ℕ, ◌-◌, true, List, length, min, Option}
 use Rattle.sd_topo.specs.declared.Thing.{Thing}
 use Rattle.sd_msg.specs.declared.Flight.{Flight}
-use Rattle.sd_sched.specs.declared.Event.{Event}
 use Rattle.sd_sched.specs.Events.{reference_of}
 use Rattle.sd_history.specs.Things.{failure_of}
 use Rattle.sd_history.specs.World.{Setting, Seen}
@@ -30,13 +29,7 @@ pub record StandsFor (rounds : Rounds) (setting : Setting) (seen : List Seen) : 
   pub holds : rounds.holds ≡ loss_holds setting seen
   pub kept : rounds.holds ≡ true → Keeps rounds setting seen
 
--- what the monitor is told is what is seen of the event
-pub record IsTold (told : Event) (received : Option ℕ) (flights : List Flight) (s : Seen) : Type 0 where
-  pub event : s.event ≡ told
-  pub taken : number_taken s ≡ received
-  pub sent : s.sent ≡ flights
-
--- the same, of an event that comes at a reference and fails one thing or nothing
+-- what is seen is an event at a reference that fails one thing or nothing, receives this number or none and sends these flights
 pub record IsShown (at : ℕ) (fails : Option Thing) (received : Option ℕ) (flights : List Flight) (s : Seen) : Type 0 where
   pub reference : reference_of s.event ≡ at
   pub failed : failure_of s.event ≡ fails

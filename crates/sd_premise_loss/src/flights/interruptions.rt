@@ -1,7 +1,7 @@
 //! Which flights a failure interrupted: for each device and link, up to which number.
 ghost use Rattle.std.specs.Prelude.{◌≡◌, ℕ, ◌&&◌, nat_eq, nat_lt, max, vec_len, slice_index, false, IfOk, if◌then◌else◌};
 ghost use Rattle.sd_topo.specs.declared.Thing.{Thing as AnyThing};
-ghost use Rattle.sd_num.specs.Lists.{of_some};
+ghost use Rattle.sd_num.specs.Lists.{map_or};
 ghost use Rattle.sd_history.specs.Domain.Things.{same_thing};
 ghost use Rattle.sd_premise_loss.specs.flights.Interrupted.{is_interrupted};
 
@@ -44,7 +44,7 @@ impl Interruptions {
     /// The thing fails, if there is one.
     pub fn fail(&mut self, failed: Option<Thing>)
         ensures marks { (x : AnyThing) → mark_of self.new x
-            ≡ (if of_some failed false (λ f. same_thing x f && has_place self.old f)
+            ≡ (if map_or failed false (λ f. same_thing x f && has_place self.old f)
             then last_number self.old else mark_of self.old x) }
         ensures last { last_number self.new ≡ last_number self.old }
         ensures places { HasSamePlaces self.old self.new }

@@ -1,7 +1,7 @@
 //! Flights that wait for their receipt in the order in which they were sent.
 ghost use Rattle.std.specs.Prelude.{◌≡◌, ◌≤◌, ◌<◌, ◌+◌, ◌-◌, ◌^◌, ℕ, All, None, Some, is_some, OnOk, IfNone, IfSome, IsTrue, ◌↔◌, nat_eq, length, slice_index_or, false, true, if◌then◌else◌};
 ghost use Rattle.std.specs.VecDeque.{deque_len, deque_capacity};
-ghost use Rattle.sd_num.specs.Lists.{of_some};
+ghost use Rattle.sd_num.specs.Lists.{map_or};
 ghost use Rattle.sd_premise_loss.specs.flights.OrderlyKept.{waits_at, AreInOrder, AreInOrder-prop};
 
 use sd_msg::Flight;
@@ -122,7 +122,7 @@ impl Orderly {
             (λ f. (orderly_at self.old f.number ≡ Some f) × (f.due < reference)) }
         ensures flights { (n : ℕ)
             → orderly_at self.new n
-            ≡ (if of_some result false (λ f. nat_eq f.number n) then None else orderly_at self.old
+            ≡ (if map_or result false (λ f. nat_eq f.number n) then None else orderly_at self.old
             n) }
         ensures none { IfNone result ((n : ℕ) (f : Flight) → orderly_at self.new n ≡ Some f
             → reference ≤ f.due) }

@@ -3,7 +3,7 @@ ghost use Rattle.std.specs.Prelude.{◌≡◌, ◌≤◌, ◌<◌, ◌+◌, ◌-
 ghost use Rattle.std.specs.HashMap.{spare, hash_map_len};
 ghost use Rattle.std.specs.BinaryHeap.{heap_items, heap_len, heap_capacity, IsHeap, IsHeap-prop};
 ghost use Rattle.std.specs.List.Sorted.{IsPermutation};
-ghost use Rattle.sd_num.specs.Lists.{of_some};
+ghost use Rattle.sd_num.specs.Lists.{map_or};
 ghost use Rattle.sd_premise_loss.specs.flights.UnorderedKept.{flight_in, entry, by_due, AreListed, AreListed-prop};
 
 use sd_msg::Flight;
@@ -104,7 +104,7 @@ impl Unordered {
             (λ f. (unordered_at self.old f.number ≡ Some f) × (f.due < reference)) }
         ensures flights { (n : ℕ)
             → unordered_at self.new n
-            ≡ (if of_some result false (λ f. nat_eq f.number n) then None else unordered_at self.old
+            ≡ (if map_or result false (λ f. nat_eq f.number n) then None else unordered_at self.old
             n) }
         ensures none { IfNone result ((n : ℕ) (f : Flight) → unordered_at self.new n ≡ Some f
             → reference ≤ f.due) }

@@ -1,6 +1,6 @@
 //! The flights that wait for their receipt, of which the next overdue one is found at once.
 ghost use Rattle.std.specs.Prelude.{◌≡◌, ◌≤◌, ◌<◌, ◌+◌, ℕ, None, Some, is_some, OnOk, IfNone, IfSome, nat_eq, false, if◌then◌else◌};
-ghost use Rattle.sd_num.specs.Lists.{of_some, same_number};
+ghost use Rattle.sd_num.specs.Lists.{map_or, same_number};
 ghost use Rattle.sd_premise_loss.specs.flights.OrderlyView.{orderly_at};
 ghost use Rattle.sd_premise_loss.specs.flights.UnorderedView.{unordered_at};
 ghost use Rattle.sd_premise_loss.specs.flights.WaitingKept.{AreApart, AreApart-prop};
@@ -101,7 +101,7 @@ impl Waiting {
             (λ f. (waiting_at self.old f.number ≡ Some f) × (f.due < reference)) }
         ensures flights { (n : ℕ)
             → waiting_at self.new n
-            ≡ (if of_some result false (λ f. nat_eq f.number n) then None else waiting_at self.old
+            ≡ (if map_or result false (λ f. nat_eq f.number n) then None else waiting_at self.old
             n) }
         ensures none { IfNone result ((n : ℕ) (f : Flight) → waiting_at self.new n ≡ Some f
             → reference ≤ f.due) }

@@ -4,7 +4,7 @@ use Rattle.std.specs.Prelude.{◌≡◌, ℕ, zero, suc, ◌+◌, ◌-◌, ◌*�
 use Rattle.std.specs.List.{list_all, list_any, cons_option}
 use Rattle.std.proofs.Common.{arith, ap, sym, subst, inl, inr}
 use Rattle.std.proofs.lemmas.Bool.{and_parts, or_from, not-true, eqb-true}
-use Rattle.sd_drill.specs.Num.Lists.{of_some}
+use Rattle.sd_drill.specs.Num.Lists.{map_or}
 use Rattle.sd_drill.specs.Num.Numbers.{low}
 use Rattle.sd_drill.specs.Topo.Network.{Network, rates_of, Each}
 use Rattle.sd_drill.specs.Topo.declared.Thing.{Thing}
@@ -23,7 +23,7 @@ use Rattle.sd_proof_safety.specs.History.Steps.{Step, seen_of}
 use Rattle.sd_proof_safety.specs.History.Chronicle.{chronicle, next_step}
 use Rattle.sd_proof_safety.specs.invariant.Bounds.{depth, delay, losses, tick_gap, first_up, second_up, wait_up}
 use Rattle.sd_proof_safety.specs.invariant.Eras.{era, heard_at}
-use Rattle.sd_proof_safety.specs.invariant.Coming.{IsFair, IsClean, Comes}
+use Rattle.sd_proof_safety.specs.invariant.Coming.{IsFair, IsClean, IsNextEvent}
 use Rattle.sd_proof_safety.specs.invariant.Kept.{StaysInvariant}
 use Rattle.sd_proof_safety.specs.invariant.Silences.{AreSilent}
 use Rattle.sd_proof_safety.proofs.invariant.Prefix.{clean_before}
@@ -78,7 +78,7 @@ each_one : (P : Plan → Type 0) (plan : Plan) → P plan → Each P (plan ∷ [
 each_one P plan is zero x at = subst P (some_same at) is
   where
     some_same : Some plan ≡ Some x → plan ≡ x
-    some_same same = ap (λ (o : Option Plan). of_some o plan (λ y. y)) same
+    some_same same = ap (λ (o : Option Plan). map_or o plan (λ y. y)) same
 each_one P plan is (suc i) x at = cc
 
 none_staged : (seen : List Seen) → list_all (λ s. not (is_stage s.event)) seen ≡ true → list_any (λ s. is_stage s.event) seen ≡ false
@@ -97,10 +97,10 @@ of_failure : (P : Thing × ℕ → Bool) (steps : List Step) → list_all P (fai
 of_failure P [] all q here y failure = elim here [ ]
 of_failure P (s ∷ earlier) all q whole y failure =
     (and_parts (P (y, when q)) (list_all P (failures (seen_of earlier)))
-    (subst (λ o. list_all P (cons_option (of_some o None (λ x. Some (x, reference_of s.seen.event))) (failures (seen_of earlier))) ≡ true) failure all)).0
+    (subst (λ o. list_all P (cons_option (map_or o None (λ x. Some (x, reference_of s.seen.event))) (failures (seen_of earlier))) ≡ true) failure all)).0
 of_failure P (s ∷ earlier) all q (behind t) y failure = of_failure P earlier (rest (failure_of s.seen.event) all) q t y failure
   where
-    rest : (o : Option Thing) → list_all P (cons_option (of_some o None (λ x. Some (x, reference_of s.seen.event))) (failures (seen_of earlier))) ≡ true
+    rest : (o : Option Thing) → list_all P (cons_option (map_or o None (λ x. Some (x, reference_of s.seen.event))) (failures (seen_of earlier))) ≡ true
         → list_all P (failures (seen_of earlier)) ≡ true
     rest None all' = all'
     rest (Some x) all' = (and_parts (P (x, reference_of s.seen.event)) (list_all P (failures (seen_of earlier))) all').1
@@ -157,7 +157,7 @@ ages_hold net plan stays silent budget f whole_ (x ∷ h) reference d counter re
     let clean : IsClean (alone net plan) (event.Ask reference d counter ∷ x ∷ h) =
     clean_tail (alone net plan) tail (record { is = recovers.is; premises = recovers.premises }) in
     let before : IsClean (alone net plan) (x ∷ h) = clean_before (alone net plan) (event.Ask reference d counter) (x ∷ h) clean in
-    let comes : Comes (alone net plan) (x ∷ h) (event.Ask reference d counter) = record { fair = fair; clean = clean; before = stays (x ∷ h) fair before } in
+    let comes : IsNextEvent (alone net plan) (x ∷ h) (event.Ask reference d counter) = record { fair = fair; clean = clean; before = stays (x ∷ h) fair before } in
     let unstaged : IsUnstaged (seen_of (chronicle (alone net plan) (event.Ask reference d counter ∷ x ∷ h))) =
     unstaged_tail (chronicle (alone net plan) (event.Ask reference d counter ∷ x ∷ h)) (steps_under net plan whole_) (tail_steps (alone net plan) tail)
     (none_staged (seen_of (steps_under net plan whole_)) recovers.unstaged) in

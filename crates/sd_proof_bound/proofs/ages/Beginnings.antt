@@ -20,27 +20,16 @@ use Rattle.sd_proof_safety.proofs.invariant.Sides.{not_both}
 use Rattle.sd_proof_safety.specs.messages.Moments.{Tail, whole, behind, Moment, upto, when, IsIn}
 use Rattle.sd_proof_safety.proofs.messages.Tails.{rest_of}
 use Rattle.sd_proof_safety.specs.timers.Times.{AreTimed, heard_in, hears}
-use Rattle.sd_proof_safety.proofs.timers.Emissions.{reference_rises}
+use Rattle.sd_proof_safety.proofs.timers.Emissions.{reference_rises, timed_tail}
 use Rattle.sd_proof_safety.proofs.waits.SameReferences.{heard_is}
 use Rattle.sd_proof_safety.proofs.waits.Standing.{sound, steps_timed, leads, lives, heard_late}
 use Rattle.sd_proof_safety.proofs.silences.Phases.{Stage, stage, open_at}
 use Rattle.sd_proof_safety.proofs.silences.SoundWays.{top_of}
-use Rattle.sd_proof_safety.proofs.silences.Spacing.{timed_to, tail_is}
+use Rattle.sd_proof_safety.proofs.entering.SoundWays.{nothing_touches}
 use Rattle.sd_proof_bound.specs.timeouts.Settled.{the_plan, IsUnderWay, IsWell, Place, Scene}
-use Rattle.sd_proof_bound.proofs.timeouts.Scenes.{not_early, old_now, primary_now, scene}
-use Rattle.sd_proof_bound.proofs.timeouts.Unstaged.{unstaged_tail, era_one, failed_same}
+use Rattle.sd_proof_bound.proofs.timeouts.Scenes.{not_early, old_now, primary_now, scene, by_silence}
+use Rattle.sd_proof_bound.proofs.timeouts.Unstaged.{unstaged_tail, era_one, failed_same, equal_eras}
 use Rattle.sd_proof_bound.specs.ages.Sums.{lag}
-
--- nothing is hit by nothing
-pub untouched : (things : List Thing) → touches [] things ≡ false
-untouched [] = refl
-untouched (x ∷ things) = untouched things
-
-by_silence : (r h b : ℕ) → r - h ≤ b → r ≤ h + b
-by_silence r h b le = omega (arith, le)
-
-equal_eras : (a b : ℕ) → a ≡ 1 → b ≡ 1 → a ≤ b
-equal_eras a b one two = omega (arith, one, two)
 
 module _ (setting : Setting) (x : Event) (h : List Event) (e : Event) (calm : ℕ) (way : IsUnderWay setting (x ∷ h) e calm) (late : calm < reference_of e) where
   abbrev steps : List Step
@@ -62,7 +51,7 @@ module _ (setting : Setting) (x : Event) (h : List Event) (e : Event) (calm : �
   module _ (none : failed_now (chronicle setting (x ∷ h)) ≡ []) (d : ℕ) (well : IsWell setting (failed_now (chronicle setting (x ∷ h))) d)
       (other : is_root (the_plan setting) d ≡ false) where
     touched : (things : List Thing) → touches (failed_now (chronicle setting (x ∷ h))) things ≡ false
-    touched things = subst (λ failed. touches failed things ≡ false) (sym none) (untouched things)
+    touched things = subst (λ failed. touches failed things ≡ false) (sym none) (nothing_touches things)
 
     kept : root_failed setting (chronicle setting (x ∷ h)) ≡ false
     kept = subst (λ failed. is_among failed (thing.Device (plan_numbered setting (era (chronicle setting (x ∷ h)))).root) ≡ false) (sym none) refl
@@ -153,8 +142,8 @@ failed_or_none (s ∷ earlier) is =
 -- what a device has heard it has heard
 heard_rises : (setting : Setting) (older steps : List Step) (d : ℕ) → Tail older steps → AreTimed setting steps → heard_at older d ≤ heard_at steps d
 heard_rises setting older steps d t timed_ =
-    subst (λ a. a ≤ heard_at steps d) (sym (heard_is setting older (timed_to setting older steps t timed_) d))
-    (subst (λ b. heard_in older d ≤ b) (sym (heard_is setting steps timed_ d)) (reference_rises hears setting older steps d (tail_is older steps t) timed_))
+    subst (λ a. a ≤ heard_at steps d) (sym (heard_is setting older (timed_tail setting older steps t timed_) d))
+    (subst (λ b. heard_in older d ≤ b) (sym (heard_is setting steps timed_ d)) (reference_rises hears setting older steps d t timed_))
 
 -- So each device had heard lately by the failures, or all had just started
 

@@ -3,7 +3,7 @@
 use Rattle.std.specs.Prelude.{◌≡◌, ℕ, ◌≤◌, Bool, true, false, List, [], ◌∷◌, nat_eq, Option, Some, None, option_map, option_and_then, refl, if◌then◌else◌}
 use Rattle.std.proofs.Common.{arith, ap, sym, ◌∙◌, subst}
 use Rattle.std.proofs.lemmas.Bool.{or_left, false_from_ne_true}
-use Rattle.sd_drill.specs.Num.Lists.{of_some, same_number}
+use Rattle.sd_drill.specs.Num.Lists.{map_or, same_number}
 use Rattle.sd_proof_safety.specs.Clock.Estimates.{corrected}
 use Rattle.sd_drill.specs.Plan.declared.Edge.{Edge}
 use Rattle.sd_proof_safety.specs.Msg.declared.Message.{Message}
@@ -18,7 +18,7 @@ use Rattle.sd_proof_safety.specs.History.World.{Setting, makes, latest_reading}
 use Rattle.sd_proof_safety.specs.History.Refusals.{makes_some}
 use Rattle.sd_proof_safety.specs.History.Steps.{Act, Makes, Calls, Asks, Passes, Step, seen_of, act_by}
 use Rattle.sd_proof_safety.specs.History.Chronicle.{new_past, past_in, past_after, chronicle, IsHistory}
-use Rattle.sd_proof_safety.proofs.History.Devices.{goes_forward, not_falling}
+use Rattle.sd_proof_safety.proofs.History.Devices.{goes_forward, not_falling, grows as reading_rises}
 use Rattle.sd_proof_safety.proofs.History.Given.{some_is}
 use Rattle.sd_proof_safety.proofs.invariant.Sides.{not_both}
 use Rattle.sd_proof_safety.specs.timers.Times.{Fits, makes_device, counter_at}
@@ -50,17 +50,17 @@ module _ (past : Past) (old new : ℕ) (o : IsOrdered past old) (grows : old ≤
       }
 
   deaf : (call : Call) → ((l : ℕ) (m : Message) (c : ℕ) → call ≡ Receive l m c → ⊥) → heard (after past call) ≡ heard past
-  deaf call never = ap (λ a. of_some (option_and_then (λ (edge : Edge). words.counter_of call) a) (heard past) (λ told. told)) (accepts_none past call never)
+  deaf call never = ap (λ a. map_or (option_and_then (λ (edge : Edge). words.counter_of call) a) (heard past) (λ told. told)) (accepts_none past call never)
 
   receipt : (l : ℕ) (m : Message) (c : ℕ) → c ≤ new → (a : Option Edge) → accepted_over (transition_of past (Receive l m c)) ≡ a
       → IsOrdered (after past (Receive l m c)) new
   receipt l m c by None is =
-      quiet (Receive l m c) (ap (λ k. of_some (option_and_then (λ (edge : Edge). Some c) k) (heard past) (λ told. told)) is)
-      (ap (λ k. (of_some (option_map (λ (edge : Edge). corrected (carried m) edge.bounds c) k) (estimate_now past) (λ told. told)).at) is)
+      quiet (Receive l m c) (ap (λ k. map_or (option_and_then (λ (edge : Edge). Some c) k) (heard past) (λ told. told)) is)
+      (ap (λ k. (map_or (option_map (λ (edge : Edge). corrected (carried m) edge.bounds c) k) (estimate_now past) (λ told. told)).at) is)
   receipt l m c by (Some edge) is =
-      let heard_is : heard (after past (Receive l m c)) ≡ c = ap (λ k. of_some (option_and_then (λ (edge : Edge). Some c) k) (heard past) (λ told. told)) is in
+      let heard_is : heard (after past (Receive l m c)) ≡ c = ap (λ k. map_or (option_and_then (λ (edge : Edge). Some c) k) (heard past) (λ told. told)) is in
       let set_is : (estimate_now (after past (Receive l m c))).at ≡ c =
-      ap (λ k. (of_some (option_map (λ (edge : Edge). corrected (carried m) edge.bounds c) k) (estimate_now past) (λ told. told)).at) is in
+      ap (λ k. (map_or (option_map (λ (edge : Edge). corrected (carried m) edge.bounds c) k) (estimate_now past) (λ told. told)).at) is in
       record {
         estimate = subst (λ h. h ≤ (estimate_now (after past (Receive l m c))).at) (sym heard_is) (subst (λ a. c ≤ a) (sym set_is) (least c));
         read = subst (λ h. h ≤ new) (sym heard_is) by;
@@ -91,14 +91,9 @@ makes_named (event.Start r m c clock eps) d some named = or_left (nat_eq m d) fa
 makes_named (event.Join r m c clock eps) d some named = named
 makes_named _ d some named = cc
 
-reading_now : (b : Bool) (o : Option ℕ) (old c : ℕ) → b ≡ true → o ≡ Some c → of_some (if b then o else None) old (λ told. told) ≡ c
-reading_now true o old c is reads = ap (λ k. of_some k old (λ told. told)) reads
+reading_now : (b : Bool) (o : Option ℕ) (old c : ℕ) → b ≡ true → o ≡ Some c → map_or (if b then o else None) old (λ told. told) ≡ c
+reading_now true o old c is reads = ap (λ k. map_or k old (λ told. told)) reads
 reading_now false o old c is reads = cc
-
-reading_rises : (b : Bool) (o : Option ℕ) (old : ℕ) → ((c : ℕ) → b ≡ true → o ≡ Some c → old ≤ c) → old ≤ of_some (if b then o else None) old (λ told. told)
-reading_rises true None old rises = omega arith
-reading_rises true (Some c) old rises = rises c refl refl
-reading_rises false o old rises = omega arith
 
 pub in_order : (setting : Setting) (history : List Event) → IsHistory setting history → (d : ℕ) (past : Past)
     → past_in (chronicle setting history) d ≡ Some past → IsOrdered past (latest_reading (seen_of (chronicle setting history)) d)

@@ -21,7 +21,7 @@ use Rattle.sd_proof_safety.proofs.History.Known.{up_is_known}
 use Rattle.sd_proof_safety.specs.invariant.Bounds.{IsTimedBy, depth, delay, losses, rounds_gap, tick_gap, first_up, second_up, wait_up, first_low, second_low, wait_low}
 use Rattle.sd_proof_safety.specs.invariant.Eras.{era, beginning, all_started, is_among, failed_now, heard_at}
 use Rattle.sd_proof_safety.specs.invariant.Silences.{AreSilent}
-use Rattle.sd_proof_safety.specs.invariant.Coming.{Comes}
+use Rattle.sd_proof_safety.specs.invariant.Coming.{IsNextEvent}
 use Rattle.sd_proof_safety.proofs.invariant.Facts.{IsSound}
 use Rattle.sd_proof_safety.proofs.invariant.Sides.{not_both}
 use Rattle.sd_proof_safety.specs.messages.Moments.{whole, behind, Moment, when, IsIn}
@@ -33,7 +33,7 @@ use Rattle.sd_proof_safety.proofs.silences.SoundWays.{top_of}
 use Rattle.sd_proof_bound.specs.timeouts.Settled.{the_plan, IsUnderWay, IsSettled, IsWell, Scene}
 use Rattle.sd_proof_bound.proofs.timeouts.Settled.{first_so}
 use Rattle.sd_proof_bound.proofs.timeouts.Scenes.{scene}
-use Rattle.sd_proof_bound.proofs.timeouts.Unstaged.{era_one, failed_same}
+use Rattle.sd_proof_bound.proofs.timeouts.Unstaged.{era_one, failed_same, equal_eras}
 use Rattle.sd_proof_bound.specs.traces.Led.{Led, at_source, IsWithin}
 use Rattle.sd_proof_bound.proofs.traces.Sounding.{fed_by}
 use Rattle.sd_proof_bound.specs.chains.Chains.{Chain, turning, IsTurned}
@@ -46,9 +46,6 @@ use Rattle.sd_proof_bound.proofs.ages.Takeovers.{takes_over_by}
 abbrev pub FailsIn : Setting → List Event → DomainId → ℕ → Type 0
 FailsIn setting history f reference = (q : Moment) → IsIn q (chronicle setting history) → (y : Thing) → failure_of q.step.seen.event ≡ Some y
     → (holds setting.net f y ≡ true) × (when q ≡ reference)
-
-equal_eras : (a b : ℕ) → a ≡ 1 → b ≡ 1 → a ≤ b
-equal_eras a b one two = omega (arith, one, two)
 
 failed_more : (s : Step) (steps : List Step) (y : Thing) → s.seen.closed ≡ false → failure_of s.seen.event ≡ Some y
     → failed_now (s ∷ steps) ≡ y ∷ failed_now steps
@@ -106,7 +103,7 @@ within_turning r h c l t w one two = omega (arith, one, two)
 within_chain : (r h c l t a m n : ℕ) → r ≤ max (c + t) h + a + m → c ≤ h + l → m ≤ n → r ≤ h + (l + t + (a + n))
 within_chain r h c l t a m n one two three = omega (arith, one, two, three)
 
-module _ (setting : Setting) (silent : AreSilent setting) (x : Event) (h : List Event) (e : Event) (comes : Comes setting (x ∷ h) e)
+module _ (setting : Setting) (silent : AreSilent setting) (x : Event) (h : List Event) (e : Event) (comes : IsNextEvent setting (x ∷ h) e)
     (unstaged : IsUnstaged (seen_of (chronicle setting (e ∷ x ∷ h)))) (f : DomainId) (reference : ℕ)
     (fails_in : FailsIn setting (e ∷ x ∷ h) f reference) (d : ℕ) (up : is_up (seen_of (chronicle setting (x ∷ h))) d ≡ true)
     (member : is_member (the_plan setting) d ≡ true) (idle : acts_in (chronicle setting (x ∷ h)) d ≡ false)

@@ -3,7 +3,7 @@ use Rattle.std.specs.Prelude.{◌≡◌, ℕ, ◌+◌, ◌*◌, ◌<◌, ◌≤�
 use Rattle.std.specs.List.{list_any}
 use Rattle.std.specs.Option.{option_or}
 use Rattle.std.proofs.Common.{arith, sym, subst}
-use Rattle.sd_drill.specs.Num.Lists.{of_some}
+use Rattle.sd_drill.specs.Num.Lists.{map_or}
 use Rattle.sd_drill.specs.Topo.declared.Thing.{Thing}
 use Rattle.sd_drill.specs.Topo.declared.Thing.TheVariants as thing
 use Rattle.sd_proof_safety.specs.Sched.declared.Event.{Event}
@@ -26,7 +26,7 @@ use Rattle.sd_proof_bound.proofs.timeouts.Scenes.{not_early}
 -- the reference of the first failure is that of an event which fails something
 first_by : (calm : ℕ) (things : List Thing) (steps : List Step)
     → ((q : Moment) → IsIn q steps → (y : Thing) → failure_of q.step.seen.event ≡ Some y → when q ≤ calm)
-    → of_some (first_failure things (seen_of steps)) 0 (λ r. r) ≤ calm
+    → map_or (first_failure things (seen_of steps)) 0 (λ r. r) ≤ calm
 first_by calm things [] early = omega arith
 first_by calm things (s ∷ earlier) early =
     go s.seen.closed (first_failure things (seen_of earlier)) (first_by calm things earlier (λ q here. early q (behind here)))
@@ -37,12 +37,12 @@ first_by calm things (s ∷ earlier) early =
     some_failure None (x ∷ xs) h = some_failure None xs h
     some_failure (Some y) xs h = (y, refl)
 
-    by_fails : (f : Bool) → list_any (λ x. fails x s.seen.event) things ≡ f → of_some (if f then Some (reference_of s.seen.event) else None) 0 (λ r. r) ≤ calm
+    by_fails : (f : Bool) → list_any (λ x. fails x s.seen.event) things ≡ f → map_or (if f then Some (reference_of s.seen.event) else None) 0 (λ r. r) ≤ calm
     by_fails false is = omega arith
     by_fails true is = let y = some_failure (failure_of s.seen.event) things is in early (record { step = s; earlier = earlier }) whole y.0 y.1
 
-    go : (c : Bool) (o : Option ℕ) → of_some o 0 (λ r. r) ≤ calm → (f : Bool) → list_any (λ x. fails x s.seen.event) things ≡ f
-        → of_some (if c then None else option_or o (if f then Some (reference_of s.seen.event) else None)) 0 (λ r. r) ≤ calm
+    go : (c : Bool) (o : Option ℕ) → map_or o 0 (λ r. r) ≤ calm → (f : Bool) → list_any (λ x. fails x s.seen.event) things ≡ f
+        → map_or (if c then None else option_or o (if f then Some (reference_of s.seen.event) else None)) 0 (λ r. r) ≤ calm
     go true o before f is = omega arith
     go false (Some r) before f is = before
     go false None before f is = by_fails f is
@@ -71,7 +71,7 @@ module _ (setting : Setting) (x : Event) (h : List Event) (e : Event) (calm : �
       let old = backup_root_is_old setting x h e settled.comes lost_ idle_ (not_early setting x h e calm settled.way late_) in
       let by = takes (x ∷ h) e settled.comes lost_ old idle_ in
       let at : root_failed_at setting steps ≤ calm =
-      late_by (nat_eq (era steps) 1) (of_some (first_failure (thing.Device (plan_now setting steps).root ∷ []) (seen_of steps)) 0 (λ r. r))
+      late_by (nat_eq (era steps) 1) (map_or (first_failure (thing.Device (plan_now setting steps).root ∷ []) (seen_of steps)) 0 (λ r. r))
       (all_started setting steps) calm
       (first_by calm (thing.Device (plan_now setting steps).root ∷ []) steps early) settled.way.started in
       subst (λ n. reference_of e ≤ calm + (depth setting.net + 1) * delay setting.net + first_up setting.net (plan_numbered setting n) + second_up setting.net

@@ -2,7 +2,7 @@
 -- that it sets has the uncertainty of the message and half of the hop's spread.
 use Rattle.std.specs.Prelude.{◌≡◌, ℕ, ◌<◌, Bool, true, false, ◌∷◌, length, List, Option, Some, None, option_map, refl, if◌then◌else◌}
 use Rattle.std.proofs.Common.{sym, ◌∙◌, ap, subst, inl, inr}
-use Rattle.sd_drill.specs.Num.Lists.{of_some}
+use Rattle.sd_drill.specs.Num.Lists.{map_or}
 use Rattle.sd_drill.specs.Topo.Network.{Network, joins}
 use Rattle.sd_drill.specs.Plan.declared.Hop.{Hop as PlanHop}
 use Rattle.sd_drill.specs.Plan.declared.Plan.{Plan}
@@ -26,12 +26,13 @@ use Rattle.sd_proof_safety.proofs.messages.Flights.{IsSentBy, moment_sends}
 use Rattle.sd_proof_safety.proofs.messages.Receipts.{Taken, taken_flight, CameFrom, came_from}
 use Rattle.sd_proof_safety.specs.messages.Hops.{IsPlanHop, Leads}
 use Rattle.sd_proof_safety.proofs.messages.Parents.{ends_lead}
+use Rattle.sd_proof_safety.proofs.windows.Entering.{joins_one}
 use Rattle.sd_proof_bound.specs.Bound.{alone}
 use Rattle.sd_proof_bound.specs.Recovering.{steps_under}
 use Rattle.sd_proof_bound.proofs.histories.Plain.{IsPlain, plain_before}
 use Rattle.sd_proof_bound.proofs.histories.Lives.{none_given}
 use Rattle.sd_proof_bound.proofs.histories.Standing.{IsLive}
-use Rattle.sd_proof_bound.proofs.bases.Planned.{WellPlanned, one_parent, led_joined}
+use Rattle.sd_proof_bound.proofs.bases.Planned.{WellPlanned, led_joined}
 
 -- the hop that a device of this past is on
 abbrev pub hop_now : Plan → Past → ℕ → Option PlanHop
@@ -63,10 +64,10 @@ on_by : (net : Network) (plan : Plan) (past : Past) (d : ℕ) (edge : Edge) (a m
     → (if a then None else if m then backup_now past else primary_now past) ≡ Some edge → IsOn net plan past d edge
 on_by net plan past d edge true m acts moved duty same = cc
 on_by net plan past d edge false true acts moved duty same =
-    let found = edge_of_hop net d (backup_of plan d) edge (sym (ap (λ o. of_some o None (λ (u : Duty). u.backup)) duty) ∙ same) in
+    let found = edge_of_hop net d (backup_of plan d) edge (sym (ap (λ o. map_or o None (λ (u : Duty). u.backup)) duty) ∙ same) in
     record { idle = acts; hop = found.0; hop_is = ap (λ b. if b then backup_of plan d else primary_of plan d) moved ∙ found.1; edge_is = found.2 }
 on_by net plan past d edge false false acts moved duty same =
-    let found = edge_of_hop net d (primary_of plan d) edge (sym (ap (λ o. of_some o None (λ (u : Duty). u.primary)) duty) ∙ same) in
+    let found = edge_of_hop net d (primary_of plan d) edge (sym (ap (λ o. map_or o None (λ (u : Duty). u.primary)) duty) ∙ same) in
     record { idle = acts; hop = found.0; hop_is = ap (λ b. if b then backup_of plan d else primary_of plan d) moved ∙ found.1; edge_is = found.2 }
 
 -- an accepted message is of plan 1, over the edge to the parent
@@ -76,7 +77,7 @@ pub on_edge : (net : Network) (plan : Plan) (past : Past) (d : ℕ) (m : Message
 on_edge net plan past d m edge duty none (entering u given epoch primary) = cc
 on_edge net plan past d m edge duty none (following epoch parent newer) = (
   on_by net plan past d edge (is_acting past) (has_moved past) refl refl duty parent,
-  sym epoch ∙ ap (λ o. of_some o 0 (λ (u : Duty). u.epoch)) duty,
+  sym epoch ∙ ap (λ o. map_or o 0 (λ (u : Duty). u.epoch)) duty,
 )
 
 hop_planned : (plan : Plan) (past : Past) (d : ℕ) (hop : PlanHop) (b : Bool) → has_moved past ≡ b
@@ -148,4 +149,4 @@ heard net plan e history well plain d l c m edge past within act lives there ove
         (well.leads d on.hop within (planned_hop plan past d on.hop on.hop_is)).joined
 
     parents : t.flight.sender ≡ on.hop.parent
-    parents = one_parent net l d t.flight.sender on.hop.parent over_link over_hop
+    parents = joins_one net l d t.flight.sender on.hop.parent over_link over_hop

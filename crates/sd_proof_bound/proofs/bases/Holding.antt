@@ -2,7 +2,7 @@
 use Rattle.std.specs.Prelude.{◌≡◌, ℕ, ◌+◌, ◌-◌, ◌<◌, ◌≤◌, Bool, true, false, ◌&&◌, ◌||◌, not, List, [], ◌∷◌, length, nat_eq, nat_le, Option, Some, None, option_map, ◌⊎◌, refl, if◌then◌else◌}
 use Rattle.std.proofs.Common.{arith, sym, ◌∙◌, ap, subst, inl, inr}
 use Rattle.std.proofs.lemmas.Bool.{and_parts, and_from, or_from, or_right, leb-true, eqb-true, eq-eqb, not_from_false, both_ways}
-use Rattle.sd_drill.specs.Num.Lists.{of_some}
+use Rattle.sd_drill.specs.Num.Lists.{map_or}
 use Rattle.sd_drill.specs.Topo.Network.{Network, rates_of, bounds_of}
 use Rattle.sd_drill.specs.Domain.declared.DomainId.{DomainId}
 use Rattle.sd_drill.specs.Plan.declared.Hop.{Hop}
@@ -35,7 +35,8 @@ use Rattle.sd_proof_safety.proofs.timers.Transitions.{Cases, by_case}
 use Rattle.sd_proof_safety.proofs.timers.Pasts.{itself, onward, was_unmoved}
 use Rattle.sd_proof_safety.specs.messages.Moments.{Tail, whole, behind, Moment, IsIn, Sends, is_emission}
 use Rattle.sd_proof_safety.proofs.messages.Tails.{rest_of, tail_all, tail_trans}
-use Rattle.sd_proof_safety.proofs.messages.Sending.{send_is, Sender, root_sends, relay_sends, sender_of}
+use Rattle.sd_proof_safety.proofs.messages.Sending.{Sender, root_sends, relay_sends, sender_of}
+use Rattle.sd_proof_safety.proofs.History.Contained.{send_same}
 use Rattle.sd_proof_bound.specs.Bound.{alone, held_briefly}
 use Rattle.sd_proof_bound.specs.Recovering.{steps_under, Recovers}
 use Rattle.sd_proof_bound.proofs.Composing.{tail_steps, held_at, held_when, aged}
@@ -65,7 +66,7 @@ begun_cases past =
       took = λ c e t. λ begins. record {
         counter = c;
         call_is = refl;
-        acts = or_right (of_some (later_entry past) (starts_as_root past.making) (λ entry. is_commit entry.transition)) (true || has_taken_over past) refl;
+        acts = or_right (map_or (later_entry past) (starts_as_root past.making) (λ entry. is_commit entry.transition)) (true || has_taken_over past) refl;
       };
       moved = λ c e t m. λ begins. cc;
       still = λ c e t m. λ begins. cc;
@@ -88,8 +89,8 @@ by_sender past _ transition P rounds relays (relay_sends l m c edge over) = rela
 -- a relay carries the estimate as it was set, and a round the report at its counter
 relayed_eps : (past : Past) (call : Call) (transition : Transition) (edge : Edge) (m : Message) → accepted_over transition ≡ Some edge
     → effect_of_latest past (record { call = call; transition = transition }) ≡ Send m → (estimate_now past).base ≡ m.eps
-relayed_eps past call (Entered duty e) edge m over same = ap (λ (n : Message). n.eps) (send_is same)
-relayed_eps past call (Accepted e) edge m over same = ap (λ (n : Message). n.eps) (send_is same)
+relayed_eps past call (Entered duty e) edge m over same = ap (λ (n : Message). n.eps) (send_same same)
+relayed_eps past call (Accepted e) edge m over same = ap (λ (n : Message). n.eps) (send_same same)
 relayed_eps past call (Committed duty) edge m over same = cc
 relayed_eps past call (Recommitted duty) edge m over same = cc
 relayed_eps past call Moved edge m over same = cc
@@ -99,8 +100,8 @@ relayed_eps past call Nothing edge m over same = cc
 
 emitted_eps : (past : Past) (c : ℕ) (transition : Transition) (m : Message) → is_emission transition ≡ true
     → effect_of_latest past (record { call = calls.Tick c; transition = transition }) ≡ Send m → (report_at past c).eps ≡ m.eps
-emitted_eps past c TookOver m begins same = ap (λ (n : Message). n.eps) (send_is same)
-emitted_eps past c Emitted m begins same = ap (λ (n : Message). n.eps) (send_is same)
+emitted_eps past c TookOver m begins same = ap (λ (n : Message). n.eps) (send_same same)
+emitted_eps past c Emitted m begins same = ap (λ (n : Message). n.eps) (send_same same)
 emitted_eps past c (Entered duty edge) m begins same = cc
 emitted_eps past c (Committed duty) m begins same = cc
 emitted_eps past c (Recommitted duty) m begins same = cc
@@ -112,7 +113,7 @@ called_past : (x : ℕ) (call : Call) (o : Option Past) (past : Past) → o ≡ 
 called_past x call o past there = ap (λ b. if b then option_map (λ q. after q call) o else o) (eq-eqb x x refl) ∙ ap (option_map (λ q. after q call)) there
 
 own_rates : (net : Network) (plan : Plan) (history : List Event) (d : ℕ) (past : Past) → IsLive net plan history d past → rates_now past ≡ rates_of net d
-own_rates net plan history d past lives = ap (λ o. of_some o (first_rates past.making) (λ (u : Duty). u.rates)) lives.duty
+own_rates net plan history d past lives = ap (λ o. map_or o (first_rates past.making) (λ (u : Duty). u.rates)) lives.duty
 
 -- the newest step of a chronicle, or one before it
 in_cases : (p : Moment) (s : Step) (steps : List Step) → IsIn p (s ∷ steps) → (p ≡ record { step = s; earlier = steps }) ⊎ IsIn p steps
@@ -144,10 +145,10 @@ module _ (net : Network) (plan : Plan) (budget : Budget) (f : DomainId) (stays :
   well = well_planned net plan (sound_now (alone net plan) [] (fair net plan budget f stays whole_ run) tt)
 
   pub standing : (history : List Event) → Tail history whole_ → Stands net plan f history
-  standing history t = stands net plan budget f stays whole_ run history t
+  standing = stands net plan budget f stays whole_ run
 
   plain_now : (history : List Event) → Tail history whole_ → IsPlain (alone net plan) history
-  plain_now history t = plain net plan budget f stays whole_ run history t
+  plain_now = plain net plan budget f stays whole_ run
 
   module _ (e : Event) (history : List Event) (t : Tail (e ∷ history) whole_) where
     abbrev steps : List Step
@@ -157,9 +158,9 @@ module _ (net : Network) (plan : Plan) (budget : Budget) (f : DomainId) (stays :
     set_within : (clock eps : ℕ) → clock_set e ≡ Some (clock, eps) → eps ≤ budget.base
     set_within clock eps set =
         leb-true eps budget.base
-        (subst (λ (o : Option (ℕ × ℕ)). of_some o true (λ s. nat_le s.1 budget.base) ≡ true) set
-        (and_parts (of_some (clock_set e) true (λ s. nat_le s.1 budget.base)) _
-        (tail_all (λ s. of_some (clock_set s.event) true (λ x. nat_le x.1 budget.base)) (tail_steps (alone net plan) t) run.based)).0)
+        (subst (λ (o : Option (ℕ × ℕ)). map_or o true (λ s. nat_le s.1 budget.base) ≡ true) set
+        (and_parts (map_or (clock_set e) true (λ s. nat_le s.1 budget.base)) _
+        (tail_all (λ s. map_or (clock_set s.event) true (λ x. nat_le x.1 budget.base)) (tail_steps (alone net plan) t) run.based)).0)
 
     module _ (before : Holds net plan budget f history) where
       -- Estimates
@@ -303,11 +304,11 @@ module _ (net : Network) (plan : Plan) (budget : Budget) (f : DomainId) (stays :
               → Based net plan budget f (e ∷ history) d (estimate_now (after past (calls.Receive l m c))).base
           by_edge None over =
               subst (λ o. Based net plan budget f (e ∷ history) d
-              (of_some (option_map (λ edge. corrected (carried m) edge.bounds c) o) (estimate_now past) (λ x. x)).base) (sym over)
+              (map_or (option_map (λ edge. corrected (carried m) edge.bounds c) o) (estimate_now past) (λ x. x)).base) (sym over)
               (based_on net plan budget f e history (plain_now (e ∷ history) t) d (estimate_now past).base (before.based d past member within there))
           by_edge (Some edge) over =
               subst (λ o. Based net plan budget f (e ∷ history) d
-              (of_some (option_map (λ edge. corrected (carried m) edge.bounds c) o) (estimate_now past) (λ x. x)).base) (sym over)
+              (map_or (option_map (λ edge. corrected (carried m) edge.bounds c) o) (estimate_now past) (λ x. x)).base) (sym over)
               (heard_based d past l c m edge member within act there over)
 
       based_now : (d : ℕ) (past : Past) → is_member plan d ≡ true → d < length net.devices → past_in (steps_under net plan (e ∷ history)) d ≡ Some past
@@ -356,7 +357,7 @@ module _ (net : Network) (plan : Plan) (budget : Budget) (f : DomainId) (stays :
           where
             held_by : Called e x (calls.Tick c) → held_briefly budget (steps_under net plan (e ∷ history)) e ≡ true
                 → (not (acts_in (steps_under net plan (e ∷ history)) x)
-                || of_some (past_in (steps_under net plan (e ∷ history)) x) true (λ p. nat_le (c - (estimate_now p).at) budget.hold)) ≡ true
+                || map_or (past_in (steps_under net plan (e ∷ history)) x) true (λ p. nat_le (c - (estimate_now p).at) budget.hold)) ≡ true
             held_by (ticks r _ same) held = subst (λ z. held_briefly budget (steps_under net plan (e ∷ history)) z ≡ true) same held
 
         -- the root sends at most what is said of it, and the backup root the source

@@ -1,8 +1,8 @@
 -- What of an accepted plan is used: whom the hops of a device lead to, and what lies on the ways of the backup root.
 use Rattle.std.specs.Prelude.{◌≡◌, ℕ, ◌<◌, ◌≤◌, Bool, true, false, ◌&&◌, not, List, [], ◌∷◌, filter, length, map, max, nat_eq, Option, Some, None, IfSome, ◌⊎◌, refl, if◌then◌else◌}
 use Rattle.std.proofs.Common.{arith, sym, ◌∙◌, ap, subst, inl, inr}
-use Rattle.std.proofs.lemmas.Bool.{and_parts, or_cases, or_left, or_right, eqb-true, eq-eqb, not-true, not-false, both_ways}
-use Rattle.sd_drill.specs.Num.Lists.{has, of_some}
+use Rattle.std.proofs.lemmas.Bool.{and_parts, or_cases, eqb-true, eq-eqb, not-true, not-false}
+use Rattle.sd_drill.specs.Num.Lists.{has, map_or}
 use Rattle.sd_drill.specs.Topo.Network.{Network, joins, link_of}
 use Rattle.sd_drill.specs.Plan.declared.Hop.{Hop}
 use Rattle.sd_drill.specs.Plan.declared.Plan.{Plan}
@@ -15,9 +15,11 @@ use Rattle.sd_drill.proofs.Plan.Numbered.{none_found}
 use Rattle.sd_drill.specs.CheckRoot.Roots.{fallback_devices}
 use Rattle.sd_drill.specs.recovery.Walks.{halves}
 use Rattle.sd_drill.specs.Drill.{root_halves}
+use Rattle.sd_drill.proofs.Checker.Num.Shared.{unequal_swap}
 use Rattle.sd_proof_safety.proofs.History.Given.{some_is}
-use Rattle.sd_proof_safety.proofs.invariant.Facts.{IsSound, turned}
+use Rattle.sd_proof_safety.proofs.invariant.Facts.{IsSound}
 use Rattle.sd_proof_safety.specs.messages.Hops.{IsPlanHop, Leads}
+use Rattle.sd_proof_safety.proofs.silences.FallbackWay.{has_filtered}
 
 -- Links
 
@@ -34,10 +36,6 @@ same_other a b d x y (inl p) (inl q) = sym p.1 ∙ q.1
 same_other a b d x y (inl p) (inr q) = sym p.1 ∙ q.1 ∙ sym p.0 ∙ q.0
 same_other a b d x y (inr p) (inl q) = sym p.0 ∙ q.0 ∙ sym p.1 ∙ q.1
 same_other a b d x y (inr p) (inr q) = sym p.0 ∙ q.0
-
--- a link joins a device to one other
-pub one_parent : (net : Network) (l d x y : ℕ) → joins net l d x ≡ true → joins net l d y ≡ true → x ≡ y
-one_parent net l d x y one two = same_other (link_of net l).end_a (link_of net l).end_b d x y (ends_are net l d x one) (ends_are net l d y two)
 
 -- Hops
 
@@ -56,7 +54,7 @@ right_by net plan d (Some h) hop is right within =
     (record { within = within.0; member = (and_parts (is_member plan h.parent) (is_present plan h.link) parts.0).0; joined = parts.1 })
 
 ancestor_by : (net : Network) (plan : Plan) (o : Option Hop) (hop : Hop) (b : Bool) → o ≡ Some hop → b ≡ true
-    → of_some o true
+    → map_or o true
     (λ h. if b then not (on_walk net plan h.parent plan.backup_root) else not
     (has (devices_of h.parent (if ends_walks plan h.parent then [] else short_path net plan h.parent)) plan.backup_root)) ≡ true
     → on_walk net plan hop.parent plan.backup_root ≡ false
@@ -64,17 +62,6 @@ ancestor_by net plan None hop b is yes_ clause = cc
 ancestor_by net plan (Some h) hop false is yes_ clause = cc
 ancestor_by net plan (Some h) hop true is yes_ clause =
     subst (λ (g : Hop). on_walk net plan g.parent plan.backup_root ≡ false) (some_is is) (not-true (on_walk net plan h.parent plan.backup_root) clause)
-
-has_filtered : (p : ℕ → Bool) (xs : List ℕ) (y : ℕ) → has xs y ≡ true → p y ≡ true → has (filter p xs) y ≡ true
-has_filtered p [] y in_ passes = cc
-has_filtered p (x ∷ xs) y in_ passes = go (p x) refl (or_cases (nat_eq y x) (has xs y) in_) (λ rest. has_filtered p xs y rest passes)
-  where
-    go : (b : Bool) → p x ≡ b → (nat_eq y x ≡ true) ⊎ (has xs y ≡ true) → (has xs y ≡ true → has (filter p xs) y ≡ true)
-        → has (if b then x ∷ filter p xs else filter p xs) y ≡ true
-    go true is (inl here) rest = or_left (nat_eq y x) (has (filter p xs) y) here
-    go true is (inr there) rest = or_right (nat_eq y x) (has (filter p xs) y) (rest there)
-    go false is (inl here) rest = absurd (both_ways (p x) is (subst (λ z. p z ≡ true) (eqb-true y x here) passes))
-    go false is (inr there) rest = rest there
 
 -- a plan of which all this holds
 pub record WellPlanned (net : Network) (plan : Plan) : Type 0 where
@@ -94,7 +81,7 @@ well_planned net plan sound =
       leads = leads_right;
       backup_member = sound.backup_member;
       backup_within = sound.fits.backup_root;
-      apart = turned plan.backup_root plan.root sound.apart;
+      apart = unequal_swap plan.backup_root plan.root sound.apart;
       not_on_path = λ hop is. not_above net plan forest plan.backup_root hop (forest.up plan.backup_root hop sound.fits.backup_root is);
       not_on_fallback = λ hop is.
           ancestor_by net plan (backup_of plan plan.backup_root) hop (is_backup_root plan plan.backup_root) is (eq-eqb plan.backup_root plan.backup_root refl)
@@ -130,7 +117,7 @@ pub fallback_halves : (net : Network) (plan : Plan) (hop : Hop) → backup_of pl
     → halves net plan.backup_root (hop ∷ walk net plan hop.parent) ≤ root_halves net plan
 fallback_halves net plan hop is =
     subst (λ o. halves net plan.backup_root (hop ∷ walk net plan hop.parent) ≤ max (halves net plan.backup_root (walk net plan plan.backup_root))
-    (of_some o 0 (λ h. halves net plan.backup_root (h ∷ walk net plan h.parent))))
+    (map_or o 0 (λ h. halves net plan.backup_root (h ∷ walk net plan h.parent))))
     (sym is) (most (halves net plan.backup_root (walk net plan plan.backup_root)) (halves net plan.backup_root (hop ∷ walk net plan hop.parent)))
   where
     most : (a b : ℕ) → b ≤ max a b
@@ -147,5 +134,5 @@ on_path net plan well hop is y on =
 pub on_fallback : (net : Network) (plan : Plan) (hop : Hop) → backup_of plan plan.backup_root ≡ Some hop → (y : ℕ) → on_walk net plan hop.parent y ≡ true
     → is_root plan y ≡ false → has (fallback_devices net plan) y ≡ true
 on_fallback net plan hop is y on other =
-    subst (λ o. has (of_some o [] (λ (h : Hop). filter (λ d. not (is_root plan d)) (devices_of h.parent (walk net plan h.parent)))) y ≡ true) (sym is)
+    subst (λ o. has (map_or o [] (λ (h : Hop). filter (λ d. not (is_root plan d)) (devices_of h.parent (walk net plan h.parent)))) y ≡ true) (sym is)
     (has_filtered (λ d. not (is_root plan d)) (devices_of hop.parent (walk net plan hop.parent)) y on (ap not other))

@@ -23,10 +23,11 @@ use Rattle.sd_proof_safety.specs.invariant.Eras.{moved}
 use Rattle.sd_proof_safety.proofs.timers.Pasts.{was_unmoved, was_not_acting}
 use Rattle.sd_proof_safety.specs.messages.Moments.{Tail, whole, behind}
 use Rattle.sd_proof_safety.proofs.messages.Tails.{rest_of}
+use Rattle.sd_proof_safety.proofs.frame.Timely.{up_if_made}
 use Rattle.sd_proof_bound.specs.Bound.{alone}
 use Rattle.sd_proof_bound.specs.Recovering.{steps_under}
 use Rattle.sd_proof_bound.proofs.histories.Plain.{IsPlain, tail_plain, plain_event}
-use Rattle.sd_proof_bound.proofs.histories.Lives.{PastBy, by_making, by_call, unchanged, past_by, made_by, called_by, called_stays_up, started_is_up, inside_of, sound_is_up}
+use Rattle.sd_proof_bound.proofs.histories.Lives.{PastBy, by_making, by_call, unchanged, past_by, made_by, called_by, called_stays_up, started_is_up, inside_of}
 use Rattle.sd_proof_bound.proofs.histories.Standing.{IsLive, Stands}
 use Rattle.sd_proof_bound.proofs.bases.Planned.{WellPlanned, LeadsRight, on_path, on_fallback}
 
@@ -110,7 +111,7 @@ module _ (net : Network) (plan : Plan) (f : DomainId) (well : WellPlanned net pl
         go : (b : Bool) → was_made (seen_of (steps_under net plan part)) plan.backup_root ≡ b → moved (steps_under net plan part) y ≡ false
         go true made =
             let some = has_some (past_in (steps_under net plan part) plan.backup_root) (made_has_past (alone net plan) part plan.backup_root made) in
-            by_past some.0 some.1 (sound_is_up (seen_of (steps_under net plan part)) plan.backup_root made sound)
+            by_past some.0 some.1 (up_if_made (seen_of (steps_under net plan part)) plan.backup_root made sound)
         go false unmade = (stands part t).beginning well.backup_member well.backup_within unmade sound y
 
     never_moved : (part : List Event) → Tail part history → (q : Past) → past_in (steps_under net plan part) y ≡ Some q → has_moved q ≡ false

@@ -16,6 +16,8 @@ use Rattle.sd_drill.specs.ages.Ages.{ageing}
 use Rattle.sd_drill.specs.recovery.Walks.{halves, IsWalk}
 use Rattle.sd_drill.specs.declared.Budget.{Budget}
 use Rattle.sd_drill.specs.Drill.{root_halves, source}
+use Rattle.sd_proof_safety.proofs.spans.PathHearsAtEvents.{within}
+use Rattle.sd_proof_safety.proofs.moves.Ends.{within as with_most}
 use Rattle.sd_proof_bound.specs.Bound.{alone}
 use Rattle.sd_proof_bound.proofs.histories.Plain.{IsPlain}
 use Rattle.sd_proof_bound.proofs.bases.Straight.{IsStraight, straight_before}
@@ -47,17 +49,11 @@ pub record SentSo (net : Network) (plan : Plan) (budget : Budget) (f : DomainId)
 within_source : (x base rh a b h : ℕ) → x ≤ base → x ≤ base + rh + a + b + h
 within_source x base rh a b h le = omega (arith, le)
 
-within_root : (x base a h : ℕ) → x ≤ base → x ≤ base + a + h
-within_root x base a h le = omega (arith, le)
-
 by_backup : (x base rh a b : ℕ) → x ≤ base + a + rh → x ≤ base + rh + a + b + 0
 by_backup x base rh a b le = omega (arith, le)
 
 hop_adds : (x half sum hs : ℕ) → x ≤ sum + hs → x + half ≤ sum + (half + hs)
 hop_adds x half sum hs le = omega (arith, le)
-
-with_most : (x sum part most : ℕ) → x ≤ sum + part → part ≤ most → x ≤ sum + most
-with_most x sum part most le less = omega (arith, le, less)
 
 module _ (net : Network) (plan : Plan) (budget : Budget) (f : DomainId) where
   -- what is set within the base
@@ -65,14 +61,14 @@ module _ (net : Network) (plan : Plan) (budget : Budget) (f : DomainId) where
   set_so history d base le =
       record {
         root = λ is. le;
-        backup = λ is. within_root base budget.base (ageing (rates_of net plan.root) budget.hold) (root_halves net plan) le;
+        backup = λ is. within base budget.base (ageing (rates_of net plan.root) budget.hold) (root_halves net plan) le;
         walked = record {
           hops = [];
           walk = refl;
           sum = within_source base budget.base (root_halves net plan) (ageing (rates_of net plan.root) budget.hold)
               (ageing (rates_of net plan.backup_root) budget.hold) 0 le;
         };
-        direct = λ straight. within_root base budget.base (ageing (rates_of net plan.root) budget.hold) (halves net d (walk net plan d)) le;
+        direct = λ straight. within base budget.base (ageing (rates_of net plan.root) budget.hold) (halves net d (walk net plan d)) le;
       }
 
   -- what held before an event holds after it

@@ -7,7 +7,7 @@ use Rattle.std.specs.Prelude.{◌≡◌, ℕ, zero, suc, ◌+◌, ◌<◌, ◌�
 use Rattle.std.specs.List.{list_all}
 use Rattle.std.proofs.Common.{arith, ap, sym, ◌∙◌, subst}
 use Rattle.std.proofs.lemmas.Bool.{eqb-true, false_from_ne_true}
-use Rattle.sd_drill.specs.Num.Lists.{of_some}
+use Rattle.sd_drill.specs.Num.Lists.{map_or}
 use Rattle.sd_drill.specs.Topo.declared.Thing.{Thing}
 use Rattle.sd_drill.specs.Topo.declared.Thing.TheVariants as thing
 use Rattle.sd_drill.specs.Domain.Domains.{holds}
@@ -188,7 +188,7 @@ module _ (setting : Setting) (x : Event) (h : List Event) (e : Event) (calm : �
         absurd
         (not_both (has_backup plan y)
         (moved_backed first.moment.earlier setting.net plan 1 y p.past p.there p.duty ordinary.0 ordinary.1 (sym p.moved_is ∙ put))
-        (ap (λ o. of_some o false (λ (hop : Hop). true)) is))
+        (ap (λ o. map_or o false (λ (hop : Hop). true)) is))
     on_backup_chain put (Some hop) is =
         turned_chain true hop is
         (λ _. touched_is_hit setting.net f (failed_now (chronicle setting (x ∷ h))) (epath setting.net plan y) inside (first_scene.hit y well ordinary put))
@@ -198,11 +198,11 @@ module _ (setting : Setting) (x : Event) (h : List Event) (e : Event) (calm : �
     on_primary_chain unmoved (Some hop) is =
         served setting x h e calm settled f inside limit from y k well within few first.moment first.is_in first.before
         (heard_after (when first.moment) (heard_at first.moment.earlier y) (calm + passing setting.net) (wait_up setting.net plan + tick_gap setting.net) limit
-        (first_scene.timeout y well ordinary (ap (λ o. of_some o false (λ (z : Hop). true)) is) unmoved) first.late turned.wait)
+        (first_scene.timeout y well ordinary (ap (λ o. map_or o false (λ (z : Hop). true)) is) unmoved) first.late turned.wait)
     on_primary_chain unmoved None is =
         let forest : IsForest setting.net plan = forest_of setting.net plan fine.fits fine.accepted.structure in
         let up = forest.hop y well.known well.member ordinary.0 in
-        turned_chain false up.0 up.1 (λ never. cc) (λ _. is) (unmoved_onwards y well ordinary (ap (λ o. of_some o false (λ (z : Hop). true)) is) unmoved)
+        turned_chain false up.0 up.1 (λ never. cc) (λ _. is) (unmoved_onwards y well ordinary (ap (λ o. map_or o false (λ (z : Hop). true)) is) unmoved)
 
     ordinary_chain : Reached y k
     ordinary_chain = by (moved first.moment.earlier y) refl

@@ -22,13 +22,11 @@ use Rattle.sd_proof_safety.proofs.invariant.Sides.{implied, not_both}
 use Rattle.sd_proof_safety.specs.messages.Moments.{Moment, upto, when, IsIn}
 use Rattle.sd_proof_safety.proofs.silences.FallbackWay.{falls, the_hop, on_fallback, link_of_fallback}
 use Rattle.sd_proof_safety.proofs.silences.WalkWays.{walk_length}
+use Rattle.sd_proof_safety.proofs.feeds.Cuts.{first_hop}
 use Rattle.sd_proof_bound.specs.timeouts.Settled.{the_plan, IsWell, Scene}
 use Rattle.sd_proof_bound.specs.traces.Led.{Remains, Led, at_source, onward}
 use Rattle.sd_proof_bound.proofs.traces.Sounding.{IsPlanned, planned_hop}
 use Rattle.sd_proof_bound.specs.chains.Chains.{Chain}
-
-first_hop : (a hop : Hop) (xs hs : List Hop) → ◌≡◌ {A = List Hop} (a ∷ xs) (hop ∷ hs) → (a ≡ hop) × (xs ≡ hs)
-first_hop a hop xs hs same = (ap (λ (l : List Hop). elim l [ [] ↦ a | z ∷ zs ↦ z ]) same, ap (λ (l : List Hop). elim l [ [] ↦ xs | z ∷ zs ↦ zs ]) same)
 
 not_root_by : (net : Network) (plan : Plan) (y : ℕ) (hop : Hop) (hs : List Hop) (b : Bool)
     → (if b then [] else hops (is_root plan) plan net.params.depth y) ≡ hop ∷ hs → b ≡ false

@@ -6,7 +6,7 @@ use Rattle.std.specs.List.{list_all}
 use Rattle.std.proofs.Common.{arith, ap, sym, ◌∙◌, subst, inl, inr}
 use Rattle.std.proofs.Math.Nat.{mul-le-mul_right}
 use Rattle.std.proofs.lemmas.Bool.{eqb-true}
-use Rattle.sd_drill.specs.Num.Lists.{of_some}
+use Rattle.sd_drill.specs.Num.Lists.{map_or}
 use Rattle.sd_drill.specs.Domain.Domains.{holds}
 use Rattle.sd_drill.specs.Domain.declared.DomainId.{DomainId}
 use Rattle.sd_drill.specs.Plan.declared.Duty.{Duty}
@@ -35,6 +35,7 @@ use Rattle.sd_proof_safety.proofs.messages.Consecutive.{past_after_call}
 use Rattle.sd_proof_safety.proofs.silences.Phases.{Following, following}
 use Rattle.sd_proof_safety.proofs.silences.SoundWays.{top_of}
 use Rattle.sd_proof_safety.proofs.receipts.Hearings.{IsReceipt, accepts_receipt}
+use Rattle.sd_proof_safety.proofs.frame.Standing.{chosen}
 use Rattle.sd_proof_bound.specs.timeouts.Settled.{IsSettled, IsWell, Place, Scene}
 use Rattle.sd_proof_bound.proofs.timeouts.Settled.{all_chronicle}
 use Rattle.sd_proof_bound.proofs.timeouts.Scenes.{scene_at}
@@ -109,27 +110,23 @@ pub heard_by : (q : Moment) (d : ℕ) → does hears q.earlier q.step d ≡ true
 heard_by q d is = by q.step.act refl is
   where
     by_past : (call : Call) (o : Option Past) → q.step.act ≡ Calls d call → past_in q.earlier d ≡ o
-        → of_some (option_map (λ past. record { call = call; transition = transition_of past call }) o) false hears ≡ true → HeardBy q d
+        → map_or (option_map (λ past. record { call = call; transition = transition_of past call }) o) false hears ≡ true → HeardBy q d
     by_past call None act there h = cc
     by_past call (Some past) act there h =
         let e = some_edge (accepted_over (transition_of past call)) h in
         heard_call q d past call e.0 act there e.1 (accepts_receipt past call e.0 e.1)
 
     by_name : (m : ℕ) (call : Call) (b : Bool) → nat_eq m d ≡ b → q.step.act ≡ Calls m call
-        → of_some (if b then option_map (λ past. record { call = call; transition = transition_of past call }) (past_in q.earlier d) else None) false hears
+        → map_or (if b then option_map (λ past. record { call = call; transition = transition_of past call }) (past_in q.earlier d) else None) false hears
         ≡ true → HeardBy q d
     by_name m call true same act h = by_past call (past_in q.earlier d) (act ∙ ap (λ n. Calls n call) (eqb-true m d same)) refl h
     by_name m call false same act h = cc
 
-    by : (act : Act) → q.step.act ≡ act → of_some (eras.did_by q.earlier act d) false hears ≡ true → HeardBy q d
+    by : (act : Act) → q.step.act ≡ act → map_or (eras.did_by q.earlier act d) false hears ≡ true → HeardBy q d
     by (Makes m making) act h = cc
     by (Calls m call) act h = by_name m call (nat_eq m d) refl act h
     by (Asks m counter) act h = cc
     by Passes act h = cc
-
-pub or_other : (a b : Bool) → (a || b) ≡ true → a ≡ false → b ≡ true
-or_other true b is none = cc
-or_other false b is none = is
 
 module _ (setting : Setting) (x : Event) (h : List Event) (e : Event) (calm : ℕ) (settled : IsSettled setting (x ∷ h) e calm) (f : DomainId)
     (inside : list_all (holds setting.net f) (failed_now (chronicle setting (x ∷ h))) ≡ true) where
@@ -152,7 +149,7 @@ module _ (setting : Setting) (x : Event) (h : List Event) (e : Event) (calm : �
       let same : past_after b.past (Receive b.link b.message b.counter) ≡ place.past =
       some_is (sym there ∙ ap (λ l. past_in l y) (sym n.earlier_is) ∙ place.there) in
       sym (passes_on b.past b.link b.message b.counter b.edge b.over).1 ∙ ap epoch_now same
-      ∙ ap (λ (o : Option Duty). of_some o 0 (λ (u : Duty). u.epoch)) place.duty
+      ∙ ap (λ (o : Option Duty). map_or o 0 (λ (u : Duty). u.epoch)) place.duty
 
   module _ (limit : ℕ) (from : calm ≤ limit) (y k : ℕ) (well : IsWell setting (failed_now (chronicle setting (x ∷ h))) y) (within : IsWithin setting f y k)
       (few : k ≤ depth setting.net + 1)
@@ -218,5 +215,5 @@ module _ (setting : Setting) (x : Event) (h : List Event) (e : Event) (calm : �
       let sc : Scene setting (failed_now (chronicle setting (x ∷ h))) a.moment =
       scene_at setting (x ∷ h) e calm settled a.moment (behind p_in) (omega (arith, p_late)) in
       let heard : does hears a.moment.earlier a.moment.step y ≡ true =
-      or_other (makes y a.moment.step.seen.event) (does hears a.moment.earlier a.moment.step y) a.marks (sc.unmade y well) in
+      chosen (makes y a.moment.step.seen.event) (does hears a.moment.earlier a.moment.step y) a.marks (sc.unmade y well) in
       served_from limit from y k well within few a.moment p_in p_late (omega (arith, by, before_)) (heard_by a.moment y heard)

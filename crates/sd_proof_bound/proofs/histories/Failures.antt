@@ -4,7 +4,7 @@ use Rattle.std.specs.Prelude.{◌≡◌, ℕ, Bool, true, false, ◌&&◌, ◌||
 use Rattle.std.specs.List.{list_all, list_any, cons_option}
 use Rattle.std.proofs.Common.{sym, ap, subst, inl, inr}
 use Rattle.std.proofs.lemmas.Bool.{and_parts, and_from, or_parts, or_from}
-use Rattle.sd_drill.specs.Num.Lists.{of_some, leading}
+use Rattle.sd_drill.specs.Num.Lists.{map_or, leading}
 use Rattle.sd_drill.specs.Topo.Network.{Network}
 use Rattle.sd_drill.specs.Topo.declared.Thing.{Thing}
 use Rattle.sd_drill.specs.Domain.Domains.{holds}
@@ -20,7 +20,7 @@ use Rattle.sd_proof_bound.specs.Bound.{failures, FailsSo}
 module _ (net : Network) (f : DomainId) where
   -- what the event fails is a thing of the domain
   abbrev pub fails_within : Seen → Bool
-  fails_within s = of_some (failure_of s.event) true (holds net f)
+  fails_within s = map_or (failure_of s.event) true (holds net f)
 
   held_each : (p : Thing × ℕ → Bool) → ((y : Thing × ℕ) → p y ≡ true → holds net f y.0 ≡ true) → (seen : List Seen) → list_all p (failures seen) ≡ true
       → list_all fails_within seen ≡ true
@@ -28,12 +28,12 @@ module _ (net : Network) (f : DomainId) where
   held_each p holds_ (s ∷ seen) all = go (held_each p holds_ seen) (failure_of s.event) refl all
     where
       go : (list_all p (failures seen) ≡ true → list_all fails_within seen ≡ true) → (o : Option Thing) → failure_of s.event ≡ o
-          → list_all p (cons_option (of_some o None (λ x. Some (x, reference_of s.event))) (failures seen)) ≡ true → list_all fails_within (s ∷ seen) ≡ true
-      go rest None is all' = and_from (fails_within s) (list_all fails_within seen) (ap (λ o. of_some o true (holds net f)) is) (rest all')
+          → list_all p (cons_option (map_or o None (λ x. Some (x, reference_of s.event))) (failures seen)) ≡ true → list_all fails_within (s ∷ seen) ≡ true
+      go rest None is all' = and_from (fails_within s) (list_all fails_within seen) (ap (λ o. map_or o true (holds net f)) is) (rest all')
       go rest (Some x) is all' =
           let parts = and_parts (p (x, reference_of s.event)) (list_all p (failures seen)) all' in
           and_from (fails_within s) (list_all fails_within seen)
-          (subst (λ o. of_some o true (holds net f) ≡ true) (sym is) (holds_ (x, reference_of s.event) parts.0)) (rest parts.1)
+          (subst (λ o. map_or o true (holds net f) ≡ true) (sym is) (holds_ (x, reference_of s.event) parts.0)) (rest parts.1)
 
   pub all_within : (seen : List Seen) → FailsSo net f seen → list_all fails_within seen ≡ true
   all_within seen (inl none) = held_each (λ y. holds net f y.0) (λ y is. is) seen (ap (λ (ys : List (Thing × ℕ)). list_all (λ y. holds net f y.0) ys) none)
@@ -46,7 +46,7 @@ module _ (net : Network) (f : DomainId) where
       let parts = and_parts (fails_within s) (list_all fails_within seen) all in
       go s.closed (failure_of s.event) refl parts.0 (era_within seen parts.1)
     where
-      one : (o : Option Thing) (xs : List Thing) → of_some o true (holds net f) ≡ true → list_all (holds net f) xs ≡ true
+      one : (o : Option Thing) (xs : List Thing) → map_or o true (holds net f) ≡ true → list_all (holds net f) xs ≡ true
           → list_all (holds net f) (cons_option o xs) ≡ true
       one None xs here rest = rest
       one (Some x) xs here rest = and_from (holds net f x) (list_all (holds net f) xs) here rest
@@ -64,7 +64,7 @@ never_failed x (s ∷ seen) open_ none =
     let parts = or_parts s.closed (list_any (λ y. y.closed) seen) open_ in
     go s.closed parts.0 none (never_failed x seen parts.1)
   where
-    one : (o : Option Thing) (xs : List Thing) → is_among (cons_option o xs) x ≡ false → (of_some o false (same_thing x) ≡ false) × (is_among xs x ≡ false)
+    one : (o : Option Thing) (xs : List Thing) → is_among (cons_option o xs) x ≡ false → (map_or o false (same_thing x) ≡ false) × (is_among xs x ≡ false)
     one None xs none' = (refl, none')
     one (Some y) xs none' = or_parts (same_thing x y) (list_any (same_thing x) xs) none'
 

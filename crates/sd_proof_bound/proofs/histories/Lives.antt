@@ -3,7 +3,7 @@
 use Rattle.std.specs.Prelude.{◌≡◌, ℕ, Bool, true, false, ◌||◌, not, List, [], ◌∷◌, nat_eq, Option, Some, None, is_some, option_map, ◌⊎◌, refl, if◌then◌else◌}
 use Rattle.std.proofs.Common.{sym, ◌∙◌, ap, subst, inl, inr}
 use Rattle.std.proofs.lemmas.Bool.{or_parts, or_left, or_right, not-false, eqb-true, eq-eqb, both_ways}
-use Rattle.sd_drill.specs.Num.Lists.{of_some, same_number}
+use Rattle.sd_drill.specs.Num.Lists.{map_or, same_number}
 use Rattle.sd_drill.specs.Topo.declared.Thing.TheVariants as thing
 use Rattle.sd_drill.specs.Plan.declared.Duty.{Duty}
 use Rattle.sd_drill.specs.Plan.Duties.{duty_of}
@@ -26,6 +26,7 @@ use Rattle.sd_proof_safety.proofs.History.Known.{has_some, kept_past}
 use Rattle.sd_proof_safety.proofs.timers.Pasts.{Inside, itself, onward}
 use Rattle.sd_proof_safety.specs.messages.Moments.{Tail, whole, behind}
 use Rattle.sd_proof_safety.proofs.messages.Receipts.{device_is, call_is}
+use Rattle.sd_proof_safety.proofs.windows.Given.{maker_is}
 use Rattle.sd_proof_bound.proofs.histories.Plain.{IsPlain, plain_before, IsPlainEvent, plain_event}
 
 -- Acts
@@ -61,9 +62,6 @@ pub record IsStarted (setting : Setting) (steps : List Step) (e : Event) (d : �
   pub event_is : e ≡ event.Start reference d counter clock eps
   pub making_is : making ≡ calls.Started (duty_of setting.net (in_force setting (seen_of steps)) (epoch_in_force (seen_of steps)) d) counter clock eps
 
-makes_device : {d e : ℕ} {a b : Making} → Makes d a ≡ Makes e b → d ≡ e
-makes_device {d = d} same = ap (λ act. elim act [ Makes x making ↦ x | _ ↦ d ]) same
-
 making_is : {d e : ℕ} {a b : Making} → Makes d a ≡ Makes e b → a ≡ b
 making_is {a = a} same = ap (λ act. elim act [ Makes x making ↦ making | _ ↦ a ]) same
 
@@ -80,13 +78,13 @@ started_at setting steps r m c clock eps d making same is =
       making_is = sym is ∙ ap (λ x. calls.Started (duty_of setting.net (in_force setting (seen_of steps)) (epoch_in_force (seen_of steps)) x) c clock eps) same;
     }
 
-none_made : (o : Option Flight) (d : ℕ) (making : Making) (call : Flight → Call) (m : ℕ) → of_some o Passes (λ f. Calls m (call f)) ≡ Makes d making → ⊥
+none_made : (o : Option Flight) (d : ℕ) (making : Making) (call : Flight → Call) (m : ℕ) → map_or o Passes (λ f. Calls m (call f)) ≡ Makes d making → ⊥
 none_made None d making call m same = cc
 none_made (Some f) d making call m same = cc
 
 pub made_by : (setting : Setting) (steps : List Step) (e : Event) (d : ℕ) (making : Making) → IsPlainEvent e → act_by setting steps e ≡ Makes d making
     → IsStarted setting steps e d making
-made_by setting steps (event.Start r m c clock eps) d making plain same = started_at setting steps r m c clock eps d making (makes_device same) (making_is same)
+made_by setting steps (event.Start r m c clock eps) d making plain same = started_at setting steps r m c clock eps d making (maker_is same) (making_is same)
 made_by setting steps (event.Join r m c clock eps) d making plain same = let none = plain.joined in cc
 made_by setting steps (event.Recv r m c n) d making plain same =
     absurd (none_made (flight_numbered steps n) d making (λ f. calls.Receive f.link f.message c) m same)
@@ -111,7 +109,7 @@ pub data Called (e : Event) (d : ℕ) : Call → Type 0 where
       → Called e d (calls.Receive link message counter)
   fixes : (reference counter clock eps : ℕ) → e ≡ event.Fix reference d counter clock eps → Called e d (calls.Fix counter clock eps)
 
-received_by : (r m c n : ℕ) (o : Option Flight) (d : ℕ) (call : Call) → of_some o Passes (λ f. Calls m (calls.Receive f.link f.message c)) ≡ Calls d call
+received_by : (r m c n : ℕ) (o : Option Flight) (d : ℕ) (call : Call) → map_or o Passes (λ f. Calls m (calls.Receive f.link f.message c)) ≡ Calls d call
     → Called (event.Recv r m c n) d call
 received_by r m c n None d call same = cc
 received_by r m c n (Some f) d call same =
@@ -162,13 +160,13 @@ called_is_up setting steps e d _ none (fixes r c clock eps is) =
 
 -- what an event that neither makes nor fails a device leaves
 up_after_call : (e : Event) (d : ℕ) (call : Call) (before : Bool) → Called e d call → before ≡ true
-    → of_some (if makes d e then Some true else if fails (thing.Device d) e then Some false else None) before (λ x. x) ≡ true
+    → map_or (if makes d e then Some true else if fails (thing.Device d) e then Some false else None) before (λ x. x) ≡ true
 up_after_call e d _ before (ticks r c is) up =
-    subst (λ x. of_some (if makes d x then Some true else if fails (thing.Device d) x then Some false else None) before (λ y. y) ≡ true) (sym is) up
+    subst (λ x. map_or (if makes d x then Some true else if fails (thing.Device d) x then Some false else None) before (λ y. y) ≡ true) (sym is) up
 up_after_call e d _ before (receives r c n l m is) up =
-    subst (λ x. of_some (if makes d x then Some true else if fails (thing.Device d) x then Some false else None) before (λ y. y) ≡ true) (sym is) up
+    subst (λ x. map_or (if makes d x then Some true else if fails (thing.Device d) x then Some false else None) before (λ y. y) ≡ true) (sym is) up
 up_after_call e d _ before (fixes r c clock eps is) up =
-    subst (λ x. of_some (if makes d x then Some true else if fails (thing.Device d) x then Some false else None) before (λ y. y) ≡ true) (sym is) up
+    subst (λ x. map_or (if makes d x then Some true else if fails (thing.Device d) x then Some false else None) before (λ y. y) ≡ true) (sym is) up
 
 pub called_stays_up : (setting : Setting) (history : List Event) (e : Event) (d : ℕ) (call : Call) → refusal setting (chronicle setting history) e ≡ None
     → Called e d call → is_up (seen_of (chronicle setting (e ∷ history))) d ≡ true
@@ -181,7 +179,7 @@ started_makes e d is = or_left (same_number (started e) d) (same_number (joined 
 pub started_is_up : (setting : Setting) (history : List Event) (e : Event) (d : ℕ) → started e ≡ Some d
     → is_up (seen_of (chronicle setting (e ∷ history))) d ≡ true
 started_is_up setting history e d is =
-    ap (λ b. of_some (if b then Some true else if fails (thing.Device d) e then Some false else None) (is_up (seen_of (chronicle setting history)) d) (λ x. x))
+    ap (λ b. map_or (if b then Some true else if fails (thing.Device d) e then Some false else None) (is_up (seen_of (chronicle setting history)) d) (λ x. x))
     (started_makes e d is)
 
 -- One life
@@ -219,8 +217,8 @@ made_once setting e history plain d making old act was =
     let twice : started_twice setting (seen_of steps) e ≡ false =
     none_holds (causes setting steps e) _ plain.is.1 (later (later (later (later (later (later (later (later (later (later first)))))))))) in
     let unmade : was_made (seen_of steps) d ≡ false =
-    ap (λ x. of_some (started x) false (was_made (seen_of steps))) (sym by.event_is)
-    ∙ (or_parts (of_some (started e) false (was_made (seen_of steps))) _ twice).0 in
+    ap (λ x. map_or (started x) false (was_made (seen_of steps))) (sym by.event_is)
+    ∙ (or_parts (map_or (started e) false (was_made (seen_of steps))) _ twice).0 in
     both_ways (was_made (seen_of steps) d) unmade (past_was_made setting history (plain_before setting e history plain) d old was)
 
 -- Nothing is given, so nothing is taken up.
@@ -277,11 +275,7 @@ inside_of setting {older = older} (behind {x = e} {xs = history} t) plain d old 
 
 up_by : (m f : Bool) (seen : List Seen) (d : ℕ) → (m || was_made seen d) ≡ true → (f || has_ever_failed seen d) ≡ false
     → (was_made seen d ≡ true → has_ever_failed seen d ≡ false → is_up seen d ≡ true)
-    → of_some (if m then Some true else if f then Some false else None) (is_up seen d) (λ x. x) ≡ true
+    → map_or (if m then Some true else if f then Some false else None) (is_up seen d) (λ x. x) ≡ true
 up_by true f seen d made sound rest = refl
 up_by false true seen d made sound rest = cc
 up_by false false seen d made sound rest = rest made sound
-
-pub sound_is_up : (seen : List Seen) (d : ℕ) → was_made seen d ≡ true → has_ever_failed seen d ≡ false → is_up seen d ≡ true
-sound_is_up [] d made sound = cc
-sound_is_up (s ∷ seen) d made sound = up_by (makes d s.event) (fails (thing.Device d) s.event) seen d made sound (sound_is_up seen d)

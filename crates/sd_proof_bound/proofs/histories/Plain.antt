@@ -4,7 +4,7 @@ use Rattle.std.specs.List.{list_any, list_all}
 use Rattle.std.proofs.Common.{◌∙◌, ap}
 use Rattle.std.proofs.lemmas.Bool.{and_parts, or_parts, or_from, not-true, both_ways}
 use Rattle.std.proofs.lemmas.List.Sums.{sum_by-cons}
-use Rattle.sd_drill.specs.Num.Lists.{of_some}
+use Rattle.sd_drill.specs.Num.Lists.{map_or}
 use Rattle.sd_drill.specs.Topo.Network.{Network}
 use Rattle.sd_drill.specs.Plan.declared.Plan.{Plan}
 use Rattle.sd_proof_safety.specs.Sched.declared.Event.{Event}
@@ -51,7 +51,7 @@ no_window setting history plain = go (window (seen_of (chronicle setting history
 
 pub not_in_window : (setting : Setting) (history : List Event) → IsPlain setting history → (test : Seen → Bool)
     → in_window test (seen_of (chronicle setting history)) ≡ false
-not_in_window setting history plain test = ap (λ w. of_some w false (list_any test)) (no_window setting history plain)
+not_in_window setting history plain test = ap (λ w. map_or w false (list_any test)) (no_window setting history plain)
 
 -- Events
 

@@ -1,9 +1,9 @@
 -- How devices stand in a part of a run that recovers, from the invariant: each clause in the words of the one plan and of the one domain.
-use Rattle.std.specs.Prelude.{◌≡◌, ℕ, zero, suc, ◌<◌, Bool, true, false, ◌&&◌, ◌||◌, not, List, [], ◌∷◌, length, map, nat_lt, Some, None, is_some, option_map, refl, if◌then◌else◌}
+use Rattle.std.specs.Prelude.{◌≡◌, ℕ, zero, suc, ◌<◌, true, false, ◌&&◌, ◌||◌, not, List, [], ◌∷◌, length, map, nat_lt, Some, None, is_some, option_map, if◌then◌else◌}
 use Rattle.std.specs.List.{list_all}
 use Rattle.std.proofs.Common.{arith, sym, ◌∙◌, ap, subst}
 use Rattle.std.proofs.lemmas.Bool.{and_parts, and_from, lt-ltb, not-true, not_from_false, not_from_true, false_from_ne_true, true_from_ne_false, both_ways}
-use Rattle.sd_drill.specs.Num.Lists.{has, of_some, same_number}
+use Rattle.sd_drill.specs.Num.Lists.{has, map_or, same_number}
 use Rattle.sd_drill.specs.Topo.Network.{Network, Each}
 use Rattle.sd_drill.specs.Topo.declared.Thing.TheVariants as thing
 use Rattle.sd_drill.specs.Domain.Domains.{holds}
@@ -35,6 +35,7 @@ use Rattle.sd_proof_safety.proofs.invariant.Sides.{implied}
 use Rattle.sd_proof_safety.specs.messages.Moments.{Tail}
 use Rattle.sd_proof_safety.proofs.messages.Tails.{tail_all}
 use Rattle.sd_proof_safety.proofs.messages.Prefixes.{all_hold_before}
+use Rattle.sd_proof_safety.proofs.moves.Tickings.{first_only}
 use Rattle.sd_proof_bound.specs.Bound.{alone}
 use Rattle.sd_proof_bound.specs.Recovering.{steps_under, Recovers}
 use Rattle.sd_proof_bound.proofs.Composing.{tail_steps, tail_history}
@@ -83,10 +84,6 @@ pub record Stands (net : Network) (plan : Plan) (f : DomainId) (history : List E
 pub each_one : {A : Type 0} (P : A → Type 0) (x : A) → P x → Each P (x ∷ [])
 each_one P x holds_ zero y is = subst P (some_is is) holds_
 each_one P x holds_ (suc i) y is = cc
-
-either_left : (a b : Bool) → (a || b) ≡ true → b ≡ false → a ≡ true
-either_left true b is none = refl
-either_left false b is none = absurd (both_ways b none is)
 
 module _ (net : Network) (plan : Plan) (budget : Budget) (f : DomainId) (stays : StaysInvariant (alone net plan)) (whole_ : List Event)
     (run : Recovers net plan budget f whole_) where
@@ -145,7 +142,7 @@ module _ (net : Network) (plan : Plan) (budget : Budget) (f : DomainId) (stays :
 
     old_of : (d : ℕ) → is_member plan d ≡ true → is_up (seen_of steps) d ≡ true → is_old steps d ≡ true
     old_of d member up =
-        either_left (is_old steps d) (is_new steps d)
+        first_only (is_old steps d) (is_new steps d)
         (implied (is_member (plan_now (alone net plan) steps) d && not (device_failed_now steps d) && is_up (seen_of steps) d) _
         ((core history t).census.members_follow d)
         (and_from (is_member (plan_now (alone net plan) steps) d && not (device_failed_now steps d)) (is_up (seen_of steps) d)
@@ -167,8 +164,8 @@ module _ (net : Network) (plan : Plan) (budget : Budget) (f : DomainId) (stays :
           duty =
               ap duty_now (sym same) ∙ old.duty ∙ ap (λ p. Some (duty_of net p (era steps) d)) now
               ∙ ap (λ n. Some (duty_of net plan n d)) (first_epoch (alone net plan) history (plain history t));
-          moved_is = ap (λ o. of_some o false has_moved) lives;
-          acts_is = ap (λ o. of_some o false (λ a. a.acts)) (live_is (alone net plan) history d ∙ ap (option_map answers_by) lives);
+          moved_is = ap (λ o. map_or o false has_moved) lives;
+          acts_is = ap (λ o. map_or o false (λ a. a.acts)) (live_is (alone net plan) history d ∙ ap (option_map answers_by) lives);
         }
 
     root_acts_ : is_member plan plan.root ≡ true → is_up (seen_of steps) plan.root ≡ true → acts_in steps plan.root ≡ true

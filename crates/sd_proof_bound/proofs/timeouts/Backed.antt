@@ -1,7 +1,7 @@
 -- Who has moved had a wait to move after: so an ordinary device that has moved has a backup. By induction on the steps.
 use Rattle.std.specs.Prelude.{◌≡◌, ℕ, ◌-◌, Bool, true, false, ◌&&◌, not, List, [], ◌∷◌, nat_eq, nat_le, Option, Some, None, is_some, option_map, option_and_then, refl, if◌then◌else◌}
 use Rattle.std.proofs.Common.{ap, sym, ◌∙◌, subst}
-use Rattle.sd_drill.specs.Num.Lists.{of_some}
+use Rattle.sd_drill.specs.Num.Lists.{map_or}
 use Rattle.sd_drill.specs.Topo.Network.{Network}
 use Rattle.sd_drill.specs.Plan.declared.Duty.{Duty}
 use Rattle.sd_drill.specs.Plan.declared.Hop.{Hop}
@@ -13,31 +13,26 @@ use Rattle.sd_proof_safety.specs.Core.Words.{after, duty_now, has_moved, heard, 
 use Rattle.sd_proof_safety.specs.History.Steps.{Act, Makes, Calls, Asks, Passes, Step}
 use Rattle.sd_proof_safety.specs.History.Chronicle.{new_past, past_after, past_in}
 use Rattle.sd_proof_safety.proofs.History.Given.{some_is}
-use Rattle.sd_proof_safety.proofs.messages.Acting.{with_transition}
 use Rattle.sd_proof_safety.proofs.timers.Transitions.{Cases, by_case}
+use Rattle.sd_proof_safety.proofs.Core.Reached.{added}
+use Rattle.sd_proof_safety.proofs.timers.NotEarly.{last_of_four}
 
 abbrev HasWait : Past → Type 0
 HasWait past = has_moved past ≡ true → is_some (option_and_then wait_to_move (duty_now past)) ≡ true
 
-waits_by : (o : Option ℕ) (test : ℕ → Bool) → of_some o false test ≡ true → is_some o ≡ true
+waits_by : (o : Option ℕ) (test : ℕ → Bool) → map_or o false test ≡ true → is_some o ≡ true
 waits_by None test h = cc
 waits_by (Some wait) test h = refl
 
-last_of : (a b c d : Bool) → (a && b && c && d) ≡ true → d ≡ true
-last_of true true true d h = h
-last_of true true false d h = cc
-last_of true false c d h = cc
-last_of false b c d h = cc
-
-after_waits : (past : Past) → HasWait past → Cases past (λ call transition. HasWait (with_transition past call transition))
+after_waits : (past : Past) → HasWait past → Cases past (λ call transition. HasWait (added past call transition))
 after_waits past has =
     record {
       emitted = λ c e. has;
       took = λ c e t. has;
       moved = λ c e t m put.
           waits_by (option_and_then wait_to_move (duty_now past)) (λ wait. nat_le wait (c - heard past))
-          (last_of (may_move past) (not (has_moved past)) (is_sealed past)
-          (of_some (option_and_then wait_to_move (duty_now past)) false (λ wait. nat_le wait (c - heard past))) m);
+          (last_of_four (may_move past) (not (has_moved past)) (is_sealed past)
+          (map_or (option_and_then wait_to_move (duty_now past)) false (λ wait. nat_le wait (c - heard past))) m);
       still = λ c e t m. has;
       entered = λ link message c duty edge put. cc;
       accepted = λ link message c edge. has;
@@ -57,7 +52,7 @@ by_act (Calls m call) d p past before is = go (nat_eq m d) p refl is
     go : (b : Bool) (q : Option Past) → p ≡ q → (if b then option_map (λ z. after z call) q else q) ≡ Some past → HasWait past
     go true None there same = cc
     go true (Some z) there same =
-        subst HasWait (some_is same) (by_case z (λ c transition. HasWait (with_transition z c transition)) (after_waits z (before z there)) call)
+        subst HasWait (some_is same) (by_case z (λ c transition. HasWait (added z c transition)) (after_waits z (before z there)) call)
     go false q there same = before past (there ∙ same)
 by_act (Asks m counter) d p past before is = before past is
 by_act Passes d p past before is = before past is
@@ -71,7 +66,7 @@ ordinary_backed : (net : Network) (plan : Plan) (n y : ℕ) → is_root plan y �
     → is_some (wait_to_move (duty_of net plan n y)) ≡ true → has_backup plan y ≡ true
 ordinary_backed net plan n y root backup waits = by (backup_of plan y) (rw (root, backup) at waits)
   where
-    by : (o : Option Hop) → is_some (if is_some (option_map (edge_of net y) o) then Some plan.wait else None) ≡ true → of_some o false (λ hop. true) ≡ true
+    by : (o : Option Hop) → is_some (if is_some (option_map (edge_of net y) o) then Some plan.wait else None) ≡ true → map_or o false (λ hop. true) ≡ true
     by None h = cc
     by (Some hop) h = refl
 

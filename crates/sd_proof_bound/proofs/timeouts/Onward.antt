@@ -2,8 +2,7 @@
 -- it moves or takes over.
 use Rattle.std.specs.Prelude.{◌≡◌, ℕ, ◌+◌, ◌-◌, ◌<◌, ◌≤◌, Bool, true, false, max, List, [], ◌∷◌, Option, Some, None, is_some, option_map, refl, if◌then◌else◌}
 use Rattle.std.proofs.Common.{arith, ap, sym, ◌∙◌, subst}
-use Rattle.std.proofs.lemmas.Bool.{or_right}
-use Rattle.sd_drill.specs.Num.Lists.{of_some}
+use Rattle.sd_drill.specs.Num.Lists.{map_or}
 use Rattle.sd_drill.specs.Num.Numbers.{low}
 use Rattle.sd_drill.specs.Topo.Network.{Network, least_low, rates_of}
 use Rattle.sd_drill.specs.Plan.declared.Duty.{Duty}
@@ -14,7 +13,7 @@ use Rattle.sd_drill.specs.Plan.Plans.{is_root, is_backup_root, has_backup, backu
 use Rattle.sd_drill.specs.CheckRoot.Timing.{silence}
 use Rattle.sd_proof_safety.specs.Msg.declared.Message.{Message}
 use Rattle.sd_proof_safety.specs.Core.Calls.{Call, Tick, Receive, Transition, Entered, Committed, Recommitted, Accepted, Moved, TookOver, Emitted, Nothing, Past}
-use Rattle.sd_proof_safety.specs.Core.Words.{transition_of, taken_up, is_takeover, has_moved, is_acting, duty_now, given_now, epoch_now, wait_to_move, later_entry, starts_as_root, is_commit, since_entry}
+use Rattle.sd_proof_safety.specs.Core.Words.{transition_of, taken_up, has_moved, is_acting, duty_now, wait_to_move}
 use Rattle.sd_proof_safety.specs.Core.Words as words
 use Rattle.sd_proof_safety.specs.Sched.declared.Event.{Event}
 use Rattle.sd_proof_safety.specs.Sched.Events.{reference_of}
@@ -28,7 +27,6 @@ use Rattle.sd_proof_safety.proofs.invariant.Arithmetic.{a4_first, a4_second, sil
 use Rattle.sd_proof_safety.proofs.invariant.Facts.{IsSound}
 use Rattle.sd_proof_safety.proofs.invariant.Sides.{not_both}
 use Rattle.sd_proof_safety.specs.messages.Moments.{whole, behind, Moment, when, IsIn}
-use Rattle.sd_proof_safety.proofs.messages.Acting.{with_transition}
 use Rattle.sd_proof_safety.proofs.messages.Receipts.{call_is}
 use Rattle.sd_proof_safety.proofs.messages.Tails.{step_time, history_chronicle}
 use Rattle.sd_proof_safety.specs.timers.Times.{AreTimed, heard_in, moved_in}
@@ -40,6 +38,8 @@ use Rattle.sd_proof_safety.proofs.waits.Standing.{clean, sound, steps_timed}
 use Rattle.sd_proof_safety.proofs.moves.Ahead.{IsAhead, always_ahead}
 use Rattle.sd_proof_safety.proofs.receipts.Alive.{Went, made, called, alone, went}
 use Rattle.sd_proof_safety.proofs.silences.SoundWays.{top_of}
+use Rattle.sd_proof_safety.proofs.Core.Reached.{added}
+use Rattle.sd_proof_safety.proofs.timers.Pasts.{stays_moved, stays_acting}
 use Rattle.sd_proof_bound.specs.timeouts.Settled.{the_plan, IsSettled, IsWell, Place, IsOnward}
 use Rattle.sd_proof_bound.proofs.timeouts.Settled.{settled_before, era_is, failed_then}
 use Rattle.sd_proof_bound.proofs.timeouts.Scenes.{place_now, scene}
@@ -47,7 +47,7 @@ use Rattle.sd_proof_bound.proofs.timeouts.Scenes.{place_now, scene}
 -- What a call that takes up nothing does to the place
 
 moved_with : (past : Past) (call : Call) (transition : Transition) → taken_up transition ≡ None → (transition ≡ Moved → ⊥)
-    → has_moved (with_transition past call transition) ≡ has_moved past
+    → has_moved (added past call transition) ≡ has_moved past
 moved_with past call (Entered duty edge) none other = cc
 moved_with past call (Committed duty) none other = cc
 moved_with past call (Recommitted duty) none other = cc
@@ -58,7 +58,7 @@ moved_with past call Emitted none other = refl
 moved_with past call Nothing none other = refl
 
 acts_with : (past : Past) (call : Call) (transition : Transition) → taken_up transition ≡ None → (transition ≡ TookOver → ⊥)
-    → is_acting (with_transition past call transition) ≡ is_acting past
+    → is_acting (added past call transition) ≡ is_acting past
 acts_with past call (Entered duty edge) none other = cc
 acts_with past call (Committed duty) none other = cc
 acts_with past call (Recommitted duty) none other = cc
@@ -68,28 +68,6 @@ acts_with past call TookOver none other = absurd (other refl)
 acts_with past call Emitted none other = refl
 acts_with past call Nothing none other = refl
 
-moved_still : (past : Past) (call : Call) (transition : Transition) → taken_up transition ≡ None → has_moved past ≡ true
-    → has_moved (with_transition past call transition) ≡ true
-moved_still past call (Entered duty edge) none is = cc
-moved_still past call (Committed duty) none is = cc
-moved_still past call (Recommitted duty) none is = cc
-moved_still past call (Accepted edge) none is = is
-moved_still past call Moved none is = refl
-moved_still past call TookOver none is = is
-moved_still past call Emitted none is = is
-moved_still past call Nothing none is = is
-
-acts_still : (past : Past) (call : Call) (transition : Transition) → taken_up transition ≡ None → is_acting past ≡ true
-    → is_acting (with_transition past call transition) ≡ true
-acts_still past call (Entered duty edge) none is = cc
-acts_still past call (Committed duty) none is = cc
-acts_still past call (Recommitted duty) none is = cc
-acts_still past call (Accepted edge) none is = is
-acts_still past call Moved none is = is
-acts_still past call TookOver none is = or_right (of_some (later_entry past) (starts_as_root past.making) (λ entry. is_commit entry.transition)) true refl
-acts_still past call Emitted none is = is
-acts_still past call Nothing none is = is
-
 -- How long who moves has waited
 
 backed_by : (net : Network) (plan : Plan) (n y w : ℕ) → is_root plan y ≡ false → is_backup_root plan y ≡ false → wait_to_move (duty_of net plan n y) ≡ Some w
@@ -97,7 +75,7 @@ backed_by : (net : Network) (plan : Plan) (n y w : ℕ) → is_root plan y ≡ f
 backed_by net plan n y w root backup waits = by (backup_of plan y) (rw (root, backup) at waits)
   where
     by : (o : Option Hop) → (if is_some (option_map (edge_of net y) o) then Some plan.wait else None) ≡ Some w
-        → (of_some o false (λ hop. true) ≡ true) × (plan.wait ≡ w)
+        → (map_or o false (λ hop. true) ≡ true) × (plan.wait ≡ w)
     by None h = cc
     by (Some hop) h = (refl, some_is h)
 
@@ -183,9 +161,9 @@ module _ (setting : Setting) (x : Event) (h : List Event) (e next : Event) (calm
         always_ahead setting (x ∷ h) settled.comes.fair (clean setting x h e (settled_before setting x h e next calm settled).comes)
         (settled_before setting x h e next calm settled).comes.before y past now_.up there u (takes_given past call u is) in
         let number : u.epoch ≡ 1 =
-        ap (λ (o : Option Duty). of_some (of_some (option_map Some o) (duty_now past) (λ told. told)) 0 (λ (v : Duty). v.epoch)) (sym is)
-        ∙ ap (λ (p : Past). of_some (duty_now p) 0 (λ (v : Duty). v.epoch)) (some_is (sym then_ ∙ next_.there))
-        ∙ ap (λ (o : Option Duty). of_some o 0 (λ (v : Duty). v.epoch)) next_.duty in
+        ap (λ (o : Option Duty). map_or (map_or (option_map Some o) (duty_now past) (λ told. told)) 0 (λ (v : Duty). v.epoch)) (sym is)
+        ∙ ap (λ (p : Past). map_or (duty_now p) 0 (λ (v : Duty). v.epoch)) (some_is (sym then_ ∙ next_.there))
+        ∙ ap (λ (o : Option Duty). map_or o 0 (λ (v : Duty). v.epoch)) next_.duty in
         absurd (two_numbers (era steps) (era_is setting (x ∷ h) e calm (settled_before setting x h e next calm settled)) (sym ahead.number ∙ number))
 
     -- by what happened to the device
@@ -263,11 +241,11 @@ module _ (setting : Setting) (x : Event) (h : List Event) (e next : Event) (calm
           moved_on = λ put.
               next_.moved_is
               ∙ by_went (λ p q. has_moved p ≡ true → has_moved q ≡ true) (λ past is. is)
-              (λ past call c is. moved_still past call (transition_of past call) c.none is) (sym now_.moved_is ∙ put);
+              (λ past call c is. stays_moved past call (transition_of past call) c.none is) (sym now_.moved_is ∙ put);
           acts_on = λ acts.
               next_.acts_is
               ∙ by_went (λ p q. is_acting p ≡ true → is_acting q ≡ true) (λ past is. is)
-              (λ past call c is. acts_still past call (transition_of past call) c.none is) (sym now_.acts_is ∙ acts);
+              (λ past call c is. stays_acting past call (transition_of past call) c.none is) (sym now_.acts_is ∙ acts);
           stays = λ soon. (moved_same (no_move soon), acts_same (no_takeover soon));
           hears = λ l m n act. (
             moved_same (λ past call c is. let mv : IsMove past call = is_move past call is in

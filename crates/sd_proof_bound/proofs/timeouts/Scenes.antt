@@ -31,26 +31,17 @@ use Rattle.sd_proof_safety.proofs.moves.Starts.{IsUnstaged, none_mended, never_f
 use Rattle.sd_proof_safety.proofs.moves.Ends.{backup_root_ends, ordinary_ends}
 use Rattle.sd_proof_safety.proofs.silences.NoMaking.{not_made}
 use Rattle.sd_proof_safety.proofs.silences.SoundWays.{top_of}
+use Rattle.sd_proof_safety.proofs.moves.Tickings.{first_only}
+use Rattle.sd_proof_safety.proofs.waits.LookingBack.{all_three}
 use Rattle.sd_proof_bound.specs.timeouts.Settled.{IsUnderWay, IsSettled, IsWell, IsOrdinary, Place, above, Scene}
 use Rattle.sd_proof_bound.proofs.timeouts.Unstaged.{uncommitted, unjoined}
 use Rattle.sd_proof_bound.proofs.timeouts.Settled.{unstaged_so, first_so, StageAt, stage_at}
-
-either_old : (o n : Bool) → (o || n) ≡ true → n ≡ false → o ≡ true
-either_old true n is none = refl
-either_old false true is none = cc
-either_old false false is none = cc
-
-all_three : (l m a : Bool) → l ≡ true → m ≡ false → a ≡ false → (l && not m && not a) ≡ true
-all_three true false false x y z = refl
-all_three true false true x y z = cc
-all_three true true a x y z = cc
-all_three false m a x y z = cc
 
 joined_by : (joined more : Bool) → (joined && more) ≡ true → joined ≡ true
 joined_by true more is = refl
 joined_by false more is = cc
 
-by_silence : (r h b : ℕ) → r - h ≤ b → r ≤ h + b
+pub by_silence : (r h b : ℕ) → r - h ≤ b → r ≤ h + b
 by_silence r h b le = omega (arith, le)
 
 module _ (setting : Setting) (x : Event) (h : List Event) (e : Event) (calm : ℕ) (way : IsUnderWay setting (x ∷ h) e calm) (late : calm < reference_of e) where
@@ -101,7 +92,7 @@ module _ (setting : Setting) (x : Event) (h : List Event) (e : Event) (calm : �
 
     pub old_now : is_old (chronicle setting (x ∷ h)) y ≡ true
     old_now =
-        either_old (is_old steps y) (is_new steps y)
+        first_only (is_old steps y) (is_new steps y)
         (implied (is_member (plan_now setting steps) y && not (device_failed_now steps y) && is_up (seen_of steps) y) (is_old steps y || is_new steps y)
         (inv.core.census.members_follow y)
         (and_from (is_member (plan_now setting steps) y && not (device_failed_now steps y)) (is_up (seen_of steps) y)

@@ -9,6 +9,7 @@ use Rattle.sd_proof_safety.specs.History.Chronicle.{chronicle}
 use Rattle.sd_proof_safety.specs.messages.Moments.{Tail, whole, behind, Moment, upto, when, IsIn}
 use Rattle.sd_proof_safety.proofs.messages.Tails.{rest_of, no_later, tail_chronicle, Order, before as comes_before, same as are_same, after as comes_after, ordered}
 use Rattle.sd_proof_safety.proofs.messages.Flowing.{tail_rest}
+use Rattle.sd_proof_safety.proofs.Shared.{tail_of}
 use Rattle.sd_proof_bound.specs.timeouts.Settled.{IsSettled}
 use Rattle.sd_proof_bound.proofs.timeouts.Settled.{all_chronicle, not_after}
 
@@ -43,10 +44,6 @@ first_past limit (s ∷ earlier) less = go (cases_lt limit (latest_reference (se
         → (limit < latest_reference (seen_of earlier) → FirstPast limit earlier) → FirstPast limit (s ∷ earlier)
     go (inl lt) rest = let f = rest lt in record { moment = f.moment; is_in = behind f.is_in; late = f.late; before = f.before }
     go (inr le) rest = record { moment = record { step = s; earlier = earlier }; is_in = whole; late = less; before = le }
-
-abbrev tail_of : List Step → List Step
-tail_of [] = []
-tail_of (s ∷ steps) = steps
 
 -- each event that is later comes no earlier than it
 pub from_first : (setting : Setting) (history : List Event) (e : Event) (calm : ℕ) → IsSettled setting history e calm → (limit : ℕ) → (q : Moment)

@@ -3,7 +3,7 @@ use Rattle.std.specs.Prelude.{◌≡◌, ℕ, ◌+◌, ◌≤◌, false, List, �
 use Rattle.std.specs.List.{list_any}
 use Rattle.std.proofs.Common.{arith, ap, ◌∙◌}
 use Rattle.std.proofs.lemmas.Bool.{or_parts}
-use Rattle.sd_drill.specs.Num.Lists.{of_some}
+use Rattle.sd_drill.specs.Num.Lists.{map_or}
 use Rattle.sd_proof_safety.specs.Sched.Events.{is_stage, is_commit, joined}
 use Rattle.sd_drill.specs.Num.Lists.{same_number}
 use Rattle.sd_proof_safety.specs.History.Things.{failure_of}
@@ -13,6 +13,7 @@ use Rattle.sd_proof_safety.specs.invariant.Eras.{era, failed_now}
 use Rattle.sd_proof_safety.specs.messages.Moments.{Tail, whole, behind, Moment, IsIn}
 use Rattle.sd_proof_safety.proofs.moves.Starts.{IsUnstaged, no_window}
 use Rattle.sd_proof_safety.proofs.silences.Phases.{era_grows, open_at}
+use Rattle.sd_proof_safety.proofs.silences.FirstEra.{one_by}
 
 pub unstaged_before : (s : Step) (steps : List Step) → IsUnstaged (seen_of (s ∷ steps)) → IsUnstaged (seen_of steps)
 unstaged_before s steps none = (or_parts (is_stage s.seen.event) (list_any (λ x. is_stage x.event) (seen_of steps)) none).1
@@ -22,13 +23,10 @@ unstaged_tail older _ whole none = none
 unstaged_tail older _ (behind {x = s} {xs = steps} t) none = unstaged_tail older steps t (unstaged_before s steps none)
 
 pub uncommitted : (seen : List Seen) → IsUnstaged seen → has_commit seen ≡ false
-uncommitted seen none = ap (λ (w : Option (List Seen)). of_some w false (list_any (λ x. is_commit x.event))) (no_window seen none)
+uncommitted seen none = ap (λ (w : Option (List Seen)). map_or w false (list_any (λ x. is_commit x.event))) (no_window seen none)
 
 pub unjoined : (seen : List Seen) (d : ℕ) → IsUnstaged seen → joined_in_window seen d ≡ false
-unjoined seen d none = ap (λ (w : Option (List Seen)). of_some w false (list_any (λ s. same_number (joined s.event) d))) (no_window seen none)
-
-one_by : (n : ℕ) → n + 1 ≤ 1 → n + 1 ≡ 1
-one_by n le = omega (arith, le)
+unjoined seen d none = ap (λ (w : Option (List Seen)). map_or w false (list_any (λ s. same_number (joined s.event) d))) (no_window seen none)
 
 pub era_one : (older steps : List Step) → Tail older steps → era steps ≡ 1 → era older ≡ 1
 era_one older steps t is = let le = era_grows older steps t in one_by (count_by (λ s. s.closed) (seen_of older)) (omega (arith, le, is))
@@ -37,7 +35,7 @@ era_one older steps t is = let le = era_grows older steps t in one_by (count_by 
 pub failed_same : (s : Step) (steps : List Step) → s.seen.closed ≡ false → failure_of s.seen.event ≡ None → failed_now (s ∷ steps) ≡ failed_now steps
 failed_same s steps open_ none = rw (open_, none) refl
 
-equal_eras : (a b : ℕ) → a ≡ 1 → b ≡ 1 → a ≤ b
+pub equal_eras : (a b : ℕ) → a ≡ 1 → b ≡ 1 → a ≤ b
 equal_eras a b one two = omega (arith, one, two)
 
 -- where nothing fails since, the same things have failed

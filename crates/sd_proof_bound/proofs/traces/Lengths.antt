@@ -16,6 +16,7 @@ use Rattle.sd_drill.specs.Plan.Plans.{is_member, is_root, is_backup_root, primar
 use Rattle.sd_drill.specs.Plan.Walks.{walk, epath, ends_walks, is_hit, devices_of}
 use Rattle.sd_drill.proofs.Plan.Forest.{IsStep, IsForest, forest_of}
 use Rattle.sd_drill.specs.CheckLoop.Loops.{hops_of, same_hop, is_walk}
+use Rattle.sd_drill.proofs.Checker.Exclusive.{same_self}
 use Rattle.sd_proof_safety.specs.Msg.declared.Stamp.{Stamp}
 use Rattle.sd_proof_safety.specs.Sched.declared.Event.{Event}
 use Rattle.sd_proof_safety.specs.History.World.{Setting, plan_numbered}
@@ -42,9 +43,6 @@ use Rattle.sd_proof_bound.proofs.traces.Receipts.{Came, came, fine_at}
 
 -- Walks
 
-same_itself : (hop : Hop) → same_hop hop hop ≡ true
-same_itself hop = and_from (nat_eq hop.parent hop.parent) (nat_eq hop.link hop.link) (eq-eqb hop.parent hop.parent refl) (eq-eqb hop.link hop.link refl)
-
 pub any_right : (p : Hop → Bool) (xs ys : List Hop) → list_any p ys ≡ true → list_any p (xs ++ ys) ≡ true
 any_right p [] ys is = is
 any_right p (x ∷ xs) ys is = or_right (p x) (list_any p (xs ++ ys)) (any_right p xs ys is)
@@ -52,7 +50,7 @@ any_right p (x ∷ xs) ys is = or_right (p x) (list_any p (xs ++ ys)) (any_right
 listed_first : (hop : Hop) (o : Option Hop) (ys : List Hop) → o ≡ Some hop → list_any (same_hop hop) (option_to_list o ++ ys) ≡ true
 listed_first hop None ys is = cc
 listed_first hop (Some h) ys is =
-    subst (λ z. list_any (same_hop hop) (z ∷ ys) ≡ true) (sym (some_same is)) (or_left (same_hop hop hop) (list_any (same_hop hop) ys) (same_itself hop))
+    subst (λ z. list_any (same_hop hop) (z ∷ ys) ≡ true) (sym (some_same is)) (or_left (same_hop hop hop) (list_any (same_hop hop) ys) (same_self hop))
   where
     some_same : Some h ≡ Some hop → h ≡ hop
     some_same same = ap (λ (k : Option Hop). elim k [ None ↦ hop | Some z ↦ z ]) same
@@ -60,7 +58,7 @@ listed_first hop (Some h) ys is =
 listed_last : (hop : Hop) (o : Option Hop) → o ≡ Some hop → list_any (same_hop hop) (option_to_list o) ≡ true
 listed_last hop None is = cc
 listed_last hop (Some h) is =
-    or_left (same_hop hop h) false (ap (same_hop hop) (ap (λ (k : Option Hop). elim k [ None ↦ hop | Some z ↦ z ]) is) ∙ same_itself hop)
+    or_left (same_hop hop h) false (ap (same_hop hop) (ap (λ (k : Option Hop). elim k [ None ↦ hop | Some z ↦ z ]) is) ∙ same_self hop)
 
 -- the hop on which a device is, where it is hit if it has moved, is one of its hops
 pub allowed : (net : Network) (plan : Plan) (f : DomainId) (y : ℕ) (put : Bool) (hop : Hop) → is_member plan y ≡ true → is_root plan y ≡ false

@@ -4,7 +4,7 @@
 use Rattle.std.specs.Prelude.{◌≡◌, ℕ, ◌+◌, ◌<◌, ◌≤◌, Bool, true, false, List, ◌∷◌, length, Option, Some, None, option_map, refl, ◌⊎◌, if◌then◌else◌}
 use Rattle.std.proofs.Common.{arith, ap, sym, ◌∙◌, subst, inl, inr}
 use Rattle.std.proofs.lemmas.Bool.{or_right}
-use Rattle.sd_drill.specs.Num.Lists.{of_some}
+use Rattle.sd_drill.specs.Num.Lists.{map_or}
 use Rattle.sd_drill.specs.Topo.Network.{Network}
 use Rattle.sd_drill.specs.Topo.declared.Thing.{Thing}
 use Rattle.sd_drill.specs.Topo.declared.Thing.TheVariants as thing
@@ -43,7 +43,7 @@ use Rattle.sd_proof_bound.proofs.timeouts.Scenes.{scene_at}
 
 -- who has a hop is a member
 row_there : (plan : Plan) (d : ℕ) (o : Option PlanRow) (hop : declared.Hop)
-    → (option_map (λ row. row.primary) o ≡ Some hop) ⊎ (of_some o None (λ (row : PlanRow). row.backup) ≡ Some hop) → of_some o false (λ row. true) ≡ true
+    → (option_map (λ row. row.primary) o ≡ Some hop) ⊎ (map_or o None (λ (row : PlanRow). row.backup) ≡ Some hop) → map_or o false (λ row. true) ≡ true
 row_there plan d None hop (inl is) = cc
 row_there plan d None hop (inr is) = cc
 row_there plan d (Some row) hop is = refl
@@ -75,14 +75,14 @@ edge_hop net plan d past edge true m acts put duty is =
 edge_hop net plan d past edge false true acts put duty is = (
   refl,
   map_edge net plan d true (backup_of plan d) edge refl
-      (sym (ap (λ (o : Option Duty). of_some o None (λ u. u.backup)) duty)
+      (sym (ap (λ (o : Option Duty). map_or o None (λ u. u.backup)) duty)
       ∙ sym (ap (λ b. if b then backup_now past else primary_now past) put)
       ∙ sym (ap (λ b. if b then None else if has_moved past then backup_now past else primary_now past) acts) ∙ is),
 )
 edge_hop net plan d past edge false false acts put duty is = (
   refl,
   map_edge net plan d false (primary_of plan d) edge refl
-      (sym (ap (λ (o : Option Duty). of_some o None (λ u. u.primary)) duty)
+      (sym (ap (λ (o : Option Duty). map_or o None (λ u. u.primary)) duty)
       ∙ sym (ap (λ b. if b then backup_now past else primary_now past) put)
       ∙ sym (ap (λ b. if b then None else if has_moved past then backup_now past else primary_now past) acts) ∙ is),
 )

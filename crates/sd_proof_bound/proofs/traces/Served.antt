@@ -4,7 +4,7 @@ use Rattle.std.specs.Prelude.{◌≡◌, ℕ, suc, ◌+◌, ◌*◌, ◌<◌, �
 use Rattle.std.proofs.Common.{arith, ap, sym, ◌∙◌}
 use Rattle.std.proofs.lemmas.Bool.{eq-eqb}
 use Rattle.std.proofs.Math.Nat.{mul-le-mul_right}
-use Rattle.sd_drill.specs.Num.Lists.{of_some}
+use Rattle.sd_drill.specs.Num.Lists.{map_or}
 use Rattle.sd_drill.specs.CheckRoot.Timing.{round_gap, silence}
 use Rattle.sd_proof_safety.specs.Msg.declared.Stamp.{Stamp}
 use Rattle.sd_proof_safety.specs.Msg.declared.Message.{Message}
@@ -48,12 +48,12 @@ soon_sum w s0 heard a m p by le short = omega (arith, by, le, short)
 -- who accepts a flight hears
 receipt_hears : (p : Moment) (d : ℕ) (f : Flight) → Receipt p d f → does hears p.earlier p.step d ≡ true
 receipt_hears p d f r =
-    ap (λ act. of_some (eras.did_by p.earlier act d) false hears) r.act
-    ∙ ap (λ b. of_some
+    ap (λ act. map_or (eras.did_by p.earlier act d) false hears) r.act
+    ∙ ap (λ b. map_or
     (if b then option_map
     (λ past. record { call = Receive f.link f.message r.counter; transition = transition_of past (Receive f.link f.message r.counter) })
     (past_in p.earlier d) else None) false hears) (eq-eqb d d refl)
-    ∙ ap (λ o. of_some
+    ∙ ap (λ o. map_or
     (option_map (λ past. record { call = Receive f.link f.message r.counter; transition = transition_of past (Receive f.link f.message r.counter) }) o)
     false hears) r.there
     ∙ ap is_some r.over

@@ -3,7 +3,7 @@
 use Rattle.std.specs.Prelude.{◌≡◌, ℕ, ◌+◌, ◌-◌, ◌<◌, ◌≤◌, true, false, List, ◌∷◌, Option, Some}
 use Rattle.std.proofs.Common.{arith, ap, sym, ◌∙◌, subst, inl}
 use Rattle.std.proofs.lemmas.Bool.{false_from_ne_true}
-use Rattle.sd_drill.specs.Num.Lists.{of_some}
+use Rattle.sd_drill.specs.Num.Lists.{map_or}
 use Rattle.sd_drill.specs.Plan.declared.Duty.{Duty}
 use Rattle.sd_drill.specs.Plan.Plans.{is_member}
 use Rattle.sd_proof_safety.specs.Msg.declared.Message.{Message}
@@ -33,20 +33,18 @@ use Rattle.sd_proof_safety.proofs.waits.Waits.{root_sends}
 use Rattle.sd_proof_safety.proofs.waits.Standing.{times, sound, steps_timed, clean}
 use Rattle.sd_proof_safety.specs.silences.Feeds.{Feeds}
 use Rattle.sd_proof_safety.proofs.silences.NoMaking.{remakes_is}
-use Rattle.sd_proof_safety.proofs.silences.Spacing.{timed_to, emissions_are_apart}
+use Rattle.sd_proof_safety.proofs.silences.Spacing.{emissions_are_apart}
 use Rattle.sd_proof_safety.proofs.silences.RootIsSource.{entered_still, emission_keeps}
 use Rattle.sd_proof_safety.proofs.silences.Phases.{Following, following}
 use Rattle.sd_proof_safety.proofs.silences.SoundWays.{top_of}
 use Rattle.sd_proof_safety.proofs.terms.Actors.{IsActor}
 use Rattle.sd_proof_safety.proofs.terms.Terms.{IsTermed, termed}
+use Rattle.sd_proof_safety.proofs.timers.Emissions.{timed_tail}
 use Rattle.sd_proof_bound.specs.timeouts.Settled.{IsSettled, IsWell, Place, Scene}
 use Rattle.sd_proof_bound.proofs.timeouts.Settled.{era_is, all_chronicle, StageAt, stage_at}
 use Rattle.sd_proof_bound.proofs.timeouts.Unstaged.{era_one}
-use Rattle.sd_proof_bound.proofs.timeouts.Scenes.{old_now, scene_at}
+use Rattle.sd_proof_bound.proofs.timeouts.Scenes.{old_now, scene_at, by_silence}
 use Rattle.sd_proof_bound.specs.traces.Led.{ActsSince}
-
-by_gap : (r s p : ℕ) → r - s ≤ p → r ≤ s + p
-by_gap r s p le = omega (arith, le)
 
 module _ (setting : Setting) (x : Event) (h : List Event) (e : Event) (calm : ℕ) (settled : IsSettled setting (x ∷ h) e calm) (s0 : ℕ) (from : calm ≤ s0)
     (y : ℕ) (well : IsWell setting (failed_now (chronicle setting (x ∷ h))) y)
@@ -68,7 +66,7 @@ module _ (setting : Setting) (x : Event) (h : List Event) (e : Event) (calm : �
       let member : is_member (plan_numbered setting (era (chronicle setting (st.x ∷ st.h)))) y ≡ true =
       subst (λ n. is_member (plan_numbered setting n) y ≡ true) (sym (era_is setting (st.x ∷ st.h) st.e calm st.settled)) well.member in
       subst (λ (p : Moment). when p ≤ sent_at p.earlier y + round_gap setting.net) (sym st.is)
-      (by_gap (reference_of st.e) (sent_at (chronicle setting (st.x ∷ st.h)) y) (round_gap setting.net)
+      (by_silence (reference_of st.e) (sent_at (chronicle setting (st.x ∷ st.h)) y) (round_gap setting.net)
       (root_sends setting st.e (st.x ∷ st.h) y (times setting st.x st.h st.e st.settled.comes)
       (old_now setting st.x st.h st.e calm st.settled.way st.late y well_) member acting))
 
@@ -88,7 +86,7 @@ module _ (setting : Setting) (x : Event) (h : List Event) (e : Event) (calm : �
       × ((past : Past) (call : Call) → q.step.act ≡ Calls y call → past_in q.earlier y ≡ Some past → EntersNot past call)
   stays_then q here late =
       let none : makes y q.step.seen.event ≡ false = (scene_then q (behind here) late).unmade y well in
-      let t : AreTimed setting (upto q) = timed_to setting (upto q) steps here (steps_timed setting x h e settled.comes) in (
+      let t : AreTimed setting (upto q) = timed_tail setting (upto q) steps here (steps_timed setting x h e settled.comes) in (
         none,
         remakes_is y q.step.act ∙ sym (t.1.fits.makes_it y) ∙ none,
         λ past call act there.
@@ -100,7 +98,7 @@ module _ (setting : Setting) (x : Event) (h : List Event) (e : Event) (calm : �
   epoch_then : (q : Moment) → IsIn q (chronicle setting (e ∷ x ∷ h)) → s0 < when q → (past : Past) → past_in q.earlier y ≡ Some past → epoch_now past ≡ 1
   epoch_then q here late past there =
       let p : Place setting q y = (scene_then q here late).place y well in
-      ap epoch_now (some_is (sym there ∙ p.there)) ∙ ap (λ (o : Option Duty). of_some o 0 (λ (u : Duty). u.epoch)) p.duty
+      ap epoch_now (some_is (sym there ∙ p.there)) ∙ ap (λ (o : Option Duty). map_or o 0 (λ (u : Duty). u.epoch)) p.duty
 
   terms : IsTermed setting (chronicle setting (x ∷ h))
   terms = termed setting (x ∷ h) settled.comes.fair (clean setting x h e settled.comes) settled.comes.before

@@ -9,6 +9,7 @@ use Rattle.sd_proof_safety.specs.messages.Moments.{Moment}
 use Rattle.sd_proof_bound.specs.timeouts.Settled.{IsWell}
 use Rattle.sd_proof_bound.specs.traces.Led.{ActsSince, Led}
 
+-- a chain of at most so many hops to a device, and where it begins
 pub record Chain (setting : Setting) (failed : List Thing) (top : Moment) (s0 y k : ℕ) : Type 0 where
   pub source : ℕ
   pub well : IsWell setting failed source

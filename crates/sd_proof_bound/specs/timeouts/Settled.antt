@@ -23,7 +23,7 @@ use Rattle.sd_proof_safety.specs.History.Steps.{Calls, seen_of, acts_in}
 use Rattle.sd_proof_safety.specs.History.Chronicle.{past_in, chronicle}
 use Rattle.sd_proof_safety.specs.invariant.Bounds.{tick_gap, first_up, wait_up}
 use Rattle.sd_proof_safety.specs.invariant.Eras.{all_started, is_among, touches, heard_at, moved}
-use Rattle.sd_proof_safety.specs.invariant.Coming.{Comes}
+use Rattle.sd_proof_safety.specs.invariant.Coming.{IsNextEvent}
 use Rattle.sd_proof_safety.specs.messages.Moments.{Moment, upto, when, IsIn}
 
 -- the one plan of such a run
@@ -32,13 +32,13 @@ the_plan setting = plan_numbered setting 1
 
 -- the event comes after the history, without a stage so far, and by this reference all have started
 pub record IsUnderWay (setting : Setting) (history : List Event) (e : Event) (calm : ℕ) : Type 0 where
-  pub comes : Comes setting history e
+  pub comes : IsNextEvent setting history e
   pub unstaged : list_any (λ x. is_stage x.event) (seen_of (chronicle setting (e ∷ history))) ≡ false
   pub started : all_started setting (chronicle setting (e ∷ history)) ≤ calm
 
 -- and what failed failed by it
 pub record IsSettled (setting : Setting) (history : List Event) (e : Event) (calm : ℕ) : Type 0 where
-  pub comes : Comes setting history e
+  pub comes : IsNextEvent setting history e
   pub way : IsUnderWay setting history e calm
   pub unfailed : (q : Moment) → IsIn q (chronicle setting (e ∷ history)) → calm < when q → failure_of q.step.seen.event ≡ None
 

@@ -17,6 +17,7 @@ use Rattle.sd_proof_bound.specs.timeouts.Settled.{the_plan, IsWell, hop_on}
 abbrev pub Remains : Moment → ℕ → ℕ → Bool → Type 0
 Remains top s0 y put = (q : Moment) → IsIn q (upto top) → s0 < when q → (moved q.earlier y ≡ put) × (acts_in q.earlier y ≡ false)
 
+-- the device acts, from the reference up to the moment
 abbrev pub ActsSince : Moment → ℕ → ℕ → Type 0
 ActsSince top s0 x = (q : Moment) → IsIn q (upto top) → s0 < when q → acts_in q.earlier x ≡ true
 

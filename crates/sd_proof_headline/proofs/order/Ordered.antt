@@ -3,7 +3,8 @@ use Rattle.std.specs.Prelude.{◌≡◌, ℕ, zero, suc, ◌+◌, ◌≤◌, ◌
 use Rattle.std.specs.List.{list_any, list_all}
 use Rattle.std.proofs.Common.{arith, sym, ap, subst, inl, inr}
 use Rattle.std.proofs.lemmas.Bool.{and_parts, leb-true, ltb-true, false_from_ne_true, or_cases}
-use Rattle.sd_wait.specs.Num.Lists.{of_some, below}
+use Rattle.std.proofs.lemmas.Option.{slice_get_within}
+use Rattle.sd_wait.specs.Num.Lists.{map_or, below}
 use Rattle.sd_wait.specs.Clock.declared.Report.{Report}
 use Rattle.sd_wait.specs.Clock.Estimates.{contains}
 use Rattle.sd_wait.specs.Msg.Observed.{ReportAt}
@@ -13,31 +14,20 @@ use Rattle.sd_replay.specs.History.World.{Setting, latest_reference}
 use Rattle.sd_replay.specs.History.Steps.{seen_of}
 use Rattle.sd_replay.specs.History.Chronicle.{next_step, chronicle, IsHistory}
 use Rattle.sd_replay.specs.History.Lines.{reports, asked_report}
-use Rattle.sd_replay.proofs.History.Among.{Among, first, later, passes}
+use Rattle.sd_replay.proofs.History.Among.{passes}
 use Rattle.sd_replay.proofs.History.Contained.{reports_contain, time_goes_on}
 use Rattle.sd_wait.specs.Waits.{stamp_of, surely_after, ends_by, end_place, stamp_at, has_ended_by, is_disorder, has_disorder}
+use Rattle.sd_replay.proofs.History.Given.{some_is}
+use Rattle.sd_replay.proofs.History.Shared.{among_at}
 use Rattle.sd_proof_headline.specs.order.Order.{KeepsOrder}
-
-some_same : {A : Type 0} {x y : A} → Some x ≡ Some y → x ≡ y
-some_same {x = x} same = ap (λ o. of_some o x (λ z. z)) same
-
-at_among : {A : Type 0} (xs : List A) (p : ℕ) (x : A) → slice_get xs p ≡ Some x → Among x xs
-at_among [] p x same = cc
-at_among (y ∷ ys) zero x same = subst (λ z. Among z (y ∷ ys)) (some_same same) first
-at_among (y ∷ ys) (suc p) x same = later (at_among ys p x same)
 
 -- a place of a longer list is one of the list before, or the last
 last_or_before : {A : Type 0} (xs : List A) (z : A) (p : ℕ) (x : A) → slice_get (xs ++ z ∷ []) p ≡ Some x
     → (slice_get xs p ≡ Some x) ⊎ ((z ≡ x) × (p ≡ length xs))
-last_or_before [] z zero x same = inr (some_same same, refl)
+last_or_before [] z zero x same = inr (some_is same, refl)
 last_or_before [] z (suc p) x same = cc
 last_or_before (y ∷ ys) z zero x same = inl same
 last_or_before (y ∷ ys) z (suc p) x same = elim (last_or_before ys z p x same) [ inl h ↦ inl h | inr h ↦ inr (h.0, ap suc h.1) ]
-
-in_range : {A : Type 0} (xs : List A) (p : ℕ) (x : A) → slice_get xs p ≡ Some x → p < length xs
-in_range [] p x same = cc
-in_range (y ∷ ys) zero x same = omega arith
-in_range (y ∷ ys) (suc p) x same = let h : p < length ys = in_range ys p x same in omega (arith, h)
 
 -- references do not fall along the list, and none is past the bound
 record Ascends (l : ℕ) (told : List ReportAt) : Type 0 where
@@ -60,7 +50,7 @@ longer l r told z up le last =
     by_last p q x y before here (inl h) (inl k) = up.each p q x y before h k
     by_last p q x y before here (inl h) (inr k) = let b : x.reference ≤ l = up.bound p x h in
         let e : z.reference ≡ y.reference = ap (λ (w : ReportAt). w.reference) k.0 in omega (arith, b, e, le, last)
-    by_last p q x y before here (inr h) (inl k) = let small : q < length told = in_range told q y k in omega (arith, small, before, h.1)
+    by_last p q x y before here (inr h) (inl k) = let small : q < length told = slice_get_within told q y k in omega (arith, small, before, h.1)
     by_last p q x y before here (inr h) (inr k) = let e : z.reference ≡ x.reference = ap (λ (w : ReportAt). w.reference) h.0 in
         let f : z.reference ≡ y.reference = ap (λ (w : ReportAt). w.reference) k.0 in omega (arith, e, f)
 
@@ -96,7 +86,7 @@ find_passes p [] j same = cc
 find_passes p (x ∷ xs) j same = go (p x) refl same (find_passes p xs j)
   where
     go : (b : Bool) → p x ≡ b → cond b (Some x) (find p xs) ≡ Some j → (find p xs ≡ Some j → p j ≡ true) → p j ≡ true
-    go true is e rest = subst (λ y. p y ≡ true) (some_same e) is
+    go true is e rest = subst (λ y. p y ≡ true) (some_is e) is
     go false is e rest = rest e
 
 past_end : {A : Type 0} (xs : List A) (p : ℕ) → slice_get xs p ≡ None → length xs ≤ p
@@ -109,7 +99,7 @@ module _ (l : ℕ) (told : List ReportAt) (up : Ascends l told) (contained : lis
   bounds p x here =
       let both : (nat_le x.report.clock (x.reference + x.report.eps) ≡ true) × (nat_le x.reference (x.report.clock + x.report.eps) ≡ true) =
       and_parts (nat_le x.report.clock (x.reference + x.report.eps)) (nat_le x.reference (x.report.clock + x.report.eps))
-      (passes (λ r. contains r.report r.reference) (at_among told p x here) contained) in
+      (passes (λ r. contains r.report r.reference) (among_at told p x here) contained) in
       (leb-true x.report.clock (x.reference + x.report.eps) both.0, leb-true x.reference (x.report.clock + x.report.eps) both.1)
 
   three : (i j k : ℕ) (a b c : ReportAt) → slice_get told i ≡ Some a → slice_get told j ≡ Some b → slice_get told k ≡ Some c → j ≤ k → surely_after a b ≡ true
@@ -121,21 +111,21 @@ module _ (l : ℕ) (told : List ReportAt) (up : Ascends l told) (contained : lis
       (bounds j b at_j).0 (up.each j k b c order at_j at_k) (bounds k c at_k).1 less
 
   by_k : (i j k : ℕ) (a b : ReportAt) → slice_get told i ≡ Some a → slice_get told j ≡ Some b → j ≤ k → k < length told → surely_after a b ≡ true
-      → (o : Option ReportAt) → slice_get told k ≡ o → of_some o 0 stamp_of ≤ stamp_of a → ⊥
+      → (o : Option ReportAt) → slice_get told k ≡ o → map_or o 0 stamp_of ≤ stamp_of a → ⊥
   by_k i j k a b at_i at_j order small after None at_k less = let h : length told ≤ k = past_end told k at_k in omega (arith, h, small)
   by_k i j k a b at_i at_j order small after (Some c) at_k less = three i j k a b c at_i at_j at_k order after less
 
   by_j : (i j k : ℕ) (a : ReportAt) → slice_get told i ≡ Some a → j ≤ k → k < length told → (o : Option ReportAt) → slice_get told j ≡ o
-      → of_some o false (surely_after a) ≡ true → stamp_at told k ≤ stamp_of a → ⊥
+      → map_or o false (surely_after a) ≡ true → stamp_at told k ≤ stamp_of a → ⊥
   by_j i j k a at_i order small None at_j after less = cc
   by_j i j k a at_i order small (Some b) at_j after less = by_k i j k a b at_i at_j order small after (slice_get told k) refl less
 
   by_i : (i j k : ℕ) → j ≤ k → k < length told → (o : Option ReportAt) → slice_get told i ≡ o
-      → of_some o false (λ a. of_some (slice_get told j) false (surely_after a)) ≡ true → stamp_at told k ≤ of_some o 0 stamp_of → ⊥
+      → map_or o false (λ a. map_or (slice_get told j) false (surely_after a)) ≡ true → stamp_at told k ≤ map_or o 0 stamp_of → ⊥
   by_i i j k order small None at_i after less = cc
   by_i i j k order small (Some a) at_i after less = by_j i j k a at_i order small (slice_get told j) refl after less
 
-  by_end : (i k : ℕ) → k < length told → (o : Option ℕ) → end_place told i ≡ o → of_some o false (λ j. nat_le j k) ≡ true → stamp_at told k ≤ stamp_at told i
+  by_end : (i k : ℕ) → k < length told → (o : Option ℕ) → end_place told i ≡ o → map_or o false (λ j. nat_le j k) ≡ true → stamp_at told k ≤ stamp_at told i
       → ⊥
   by_end i k small None ends by less = cc
   by_end i k small (Some j) ends by less =

@@ -1,9 +1,9 @@
 -- An old backup root that acts has moved and took over soon: at the takeover by its deadline on the backup and by what it can have heard, and from there on
 -- nothing changes. By induction on the history.
-use Rattle.std.specs.Prelude.{◌≡◌, ℕ, ◌+◌, ◌*◌, ◌≤◌, Bool, true, false, ◌&&◌, ◌||◌, not, List, [], ◌∷◌, max, nat_eq, nat_lt, length, Option, Some, None, is_some, option_map, refl, if◌then◌else◌}
+use Rattle.std.specs.Prelude.{◌≡◌, ℕ, ◌+◌, ◌*◌, ◌≤◌, Bool, true, false, ◌&&◌, ◌||◌, List, [], ◌∷◌, max, nat_eq, nat_lt, length, Option, Some, None, is_some, option_map, refl, if◌then◌else◌}
 use Rattle.std.proofs.Common.{arith, ◌∙◌, ap, sym, subst}
 use Rattle.std.proofs.lemmas.Bool.{and_from, or_from, eqb-true, eq-eqb, lt-ltb, both_ways, false_from_ne_true}
-use Rattle.sd_checker.specs.Num.Lists.{of_some, same_number}
+use Rattle.sd_checker.specs.Num.Lists.{map_or, same_number}
 use Rattle.sd_checker.specs.Topo.Network.{Network}
 use Rattle.sd_checker.specs.Topo.declared.Thing.{Thing}
 use Rattle.sd_checker.specs.Topo.declared.Thing.TheVariants as thing
@@ -20,16 +20,16 @@ use Rattle.sd_history.specs.World.{Setting, Seen, makes, fails, is_up, latest_re
 use Rattle.sd_history.specs.Steps.{Act, Makes, Calls, Asks, Passes, Step, seen_of, act_by, acts_in, epoch_in, has_settled}
 use Rattle.sd_history.specs.Chronicle.{past_in, past_after, new_past, chronicle, next_step}
 use Rattle.sd_history.proofs.Among.{first}
+use Rattle.sd_history.proofs.Given.{some_is, takes_given}
 use Rattle.sd_proof_safety.specs.invariant.Bounds.{depth, delay, tick_gap, second_up}
 use Rattle.sd_proof_safety.specs.invariant.Eras.{era, plan_now, failed_now, is_old, moved, on_primary, on_backup, live_past, first_failure, all_started, late, root_failed, moved_at, latest_such, does, did_by, device_failed_now, touches, is_among, belongs}
 use Rattle.sd_proof_safety.specs.invariant.Clauses.{backup_root_acts}
 use Rattle.sd_proof_safety.specs.invariant.Invariant.{Invariant, AtEach}
-use Rattle.sd_proof_safety.specs.invariant.Coming.{IsFair, IsClean, Comes, AtNext}
+use Rattle.sd_proof_safety.specs.invariant.Coming.{IsFair, IsClean, IsNextEvent, AtNext}
 use Rattle.sd_proof_safety.proofs.invariant.Prefix.{clean_before}
 use Rattle.sd_proof_safety.proofs.invariant.Sides.{implied, not_both}
 use Rattle.sd_proof_safety.specs.timers.Times.{AreTimed, makes_device}
-use Rattle.sd_proof_safety.specs.timers.Since.{whole, beyond}
-use Rattle.sd_proof_safety.proofs.timers.Marks.{some_is}
+use Rattle.sd_proof_safety.specs.messages.Moments.{whole, behind}
 use Rattle.sd_proof_safety.proofs.timers.Pasts.{Inside, itself, onward, inside_duty, inside_moved, takeover_from_backup}
 use Rattle.sd_proof_safety.proofs.timers.Turns.{IsTakeover, is_takeover, BeganToAct, by_takeover, by_commit, began_to_act}
 use Rattle.sd_proof_safety.proofs.timers.Histories.{timely, timed}
@@ -40,11 +40,13 @@ use Rattle.sd_proof_safety.proofs.waits.LeastWaits.{epoch_kept}
 use Rattle.sd_proof_safety.proofs.behind.EraSums.{late_since}
 use Rattle.sd_proof_safety.proofs.behind.Failing.{some_failed}
 use Rattle.sd_proof_safety.proofs.invariant.Facts.{IsSound, sound_now}
-use Rattle.sd_proof_safety.proofs.behind.Moved.{StandsBy, stands_so, up_before, begins, not_root, rest_now, on_backup_by}
+use Rattle.sd_proof_safety.proofs.behind.Moved.{StandsBy, stands_so, begins, not_root, rest_now}
 use Rattle.sd_proof_safety.proofs.behind.Breaks.{moved_rises}
 use Rattle.sd_proof_safety.proofs.behind.Broken.{first_at, first_hits, first_is_now, late_stays}
-use Rattle.sd_proof_safety.proofs.behind.Sealing.{taken_waited}
 use Rattle.sd_proof_safety.proofs.behind.Waiting.{waiting}
+use Rattle.sd_proof_safety.proofs.entering.Hears.{idle_by}
+use Rattle.sd_proof_safety.proofs.moves.Ahead.{up_since}
+use Rattle.sd_proof_safety.proofs.waits.LookingBack.{both_two}
 
 -- References
 
@@ -119,7 +121,7 @@ by_acting steps call b old there none acts true is =
 by_taken : (steps : List Step) (call : Call) (b : ℕ) (old : Past) → past_in steps b ≡ Some old → is_acting (after old call) ≡ true → (t : Option Duty)
     → taken_up (transition_of old call) ≡ t → TakeCourse steps (Calls b call) b (after old call)
 by_taken steps call b old there acts (Some duty) is =
-    took old duty there refl (taken_waited old call duty is) (ap (λ o. of_some (option_map Some o) (duty_now old) (λ told. told)) is)
+    took old duty there refl (takes_given old call duty is) (ap (λ o. map_or (option_map Some o) (duty_now old) (λ told. told)) is)
 by_taken steps call b old there acts None is = by_acting steps call b old there is acts (is_acting old) refl
 
 pub take_course : (steps : List Step) (act : Act) (b : ℕ) (past : Past) → past_after act b (past_in steps b) ≡ Some past → is_acting past ≡ true
@@ -155,12 +157,6 @@ made_still net plan epoch d (Joined rates counter clock eps) root backup has act
 made_still net plan epoch d (Started duty counter clock eps) root backup has acts =
     both_ways (is_acting (new_past (Started duty counter clock eps)))
     (ap (λ (u : Duty). (elim u.role [ role.Root ↦ true | _ ↦ false ]) || false) (some_is has) ∙ (rw (root, backup) refl)) acts
-
-acting_not : (live moved_ acts : Bool) → (live && not moved_ && not acts) ≡ true → acts ≡ false
-acting_not true false false p = refl
-acting_not true false true p = cc
-acting_not true true acts p = cc
-acting_not false moved_ acts p = cc
 
 module _ (setting : Setting) (fair : IsFair setting) (no_more : AtNext HearsNoMore setting) where
   abbrev Soon : List Event → Plan → Type 0
@@ -210,7 +206,7 @@ module _ (setting : Setting) (fair : IsFair setting) (no_more : AtNext HearsNoMo
         let primary = begins (has_settled steps (era steps) b) (is_root plan b) (acts_in steps b) (on_primary steps b) _
         (implied (s.closed && belongs setting.net plan b) _ (each.1.core.closed.members b) (and_from s.closed (belongs setting.net plan b) closed member))
         (not_root setting.net plan facts) in
-        both_ways (acts_in steps b) (acting_not (is_some (live_past steps b)) (moved steps b) (acts_in steps b) primary) acts
+        both_ways (acts_in steps b) (idle_by (is_some (live_past steps b)) (moved steps b) (acts_in steps b) primary) acts
 
     module _ (open_ : s.closed ≡ false) where
       era_kept : era (chronicle setting (e ∷ h)) ≡ era (chronicle setting h)
@@ -220,12 +216,12 @@ module _ (setting : Setting) (fair : IsFair setting) (no_more : AtNext HearsNoMo
       now = stands_so setting (e ∷ h) b st.past st.live st.there
 
       was_up : makes_device (act_by setting (chronicle setting h) e) b ≡ false → is_up (seen_of (chronicle setting h)) b ≡ true
-      was_up none = up_before (makes b e) (fails (thing.Device b) e) (is_up (seen_of (chronicle setting h)) b) (all_timed.1.fits.makes_it b ∙ none) st.live
+      was_up none = up_since (makes b e) (fails (thing.Device b) e) (is_up (seen_of (chronicle setting h)) b) (all_timed.1.fits.makes_it b ∙ none) st.live
 
       old_then : (was : Past) → StandsBy (chronicle setting h) b was → Inside was st.past → is_old (chronicle setting h) b ≡ true
       old_then was then_ inside =
           ap (λ o. same_number o (era (chronicle setting h))) (then_.epoch_is
-          ∙ ap (λ u. Some (of_some u 0 (λ v. v.epoch))) (sym (inside_duty was st.past inside)) ∙ sym now.epoch_is)
+          ∙ ap (λ u. Some (map_or u 0 (λ v. v.epoch))) (sym (inside_duty was st.past inside)) ∙ sym now.epoch_is)
           ∙ ap (same_number (epoch_in (chronicle setting (e ∷ h)) b)) (sym era_kept) ∙ old
 
       root_now : root_failed setting (chronicle setting (e ∷ h)) ≡ true
@@ -237,7 +233,7 @@ module _ (setting : Setting) (fair : IsFair setting) (no_more : AtNext HearsNoMo
       grows = late_stays setting e h things open_
 
       moved_up : moved_at (chronicle setting h) b ≤ moved_at (chronicle setting (e ∷ h)) b
-      moved_up = moved_rises setting h (e ∷ h) b (beyond whole) all_timed.0 all_timed
+      moved_up = moved_rises setting h (e ∷ h) b (behind whole) all_timed.0 all_timed
 
       abbrev Rests : Plan → Type 0
       Rests pl =
@@ -252,7 +248,7 @@ module _ (setting : Setting) (fair : IsFair setting) (no_more : AtNext HearsNoMo
 
       rests : Rests (plan_now setting (chronicle setting h))
       rests old_ on still failed =
-          let comes : Comes setting h e = record { fair = fair; clean = clean; before = each.0 } in
+          let comes : IsNextEvent setting h e = record { fair = fair; clean = clean; before = each.0 } in
           let rest = rest_now setting h e comes old_ on in
           let last = no_more h e comes failed old_ still in
           omega (arith, rest, last)
@@ -268,7 +264,7 @@ module _ (setting : Setting) (fair : IsFair setting) (no_more : AtNext HearsNoMo
           + second_up setting.net plan + tick_gap setting.net
       by_first was then_ inside put still None none =
           let r = some_failed things (seen_of (chronicle setting (e ∷ h))) (thing.Device plan.root) first root_now in
-          let at : first_at things (seen_of (chronicle setting (e ∷ h))) ≡ r.0 = ap (λ o. of_some o 0 (λ reference. reference)) r.1 in
+          let at : first_at things (seen_of (chronicle setting (e ∷ h))) ≡ r.0 = ap (λ o. map_or o 0 (λ reference. reference)) r.1 in
           let is_now : reference_of e ≡ r.0 = first_is_now things s (seen_of (chronicle setting h)) r.0 open_ none r.1 in
           let since = late_since (nat_eq (era (chronicle setting (e ∷ h))) 1) (first_at things (seen_of (chronicle setting (e ∷ h))))
           (all_started setting (chronicle setting (e ∷ h))) in
@@ -277,7 +273,7 @@ module _ (setting : Setting) (fair : IsFair setting) (no_more : AtNext HearsNoMo
           let rest : Rests plan = subst (λ n. Rests (plan_numbered setting n)) (sym era_kept) rests in
           let acts_not : acts_in (chronicle setting h) b ≡ false = then_.acts_is ∙ still in
           let le = rest (old_then was then_ inside)
-          (on_backup_by (moved (chronicle setting h) b) (acts_in (chronicle setting h) b) (then_.moved_is ∙ put) acts_not) acts_not
+          (both_two (moved (chronicle setting h) b) (acts_in (chronicle setting h) b) (then_.moved_is ∙ put) acts_not) acts_not
           (one_hit (failed_now (chronicle setting h)) (first_hits things (seen_of (chronicle setting h)) r some)) in
           omega (arith, le, within_now, grows, moved_up)
         where
@@ -299,16 +295,16 @@ module _ (setting : Setting) (fair : IsFair setting) (no_more : AtNext HearsNoMo
         where
           by_past : (p : Option Past) (call : Call) → past_in (chronicle setting h) b ≡ p
               → ((was : Past) → past_in (chronicle setting h) b ≡ Some was → is_takeover_transition (transition_of was call) ≡ false)
-              → of_some (option_map (λ past. record { call = call; transition = transition_of past call }) p) false takes_over ≡ false
+              → map_or (option_map (λ past. record { call = call; transition = transition_of past call }) p) false takes_over ≡ false
           by_past None call is none = refl
           by_past (Some was) call is none = none was is
 
-          no_take : (act : Act) → act_by setting (chronicle setting h) e ≡ act → of_some (did_by (chronicle setting h) act b) false takes_over ≡ false
+          no_take : (act : Act) → act_by setting (chronicle setting h) e ≡ act → map_or (did_by (chronicle setting h) act b) false takes_over ≡ false
           no_take (Makes m making) is = refl
           no_take (Calls m call) is = go (nat_eq m b) refl
             where
               go : (c : Bool) → nat_eq m b ≡ c
-                  → of_some (if c then option_map (λ past. record { call = call; transition = transition_of past call })
+                  → map_or (if c then option_map (λ past. record { call = call; transition = transition_of past call })
                   (past_in (chronicle setting h) b) else None) false takes_over ≡ false
               go true same = by_past (past_in (chronicle setting h) b) call refl (takes_not call (is ∙ ap (λ z. Calls z call) (eqb-true m b same)))
               go false same = refl
@@ -324,7 +320,7 @@ module _ (setting : Setting) (fair : IsFair setting) (no_more : AtNext HearsNoMo
           let due : duty.epoch ≡ era (chronicle setting h) + 1 =
           (waiting setting fair h (clean_before setting e h clean) each.0 b was (was_up makes_not) there).due
           (subst (λ n. belongs setting.net (plan_numbered setting n) b ≡ true) era_kept member) duty waits in
-          let epoch_is : epoch_in (chronicle setting (e ∷ h)) b ≡ Some duty.epoch = now.epoch_is ∙ ap (λ u. Some (of_some u 0 (λ v. v.epoch))) taken in
+          let epoch_is : epoch_in (chronicle setting (e ∷ h)) b ≡ Some duty.epoch = now.epoch_is ∙ ap (λ u. Some (map_or u 0 (λ v. v.epoch))) taken in
           let same : duty.epoch ≡ era (chronicle setting (e ∷ h)) =
           eqb-true duty.epoch (era (chronicle setting (e ∷ h))) (sym (ap (λ o. same_number o (era (chronicle setting (e ∷ h)))) epoch_is) ∙ old) in
           absurd (omega (arith, due, same, era_kept))

@@ -11,33 +11,34 @@ use Rattle.sd_history.specs.Sched.Events.{reference_of}
 use Rattle.sd_history.specs.World.{Setting}
 use Rattle.sd_history.specs.Steps.{Step, seen_of, epoch_in}
 use Rattle.sd_history.specs.Chronicle.{chronicle, next_step}
+use Rattle.sd_proof_safety.specs.messages.Moments.{Tail, whole, behind}
 use Rattle.sd_proof_safety.specs.invariant.Bounds.{rounds_gap, depth, delay, tick_gap}
 use Rattle.sd_proof_safety.specs.invariant.Eras.{era, all_started, beginning, late, is_old, on_primary, path_hit, root_failed, heard_at}
 use Rattle.sd_proof_safety.specs.invariant.Silences.{WholePathHears}
-use Rattle.sd_proof_safety.specs.invariant.Coming.{Comes, AtNext}
+use Rattle.sd_proof_safety.specs.invariant.Coming.{IsNextEvent, AtNext}
 use Rattle.sd_proof_safety.proofs.invariant.Sides.{not_both}
 use Rattle.sd_proof_safety.specs.timers.Times.{AreTimed, hears, heard_in}
-use Rattle.sd_proof_safety.specs.timers.Since.{IsTail, whole, beyond}
 use Rattle.sd_proof_safety.proofs.timers.Emissions.{reference_rises}
 use Rattle.sd_proof_safety.proofs.waits.SameReferences.{heard_is}
 use Rattle.sd_proof_safety.proofs.waits.Waits.{Stands, old_stands}
 use Rattle.sd_proof_safety.proofs.waits.LookingBack.{was_on_primary}
-use Rattle.sd_proof_safety.proofs.behind.Failing.{below, chronicle_tail, comes_at, FirstFailure}
+use Rattle.sd_proof_safety.proofs.behind.Failing.{chronicle_tail, comes_at, FirstFailure}
 use Rattle.sd_proof_safety.proofs.waits.Standing as standing
 use Rattle.sd_proof_safety.proofs.waits.Standing.{clean, steps_timed, sound, heard_late, leads, lives}
+use Rattle.sd_proof_safety.proofs.messages.Tails.{rest_of}
 
 -- the first event is the same at each event
-pub begin_same : (setting : Setting) (z : Event) (zs history : List Event) → IsTail (z ∷ zs) history
+pub begin_same : (setting : Setting) (z : Event) (zs history : List Event) → Tail (z ∷ zs) history
     → beginning (seen_of (chronicle setting (z ∷ zs))) ≡ beginning (seen_of (chronicle setting history))
 begin_same setting z zs _ whole = refl
-begin_same setting z zs _ (beyond {xs = []} rest) = absurd (none rest)
+begin_same setting z zs _ (behind {xs = []} rest) = absurd (none rest)
   where
-    none : {A : Type 0} {y : A} {ys : List A} → IsTail (y ∷ ys) [] → ⊥
+    none : {A : Type 0} {y : A} {ys : List A} → Tail (y ∷ ys) [] → ⊥
     none t = elim t [ ]
-begin_same setting z zs _ (beyond {xs = w ∷ ws} rest) = begin_same setting z zs (w ∷ ws) rest
+begin_same setting z zs _ (behind {xs = w ∷ ws} rest) = begin_same setting z zs (w ∷ ws) rest
 
 -- what a device has heard it has heard
-pub heard_rises : (setting : Setting) (older history : List Event) (d : ℕ) → IsTail older history → AreTimed setting (chronicle setting older)
+pub heard_rises : (setting : Setting) (older history : List Event) (d : ℕ) → Tail older history → AreTimed setting (chronicle setting older)
     → AreTimed setting (chronicle setting history)
     → heard_at (chronicle setting older) d ≤ heard_at (chronicle setting history) d
 heard_rises setting older history d tail first_timed all_timed =
@@ -45,17 +46,13 @@ heard_rises setting older history d tail first_timed all_timed =
     (subst (λ b. heard_in (chronicle setting older) d ≤ b) (sym (heard_is setting (chronicle setting history) all_timed d))
     (reference_rises hears setting (chronicle setting older) (chronicle setting history) d (chronicle_tail setting older history tail) all_timed))
 
-pub tail_timed : (setting : Setting) (older steps : List Step) → IsTail older steps → AreTimed setting steps → AreTimed setting older
-tail_timed setting older _ whole all = all
-tail_timed setting older _ (beyond {xs = earlier} rest) all = tail_timed setting older earlier rest all.0
-
-module _ (setting : Setting) (x : Event) (h : List Event) (e : Event) (comes : Comes setting (x ∷ h) e) (hears_whole : AtNext WholePathHears setting)
+module _ (setting : Setting) (x : Event) (h : List Event) (e : Event) (comes : IsNextEvent setting (x ∷ h) e) (hears_whole : AtNext WholePathHears setting)
     (d : ℕ) (old : is_old (chronicle setting (x ∷ h)) d ≡ true) (primary : on_primary (chronicle setting (x ∷ h)) d ≡ true) where
   -- how long a device is silent at most before its path breaks
   abbrev pub lag : ℕ
   lag = rounds_gap setting.net + round_gap setting.net + depth setting.net * delay setting.net
 
-  at_break : (z : Event) (earlier : List Event) → IsTail (z ∷ earlier) (x ∷ h) → era (chronicle setting earlier) ≡ era (chronicle setting (x ∷ h))
+  at_break : (z : Event) (earlier : List Event) → Tail (z ∷ earlier) (x ∷ h) → era (chronicle setting earlier) ≡ era (chronicle setting (x ∷ h))
       → root_failed setting (chronicle setting earlier) ≡ false → path_hit setting (chronicle setting earlier) d ≡ false
       → ((nat_eq (era (chronicle setting (x ∷ h))) 1 ≡ true) → reference_of z ≤ all_started setting (chronicle setting (x ∷ h)) → ⊥)
       → heard_at (chronicle setting (x ∷ h)) d < reference_of z → reference_of z ≤ heard_at (chronicle setting (x ∷ h)) d + lag
@@ -66,16 +63,16 @@ module _ (setting : Setting) (x : Event) (h : List Event) (e : Event) (comes : C
   at_break z (y ∷ ys) tail same root path late_ lt =
       let steps : List Step = chronicle setting (x ∷ h) in
       let older : List Step = chronicle setting (y ∷ ys) in
-      let comes_ : Comes setting (y ∷ ys) z = comes_at setting z (y ∷ ys) (x ∷ h) tail comes.fair (clean setting x h e comes) comes.before in
+      let comes_ : IsNextEvent setting (y ∷ ys) z = comes_at setting z (y ∷ ys) (x ∷ h) tail comes.fair (clean setting x h e comes) comes.before in
       let was = was_on_primary setting (x ∷ h) (next_step setting older z) older d (chronicle_tail setting (z ∷ y ∷ ys) (x ∷ h) tail)
       (steps_timed setting x h e comes) lt primary in
       let old_ : is_old older d ≡ true = ap (λ o. same_number o (era older)) was.epoch ∙ ap (same_number (epoch_in steps d)) same ∙ old in
       let early : standing.Early setting y ys z comes_ → ⊥ =
       λ both. late_ (subst (λ n. nat_eq n 1 ≡ true) same both.0)
-      (subst (λ b. reference_of z ≤ b + tick_gap setting.net) (begin_same setting y ys (x ∷ h) (below tail)) both.1) in
+      (subst (λ b. reference_of z ≤ b + tick_gap setting.net) (begin_same setting y ys (x ∷ h) (rest_of tail)) both.1) in
       let short = (hears_whole (y ∷ ys) z comes_ d (lives setting y ys z comes_ root early) (leads setting y ys z comes_ root) old_ was.on path).0 in
       let rises : heard_at older d ≤ heard_at steps d =
-      heard_rises setting (y ∷ ys) (x ∷ h) d (below tail) (steps_timed setting y ys z comes_) (steps_timed setting x h e comes) in
+      heard_rises setting (y ∷ ys) (x ∷ h) d (rest_of tail) (steps_timed setting y ys z comes_) (steps_timed setting x h e comes) in
       omega (arith, short, rises)
 
   module _ (things : List Thing) (r : ℕ) (f : FirstFailure setting things (x ∷ h) r) (root : root_failed setting (chronicle setting f.earlier) ≡ false)

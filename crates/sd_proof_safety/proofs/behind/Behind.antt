@@ -18,7 +18,7 @@ use Rattle.sd_proof_safety.specs.invariant.Bounds.{losses, depth, delay, tick_ga
 use Rattle.sd_proof_safety.specs.invariant.Eras.{era, plan_now, failed_now, is_among, all_started, is_old, moved, on_primary, path_hit, root_failed, heard_at, moved_at, silent_for}
 use Rattle.sd_proof_safety.specs.invariant.Clauses.{backup_root_acts}
 use Rattle.sd_proof_safety.specs.invariant.Silences.{WholePathHears, root_failed_at}
-use Rattle.sd_proof_safety.specs.invariant.Coming.{Comes, AtNext}
+use Rattle.sd_proof_safety.specs.invariant.Coming.{IsNextEvent, AtNext}
 use Rattle.sd_proof_safety.proofs.invariant.Prefix.{any_passing}
 use Rattle.sd_proof_safety.proofs.invariant.Sides.{implied, not_both}
 use Rattle.sd_proof_safety.proofs.waits.Waits.{Stands, old_stands}
@@ -74,7 +74,7 @@ module _ (k h d p q l1 f1 l2 f2 lw : ℕ) (t : IsTimedBy k h d p q l1 f1 l2 f2 l
 
 module _ (setting : Setting) (hears_whole : AtNext WholePathHears setting) (seals : AtNext SealsSoon setting) (no_more : AtNext HearsNoMore setting)
     (fallback_feeds : AtNext FallbackFeeds setting) (takeover_feeds : AtNext TakeoverFeeds setting) (took_over : AtNext TookOverSoon setting) where
-  module _ (x : Event) (h : List Event) (e : Event) (comes : Comes setting (x ∷ h) e) (d : ℕ) (st : StandsBehind setting (chronicle setting (x ∷ h)) d)
+  module _ (x : Event) (h : List Event) (e : Event) (comes : IsNextEvent setting (x ∷ h) e) (d : ℕ) (st : StandsBehind setting (chronicle setting (x ∷ h)) d)
       (old_b : is_old (chronicle setting (x ∷ h)) (plan_now setting (chronicle setting (x ∷ h))).backup_root ≡ true)
       (bounded : path_hit setting (chronicle setting (x ∷ h)) (plan_now setting (chronicle setting (x ∷ h))).backup_root ≡ true
       → IsBounded setting (chronicle setting (x ∷ h)) (reference_of e) d) where

@@ -2,7 +2,7 @@
 use Rattle.std.specs.Prelude.{◌≡◌, ℕ, ◌+◌, ◌*◌, ◌-◌, ◌<◌, ◌≤◌, Bool, true, false, not, List, [], ◌∷◌, nat_eq, nat_le, refl}
 use Rattle.std.proofs.Common.{arith, ◌∙◌, ap, sym, subst}
 use Rattle.std.proofs.lemmas.Bool.{leb-true, leb-false, false_from_ne_true}
-use Rattle.sd_checker.specs.Num.Lists.{of_some}
+use Rattle.sd_checker.specs.Num.Lists.{map_or}
 use Rattle.sd_checker.specs.Topo.declared.Thing.{Thing}
 use Rattle.sd_checker.specs.Topo.declared.Thing.TheVariants as thing
 use Rattle.sd_checker.specs.Domain.Things.{same_thing}
@@ -10,6 +10,7 @@ use Rattle.sd_checker.specs.Plan.declared.Plan.{Plan}
 use Rattle.sd_checker.specs.Plan.Plans.{is_member, is_root, is_backup_root}
 use Rattle.sd_checker.specs.Plan.Walks.{path, epath, on_walk}
 use Rattle.sd_checker.specs.CheckRoot.Timing.{round_gap}
+use Rattle.sd_checker.proofs.Domain.Within.{same_thing-true}
 use Rattle.sd_history.specs.Sched.declared.Event.{Event}
 use Rattle.sd_history.specs.Sched.Events.{reference_of}
 use Rattle.sd_history.specs.World.{Setting, plan_numbered}
@@ -19,10 +20,9 @@ use Rattle.sd_history.proofs.Among.{first}
 use Rattle.sd_proof_safety.specs.invariant.Bounds.{losses, depth, delay, tick_gap, first_low, first_up, second_low, second_up, wait_low, IsTimedBy}
 use Rattle.sd_proof_safety.specs.invariant.Eras.{era, plan_now, failed_now, failed_besides_root, is_among, touches, all_started, late, is_old, is_ordinary, is_behind, on_primary, hit_otherwise, root_failed, heard_at, silent_for}
 use Rattle.sd_proof_safety.specs.invariant.Silences.{WholePathHears, TakesOverSoon, BesideWaits, root_failed_at}
-use Rattle.sd_proof_safety.specs.invariant.Coming.{Comes, AtNext}
+use Rattle.sd_proof_safety.specs.invariant.Coming.{IsNextEvent, AtNext}
 use Rattle.sd_proof_safety.proofs.invariant.Arithmetic.{beside_the_root, silence_is_short, a1}
 use Rattle.sd_proof_safety.proofs.invariant.Prefix.{Passing, some_passing, any_passing}
-use Rattle.sd_proof_safety.proofs.invariant.Domains.{same_is}
 use Rattle.sd_proof_safety.proofs.invariant.Sides.{not_both}
 use Rattle.sd_proof_safety.proofs.invariant.Staying.{filter_in}
 use Rattle.sd_proof_safety.proofs.behind.Failing.{FirstFailure, first_failing, some_failed, none_failed_yet}
@@ -43,10 +43,10 @@ missed_path setting steps things failed grows root none =
     let r : Thing = thing.Device (plan_now setting steps).root in
     let one : Passing (is_among failed) things = some_passing (is_among failed) things is in
     let two : Passing (same_thing one.one) (failed_now steps) = some_passing (same_thing one.one) (failed_now steps) (grows one.one one.passed) in
-    let same : one.one ≡ two.one = same_is one.one two.one two.passed in
+    let same : one.one ≡ two.one = same_thing-true one.one two.one two.passed in
     let other : same_thing r two.one ≡ false =
     false_from_ne_true (same_thing r two.one)
-    (λ is_root_. not_both (is_among failed r) (subst (λ y. is_among failed y ≡ true) (same ∙ sym (same_is r two.one is_root_)) one.passed) root) in
+    (λ is_root_. not_both (is_among failed r) (subst (λ y. is_among failed y ≡ true) (same ∙ sym (same_thing-true r two.one is_root_)) one.passed) root) in
     not_both (touches (failed_besides_root setting steps) things)
     (any_passing (is_among (failed_besides_root setting steps)) one.one things one.there
     (any_passing (same_thing one.one) two.one (failed_besides_root setting steps)
@@ -64,7 +64,7 @@ failed_sum : (k h d p q l1 f1 l2 f2 lw g r heard : ℕ) → IsTimedBy k h d p q 
 failed_sum k h d p q l1 f1 l2 f2 lw g r heard t soon since = omega (arith, soon, since, beside_the_root t)
 
 module _ (setting : Setting) (hears_whole : AtNext WholePathHears setting) (takes_over : AtNext TakesOverSoon setting) where
-  module _ (x : Event) (h : List Event) (e : Event) (comes : Comes setting (x ∷ h) e) (d : ℕ) (old : is_old (chronicle setting (x ∷ h)) d ≡ true)
+  module _ (x : Event) (h : List Event) (e : Event) (comes : IsNextEvent setting (x ∷ h) e) (d : ℕ) (old : is_old (chronicle setting (x ∷ h)) d ≡ true)
       (ordinary : is_ordinary (plan_now setting (chronicle setting (x ∷ h))) d ≡ true) (primary : on_primary (chronicle setting (x ∷ h)) d ≡ true)
       (beside : is_behind setting.net (plan_now setting (chronicle setting (x ∷ h))) d ≡ false)
       (missed : hit_otherwise setting (chronicle setting (x ∷ h)) d ≡ false)
@@ -111,7 +111,7 @@ module _ (setting : Setting) (hears_whole : AtNext WholePathHears setting) (take
         heard_before setting x h e comes hears_whole d old primary things r.0 f
         (ap (λ n. is_among (failed_now older) (thing.Device (plan_numbered setting n).root)) f.era ∙ not_yet)
         (ap (λ n. touches (failed_now older) (path setting.net (plan_numbered setting n) d)) f.era ∙ path_missed (failed_now older) f.grows not_yet) in
-        let at : root_failed_at setting steps ≡ late setting steps r.0 = ap (λ o. late setting steps (of_some o 0 (λ q. q))) r.1 in
+        let at : root_failed_at setting steps ≡ late setting steps r.0 = ap (λ o. late setting steps (map_or o 0 (λ q. q))) r.1 in
         let soon = takes_over (x ∷ h) e comes root (backup_root_is_old setting x h e comes root still late_) still in
         failed_sum (losses setting.net) (depth setting.net) (delay setting.net) (round_gap setting.net) (tick_gap setting.net) _ _ _ _ _
         (late setting steps r.0) (reference_of e) (heard_at steps d) timed_

@@ -4,7 +4,7 @@
 use Rattle.std.specs.Prelude.{◌≡◌, ℕ, ◌+◌, ◌*◌, ◌-◌, ◌<◌, ◌≤◌, Bool, true, false, List, [], ◌∷◌, max, nat_eq, nat_le, nat_lt, Option, Some, None, refl, ◌⊎◌}
 use Rattle.std.proofs.Common.{arith, ◌∙◌, ap, sym, subst, inl, inr}
 use Rattle.std.proofs.lemmas.Bool.{leb-true, leb-false, ltb-true, ltb-false, false_from_ne_true, false≢true}
-use Rattle.sd_checker.specs.Num.Lists.{of_some, same_number}
+use Rattle.sd_checker.specs.Num.Lists.{map_or, same_number}
 use Rattle.sd_checker.specs.Topo.declared.Thing.{Thing}
 use Rattle.sd_checker.specs.Topo.declared.Thing.TheVariants as thing
 use Rattle.sd_checker.specs.Plan.declared.Plan.{Plan}
@@ -17,20 +17,20 @@ use Rattle.sd_history.specs.World.{Setting, plan_numbered}
 use Rattle.sd_history.specs.Steps.{Step, seen_of, acts_in, epoch_in}
 use Rattle.sd_history.specs.Chronicle.{chronicle}
 use Rattle.sd_history.proofs.Among.{Among, first}
+use Rattle.sd_proof_safety.specs.messages.Moments.{Tail}
 use Rattle.sd_proof_safety.specs.invariant.Bounds.{depth, delay, tick_gap, rounds_gap, first_up}
 use Rattle.sd_proof_safety.specs.invariant.Eras.{era, plan_now, failed_now, is_among, touches, first_failure, all_started, late, is_old, moved, on_primary, path_hit, root_failed, heard_at, moved_at}
 use Rattle.sd_proof_safety.specs.invariant.Clauses.{backup_root_acts}
 use Rattle.sd_proof_safety.specs.invariant.Silences.{WholePathHears, root_failed_at}
-use Rattle.sd_proof_safety.specs.invariant.Coming.{Comes, AtNext}
+use Rattle.sd_proof_safety.specs.invariant.Coming.{IsNextEvent, AtNext}
 use Rattle.sd_proof_safety.proofs.invariant.CutPaths.{root_on_path}
 use Rattle.sd_proof_safety.proofs.invariant.Sides.{implied, not_both}
 use Rattle.sd_proof_safety.specs.timers.Times.{AreTimed, moves, moved_in}
-use Rattle.sd_proof_safety.specs.timers.Since.{IsTail}
 use Rattle.sd_proof_safety.proofs.timers.Emissions.{reference_rises}
 use Rattle.sd_proof_safety.proofs.waits.SameReferences.{moved_is}
 use Rattle.sd_proof_safety.specs.behind.Pieces.{SealsSoon}
 use Rattle.sd_proof_safety.specs.behind.Feeding.{mended_now, path_failed_at, PathHearsNoMore, StandsBehind, FallbackFeeds, MendedHears, MendedMoves}
-use Rattle.sd_proof_safety.proofs.behind.Failing.{FirstFailure, first_failing, some_failed, none_failed_yet, chronicle_tail, comes_at, below}
+use Rattle.sd_proof_safety.proofs.behind.Failing.{FirstFailure, first_failing, some_failed, none_failed_yet, chronicle_tail, comes_at}
 use Rattle.sd_proof_safety.proofs.invariant.Facts.{IsSound}
 use Rattle.sd_proof_safety.proofs.waits.Standing as standing
 use Rattle.sd_proof_safety.proofs.waits.Standing.{now, clean, steps_timed, sound, leads, lives}
@@ -42,8 +42,9 @@ use Rattle.sd_proof_safety.proofs.behind.Broken.{first_at, hit_first, touches_mo
 use Rattle.sd_proof_safety.proofs.behind.Paths.{path_by_parts}
 use Rattle.sd_proof_safety.proofs.behind.EraSums.{late_from_start, late_split}
 use Rattle.sd_proof_safety.proofs.behind.StoodBehind.{stood_then}
+use Rattle.sd_proof_safety.proofs.messages.Tails.{rest_of}
 
-pub moved_rises : (setting : Setting) (older history : List Event) (d : ℕ) → IsTail older history → AreTimed setting (chronicle setting older)
+pub moved_rises : (setting : Setting) (older history : List Event) (d : ℕ) → Tail older history → AreTimed setting (chronicle setting older)
     → AreTimed setting (chronicle setting history)
     → moved_at (chronicle setting older) d ≤ moved_at (chronicle setting history) d
 moved_rises setting older history d tail first_timed all_timed =
@@ -87,7 +88,7 @@ pub record IsBounded (setting : Setting) (steps : List Step) (reference d : ℕ)
 
 -- without a mend there is no straggler
 pub bounded_unmended : (setting : Setting) → AtNext SealsSoon setting → AtNext PathHearsNoMore setting → (x : Event) (h : List Event) (e : Event)
-    → Comes setting (x ∷ h) e → (d : ℕ)
+    → IsNextEvent setting (x ∷ h) e → (d : ℕ)
     → is_old (chronicle setting (x ∷ h)) (plan_now setting (chronicle setting (x ∷ h))).backup_root ≡ true → mended_now (chronicle setting (x ∷ h)) ≡ false
     → path_hit setting (chronicle setting (x ∷ h)) (plan_now setting (chronicle setting (x ∷ h))).backup_root ≡ true
     → IsBounded setting (chronicle setting (x ∷ h)) (reference_of e) d
@@ -99,7 +100,7 @@ bounded_unmended setting seals path_no_more x h e comes d old_b none broken =
 
 -- with a mend there may be one
 pub bounded_mended : (setting : Setting) → AtNext MendedHears setting → AtNext MendedMoves setting → (x : Event) (h : List Event) (e : Event)
-    → Comes setting (x ∷ h) e → (d : ℕ) → StandsBehind setting (chronicle setting (x ∷ h)) d
+    → IsNextEvent setting (x ∷ h) e → (d : ℕ) → StandsBehind setting (chronicle setting (x ∷ h)) d
     → is_old (chronicle setting (x ∷ h)) (plan_now setting (chronicle setting (x ∷ h))).backup_root ≡ true → mended_now (chronicle setting (x ∷ h)) ≡ true
     → path_hit setting (chronicle setting (x ∷ h)) (plan_now setting (chronicle setting (x ∷ h))).backup_root ≡ true
     → IsBounded setting (chronicle setting (x ∷ h)) (reference_of e) d
@@ -116,11 +117,11 @@ bounded_mended setting mended_hears mended_moves x h e comes d st old_b is broke
     by_feeding (inr heard) = inr heard
 
 -- the root is on the path of the backup root, and is not it
-pub backup_root_low : (setting : Setting) (x : Event) (h : List Event) (e : Event) → Comes setting (x ∷ h) e
+pub backup_root_low : (setting : Setting) (x : Event) (h : List Event) (e : Event) → IsNextEvent setting (x ∷ h) e
     → is_root (plan_now setting (chronicle setting (x ∷ h))) (plan_now setting (chronicle setting (x ∷ h))).backup_root ≡ false
 backup_root_low setting x h e comes = not_root setting.net (plan_now setting (chronicle setting (x ∷ h))) (sound setting x h e comes)
 
-pub root_on : (setting : Setting) (x : Event) (h : List Event) (e : Event) → Comes setting (x ∷ h) e
+pub root_on : (setting : Setting) (x : Event) (h : List Event) (e : Event) → IsNextEvent setting (x ∷ h) e
     → Among (thing.Device (plan_now setting (chronicle setting (x ∷ h))).root)
     (path setting.net (plan_now setting (chronicle setting (x ∷ h))) (plan_now setting (chronicle setting (x ∷ h))).backup_root)
 root_on setting x h e comes =
@@ -128,7 +129,7 @@ root_on setting x h e comes =
     let facts : IsSound setting.net plan = sound setting x h e comes in
     root_on_path plan setting.net facts.rules plan.backup_root facts.fits.backup_root facts.backup_member (backup_root_low setting x h e comes)
 
-module _ (setting : Setting) (hears_whole : AtNext WholePathHears setting) (x : Event) (h : List Event) (e : Event) (comes : Comes setting (x ∷ h) e) (d : ℕ)
+module _ (setting : Setting) (hears_whole : AtNext WholePathHears setting) (x : Event) (h : List Event) (e : Event) (comes : IsNextEvent setting (x ∷ h) e) (d : ℕ)
     (st : StandsBehind setting (chronicle setting (x ∷ h)) d) where
   abbrev steps : List Step
   steps = chronicle setting (x ∷ h)
@@ -166,7 +167,7 @@ module _ (setting : Setting) (hears_whole : AtNext WholePathHears setting) (x : 
       (ap (λ n. is_among (failed_now older) (thing.Device (plan_numbered setting n).root)) f.era ∙ not_yet)
       (ap (λ n. touches (failed_now older) (path setting.net (plan_numbered setting n) d)) f.era
       ∙ path_by_parts setting.net plan (failed_now older) d (backup_root_low setting x h e comes) cut_yet path_yet) in
-      let at : path_failed_at setting steps ≡ late setting steps r.0 = ap (λ o. late setting steps (of_some o 0 (λ q. q))) r.1 in
+      let at : path_failed_at setting steps ≡ late setting steps r.0 = ap (λ o. late setting steps (map_or o 0 (λ q. q))) r.1 in
       subst (λ g. g ≤ heard_at steps d + lag) (sym at) since
     where
       no_first : (o : Option ℕ) (q : ℕ) → o ≡ None → o ≡ Some q → ⊥
@@ -186,7 +187,7 @@ module _ (setting : Setting) (hears_whole : AtNext WholePathHears setting) (x : 
     root_first : (r : ℕ) × (first_failure (thing.Device plan.root ∷ []) (seen_of steps) ≡ Some r)
     root_first = some_failed (thing.Device plan.root ∷ []) (seen_of steps) (thing.Device plan.root) first failed
 
-    at_root : (z : Event) (earlier : List Event) → IsTail (z ∷ earlier) (x ∷ h) → era (chronicle setting earlier) ≡ era steps
+    at_root : (z : Event) (earlier : List Event) → Tail (z ∷ earlier) (x ∷ h) → era (chronicle setting earlier) ≡ era steps
         → is_among (failed_now (chronicle setting earlier)) (thing.Device plan.root) ≡ false
         → ((y : Thing) → is_among (failed_now (chronicle setting earlier)) y ≡ true → is_among (failed_now steps) y ≡ true)
         → ((nat_eq (era steps) 1 ≡ true) → reference_of z ≤ all_started setting steps → ⊥) → moved_at steps b < reference_of z
@@ -197,7 +198,7 @@ module _ (setting : Setting) (hears_whole : AtNext WholePathHears setting) (x : 
         absurd (false≢true (stood_then setting (x ∷ h) (steps_timed setting x h e comes) d st z [] tail same grows heard_lt).old)
     at_root z (y ∷ ys) tail same not_yet grows late_ moved_lt heard_lt =
         let older : List Step = chronicle setting (y ∷ ys) in
-        let comes_ : Comes setting (y ∷ ys) z = comes_at setting z (y ∷ ys) (x ∷ h) tail comes.fair (clean setting x h e comes) comes.before in
+        let comes_ : IsNextEvent setting (y ∷ ys) z = comes_at setting z (y ∷ ys) (x ∷ h) tail comes.fair (clean setting x h e comes) comes.before in
         let was_b = moved_then setting z (y ∷ ys) (x ∷ h) b tail (steps_timed setting x h e comes) put moved_lt in
         let old_b_ : is_old older b ≡ true = ap (λ o. same_number o (era older)) was_b.1 ∙ ap (same_number (epoch_in steps b)) same ∙ old_b in
         let root_ : root_failed setting older ≡ false = ap (λ n. is_among (failed_now older) (thing.Device (plan_numbered setting n).root)) same ∙ not_yet in
@@ -207,7 +208,7 @@ module _ (setting : Setting) (hears_whole : AtNext WholePathHears setting) (x : 
         (implied (backup_root_acts setting older) (root_failed setting older) (now setting y ys z comes_).core.causes.takeover acts) root_) in
         let early : standing.Early setting y ys z comes_ → ⊥ =
         λ both. late_ (subst (λ n. nat_eq n 1 ≡ true) same both.0)
-        (subst (λ q. reference_of z ≤ q + tick_gap setting.net) (begin_same setting y ys (x ∷ h) (below tail)) both.1) in
+        (subst (λ q. reference_of z ≤ q + tick_gap setting.net) (begin_same setting y ys (x ∷ h) (rest_of tail)) both.1) in
         let fed =
         fallback_feeds (y ∷ ys) z comes_ d (stood_then setting (x ∷ h) (steps_timed setting x h e comes) d st z (y ∷ ys) tail same grows heard_lt)
         (lives setting y ys z comes_ root_ early) (leads setting y ys z comes_ root_)
@@ -216,9 +217,9 @@ module _ (setting : Setting) (hears_whole : AtNext WholePathHears setting) (x : 
         let moved_same : moved_at older (plan_now setting older).backup_root ≡ moved_at older b =
         ap (λ n. moved_at older (plan_numbered setting n).backup_root) same in
         let heard_up : heard_at older d ≤ heard_at steps d =
-        heard_rises setting (y ∷ ys) (x ∷ h) d (below tail) (steps_timed setting y ys z comes_) (steps_timed setting x h e comes) in
+        heard_rises setting (y ∷ ys) (x ∷ h) d (rest_of tail) (steps_timed setting y ys z comes_) (steps_timed setting x h e comes) in
         let moved_up : moved_at older b ≤ moved_at steps b =
-        moved_rises setting (y ∷ ys) (x ∷ h) b (below tail) (steps_timed setting y ys z comes_) (steps_timed setting x h e comes) in
+        moved_rises setting (y ∷ ys) (x ∷ h) b (rest_of tail) (steps_timed setting y ys z comes_) (steps_timed setting x h e comes) in
         omega (arith, fed, moved_same, heard_up, moved_up)
 
     first_f : FirstFailure setting (thing.Device plan.root ∷ []) (x ∷ h) root_first.0
@@ -259,7 +260,7 @@ module _ (setting : Setting) (hears_whole : AtNext WholePathHears setting) (x : 
     pub root_soon : root_failed_at setting (chronicle setting (x ∷ h)) ≤ heard_at (chronicle setting (x ∷ h)) d + far
     root_soon =
         let le = by_start (nat_eq (era steps) 1) (nat_le root_first.0 (all_started setting steps)) refl refl in
-        let at : root_failed_at setting steps ≡ late setting steps root_first.0 = ap (λ o. late setting steps (of_some o 0 (λ q. q))) root_first.1 in
+        let at : root_failed_at setting steps ≡ late setting steps root_first.0 = ap (λ o. late setting steps (map_or o 0 (λ q. q))) root_first.1 in
         let split : late setting steps root_first.0 ≤ max root_first.0 (path_failed_at setting steps) =
         late_split (nat_eq (era steps) 1) root_first.0 (first_at things (seen_of steps)) (all_started setting steps) in
         omega (arith, le, at, split, g_le)

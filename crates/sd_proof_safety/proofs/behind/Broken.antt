@@ -5,7 +5,7 @@ use Rattle.std.specs.List.{list_any, cons_option}
 use Rattle.std.specs.Option.{option_or}
 use Rattle.std.proofs.Common.{arith, ◌∙◌, ap, sym, subst}
 use Rattle.std.proofs.lemmas.Bool.{and_from, or_left, or_parts, lt-ltb, both_ways}
-use Rattle.sd_checker.specs.Num.Lists.{of_some, same_number, leading}
+use Rattle.sd_checker.specs.Num.Lists.{map_or, same_number, leading}
 use Rattle.sd_checker.specs.Topo.declared.Thing.{Thing}
 use Rattle.sd_checker.specs.Domain.Things.{same_thing}
 use Rattle.sd_checker.specs.Plan.declared.Plan.{Plan}
@@ -18,14 +18,14 @@ use Rattle.sd_history.specs.World.{Setting, Seen, fails, plan_numbered}
 use Rattle.sd_history.specs.Steps.{Step, seen_of, acts_in, epoch_in, has_settled}
 use Rattle.sd_history.specs.Chronicle.{chronicle, next_step}
 use Rattle.sd_history.specs.Premises.{failures_since_closing}
+use Rattle.sd_history.proofs.Given.{some_is}
 use Rattle.sd_proof_safety.specs.invariant.Bounds.{depth, delay, tick_gap, first_up}
 use Rattle.sd_proof_safety.specs.invariant.Eras.{era, plan_now, failed_now, is_among, touches, first_failure, beginning, all_started, late, is_old, moved, on_primary, live_past, moved_at, belongs}
 use Rattle.sd_proof_safety.specs.invariant.Invariant.{Invariant, AtEach}
-use Rattle.sd_proof_safety.specs.invariant.Coming.{IsFair, IsClean, Comes, AtNext}
+use Rattle.sd_proof_safety.specs.invariant.Coming.{IsFair, IsClean, IsNextEvent, AtNext}
 use Rattle.sd_proof_safety.proofs.invariant.Prefix.{Passing, some_passing, any_passing, clean_before}
 use Rattle.sd_proof_safety.proofs.invariant.Sides.{implied}
 use Rattle.sd_proof_safety.specs.timers.Times.{AreTimed}
-use Rattle.sd_proof_safety.proofs.timers.Marks.{some_is}
 use Rattle.sd_proof_safety.proofs.timers.Histories.{timely, timed}
 use Rattle.sd_proof_safety.specs.behind.Pieces.{SealsSoon}
 use Rattle.sd_proof_safety.specs.behind.Feeding.{mended_now, PathHearsNoMore}
@@ -38,7 +38,7 @@ use Rattle.sd_proof_safety.proofs.behind.EventBack.{WasMoved, kept, goes, step_b
 
 -- First failures
 
-among_new : (y : Thing) (o : Option Thing) (rest : List Thing) → of_some o false (same_thing y) ≡ true → is_among (cons_option o rest) y ≡ true
+among_new : (y : Thing) (o : Option Thing) (rest : List Thing) → map_or o false (same_thing y) ≡ true → is_among (cons_option o rest) y ≡ true
 among_new y None rest is = cc
 among_new y (Some z) rest is = or_left (same_thing y z) (is_among rest y) is
 
@@ -83,17 +83,17 @@ hit_first things seen is =
     some_failed things seen one.one one.there one.passed
 
 abbrev pub first_at : List Thing → List Seen → ℕ
-first_at things seen = of_some (first_failure things seen) 0 (λ reference. reference)
+first_at things seen = map_or (first_failure things seen) 0 (λ reference. reference)
 
 -- the reference of the first failure stays, and where there was none it is that of the event
 first_stays : (things : List Thing) (s : Seen) (seen : List Seen) → s.closed ≡ false → first_at things seen ≤ first_at things (s ∷ seen)
 first_stays things s seen open_ =
-    subst (λ c. first_at things seen ≤ of_some
+    subst (λ c. first_at things seen ≤ map_or
     (if c then None else option_or (first_failure things seen) (if list_any (λ y. fails y s.event) things then Some (reference_of s.event) else None)) 0
     (λ reference. reference)) (sym open_)
     (go (first_failure things seen) (if list_any (λ y. fails y s.event) things then Some (reference_of s.event) else None))
   where
-    go : (o p : Option ℕ) → of_some o 0 (λ reference. reference) ≤ of_some (option_or o p) 0 (λ reference. reference)
+    go : (o p : Option ℕ) → map_or o 0 (λ reference. reference) ≤ map_or (option_or o p) 0 (λ reference. reference)
     go None p = omega arith
     go (Some r) p = omega arith
 
@@ -196,7 +196,7 @@ module _ (setting : Setting) (fair : IsFair setting) (seals : AtNext SealsSoon s
 
     goes_now : Goes (plan_now setting (chronicle setting h))
     goes_now old primary none broken =
-        let comes : Comes setting h e = record { fair = fair; clean = clean; before = each.0 } in
+        let comes : IsNextEvent setting h e = record { fair = fair; clean = clean; before = each.0 } in
         let short = silence_now setting h e comes (seals h e comes) old primary in
         let last = no_more h e comes none broken old primary in
         omega (arith, short, last)
@@ -225,7 +225,7 @@ module _ (setting : Setting) (fair : IsFair setting) (seals : AtNext SealsSoon s
       by_first primary old_ None was =
           let r = hit_first things (seen_of (chronicle setting (e ∷ h))) broken_now in
           let now : reference_of e ≡ r.0 = first_is_now things s (seen_of (chronicle setting h)) r.0 open_ was r.1 in
-          let at : first_at things (seen_of (chronicle setting (e ∷ h))) ≡ r.0 = ap (λ o. of_some o 0 (λ reference. reference)) r.1 in
+          let at : first_at things (seen_of (chronicle setting (e ∷ h))) ≡ r.0 = ap (λ o. map_or o 0 (λ reference. reference)) r.1 in
           let since : first_at things (seen_of (chronicle setting (e ∷ h))) ≤ late setting (chronicle setting (e ∷ h))
           (first_at things (seen_of (chronicle setting (e ∷ h)))) =
           late_since (nat_eq (era (chronicle setting (e ∷ h))) 1) (first_at things (seen_of (chronicle setting (e ∷ h))))

@@ -7,12 +7,14 @@ use Rattle.sd_history.specs.Sched.Events.{reference_of}
 use Rattle.sd_history.specs.World.{Setting}
 use Rattle.sd_history.specs.Steps.{Step, acts_in}
 use Rattle.sd_history.specs.Chronicle.{chronicle}
+use Rattle.sd_history.proofs.Base.{steps_of, base}
+use Rattle.sd_history.proofs.Windows.{both_renewals}
 use Rattle.sd_proof_safety.specs.invariant.Bounds.{depth, delay, losses, rounds_gap, tick_gap}
 use Rattle.sd_proof_safety.specs.invariant.Eras.{plan_now, is_old, on_primary, on_backup, is_behind, hit, path_hit, root_failed, root_lives, heard_at, moved_at}
 use Rattle.sd_proof_safety.specs.invariant.Clauses.{◌⟹◌}
 use Rattle.sd_proof_safety.specs.invariant.Silences.{root_leads, root_failed_at}
 use Rattle.sd_proof_safety.specs.behind.Feeding.{mended_now, path_failed_at, took_over_at}
-use Rattle.sd_proof_safety.proofs.invariant.Schedules.{one_plan, two_plans, three_plans, turned_plans, steps_of, base, root_fails, both_renewals, mended_and_joined, backup_root_commits, link_fails, left_out, leaves_out, starts_late}
+use Rattle.sd_proof_safety.proofs.invariant.Schedules.{one_plan, two_plans, three_plans, turned_plans, root_fails, mended_and_joined, backup_root_commits, link_fails, left_out, leaves_out, starts_late}
 
 abbrev stands_behind : Setting → List Step → ℕ → Bool
 stands_behind setting steps d = is_old steps d && is_behind setting.net (plan_now setting steps) d && on_primary steps d && not (hit setting steps d)

@@ -5,7 +5,7 @@ use Rattle.std.specs.List.{list_any, cons_option}
 use Rattle.std.specs.Option.{option_or}
 use Rattle.std.proofs.Common.{◌∙◌, sym}
 use Rattle.std.proofs.lemmas.Bool.{or_from, or_right, false_from_ne_true}
-use Rattle.sd_checker.specs.Num.Lists.{of_some}
+use Rattle.sd_checker.specs.Num.Lists.{map_or}
 use Rattle.sd_checker.specs.Topo.declared.Thing.{Thing}
 use Rattle.sd_checker.specs.Domain.Things.{same_thing}
 use Rattle.sd_history.specs.Sched.declared.Event.{Event}
@@ -16,41 +16,34 @@ use Rattle.sd_history.specs.Steps.{Step, seen_of}
 use Rattle.sd_history.specs.Chronicle.{chronicle, next_step}
 use Rattle.sd_history.specs.Premises.{failures_since_closing}
 use Rattle.sd_history.proofs.Among.{Among}
+use Rattle.sd_history.proofs.Given.{some_is}
+use Rattle.sd_proof_safety.specs.messages.Moments.{Tail, whole, behind}
 use Rattle.sd_proof_safety.specs.invariant.Eras.{is_among, first_failure}
 use Rattle.sd_proof_safety.specs.invariant.Invariant.{Invariant, AtEach}
-use Rattle.sd_proof_safety.specs.invariant.Coming.{IsFair, IsClean, Comes}
-use Rattle.sd_proof_safety.proofs.invariant.Prefix.{any_passing, clean_before}
+use Rattle.sd_proof_safety.specs.invariant.Coming.{IsFair, IsClean, IsNextEvent}
+use Rattle.sd_proof_safety.proofs.invariant.Prefix.{any_passing}
 use Rattle.sd_proof_safety.proofs.invariant.Sides.{not_both}
-use Rattle.sd_proof_safety.specs.timers.Since.{IsTail, whole, beyond}
-use Rattle.sd_proof_safety.proofs.timers.Marks.{some_is}
 use Rattle.sd_proof_safety.proofs.waits.LeastWaits.{epoch_kept}
+use Rattle.sd_proof_safety.proofs.receipts.Stood.{clean_of}
 
 -- Tails of a history
 
-pub below : {A : Type 0} {x : A} {xs ys : List A} → IsTail (x ∷ xs) ys → IsTail xs ys
-below whole = beyond whole
-below (beyond rest) = beyond (below rest)
-
-pub chronicle_tail : (setting : Setting) (older history : List Event) → IsTail older history → IsTail (chronicle setting older) (chronicle setting history)
+pub chronicle_tail : (setting : Setting) (older history : List Event) → Tail older history → Tail (chronicle setting older) (chronicle setting history)
 chronicle_tail setting older _ whole = whole
-chronicle_tail setting older _ (beyond {xs = earlier} rest) = beyond (chronicle_tail setting older earlier rest)
+chronicle_tail setting older _ (behind {xs = earlier} rest) = behind (chronicle_tail setting older earlier rest)
 
-pub clean_tail : (setting : Setting) (older history : List Event) → IsTail older history → IsClean setting history → IsClean setting older
-clean_tail setting older _ whole clean = clean
-clean_tail setting older _ (beyond {x = e} {xs = earlier} rest) clean = clean_tail setting older earlier rest (clean_before setting e earlier clean)
-
-pub each_tail : (P : List Step → Type 0) (setting : Setting) (older history : List Event) → IsTail older history → AtEach P (chronicle setting history)
+pub each_tail : (P : List Step → Type 0) (setting : Setting) (older history : List Event) → Tail older history → AtEach P (chronicle setting history)
     → AtEach P (chronicle setting older)
 each_tail P setting older _ whole each = each
-each_tail P setting older _ (beyond {xs = earlier} rest) each = each_tail P setting older earlier rest each.0
+each_tail P setting older _ (behind {xs = earlier} rest) each = each_tail P setting older earlier rest each.0
 
 -- what comes at an earlier event
-pub comes_at : (setting : Setting) (e : Event) (earlier history : List Event) → IsTail (e ∷ earlier) history → IsFair setting → IsClean setting history
-    → AtEach (Invariant setting) (chronicle setting history) → Comes setting earlier e
+pub comes_at : (setting : Setting) (e : Event) (earlier history : List Event) → Tail (e ∷ earlier) history → IsFair setting → IsClean setting history
+    → AtEach (Invariant setting) (chronicle setting history) → IsNextEvent setting earlier e
 comes_at setting e earlier history tail fair clean each =
     record {
       fair = fair;
-      clean = clean_tail setting (e ∷ earlier) history tail clean;
+      clean = clean_of setting (e ∷ earlier) history tail clean;
       before = (each_tail (Invariant setting) setting (e ∷ earlier) history tail each).0;
     }
 
@@ -66,7 +59,7 @@ pub failed_grows : (s : Seen) (seen : List Seen) (x : Thing) → s.closed ≡ fa
 failed_grows s seen x open_ is = rw (open_) (among_when x (failure_of s.event) (failures_since_closing seen) is)
 
 -- none of the things has failed where none failed first
-among_or : (x : Thing) (failed : Option Thing) (rest : List Thing) → of_some failed false (same_thing x) ≡ false → is_among rest x ≡ false
+among_or : (x : Thing) (failed : Option Thing) (rest : List Thing) → map_or failed false (same_thing x) ≡ false → is_among rest x ≡ false
     → is_among (cons_option failed rest) x ≡ false
 among_or x None rest new old = old
 among_or x (Some y) rest new old = or_from (same_thing x y) (is_among rest x) new old
@@ -108,7 +101,7 @@ some_failed things seen x a failed = go (first_failure things seen) refl
 pub record FirstFailure (setting : Setting) (things : List Thing) (history : List Event) (reference : ℕ) : Type 0 where
   pub event : Event
   pub earlier : List Event
-  pub tail : IsTail (event ∷ earlier) history
+  pub tail : Tail (event ∷ earlier) history
   pub fails : list_any (λ x. fails x event) things ≡ true
   pub at : reference_of event ≡ reference
   pub era : epoch_in_force (seen_of (chronicle setting earlier)) ≡ epoch_in_force (seen_of (chronicle setting history))
@@ -147,7 +140,7 @@ first_failing setting things (e ∷ earlier) r is = by_closed s.closed refl (fir
         record {
           event = f.event;
           earlier = f.earlier;
-          tail = beyond f.tail;
+          tail = behind f.tail;
           fails = f.fails;
           at = f.at;
           era = f.era ∙ sym (epoch_kept s (seen_of (chronicle setting earlier)) open_);

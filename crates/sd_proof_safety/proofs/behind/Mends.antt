@@ -4,39 +4,25 @@ use Rattle.std.specs.Prelude.{◌≡◌, ℕ, Bool, true, false, ◌&&◌, ◌||
 use Rattle.std.specs.List.{list_any, cons_option}
 use Rattle.std.specs.Option.{option_or}
 use Rattle.std.proofs.Common.{◌∙◌, ap, subst}
-use Rattle.std.proofs.lemmas.Bool.{or_parts}
-use Rattle.sd_checker.specs.Num.Lists.{of_some, leading}
+use Rattle.sd_checker.specs.Num.Lists.{map_or, leading}
 use Rattle.sd_checker.specs.Topo.declared.Thing.{Thing}
 use Rattle.sd_checker.specs.Domain.Things.{same_thing}
 use Rattle.sd_history.specs.Sched.declared.Event.{Event}
-use Rattle.sd_history.specs.Sched.Events.{reference_of, given, joined, is_stage, is_commit, is_seal}
+use Rattle.sd_history.specs.Sched.Events.{reference_of, given, joined, is_stage, is_commit}
 use Rattle.sd_history.specs.Things.{failure_of, mended}
-use Rattle.sd_history.specs.World.{Setting, Seen, fails, window, window_is_open, has_commit}
+use Rattle.sd_history.specs.World.{Setting, Seen, fails, window, has_commit}
 use Rattle.sd_history.specs.Steps.{seen_of}
 use Rattle.sd_history.specs.Chronicle.{chronicle, next_step, IsHistory}
-use Rattle.sd_history.specs.Refusals.{causes, window_order, window_order_seen}
 use Rattle.sd_history.specs.Premises.{failures_since_closing, has_mend}
-use Rattle.sd_history.proofs.Among.{first, later}
-use Rattle.sd_history.proofs.Contained.{none_holds}
 use Rattle.sd_proof_safety.specs.invariant.Eras.{first_failure}
 use Rattle.sd_proof_safety.specs.invariant.Coming.{IsClean}
 use Rattle.sd_proof_safety.proofs.invariant.Orders.{orderly, renews}
 use Rattle.sd_proof_safety.specs.behind.Feeding.{mended_now}
-
--- no stage comes in an open window
-no_stage : (setting : Setting) (e : Event) (h : List Event) → IsHistory setting (e ∷ h) → (is_stage e && window_is_open (seen_of (chronicle setting h))) ≡ false
-no_stage setting e h is =
-    let steps = chronicle setting h in
-    let order : window_order setting steps e ≡ false =
-    none_holds (causes setting steps e) _ is.1 (later (later (later (later (later (later (later (later (later (later (later (later first)))))))))))) in
-    let outside : window_order_seen setting (seen_of steps) e ≡ false = (or_parts (window_order_seen setting (seen_of steps) e) _ order).0 in
-    let last = or_parts _ (is_seal e && (not (window_is_open (seen_of steps)) || not (has_commit (seen_of steps)))) outside in
-    let front = or_parts _ _ last.0 in
-    (or_parts (is_stage e && window_is_open (seen_of steps)) _ front.0).0
+use Rattle.sd_proof_safety.proofs.windows.Eras.{stages_shut}
 
 in_open : (stage commits : Bool) (s : Seen) (w : Option (List Seen)) (g j m c : Bool) → (stage && is_some w) ≡ false
     → ((g || j || m || c) && (not (is_some w) || commits)) ≡ false → m ≡ true → is_some (mended s.event) ≡ m
-    → of_some (if stage then Some [] else option_map (λ v. s ∷ v) w) false (list_any (λ (x : Seen). is_some (mended x.event))) ≡ true
+    → map_or (if stage then Some [] else option_map (λ v. s ∷ v) w) false (list_any (λ (x : Seen). is_some (mended x.event))) ≡ true
 in_open false commits s (Some w) g j m c staged prepares is same = ap (λ b. b || list_any (λ (x : Seen). is_some (mended x.event)) w) (same ∙ is)
 in_open true commits s (Some w) g j m c staged prepares is same = cc
 in_open stage commits s None true j true c staged prepares is same = cc
@@ -45,8 +31,8 @@ in_open stage commits s None false false true c staged prepares is same = cc
 in_open stage commits s None g j false c staged prepares is same = cc
 
 in_old : (stage : Bool) (s : Seen) (w : Option (List Seen)) → (stage && is_some w) ≡ false
-    → of_some w false (list_any (λ (x : Seen). is_some (mended x.event))) ≡ true
-    → of_some (if stage then Some [] else option_map (λ v. s ∷ v) w) false (list_any (λ (x : Seen). is_some (mended x.event))) ≡ true
+    → map_or w false (list_any (λ (x : Seen). is_some (mended x.event))) ≡ true
+    → map_or (if stage then Some [] else option_map (λ v. s ∷ v) w) false (list_any (λ (x : Seen). is_some (mended x.event))) ≡ true
 in_old false s (Some w) staged is = or_true (is_some (mended s.event)) (list_any (λ (x : Seen). is_some (mended x.event)) w) is
   where
     or_true : (a b : Bool) → b ≡ true → (a || b) ≡ true
@@ -56,11 +42,11 @@ in_old true s (Some w) staged is = cc
 in_old stage s None staged is = cc
 
 lift : (s : Seen) (w : Option (List Seen)) → s.closed ≡ false
-    → of_some (if is_stage s.event then Some [] else option_map (λ v. s ∷ v) w) false (list_any (λ (x : Seen). is_some (mended x.event))) ≡ true
-    → of_some (if s.closed then None else if is_stage s.event then Some [] else option_map (λ v. s ∷ v) w) false
+    → map_or (if is_stage s.event then Some [] else option_map (λ v. s ∷ v) w) false (list_any (λ (x : Seen). is_some (mended x.event))) ≡ true
+    → map_or (if s.closed then None else if is_stage s.event then Some [] else option_map (λ v. s ∷ v) w) false
     (list_any (λ (x : Seen). is_some (mended x.event))) ≡ true
 lift s w open_ is =
-    ap (λ c. of_some (if c then None else if is_stage s.event then Some [] else option_map (λ v. s ∷ v) w) false
+    ap (λ c. map_or (if c then None else if is_stage s.event then Some [] else option_map (λ v. s ∷ v) w) false
     (list_any (λ (x : Seen). is_some (mended x.event)))) open_ ∙ is
 
 -- what was mended in the era was mended in the open window
@@ -89,10 +75,10 @@ mended_in_window setting (e ∷ h) is mended_ =
         lift s (window (seen_of (chronicle setting h))) open_
         (in_open (is_stage e) (has_commit (seen_of (chronicle setting h))) s (window (seen_of (chronicle setting h))) (is_some (given e)) (is_some (joined e))
         (is_some (mended e)) (is_commit e)
-        (no_stage setting e h is) (orderly setting e h is).prepares is_m refl)
+        (stages_shut setting e h is) (orderly setting e h is).prepares is_m refl)
     go false open_ false is_m true is_b rest any =
         lift s (window (seen_of (chronicle setting h))) open_
-        (in_old (is_stage e) s (window (seen_of (chronicle setting h))) (no_stage setting e h is) (rest refl))
+        (in_old (is_stage e) s (window (seen_of (chronicle setting h))) (stages_shut setting e h is) (rest refl))
     go false open_ false is_m false is_b rest any =
         absurd (none (is_some (mended e)) (mended_now (chronicle setting h)) is_m is_b
         (subst (λ c. list_any (λ (x : Seen). is_some (mended x.event))
@@ -134,7 +120,7 @@ first_stays things s seen open_ none =
   where
     none_fail : (ts : List Thing) → list_any (λ y. fails y s.event) ts ≡ false
     none_fail [] = refl
-    none_fail (y ∷ ts) = ap (λ o. of_some o false (same_thing y) || list_any (λ z. fails z s.event) ts) none ∙ none_fail ts
+    none_fail (y ∷ ts) = ap (λ o. map_or o false (same_thing y) || list_any (λ z. fails z s.event) ts) none ∙ none_fail ts
 
     or_none : (o : Option ℕ) → option_or o None ≡ o
     or_none None = refl

@@ -3,7 +3,7 @@
 use Rattle.std.specs.Prelude.{◌≡◌, ℕ, ◌+◌, ◌≤◌, Bool, true, false, ◌&&◌, not, List, [], ◌∷◌, nat_eq, nat_lt, length, Option, Some, None, option_map, is_some, refl, if◌then◌else◌}
 use Rattle.std.proofs.Common.{arith, ◌∙◌, ap, sym, subst}
 use Rattle.std.proofs.lemmas.Bool.{and_from, eqb-true, eq-eqb, lt-ltb, both_ways, false_from_ne_true}
-use Rattle.sd_checker.specs.Num.Lists.{of_some, same_number}
+use Rattle.sd_checker.specs.Num.Lists.{map_or, same_number}
 use Rattle.sd_checker.specs.Topo.Network.{Network}
 use Rattle.sd_checker.specs.Topo.declared.Thing.TheVariants as thing
 use Rattle.sd_checker.specs.Plan.declared.Plan.{Plan}
@@ -16,26 +16,27 @@ use Rattle.sd_history.specs.Sched.Events.{reference_of}
 use Rattle.sd_history.specs.World.{Setting, makes, fails, is_up, plan_numbered}
 use Rattle.sd_history.specs.Steps.{Act, Makes, Calls, Asks, Passes, Step, seen_of, acts_in, epoch_in, act_by, has_settled}
 use Rattle.sd_history.specs.Chronicle.{past_in, past_after, new_past, chronicle, next_step}
+use Rattle.sd_history.proofs.Given.{some_is}
 use Rattle.sd_proof_safety.specs.invariant.Bounds.{tick_gap, first_up, second_up}
 use Rattle.sd_proof_safety.specs.invariant.Eras.{era, plan_now, is_old, moved, on_primary, on_backup, live_past, heard_at, moved_at, silent_for, rests_for, belongs}
 use Rattle.sd_proof_safety.specs.invariant.Invariant.{Invariant, AtEach}
-use Rattle.sd_proof_safety.specs.invariant.Coming.{IsFair, IsClean, Comes, AtNext}
+use Rattle.sd_proof_safety.specs.invariant.Coming.{IsFair, IsClean, IsNextEvent, AtNext}
 use Rattle.sd_proof_safety.proofs.invariant.Prefix.{clean_before}
 use Rattle.sd_proof_safety.proofs.invariant.Sides.{implied, not_both}
 use Rattle.sd_proof_safety.specs.timers.Times.{AreTimed, did_by, makes_device, reference_after, moves, moved_in}
-use Rattle.sd_proof_safety.specs.timers.Since.{whole, beyond}
-use Rattle.sd_proof_safety.proofs.timers.Marks.{some_is}
+use Rattle.sd_proof_safety.specs.messages.Moments.{whole, behind}
 use Rattle.sd_proof_safety.proofs.timers.Pasts.{itself, onward, inside_duty, move_from_primary, is_reached}
 use Rattle.sd_proof_safety.proofs.timers.Turns.{IsMove, is_move, backup_by_move}
 use Rattle.sd_proof_safety.proofs.timers.Histories.{timely, timed}
 use Rattle.sd_proof_safety.proofs.timers.Periods.{reference_within}
 use Rattle.sd_proof_safety.proofs.waits.SameReferences.{moved_is}
 use Rattle.sd_proof_safety.proofs.waits.Waits.{Stands, old_stands, backup_root_silence, backup_root_rest}
-use Rattle.sd_proof_safety.proofs.waits.LookingBack.{Live, stands_by}
+use Rattle.sd_proof_safety.proofs.waits.LookingBack.{Live, stands_by, all_three}
 use Rattle.sd_proof_safety.specs.behind.Pieces.{SealsSoon}
 use Rattle.sd_proof_safety.proofs.waits.LeastWaits.{epoch_kept}
 use Rattle.sd_proof_safety.proofs.invariant.Facts.{IsSound, sound_now}
 use Rattle.sd_proof_safety.proofs.behind.BeforeFailure.{heard_rises}
+use Rattle.sd_proof_safety.proofs.moves.Ahead.{up_since}
 
 -- One step of a device that has moved after it: it had moved before and did not move now, or it stood on its primary and moves
 
@@ -76,19 +77,19 @@ by_call steps call b old there true was put id =
     both_ways (has_moved old) (move_from_primary old m.counter (is_reached steps b old there) m.moves).unmoved was) in
     stayed old there was (inside_duty old (after old call) (onward call none itself))
     (λ r before.
-    ap (λ c. if c then of_some (past_in steps b) before (λ y. of_some (moves (did_by y call)) before (λ k. r)) else before) id
-    ∙ ap (λ p. of_some p before (λ y. of_some (moves (did_by y call)) before (λ k. r))) there
-    ∙ ap (λ c. of_some (if c then counter_of call else None) before (λ k. r)) unmarked)
+    ap (λ c. if c then map_or (past_in steps b) before (λ y. map_or (moves (did_by y call)) before (λ k. r)) else before) id
+    ∙ ap (λ p. map_or p before (λ y. map_or (moves (did_by y call)) before (λ k. r))) there
+    ∙ ap (λ c. map_or (if c then counter_of call else None) before (λ k. r)) unmarked)
 by_call steps call b old there false was put id =
     let transition_is : transition_of old call ≡ Moved = backup_by_move old call was put in
     let m : IsMove old call = is_move old call transition_is in
     went old there was (move_from_primary old m.counter (is_reached steps b old there) m.moves).acts_not
     (inside_duty old (after old call) (onward call (ap taken_up transition_is) itself))
     (λ r before.
-    ap (λ c. if c then of_some (past_in steps b) before (λ y. of_some (moves (did_by y call)) before (λ k. r)) else before) id
-    ∙ ap (λ p. of_some p before (λ y. of_some (moves (did_by y call)) before (λ k. r))) there
-    ∙ ap (λ transition. of_some (if is_move_transition transition then counter_of call else None) before (λ k. r)) transition_is
-    ∙ ap (λ c. of_some (counter_of c) before (λ k. r)) m.tick)
+    ap (λ c. if c then map_or (past_in steps b) before (λ y. map_or (moves (did_by y call)) before (λ k. r)) else before) id
+    ∙ ap (λ p. map_or p before (λ y. map_or (moves (did_by y call)) before (λ k. r))) there
+    ∙ ap (λ transition. map_or (if is_move_transition transition then counter_of call else None) before (λ k. r)) transition_is
+    ∙ ap (λ c. map_or (counter_of c) before (λ k. r)) m.tick)
 
 pub course : (steps : List Step) (act : Act) (b : ℕ) (past : Past) → past_after act b (past_in steps b) ≡ Some past → has_moved past ≡ true
     → Course steps act b past
@@ -111,7 +112,7 @@ course steps (Calls m call) b past is put = go (nat_eq m b) refl is
     go true id same = here (past_in steps b) refl (eqb-true m b id) same
     go false id same =
         stayed past same put refl
-        (λ r before. ap (λ c. if c then of_some (past_in steps b) before (λ y. of_some (moves (did_by y call)) before (λ k. r)) else before) id)
+        (λ r before. ap (λ c. if c then map_or (past_in steps b) before (λ y. map_or (moves (did_by y call)) before (λ k. r)) else before) id)
 course steps (Asks m counter) b past is put = stayed past is put refl (λ r before. refl)
 course steps Passes b past is put = stayed past is put refl (λ r before. refl)
 
@@ -127,11 +128,6 @@ made_not steps (Calls m call) b past is put = refl
 made_not steps (Asks m counter) b past is put = refl
 made_not steps Passes b past is put = refl
 
-pub up_before : (m f was : Bool) → m ≡ false → of_some (if m then Some true else if f then Some false else None) was (λ told. told) ≡ true → was ≡ true
-up_before true f was none up = cc
-up_before false true was none up = cc
-up_before false false was none up = up
-
 -- right after a closing the backup root is on its primary
 pub begins : (settled root acts primary short : Bool) → (settled && (if root then acts else primary && short)) ≡ true → root ≡ false → primary ≡ true
 begins true false acts true short c r = refl
@@ -144,24 +140,13 @@ unmoved true false acts p = refl
 unmoved true true acts p = cc
 unmoved false moved_ acts p = cc
 
-pub standing : (live moved_ acts : Bool) → live ≡ true → moved_ ≡ false → acts ≡ false → (live && not moved_ && not acts) ≡ true
-standing true false false l m a = refl
-standing true false true l m a = cc
-standing true true acts l m a = cc
-standing false moved_ acts l m a = cc
-
-pub on_backup_by : (moved_ acts : Bool) → moved_ ≡ true → acts ≡ false → (moved_ && not acts) ≡ true
-on_backup_by true false m a = refl
-on_backup_by true true m a = cc
-on_backup_by false acts m a = cc
-
 pub not_root : (net : Network) (plan : Plan) → IsSound net plan → is_root plan plan.backup_root ≡ false
 not_root net plan facts =
     false_from_ne_true (is_root plan plan.backup_root)
     (λ is. not_both (nat_eq plan.backup_root plan.root) (eq-eqb plan.backup_root plan.root (sym (eqb-true plan.root plan.backup_root is))) facts.apart)
 
 -- the deadlines of the backup root
-module _ (setting : Setting) (h : List Event) (e : Event) (comes : Comes setting h e) where
+module _ (setting : Setting) (h : List Event) (e : Event) (comes : IsNextEvent setting h e) where
   pub silence_now : SealsSoon setting (chronicle setting h) (reference_of e)
       → is_old (chronicle setting h) (plan_now setting (chronicle setting h)).backup_root ≡ true
       → on_primary (chronicle setting h) (plan_now setting (chronicle setting h)).backup_root ≡ true
@@ -190,7 +175,7 @@ module _ (setting : Setting) (h : List Event) (e : Event) (comes : Comes setting
 pub record StandsBy (steps : List Step) (d : ℕ) (past : Past) : Type 0 where
   pub moved_is : moved steps d ≡ has_moved past
   pub acts_is : acts_in steps d ≡ is_acting past
-  pub epoch_is : epoch_in steps d ≡ Some (of_some (duty_now past) 0 (λ v. v.epoch))
+  pub epoch_is : epoch_in steps d ≡ Some (map_or (duty_now past) 0 (λ v. v.epoch))
 
 pub stands_so : (setting : Setting) (history : List Event) (d : ℕ) (past : Past) → is_up (seen_of (chronicle setting history)) d ≡ true
     → past_in (chronicle setting history) d ≡ Some past → StandsBy (chronicle setting history) d past
@@ -200,7 +185,7 @@ stands_so setting history d past up there =
     record {
       moved_is = l.moved_is ∙ ap has_moved same;
       acts_is = l.acts_is ∙ ap is_acting same;
-      epoch_is = l.epoch_is ∙ ap (λ q. Some (of_some (duty_now q) 0 (λ v. v.epoch))) same;
+      epoch_is = l.epoch_is ∙ ap (λ q. Some (map_or (duty_now q) 0 (λ v. v.epoch))) same;
     }
 
 module _ (setting : Setting) (fair : IsFair setting) (seals : AtNext SealsSoon setting) where
@@ -262,12 +247,12 @@ module _ (setting : Setting) (fair : IsFair setting) (seals : AtNext SealsSoon s
         let now : StandsBy steps b was = stands_so setting h b was up there in
         let next : StandsBy (chronicle setting (e ∷ h)) b past = stands_so setting (e ∷ h) b past up' there' in
         let old_ : is_old steps b ≡ true =
-        ap (λ o. same_number o (era steps)) (now.epoch_is ∙ ap (λ u. Some (of_some u 0 (λ v. v.epoch))) (sym duty) ∙ sym next.epoch_is)
+        ap (λ o. same_number o (era steps)) (now.epoch_is ∙ ap (λ u. Some (map_or u 0 (λ v. v.epoch))) (sym duty) ∙ sym next.epoch_is)
         ∙ ap (same_number (epoch_in (chronicle setting (e ∷ h)) b)) (sym (era_kept open_)) ∙ old in
         let rest : Moves (plan_now setting (chronicle setting (e ∷ h))) = subst (λ n. Moves (plan_numbered setting n)) (sym (era_kept open_)) earlier in
         let same : moved_at (chronicle setting (e ∷ h)) b ≡ moved_at steps b =
         moved_is setting (chronicle setting (e ∷ h)) all_timed b ∙ kept (reference_of e) (moved_in steps b) ∙ sym (moved_is setting steps all_timed.0 b) in
-        let rises = heard_rises setting h (e ∷ h) b (beyond whole) all_timed.0 all_timed in
+        let rises = heard_rises setting h (e ∷ h) b (behind whole) all_timed.0 all_timed in
         let le = rest old_ (now.moved_is ∙ put) in
         omega (arith, same, rises, le)
     by_course open_ past up old up' there' (went was there put still duty now_) =
@@ -275,16 +260,16 @@ module _ (setting : Setting) (fair : IsFair setting) (seals : AtNext SealsSoon s
         let now : StandsBy steps b was = stands_so setting h b was up there in
         let next : StandsBy (chronicle setting (e ∷ h)) b past = stands_so setting (e ∷ h) b past up' there' in
         let old_ : is_old steps b ≡ true =
-        ap (λ o. same_number o (era steps)) (now.epoch_is ∙ ap (λ u. Some (of_some u 0 (λ v. v.epoch))) (sym duty) ∙ sym next.epoch_is)
+        ap (λ o. same_number o (era steps)) (now.epoch_is ∙ ap (λ u. Some (map_or u 0 (λ v. v.epoch))) (sym duty) ∙ sym next.epoch_is)
         ∙ ap (same_number (epoch_in (chronicle setting (e ∷ h)) b)) (sym (era_kept open_)) ∙ old in
         let primary : on_primary steps b ≡ true =
-        standing (is_some (live_past steps b)) (moved steps b) (acts_in steps b) (ap (λ c. is_some (if c then past_in steps b else None)) up ∙ ap is_some there)
+        all_three (is_some (live_past steps b)) (moved steps b) (acts_in steps b) (ap (λ c. is_some (if c then past_in steps b else None)) up ∙ ap is_some there)
         (now.moved_is ∙ put) (now.acts_is ∙ still) in
-        let comes : Comes setting h e = record { fair = fair; clean = clean; before = each.0 } in
+        let comes : IsNextEvent setting h e = record { fair = fair; clean = clean; before = each.0 } in
         let short : Silent (plan_now setting (chronicle setting (e ∷ h))) =
         subst (λ n. Silent (plan_numbered setting n)) (sym (era_kept open_)) (silence_now setting h e comes (seals h e comes)) in
         let le = short old_ primary in
-        let rises = heard_rises setting h (e ∷ h) b (beyond whole) all_timed.0 all_timed in
+        let rises = heard_rises setting h (e ∷ h) b (behind whole) all_timed.0 all_timed in
         let same = moved_is setting (chronicle setting (e ∷ h)) all_timed b in
         let within : moved_in (chronicle setting (e ∷ h)) b ≤ reference_of e = reference_within moves setting (chronicle setting (e ∷ h)) all_timed b in
         omega (arith, le, rises, same, within)
@@ -297,7 +282,7 @@ module _ (setting : Setting) (fair : IsFair setting) (seals : AtNext SealsSoon s
         let st : Stands setting (chronicle setting (e ∷ h)) b = old_stands setting (e ∷ h) b old in
         let put_ : has_moved st.past ≡ true = sym st.moved_is ∙ put in
         let up : is_up (seen_of (chronicle setting h)) b ≡ true =
-        up_before (makes b e) (fails (thing.Device b) e) (is_up (seen_of (chronicle setting h)) b)
+        up_since (makes b e) (fails (thing.Device b) e) (is_up (seen_of (chronicle setting h)) b)
         (all_timed.1.fits.makes_it b ∙ made_not (chronicle setting h) (act_by setting (chronicle setting h) e) b st.past st.there put_) st.live in
         by_course open_ st.past up old st.live st.there (course (chronicle setting h) (act_by setting (chronicle setting h) e) b st.past st.there put_)
 

@@ -1,10 +1,10 @@
 -- The backup root is sealed before its first wait is over: at its start, or by the closing, at which it had heard at most W ago. By induction on the history:
 -- in
 -- an era it takes up nothing, since a duty that waits is of the staged plan.
-use Rattle.std.specs.Prelude.{◌≡◌, ℕ, ◌+◌, ◌*◌, ◌≤◌, Bool, true, false, ◌&&◌, not, List, [], ◌∷◌, nat_eq, nat_le, nat_lt, length, Option, Some, None, is_some, option_map, option_and_then, refl, if◌then◌else◌}
+use Rattle.std.specs.Prelude.{◌≡◌, ℕ, ◌+◌, ◌*◌, ◌≤◌, Bool, true, false, ◌&&◌, List, [], ◌∷◌, nat_eq, nat_le, nat_lt, length, Option, Some, None, is_some, option_map, option_and_then, refl, if◌then◌else◌}
 use Rattle.std.proofs.Common.{arith, ◌∙◌, ap, sym, subst}
 use Rattle.std.proofs.lemmas.Bool.{and_parts, and_from, eqb-true, eq-eqb, leb-true, lt-ltb}
-use Rattle.sd_checker.specs.Num.Lists.{of_some, same_number}
+use Rattle.sd_checker.specs.Num.Lists.{map_or, same_number}
 use Rattle.sd_checker.specs.Topo.declared.Thing.TheVariants as thing
 use Rattle.sd_checker.specs.Plan.declared.Plan.{Plan}
 use Rattle.sd_checker.specs.Plan.declared.Duty.{Duty}
@@ -12,14 +12,14 @@ use Rattle.sd_checker.specs.Plan.declared.Edge.{Edge}
 use Rattle.sd_checker.specs.Plan.Plans.{is_member, is_root}
 use Rattle.sd_checker.specs.CheckRoot.Timing.{silence}
 use Rattle.sd_history.specs.Msg.declared.Message.{Message}
-use Rattle.sd_history.specs.Core.Calls.{Call, Tick, Receive, Fix, Give, Commit, Seal, Transition, Entered, Accepted, Committed, Recommitted, Moved, TookOver, Emitted, Nothing, Past}
-use Rattle.sd_history.specs.Core.Words.{after, transition_of, duty_now, epoch_now, given_now, taken_up, is_acting, is_sealed, is_seal, emits_at, takes_over_at, moves_at, accepted_by, over_link, parent_edge, stamp_now}
-use Rattle.sd_history.specs.Msg.Stamps.{is_newer}
+use Rattle.sd_history.specs.Core.Calls.{Call, Transition, Entered, Accepted, Committed, Recommitted, Moved, TookOver, Emitted, Nothing, Past}
+use Rattle.sd_history.specs.Core.Words.{after, transition_of, duty_now, given_now, taken_up, is_sealed, is_seal, over_link}
 use Rattle.sd_history.specs.Sched.declared.Event.{Event}
 use Rattle.sd_history.specs.Sched.Events.{reference_of}
 use Rattle.sd_history.specs.World.{Setting, Seen, makes, fails, is_up, latest_reference, plan_numbered}
 use Rattle.sd_history.specs.Steps.{Act, Makes, Calls, Asks, Passes, Step, seen_of, act_by, acts_in, epoch_in, has_settled, live_answers, Answers}
 use Rattle.sd_history.specs.Chronicle.{past_in, past_after, new_past, chronicle, next_step, answers_by}
+use Rattle.sd_history.proofs.Given.{some_is, takes_given}
 use Rattle.sd_proof_safety.specs.invariant.Bounds.{first_low, first_up}
 use Rattle.sd_proof_safety.specs.invariant.Eras.{era, plan_now, is_old, moved, on_primary, live_past, heard_at, belongs}
 use Rattle.sd_proof_safety.specs.invariant.Invariant.{Invariant, AtEach}
@@ -28,8 +28,7 @@ use Rattle.sd_proof_safety.proofs.invariant.Parents.{live_is}
 use Rattle.sd_proof_safety.proofs.invariant.Prefix.{clean_before}
 use Rattle.sd_proof_safety.proofs.invariant.Sides.{implied}
 use Rattle.sd_proof_safety.specs.timers.Times.{AreTimed, makes_device, hears, seal_after, sealed_in}
-use Rattle.sd_proof_safety.specs.timers.Since.{whole, beyond}
-use Rattle.sd_proof_safety.proofs.timers.Marks.{some_is}
+use Rattle.sd_proof_safety.specs.messages.Moments.{whole, behind}
 use Rattle.sd_proof_safety.proofs.timers.Pasts.{Inside, itself, onward, inside_duty, was_unmoved, was_not_acting}
 use Rattle.sd_proof_safety.proofs.timers.Sealed.{seal_within, sealed_since}
 use Rattle.sd_proof_safety.proofs.timers.Emissions.{reference_at_making}
@@ -40,31 +39,34 @@ use Rattle.sd_proof_safety.specs.behind.Pieces.{SealsSoon}
 use Rattle.sd_proof_safety.proofs.waits.LeastWaits.{epoch_kept}
 use Rattle.sd_proof_safety.proofs.invariant.Facts.{IsSound, sound_now}
 use Rattle.sd_proof_safety.proofs.behind.BeforeFailure.{heard_rises}
-use Rattle.sd_proof_safety.proofs.behind.Moved.{StandsBy, stands_so, up_before, standing, not_root}
+use Rattle.sd_proof_safety.proofs.behind.Moved.{StandsBy, stands_so, not_root}
 use Rattle.sd_proof_safety.proofs.behind.Waiting.{waiting}
+use Rattle.sd_proof_safety.proofs.waits.LookingBack.{all_three}
+use Rattle.sd_proof_safety.proofs.moves.Ahead.{up_since}
+use Rattle.sd_proof_safety.proofs.windows.Leading.{stands_by}
 
 -- What is taken up was waiting
 
 accepted_takes_not : (b : Bool) (o : Option Edge) (duty : Duty)
-    → taken_up (of_some (if b then option_map Accepted o else None) Nothing (λ transition. transition)) ≡ Some duty → ⊥
+    → taken_up (map_or (if b then option_map Accepted o else None) Nothing (λ transition. transition)) ≡ Some duty → ⊥
 accepted_takes_not true None duty is = cc
 accepted_takes_not true (Some edge) duty is = cc
 accepted_takes_not false o duty is = cc
 
 receive_by : (g : Option Duty) (link : ℕ) (message : Message) (rest : Transition) (duty : Duty) → (taken_up rest ≡ Some duty → ⊥)
-    → taken_up (of_some
+    → taken_up (map_or
     (option_and_then (λ u. if nat_eq u.epoch message.epoch then option_map (Entered u) (option_and_then (over_link link) u.primary) else None) g) rest
     (λ transition. transition)) ≡ Some duty → g ≡ Some duty
 receive_by None link message rest duty none is = absurd (none is)
 receive_by (Some u) link message rest duty none is = go (nat_eq u.epoch message.epoch) (option_and_then (over_link link) u.primary) is
   where
-    go : (c : Bool) (o : Option Edge) → taken_up (of_some (if c then option_map (Entered u) o else None) rest (λ transition. transition)) ≡ Some duty
+    go : (c : Bool) (o : Option Edge) → taken_up (map_or (if c then option_map (Entered u) o else None) rest (λ transition. transition)) ≡ Some duty
         → Some u ≡ Some duty
     go true None h = absurd (none h)
     go true (Some edge) h = h
     go false o h = absurd (none h)
 
-commit_by : (g : Option Duty) (acts : Bool) (duty : Duty) → taken_up (of_some g Nothing (λ u. if acts then Recommitted u else Committed u)) ≡ Some duty
+commit_by : (g : Option Duty) (acts : Bool) (duty : Duty) → taken_up (map_or g Nothing (λ u. if acts then Recommitted u else Committed u)) ≡ Some duty
     → g ≡ Some duty
 commit_by None acts duty is = cc
 commit_by (Some u) true duty is = is
@@ -75,17 +77,6 @@ tick_by true b c duty is = cc
 tick_by false true c duty is = cc
 tick_by false false true duty is = cc
 tick_by false false false duty is = cc
-
-pub taken_waited : (old : Past) (call : Call) (duty : Duty) → taken_up (transition_of old call) ≡ Some duty → given_now old ≡ Some duty
-taken_waited old (Tick c) duty is = absurd (tick_by (emits_at old c) (takes_over_at old c) (moves_at old c) duty is)
-taken_waited old (Receive link message c) duty is =
-    receive_by (given_now old) link message (of_some (accepted_by old link message) Nothing (λ transition. transition)) duty
-    (accepted_takes_not (nat_eq (epoch_now old) message.epoch && is_newer message.stamp (stamp_now old))
-    (option_and_then (over_link link) (parent_edge old)) duty) is
-taken_waited old (Fix c clock eps) duty is = cc
-taken_waited old (Give u) duty is = cc
-taken_waited old (Commit c) duty is = commit_by (given_now old) (is_acting old) duty is
-taken_waited old Seal duty is = cc
 
 -- One step
 
@@ -99,14 +90,14 @@ pub data SealCourse (steps : List Step) (act : Act) (b : ℕ) (past : Past) : Ty
 by_taken : (steps : List Step) (call : Call) (b : ℕ) (old : Past) → past_in steps b ≡ Some old → nat_eq b b ≡ true → (t : Option Duty)
     → taken_up (transition_of old call) ≡ t → SealCourse steps (Calls b call) b (after old call)
 by_taken steps call b old there id (Some duty) is =
-    took old duty there refl (taken_waited old call duty is) (ap (λ o. of_some (option_map Some o) (duty_now old) (λ told. told)) is)
+    took old duty there refl (takes_given old call duty is) (ap (λ o. map_or (option_map Some o) (duty_now old) (λ told. told)) is)
 by_taken steps call b old there id None is =
     kept old there refl (onward call is itself)
     (λ r q before same.
-    ap (λ c. if c then of_some (past_in steps b) before
+    ap (λ c. if c then map_or (past_in steps b) before
     (λ p. if is_some (taken_up (transition_of p call)) then None else if is_some before then before else if is_seal call then Some r else None) else before)
     id
-    ∙ ap (λ o. of_some o before
+    ∙ ap (λ o. map_or o before
     (λ p. if is_some (taken_up (transition_of p call)) then None else if is_some before then before else if is_seal call then Some r else None)) there
     ∙ ap (λ o. if is_some o then None else if is_some before then before else if is_seal call then Some r else None) is
     ∙ ap (λ o. if is_some o then o else if is_seal call then Some r else None) same)
@@ -131,7 +122,7 @@ seal_course steps (Calls m call) b past is = go (nat_eq m b) refl is
     go true id same = here (past_in steps b) refl (eqb-true m b id) same
     go false id same =
         kept past same refl itself
-        (λ r q before is_. ap (λ c. if c then of_some (past_in steps b) before
+        (λ r q before is_. ap (λ c. if c then map_or (past_in steps b) before
         (λ p. if is_some (taken_up (transition_of p call)) then None else if is_some before then before else if is_seal call then Some
         r else None) else before) id ∙ is_)
 seal_course steps (Asks m counter) b past is = kept past is refl itself (λ r q before is_. is_)
@@ -145,7 +136,7 @@ settled_sealed setting history d n past up there settled =
     go (live_answers (chronicle setting history) d) (live_is setting history d
     ∙ ap (λ c. option_map answers_by (if c then past_in (chronicle setting history) d else None)) up ∙ ap (option_map answers_by) there) settled
   where
-    go : (o : Option Answers) → o ≡ Some (answers_by past) → of_some o false (λ a. nat_eq a.epoch n && a.sealed) ≡ true → is_sealed past ≡ true
+    go : (o : Option Answers) → o ≡ Some (answers_by past) → map_or o false (λ a. nat_eq a.epoch n && a.sealed) ≡ true → is_sealed past ≡ true
     go None is h = cc
     go (Some a) is h = ap (λ (x : Answers). x.sealed) (sym (some_is is)) ∙ (and_parts (nat_eq a.epoch n) a.sealed h).1
 
@@ -155,12 +146,6 @@ begun true false acts true short c r = (refl, c)
 begun true false acts false short c r = cc
 begun true true acts primary short c r = cc
 begun false root acts primary short c r = cc
-
-placed : (live moved_ acts : Bool) → (live && not moved_ && not acts) ≡ true → (moved_ ≡ false) × (acts ≡ false)
-placed true false false p = (refl, refl)
-placed true false true p = cc
-placed true true acts p = cc
-placed false moved_ acts p = cc
 
 module _ (setting : Setting) (fair : IsFair setting) where
   abbrev Sealed : List Event → Plan → Type 0
@@ -223,12 +208,12 @@ module _ (setting : Setting) (fair : IsFair setting) where
     by_course open_ (took was duty there makes_not waits taken) =
         let era_ : era (chronicle setting (e ∷ h)) ≡ era (chronicle setting h) = epoch_kept s (seen_of (chronicle setting h)) open_ in
         let up : is_up (seen_of (chronicle setting h)) b ≡ true =
-        up_before (makes b e) (fails (thing.Device b) e) (is_up (seen_of (chronicle setting h)) b) (all_timed.1.fits.makes_it b ∙ makes_not) st.live in
+        up_since (makes b e) (fails (thing.Device b) e) (is_up (seen_of (chronicle setting h)) b) (all_timed.1.fits.makes_it b ∙ makes_not) st.live in
         let due : duty.epoch ≡ era (chronicle setting h) + 1 =
         (waiting setting fair h (clean_before setting e h clean) each.0 b was up there).due
         (subst (λ n. belongs setting.net (plan_numbered setting n) b ≡ true) era_ member) duty waits in
         let now : StandsBy (chronicle setting (e ∷ h)) b st.past = stands_so setting (e ∷ h) b st.past st.live st.there in
-        let epoch_is : epoch_in (chronicle setting (e ∷ h)) b ≡ Some duty.epoch = now.epoch_is ∙ ap (λ u. Some (of_some u 0 (λ v. v.epoch))) taken in
+        let epoch_is : epoch_in (chronicle setting (e ∷ h)) b ≡ Some duty.epoch = now.epoch_is ∙ ap (λ u. Some (map_or u 0 (λ v. v.epoch))) taken in
         let same : duty.epoch ≡ era (chronicle setting (e ∷ h)) =
         eqb-true duty.epoch (era (chronicle setting (e ∷ h))) (sym (ap (λ o. same_number o (era (chronicle setting (e ∷ h)))) epoch_is) ∙ old) in
         absurd (omega (arith, due, same, era_))
@@ -236,23 +221,23 @@ module _ (setting : Setting) (fair : IsFair setting) where
         let steps : List Step = chronicle setting h in
         let era_ : era (chronicle setting (e ∷ h)) ≡ era steps = epoch_kept s (seen_of steps) open_ in
         let up : is_up (seen_of steps) b ≡ true =
-        up_before (makes b e) (fails (thing.Device b) e) (is_up (seen_of steps) b) (all_timed.1.fits.makes_it b ∙ makes_not) st.live in
+        up_since (makes b e) (fails (thing.Device b) e) (is_up (seen_of steps) b) (all_timed.1.fits.makes_it b ∙ makes_not) st.live in
         let then_ : StandsBy steps b was = stands_so setting h b was up there in
         let now : StandsBy (chronicle setting (e ∷ h)) b st.past = stands_so setting (e ∷ h) b st.past st.live st.there in
         let duty : duty_now st.past ≡ duty_now was = inside_duty was st.past inside in
         let old_ : is_old steps b ≡ true =
-        ap (λ o. same_number o (era steps)) (then_.epoch_is ∙ ap (λ u. Some (of_some u 0 (λ v. v.epoch))) (sym duty) ∙ sym now.epoch_is)
+        ap (λ o. same_number o (era steps)) (then_.epoch_is ∙ ap (λ u. Some (map_or u 0 (λ v. v.epoch))) (sym duty) ∙ sym now.epoch_is)
         ∙ ap (same_number (epoch_in (chronicle setting (e ∷ h)) b)) (sym era_) ∙ old in
-        let parts = placed (is_some (live_past (chronicle setting (e ∷ h)) b)) (moved (chronicle setting (e ∷ h)) b)
+        let parts = stands_by (is_some (live_past (chronicle setting (e ∷ h)) b)) (moved (chronicle setting (e ∷ h)) b)
         (acts_in (chronicle setting (e ∷ h)) b) primary in
         let primary_ : on_primary steps b ≡ true =
-        standing (is_some (live_past steps b)) (moved steps b) (acts_in steps b) (ap (λ c. is_some (if c then past_in steps b else None)) up ∙ ap is_some there)
+        all_three (is_some (live_past steps b)) (moved steps b) (acts_in steps b) (ap (λ c. is_some (if c then past_in steps b else None)) up ∙ ap is_some there)
         (then_.moved_is ∙ was_unmoved was st.past inside (sym now.moved_is ∙ parts.0))
         (then_.acts_is ∙ was_not_acting was st.past inside (sym now.acts_is ∙ parts.1)) in
         let rest : Says h plan = subst (λ n. Says h (plan_numbered setting n)) (sym era_) earlier in
         let seal = rest old_ primary_ in
         let le : seal.0 ≤ heard_at steps b + first_up setting.net plan = seal.2 in
-        let rises = heard_rises setting h (e ∷ h) b (beyond whole) all_timed.0 all_timed in
+        let rises = heard_rises setting h (e ∷ h) b (behind whole) all_timed.0 all_timed in
         (seal.0, at (reference_of e) seal.0 (sealed_in steps b) seal.1, omega (arith, le, rises))
 
     by_closed : (c : Bool) → s.closed ≡ c → Sealed (e ∷ h) plan

@@ -17,7 +17,7 @@ use Rattle.sd_proof_safety.specs.invariant.Bounds.{losses, depth, delay, tick_ga
 use Rattle.sd_checker.specs.CheckRoot.Timing.{round_gap}
 use Rattle.sd_proof_safety.specs.invariant.Eras.{era, plan_now, failed_now, device_failed_now, is_among, all_started, is_old, is_new, hit, heard_at, silent_for}
 use Rattle.sd_proof_safety.specs.invariant.Silences.{WholePathHears, BehindWaits, TakesOverSoon, BesideWaits}
-use Rattle.sd_proof_safety.specs.invariant.Coming.{Comes, AtNext}
+use Rattle.sd_proof_safety.specs.invariant.Coming.{IsNextEvent, AtNext}
 use Rattle.sd_proof_safety.proofs.invariant.Prefix.{any_passing}
 use Rattle.sd_proof_safety.proofs.invariant.Sides.{not_both}
 use Rattle.sd_proof_safety.proofs.waits.Waits.{Stands, old_stands}
@@ -69,7 +69,7 @@ old_or_new false failed up_ old new c m f u = cc
 
 module _ (setting : Setting) (unmended_ : AtNext BehindWaitsUnmended setting) (mended_ : AtNext BehindWaitsMended setting)
     (committed : AtNext BehindWaitsCommitted setting) where
-  module _ (x : Event) (h : List Event) (e : Event) (comes : Comes setting (x ∷ h) e) (d : ℕ) (st : StandsBehind setting (chronicle setting (x ∷ h)) d) where
+  module _ (x : Event) (h : List Event) (e : Event) (comes : IsNextEvent setting (x ∷ h) e) (d : ℕ) (st : StandsBehind setting (chronicle setting (x ∷ h)) d) where
     abbrev steps : List Step
     steps = chronicle setting (x ∷ h)
 

@@ -10,9 +10,9 @@ use Rattle.sd_history.specs.Sched.Events.{reference_of}
 use Rattle.sd_history.specs.World.{Setting, plan_numbered}
 use Rattle.sd_history.specs.Steps.{Step, epoch_in}
 use Rattle.sd_history.specs.Chronicle.{chronicle, next_step}
+use Rattle.sd_proof_safety.specs.messages.Moments.{Tail}
 use Rattle.sd_proof_safety.specs.invariant.Eras.{era, plan_now, failed_now, is_among, touches, is_behind, on_primary, heard_at}
 use Rattle.sd_proof_safety.proofs.invariant.Sides.{not_both}
-use Rattle.sd_proof_safety.specs.timers.Since.{IsTail}
 use Rattle.sd_proof_safety.specs.timers.Times.{AreTimed}
 use Rattle.sd_proof_safety.proofs.waits.LookingBack.{Was, was_on_primary}
 use Rattle.sd_proof_safety.specs.behind.Feeding.{StandsBehind}
@@ -20,7 +20,7 @@ use Rattle.sd_proof_safety.proofs.behind.Failing.{chronicle_tail}
 use Rattle.sd_proof_safety.proofs.behind.Broken.{touches_more}
 
 pub stood_then : (setting : Setting) (history : List Event) → AreTimed setting (chronicle setting history) → (d : ℕ)
-    → StandsBehind setting (chronicle setting history) d → (z : Event) (earlier : List Event) → IsTail (z ∷ earlier) history
+    → StandsBehind setting (chronicle setting history) d → (z : Event) (earlier : List Event) → Tail (z ∷ earlier) history
     → era (chronicle setting earlier) ≡ era (chronicle setting history)
     → ((y : Thing) → is_among (failed_now (chronicle setting earlier)) y ≡ true → is_among (failed_now (chronicle setting history)) y ≡ true)
     → heard_at (chronicle setting history) d < reference_of z → StandsBehind setting (chronicle setting earlier) d

@@ -9,11 +9,12 @@ use Rattle.sd_history.specs.Chronicle.{past_in, chronicle}
 use Rattle.sd_proof_safety.specs.invariant.Bounds.{depth, delay, tick_gap, first_up, second_up}
 use Rattle.sd_proof_safety.specs.invariant.Eras.{plan_now, is_old, live_past, moved, on_primary, on_backup, root_failed}
 use Rattle.sd_proof_safety.specs.invariant.Silences.{TakesOverSoon, root_failed_at}
-use Rattle.sd_proof_safety.specs.invariant.Coming.{Comes, AtNext}
+use Rattle.sd_proof_safety.specs.invariant.Coming.{IsNextEvent, AtNext}
 use Rattle.sd_proof_safety.proofs.invariant.Prefix.{clean_before}
 use Rattle.sd_proof_safety.specs.behind.Pieces.{SealsSoon, HearsNoMore}
-use Rattle.sd_proof_safety.proofs.behind.Moved.{silence_now, rest_now, moved_soon, standing, on_backup_by}
+use Rattle.sd_proof_safety.proofs.behind.Moved.{silence_now, rest_now, moved_soon}
 use Rattle.sd_proof_safety.proofs.waits.Waits.{Stands, old_stands}
+use Rattle.sd_proof_safety.proofs.waits.LookingBack.{all_three, both_two}
 
 -- an old device is live
 pub old_is_live : (setting : Setting) (history : List Event) (d : ℕ) → is_old (chronicle setting history) d ≡ true
@@ -27,14 +28,14 @@ pub primary_where : (setting : Setting) (history : List Event) (d : ℕ) → is_
     → moved (chronicle setting history) d ≡ false → acts_in (chronicle setting history) d ≡ false
     → on_primary (chronicle setting history) d ≡ true
 primary_where setting history d old put still =
-    standing (is_some (live_past (chronicle setting history) d)) (moved (chronicle setting history) d) (acts_in (chronicle setting history) d)
+    all_three (is_some (live_past (chronicle setting history) d)) (moved (chronicle setting history) d) (acts_in (chronicle setting history) d)
     (old_is_live setting history d old) put still
 
 pub backup_where : (steps : List Step) (d : ℕ) → moved steps d ≡ true → acts_in steps d ≡ false → on_backup steps d ≡ true
-backup_where steps d put still = on_backup_by (moved steps d) (acts_in steps d) put still
+backup_where steps d put still = both_two (moved steps d) (acts_in steps d) put still
 
 module _ (setting : Setting) (seals : AtNext SealsSoon setting) (no_more : AtNext HearsNoMore setting) where
-  module _ (x : Event) (h : List Event) (e : Event) (comes : Comes setting (x ∷ h) e) (failed : root_failed setting (chronicle setting (x ∷ h)) ≡ true)
+  module _ (x : Event) (h : List Event) (e : Event) (comes : IsNextEvent setting (x ∷ h) e) (failed : root_failed setting (chronicle setting (x ∷ h)) ≡ true)
       (old : is_old (chronicle setting (x ∷ h)) (plan_now setting (chronicle setting (x ∷ h))).backup_root ≡ true)
       (still : acts_in (chronicle setting (x ∷ h)) (plan_now setting (chronicle setting (x ∷ h))).backup_root ≡ false) where
     by_place : (m : Bool) → moved (chronicle setting (x ∷ h)) (plan_now setting (chronicle setting (x ∷ h))).backup_root ≡ m

@@ -3,9 +3,9 @@
 use Rattle.std.specs.Prelude.{◌≡◌, ℕ, ◌+◌, Bool, true, false, ◌&&◌, ◌||◌, not, List, [], ◌∷◌, cond, count_by, nat_eq, Option, Some, None, is_some, option_map, refl, if◌then◌else◌}
 use Rattle.std.specs.List.{list_any}
 use Rattle.std.proofs.Common.{arith, ◌∙◌, ap, sym, subst}
-use Rattle.std.proofs.lemmas.Bool.{and_parts, and_from, eqb-true, eq-eqb}
+use Rattle.std.proofs.lemmas.Bool.{and_parts, and_from, eqb-true}
 use Rattle.std.proofs.lemmas.List.Sums.{sum_by-cons}
-use Rattle.sd_checker.specs.Num.Lists.{of_some, same_number}
+use Rattle.sd_checker.specs.Num.Lists.{map_or}
 use Rattle.sd_checker.specs.Topo.declared.Thing.TheVariants as thing
 use Rattle.sd_checker.specs.Plan.declared.Duty.{Duty}
 use Rattle.sd_history.specs.Core.Calls.{Past}
@@ -16,6 +16,7 @@ use Rattle.sd_history.specs.Things.{mended}
 use Rattle.sd_history.specs.World.{Setting, Seen, makes, fails, is_up, has_commit, window, window_is_open, epoch_in_force, plan_numbered}
 use Rattle.sd_history.specs.Steps.{Step, seen_of, act_by, epoch_in, has_settled, live_answers, Answers}
 use Rattle.sd_history.specs.Chronicle.{past_in, chronicle, next_step}
+use Rattle.sd_history.proofs.Given.{some_is}
 use Rattle.sd_proof_safety.specs.invariant.Eras.{era, plan_now, is_new, belongs}
 use Rattle.sd_proof_safety.specs.invariant.Invariant.{Invariant, AtEach}
 use Rattle.sd_proof_safety.specs.invariant.Coming.{IsFair, IsClean}
@@ -23,11 +24,12 @@ use Rattle.sd_proof_safety.proofs.invariant.Prefix.{clean_before}
 use Rattle.sd_proof_safety.proofs.invariant.Orders.{orderly}
 use Rattle.sd_proof_safety.proofs.invariant.Sides.{implied, not_both}
 use Rattle.sd_proof_safety.specs.timers.Times.{AreTimed, makes_device}
-use Rattle.sd_proof_safety.proofs.timers.Marks.{some_is}
 use Rattle.sd_proof_safety.proofs.timers.Histories.{timely, timed}
 use Rattle.sd_proof_safety.proofs.waits.LeastWaits.{epoch_kept}
-use Rattle.sd_proof_safety.proofs.behind.Moved.{StandsBy, stands_so, up_before}
+use Rattle.sd_proof_safety.proofs.behind.Moved.{StandsBy, stands_so}
 use Rattle.sd_proof_safety.proofs.behind.WaitingDuties.{is_give, GivenCourse, fresh, kept, gave, given_course}
+use Rattle.sd_proof_safety.proofs.moves.Ahead.{up_since}
+use Rattle.sd_proof_safety.proofs.silences.FirstEra.{number_is}
 
 pub record HasWaiting (setting : Setting) (history : List Event) (d : ℕ) (past : Past) : Type 0 where
   pub new : epoch_now past ≡ era (chronicle setting history) + 1 → given_now past ≡ None
@@ -46,7 +48,7 @@ epoch_up s seen closed =
 -- right after a closing no window is open
 no_commit : (s : Seen) (seen : List Seen) → s.closed ≡ true → has_commit (s ∷ seen) ≡ false
 no_commit s seen closed =
-    ap (λ c. of_some (if c then None else if is_stage s.event then Some [] else option_map (λ w. s ∷ w) (window seen)) false
+    ap (λ c. map_or (if c then None else if is_stage s.event then Some [] else option_map (λ w. s ∷ w) (window seen)) false
     (list_any (λ (x : Seen). is_commit x.event))) closed
 
 -- a give after a commit is refused
@@ -55,9 +57,6 @@ refused true j m c true true none is commit = cc
 refused true j m c false true none is commit = cc
 refused true j m c o false none is commit = cc
 refused false j m c o hc none is commit = cc
-
-same_is_number : (o : Option ℕ) (n m : ℕ) → o ≡ Some n → n ≡ m → same_number o m ≡ true
-same_is_number o n m is same = ap (λ p. same_number p m) is ∙ eq-eqb n m same
 
 -- a device that settled is of that epoch
 settled_epoch : (setting : Setting) (history : List Event) (d n : ℕ) (past : Past) → is_up (seen_of (chronicle setting history)) d ≡ true
@@ -69,7 +68,7 @@ settled_epoch setting history d n past up there settled =
     st : StandsBy (chronicle setting history) d past
     st = stands_so setting history d past up there
 
-    go : (o : Option Answers) → live_answers (chronicle setting history) d ≡ o → of_some o false (λ a. nat_eq a.epoch n && a.sealed) ≡ true → epoch_now past ≡ n
+    go : (o : Option Answers) → live_answers (chronicle setting history) d ≡ o → map_or o false (λ a. nat_eq a.epoch n && a.sealed) ≡ true → epoch_now past ≡ n
     go None is h = cc
     go (Some a) is h =
         some_is (sym st.epoch_is ∙ ap (option_map (λ x. x.epoch)) is) ∙ eqb-true a.epoch n (and_parts (nat_eq a.epoch n) a.sealed h).0
@@ -89,18 +88,18 @@ module _ (setting : Setting) (fair : IsFair setting) where
     all_timed = timed setting (e ∷ h) (timely setting (e ∷ h) fair.network clean.is clean.premises)
 
     was_up : makes_device (act_by setting (chronicle setting h) e) d ≡ false → is_up (seen_of (chronicle setting h)) d ≡ true
-    was_up none = up_before (makes d e) (fails (thing.Device d) e) (is_up (seen_of (chronicle setting h)) d) (all_timed.1.fits.makes_it d ∙ none) up
+    was_up none = up_since (makes d e) (fails (thing.Device d) e) (is_up (seen_of (chronicle setting h)) d) (all_timed.1.fits.makes_it d ∙ none) up
 
     new_by : GivenCourse (chronicle setting h) (act_by setting (chronicle setting h) e) d past → epoch_now past ≡ era (chronicle setting h) + 1
         → given_now past ≡ None
     new_by (fresh none) is = none
     new_by (kept old there_ makes_not same duty) is =
-        same ∙ (earlier d old (was_up makes_not) there_).new (ap (λ u. of_some u 0 (λ v. v.epoch)) (sym duty) ∙ is)
+        same ∙ (earlier d old (was_up makes_not) there_).new (ap (λ u. map_or u 0 (λ v. v.epoch)) (sym duty) ∙ is)
     new_by (gave old duty there_ act same kept_) is =
         let was : StandsBy (chronicle setting h) d old = stands_so setting h d old (was_up (ap (λ a. makes_device a d) act)) there_ in
         absurd
-        (no_give d (same_is_number (epoch_in (chronicle setting h) d) (epoch_now old) (era (chronicle setting h) + 1) was.epoch_is
-        (ap (λ u. of_some u 0 (λ v. v.epoch)) (sym kept_) ∙ is))
+        (no_give d (number_is (epoch_in (chronicle setting h) d) (epoch_now old) (era (chronicle setting h) + 1) was.epoch_is
+        (ap (λ u. map_or u 0 (λ v. v.epoch)) (sym kept_) ∙ is))
         (is_give setting (chronicle setting h) e d duty act).gives)
 
     abbrev course : GivenCourse (chronicle setting h) (act_by setting (chronicle setting h) e) d past
@@ -135,7 +134,7 @@ module _ (setting : Setting) (fair : IsFair setting) where
     closed_new closed is =
         let steps : List Step = chronicle setting (e ∷ h) in
         let st : StandsBy steps d past = stands_so setting (e ∷ h) d past up there in
-        let new : is_new steps d ≡ true = same_is_number (epoch_in steps d) (epoch_now past) (era steps + 1) st.epoch_is is in
+        let new : is_new steps d ≡ true = number_is (epoch_in steps d) (epoch_now past) (era steps + 1) st.epoch_is is in
         let none = implied (not (has_commit (seen_of steps))) (not (is_new steps d)) (each.1.core.uncommitted.devices d)
         (ap not (no_commit s (seen_of (chronicle setting h)) closed)) in
         not_both (not (is_new steps d)) none (ap not new)

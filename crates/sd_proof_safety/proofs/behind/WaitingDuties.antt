@@ -3,7 +3,7 @@
 use Rattle.std.specs.Prelude.{◌≡◌, ℕ, Bool, true, false, List, nat_eq, Option, Some, None, is_some, option_map, refl, if◌then◌else◌}
 use Rattle.std.proofs.Common.{◌∙◌, ap, sym, subst}
 use Rattle.std.proofs.lemmas.Bool.{eqb-true}
-use Rattle.sd_checker.specs.Num.Lists.{of_some}
+use Rattle.sd_checker.specs.Num.Lists.{map_or}
 use Rattle.sd_checker.specs.Plan.declared.Plan.{Plan}
 use Rattle.sd_checker.specs.Plan.declared.Duty.{Duty}
 use Rattle.sd_checker.specs.Plan.Duties.{duty_of}
@@ -17,12 +17,12 @@ use Rattle.sd_history.specs.Sched.Events.{given}
 use Rattle.sd_history.specs.World.{Setting, staged, staged_epoch}
 use Rattle.sd_history.specs.Steps.{Act, Makes, Calls, Asks, Passes, Step, seen_of, act_by, flight_numbered}
 use Rattle.sd_history.specs.Chronicle.{past_in, past_after, new_past}
+use Rattle.sd_history.proofs.Given.{some_is}
 use Rattle.sd_proof_safety.specs.timers.Times.{makes_device}
-use Rattle.sd_proof_safety.proofs.timers.Marks.{some_is}
 
 -- a give brings the duty of the staged plan
 give_of : (setting : Setting) (steps : List Step) (m d : ℕ) (duty : Duty) (o : Option Plan)
-    → of_some o Passes (λ plan. Calls m (calls.Give (duty_of setting.net plan (staged_epoch (seen_of steps)) m))) ≡ Calls d (Give duty)
+    → map_or o Passes (λ plan. Calls m (calls.Give (duty_of setting.net plan (staged_epoch (seen_of steps)) m))) ≡ Calls d (Give duty)
     → duty.epoch ≡ staged_epoch (seen_of steps)
 give_of setting steps m d duty None same = cc
 give_of setting steps m d duty (Some plan) same = sym (ap epoch_of same)
@@ -35,7 +35,7 @@ give_of setting steps m d duty (Some plan) same = sym (ap epoch_of same)
     epoch_of (Calls n call) = of_call call
     epoch_of _ = 0
 
-receive_gives_not : (m d c : ℕ) (duty : Duty) (o : Option Flight) → of_some o Passes (λ f. Calls m (calls.Receive f.link f.message c)) ≡ Calls d (Give duty) → ⊥
+receive_gives_not : (m d c : ℕ) (duty : Duty) (o : Option Flight) → map_or o Passes (λ f. Calls m (calls.Receive f.link f.message c)) ≡ Calls d (Give duty) → ⊥
 receive_gives_not m d c duty None same = cc
 receive_gives_not m d c duty (Some f) same = cc
 
@@ -65,12 +65,12 @@ is_give setting steps (event.End r) d duty same = cc
 -- One step
 
 given_after : (old : Past) (call : Call) (t : Option Duty) → taken_up (transition_of old call) ≡ t
-    → given_now (after old call) ≡ (if is_some t then None else of_some (option_map Some (duty_given call)) (given_now old) (λ told. told))
+    → given_now (after old call) ≡ (if is_some t then None else map_or (option_map Some (duty_given call)) (given_now old) (λ told. told))
 given_after old call None is = rw (is) refl
 given_after old call (Some duty) is = rw (is) refl
 
 duty_kept : (old : Past) (call : Call) → taken_up (transition_of old call) ≡ None → duty_now (after old call) ≡ duty_now old
-duty_kept old call none = ap (λ o. of_some (option_map Some o) (duty_now old) (λ told. told)) none
+duty_kept old call none = ap (λ o. map_or (option_map Some o) (duty_now old) (λ told. told)) none
 
 pub data GivenCourse (steps : List Step) (act : Act) (d : ℕ) (past : Past) : Type 0 where
   fresh : given_now past ≡ None → GivenCourse steps act d past
@@ -82,7 +82,7 @@ pub data GivenCourse (steps : List Step) (act : Act) (d : ℕ) (past : Past) : T
 by_given : (steps : List Step) (call : Call) (d : ℕ) (old : Past) → past_in steps d ≡ Some old → (g : Option Duty) → duty_given call ≡ g
     → taken_up (transition_of old call) ≡ None → GivenCourse steps (Calls d call) d (after old call)
 by_given steps call d old there None is none =
-    kept old there refl (given_after old call None none ∙ ap (λ o. of_some (option_map Some o) (given_now old) (λ told. told)) is) (duty_kept old call none)
+    kept old there refl (given_after old call None none ∙ ap (λ o. map_or (option_map Some o) (given_now old) (λ told. told)) is) (duty_kept old call none)
 by_given steps (Give duty) d old there (Some u) is none = gave old duty there refl (given_after old (Give duty) None none) (duty_kept old (Give duty) none)
 by_given steps (Tick c) d old there (Some u) is none = cc
 by_given steps (Receive link message c) d old there (Some u) is none = cc

@@ -5,7 +5,7 @@ use Rattle.std.specs.Prelude.{◌≡◌, ℕ, ◌<◌, ◌≤◌, Bool, true, fa
 use Rattle.std.proofs.Common.{arith, ◌∙◌, ap, sym, subst}
 use Rattle.std.proofs.lemmas.Bool.{and_from, eq-eqb, lt-ltb}
 use Rattle.std.proofs.Math.Nat.{lt_of_lt_of_le}
-use Rattle.sd_checker.specs.Num.Lists.{of_some}
+use Rattle.sd_checker.specs.Num.Lists.{map_or}
 use Rattle.sd_checker.specs.Topo.declared.Thing.TheVariants as thing
 use Rattle.sd_checker.specs.Plan.Plans.{is_member, is_root}
 use Rattle.sd_history.specs.Core.Calls.{Call, Transition, Past}
@@ -19,7 +19,7 @@ use Rattle.sd_history.proofs.Given.{some_is}
 use Rattle.sd_history.proofs.Known.{up_case}
 use Rattle.sd_history.proofs.Parts.{premises_of}
 use Rattle.sd_proof_safety.specs.invariant.Eras.{era, plan_now, belongs, on_primary, does, did_by, latest_such}
-use Rattle.sd_proof_safety.specs.invariant.Coming.{IsClean, Comes}
+use Rattle.sd_proof_safety.specs.invariant.Coming.{IsClean, IsNextEvent}
 use Rattle.sd_proof_safety.proofs.invariant.Facts.{IsSound, sound_now}
 use Rattle.sd_proof_safety.proofs.invariant.Prefix.{clean_before}
 use Rattle.sd_proof_safety.proofs.invariant.Sides.{implied, not_both}
@@ -69,7 +69,7 @@ module _ (setting : Setting) (x : Event) (h : List Event) (clean : IsClean setti
       began : (transition : Transition) → transition_of past call ≡ transition → BeganToAct transition → ⊥
       began _ is by_takeover =
           not_both (does takes_over (chronicle setting h) (next_step setting (chronicle setting h) x) a)
-          (ap (λ o. of_some o false takes_over) (did past call act there ∙ ap (λ transition. Some (record { call = call; transition = transition })) is))
+          (ap (λ o. map_or o false takes_over) (did past call act there ∙ ap (λ transition. Some (record { call = call; transition = transition })) is))
           takes_not
       began _ is (by_commit duty) =
           let c = committed_is past call duty is in
@@ -87,7 +87,7 @@ module _ (setting : Setting) (x : Event) (h : List Event) (clean : IsClean setti
       by (alone same did_none) = record { past = actor.past; up = up; there = sym same ∙ actor.there; acts = actor.acts }
 
 -- right after a closing the backup root does not act
-none_closed : (setting : Setting) (x : Event) (h : List Event) (e : Event) → Comes setting (x ∷ h) e
+none_closed : (setting : Setting) (x : Event) (h : List Event) (e : Event) → IsNextEvent setting (x ∷ h) e
     → acts_in (chronicle setting (x ∷ h)) (plan_now setting (chronicle setting (x ∷ h))).backup_root ≡ true
     → (next_step setting (chronicle setting h) x).seen.closed ≡ true → ⊥
 none_closed setting x h e comes acts closed =
@@ -106,7 +106,7 @@ none_closed setting x h e comes acts closed =
 abbrev pub HasActed : List Step → Moment → ℕ → Type 0
 HasActed steps q b = (era q.earlier ≡ era steps) × (acts_in q.earlier b ≡ true)
 
-pub acted_since : (setting : Setting) (history : List Event) (e : Event) → Comes setting history e → (s0 b : ℕ)
+pub acted_since : (setting : Setting) (history : List Event) (e : Event) → IsNextEvent setting history e → (s0 b : ℕ)
     → b ≡ (plan_now setting (chronicle setting history)).backup_root → IsActor setting (chronicle setting history) b
     → took_over_at (chronicle setting history) b ≤ s0 → (q : Moment) → IsIn q (chronicle setting (e ∷ history)) → s0 < when q
     → HasActed (chronicle setting history) q b
@@ -126,7 +126,7 @@ acted_since setting (x ∷ h) e comes s0 b is actor took q (behind t) late =
     less : s0 < reference_of x
     less = lt_of_lt_of_le late (no_later setting q (chronicle setting (x ∷ h)) (history_chronicle setting (x ∷ h) comes.clean.is.0) t)
 
-    by_closed : (Comes setting h x → b ≡ (plan_now setting (chronicle setting h)).backup_root → IsActor setting (chronicle setting h) b
+    by_closed : (IsNextEvent setting h x → b ≡ (plan_now setting (chronicle setting h)).backup_root → IsActor setting (chronicle setting h) b
         → took_over_at (chronicle setting h) b ≤ s0 → HasActed (chronicle setting h) q b)
         → (c : Bool) → (next_step setting (chronicle setting h) x).seen.closed ≡ c → HasActed (chronicle setting (x ∷ h)) q b
     by_closed again true closed =

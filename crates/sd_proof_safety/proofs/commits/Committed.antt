@@ -18,17 +18,16 @@ use Rattle.sd_history.specs.Chronicle.{past_in, chronicle}
 use Rattle.sd_history.proofs.Known.{up_is_known}
 use Rattle.sd_proof_safety.specs.invariant.Bounds.{losses, depth, delay, tick_gap, rounds_gap, first_low, first_up, second_low, second_up, wait_low, IsTimedBy}
 use Rattle.sd_proof_safety.specs.invariant.Clauses.{commit_at, staged_root}
-use Rattle.sd_proof_safety.specs.invariant.Coming.{IsClean, Comes, AtNext}
+use Rattle.sd_proof_safety.specs.invariant.Coming.{IsClean, IsNextEvent, AtNext}
 use Rattle.sd_proof_safety.specs.invariant.Eras.{era, plan_now, failed_now, is_among, device_failed_now, is_old, is_new, is_ordinary, will_belong, hit, root_failed, all_started, beginning, heard_at, silent_for}
 use Rattle.sd_proof_safety.proofs.invariant.Facts.{IsSound}
 use Rattle.sd_proof_safety.proofs.invariant.Prefix.{any_passing}
 use Rattle.sd_proof_safety.proofs.invariant.Sides.{implied, not_both}
 use Rattle.sd_proof_safety.specs.timers.Times.{AreTimed}
-use Rattle.sd_proof_safety.specs.timers.Since.{IsTail}
-use Rattle.sd_proof_safety.specs.messages.Moments.{whole, behind, Moment, when, IsIn}
+use Rattle.sd_proof_safety.specs.messages.Moments.{Tail, whole, behind, Moment, when, IsIn}
 use Rattle.sd_proof_safety.proofs.waits.Standing.{clean, steps_timed, sound, is_up_then, heard_late}
 use Rattle.sd_proof_safety.proofs.waits.Waits.{Stands, old_stands}
-use Rattle.sd_proof_safety.proofs.silences.Phases.{failed_on, as_tail}
+use Rattle.sd_proof_safety.proofs.silences.Phases.{failed_on}
 use Rattle.sd_proof_safety.proofs.silences.States.{not_old_and_new, old_unless_new}
 use Rattle.sd_proof_safety.proofs.windows.Acting.{not_new}
 use Rattle.sd_proof_safety.proofs.windows.Committing.{ActingPast, acting_past, up_and_past, staged_plan}
@@ -39,8 +38,8 @@ use Rattle.sd_proof_safety.proofs.entering.Entering.{members_enter}
 use Rattle.sd_proof_safety.proofs.entering.States as states
 use Rattle.sd_proof_safety.specs.behind.Pieces.{HearsNoMore}
 use Rattle.sd_proof_safety.specs.behind.Feeding.{PathHearsNoMore, StandsBehind, took_over_at, MendedHears, MendedMoves, BehindWaitsCommitted}
-use Rattle.sd_proof_safety.proofs.behind.BeforeFailure.{begin_same, heard_rises, tail_timed}
-use Rattle.sd_proof_safety.proofs.behind.Failing.{chronicle_tail, clean_tail, comes_at, below}
+use Rattle.sd_proof_safety.proofs.behind.BeforeFailure.{begin_same, heard_rises}
+use Rattle.sd_proof_safety.proofs.behind.Failing.{chronicle_tail, comes_at}
 use Rattle.sd_proof_safety.proofs.behind.Sealing.{seals_soon}
 use Rattle.sd_proof_safety.proofs.behind.BackupRootTookOver.{took_over_soon}
 use Rattle.sd_proof_safety.proofs.behind.Paths.{backup_root_on_cut}
@@ -57,12 +56,15 @@ use Rattle.sd_proof_safety.proofs.commits.FoundCommit.{CommitOf, commit_of}
 use Rattle.sd_proof_safety.proofs.commits.SpareTime.{behind_waits_longer, took_over_early}
 use Rattle.sd_proof_safety.proofs.behind.StoodBehind.{stood_then}
 use Rattle.sd_proof_safety.proofs.commits.Sums.{begun_sum, spared_sum, heard_sum, early_sum, enters_sum, led_sum}
+use Rattle.sd_proof_safety.proofs.timers.Emissions.{timed_tail}
+use Rattle.sd_proof_safety.proofs.messages.Tails.{rest_of}
+use Rattle.sd_proof_safety.proofs.receipts.Stood.{clean_of}
 
 -- Before the commit, in the era
 
 -- an event that comes in the era, before which the device stands behind the backup root and no commit came
 record IsThen (setting : Setting) (z : Event) (earlier : List Event) (d : ℕ) : Type 0 where
-  comes : Comes setting earlier z
+  comes : IsNextEvent setting earlier z
   calm : has_commit (seen_of (chronicle setting earlier)) ≡ false
   stood : StandsBehind setting (chronicle setting earlier) d
   late : (era (chronicle setting earlier) ≡ 1) → reference_of z ≤ all_started setting (chronicle setting earlier) → ⊥
@@ -99,7 +101,7 @@ backup_old setting z (y ∷ ys) d t =
     up = is_up_then setting y ys z t.comes b fine.fits.backup_root fine.backup_member kept (λ early. t.late (eqb-true (era older) 1 early.0) early.1)
 
 module _ (setting : Setting) (longer : AtNext BehindWaitsLonger setting) (early_ : AtNext TookOverEarly setting) where
-  module _ (x : Event) (h : List Event) (e : Event) (comes : Comes setting (x ∷ h) e) (d : ℕ) (st : StandsBehind setting (chronicle setting (x ∷ h)) d)
+  module _ (x : Event) (h : List Event) (e : Event) (comes : IsNextEvent setting (x ∷ h) e) (d : ℕ) (st : StandsBehind setting (chronicle setting (x ∷ h)) d)
       (new_b : is_new (chronicle setting (x ∷ h)) (plan_now setting (chronicle setting (x ∷ h))).backup_root ≡ true) where
     abbrev steps : List Step
     steps = chronicle setting (x ∷ h)
@@ -145,7 +147,7 @@ module _ (setting : Setting) (longer : AtNext BehindWaitsLonger setting) (early_
     plan_same : plan_now setting (chronicle setting f.earlier) ≡ plan_now setting (chronicle setting (x ∷ h))
     plan_same = ap (plan_numbered setting) f.era_is
 
-    comes_then : Comes setting f.earlier (event.Commit f.reference f.device f.counter)
+    comes_then : IsNextEvent setting f.earlier (event.Commit f.reference f.device f.counter)
     comes_then = comes_at setting committed f.earlier (x ∷ h) f.tail comes.fair clean_ comes.before
 
     -- the device was a member of the staged plan, and has not entered yet
@@ -178,13 +180,13 @@ module _ (setting : Setting) (longer : AtNext BehindWaitsLonger setting) (early_
         stood : StandsBehind setting (chronicle setting f.earlier) d
         stood =
             stood_then setting (x ∷ h) all_timed d st committed f.earlier f.tail f.era_is
-            (λ y is. failed_on y (chronicle setting f.earlier) steps (as_tail (chronicle_tail setting f.earlier (x ∷ h) (below f.tail))) (let same_ =
+            (λ y is. failed_on y (chronicle setting f.earlier) steps ((chronicle_tail setting f.earlier (x ∷ h) (rest_of f.tail))) (let same_ =
             f.era_is in omega (arith, same_)) is) silent
 
-        same_start : (hs : List Event) → IsTail (committed ∷ hs) (x ∷ h) → is_old (chronicle setting hs) d ≡ true
+        same_start : (hs : List Event) → Tail (committed ∷ hs) (x ∷ h) → is_old (chronicle setting hs) d ≡ true
             → all_started setting (chronicle setting hs) ≡ all_started setting (chronicle setting (x ∷ h))
         same_start [] tail old = absurd (false≢true old)
-        same_start (y ∷ ys) tail old = ap (λ n. n + tick_gap setting.net) (begin_same setting y ys (x ∷ h) (below tail))
+        same_start (y ∷ ys) tail old = ap (λ n. n + tick_gap setting.net) (begin_same setting y ys (x ∷ h) (rest_of tail))
 
         then_ : IsThen setting (event.Commit f.reference f.device f.counter) f.earlier d
         then_ =
@@ -199,8 +201,8 @@ module _ (setting : Setting) (longer : AtNext BehindWaitsLonger setting) (early_
         old_then = backup_old setting committed f.earlier d then_
 
         heard_up : heard_at (chronicle setting f.earlier) d ≤ heard_at (chronicle setting (x ∷ h)) d
-        heard_up = heard_rises setting f.earlier (x ∷ h) d (below f.tail)
-            (tail_timed setting older steps (chronicle_tail setting f.earlier (x ∷ h) (below f.tail)) all_timed) all_timed
+        heard_up = heard_rises setting f.earlier (x ∷ h) d (rest_of f.tail)
+            (timed_tail setting older steps (chronicle_tail setting f.earlier (x ∷ h) (rest_of f.tail)) all_timed) all_timed
 
         -- the root committed
         by_root : root_failed setting (chronicle setting f.earlier) ≡ false → Short
@@ -214,7 +216,7 @@ module _ (setting : Setting) (longer : AtNext BehindWaitsLonger setting) (early_
         -- the backup root did
         module _ (root : root_failed setting (chronicle setting f.earlier) ≡ true) where
           clean_then : IsClean setting f.earlier
-          clean_then = clean_tail setting f.earlier (x ∷ h) (below f.tail) clean_
+          clean_then = clean_of setting f.earlier (x ∷ h) (rest_of f.tail) clean_
 
           committer : IsActor setting (chronicle setting f.earlier) f.device
           committer =

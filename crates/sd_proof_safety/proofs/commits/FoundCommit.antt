@@ -11,8 +11,7 @@ use Rattle.sd_proof_safety.specs.invariant.Eras.{era}
 use Rattle.sd_proof_safety.specs.invariant.Clauses.{commit_at}
 use Rattle.sd_proof_safety.specs.invariant.Coming.{IsFair, IsClean}
 use Rattle.sd_proof_safety.proofs.invariant.Prefix.{clean_before}
-use Rattle.sd_proof_safety.specs.timers.Since.{IsTail, whole, beyond}
-use Rattle.sd_proof_safety.specs.messages.Moments.{whole as whole_, behind, Moment, IsIn}
+use Rattle.sd_proof_safety.specs.messages.Moments.{Tail, whole, behind, Moment, IsIn}
 use Rattle.sd_proof_safety.proofs.messages.Tails.{history_chronicle}
 use Rattle.sd_proof_safety.proofs.windows.Committing.{AtCommit, commit_asks}
 use Rattle.sd_proof_safety.proofs.windows.Eras.{era_kept}
@@ -24,7 +23,7 @@ pub record CommitOf (setting : Setting) (history : List Event) : Type 0 where
   pub device : ℕ
   pub counter : ℕ
   pub earlier : List Event
-  pub tail : IsTail (event.Commit reference device counter ∷ earlier) history
+  pub tail : Tail (event.Commit reference device counter ∷ earlier) history
   pub at : commit_at (chronicle setting history) ≤ reference
   pub era_is : era (chronicle setting earlier) ≡ era (chronicle setting history)
   pub asks : AtCommit setting (chronicle setting earlier) device
@@ -62,7 +61,7 @@ module _ (setting : Setting) (fair : IsFair setting) where
         device = f.device;
         counter = f.counter;
         earlier = f.earlier;
-        tail = beyond f.tail;
+        tail = behind f.tail;
         at = omega (arith, at_, at_kept);
         era_is = f.era_is ∙ sym (era_kept s (chronicle setting h) open_);
         asks = f.asks;
@@ -75,7 +74,7 @@ module _ (setting : Setting) (fair : IsFair setting) where
       later_ : (q : Moment) → IsIn q (chronicle setting (x ∷ h))
           → IsIn q (chronicle setting (event.Commit f.reference f.device f.counter ∷ f.earlier)) ⊎ (has_commit (seen_of q.earlier) ≡ true)
           × (era q.earlier ≡ era (chronicle setting (x ∷ h)))
-      later_ q whole_ = inr (had, kept)
+      later_ q whole = inr (had, kept)
       later_ q (behind t) = by (f.place q t)
         where
           by : IsIn q (chronicle setting (event.Commit f.reference f.device f.counter ∷ f.earlier)) ⊎ (has_commit (seen_of q.earlier) ≡ true)

@@ -13,7 +13,7 @@ use Rattle.sd_history.specs.Steps.{Step, acts_in}
 use Rattle.sd_history.specs.Chronicle.{chronicle}
 use Rattle.sd_proof_safety.specs.invariant.Bounds.{losses, depth, delay, tick_gap, rounds_gap, first_low, first_up, second_low, second_up, wait_low, IsTimedBy}
 use Rattle.sd_proof_safety.specs.invariant.Clauses.{backup_root_acts}
-use Rattle.sd_proof_safety.specs.invariant.Coming.{Comes, AtNext}
+use Rattle.sd_proof_safety.specs.invariant.Coming.{IsNextEvent, AtNext}
 use Rattle.sd_proof_safety.specs.invariant.Eras.{era, plan_now, failed_now, all_started, is_old, moved, on_primary, path_hit, root_failed, heard_at, moved_at}
 use Rattle.sd_proof_safety.specs.invariant.Silences.{WholePathHears, root_failed_at}
 use Rattle.sd_proof_safety.proofs.invariant.Sides.{implied, not_both}
@@ -37,7 +37,7 @@ fed_twice r hd m l q le = omega (arith, le)
 
 module _ (setting : Setting) (hears_whole : AtNext WholePathHears setting) (seals : AtNext SealsSoon setting) (fallback_feeds : AtNext FallbackFeeds setting)
     (took_over : AtNext TookOverSoon setting) where
-  module _ (x : Event) (h : List Event) (e : Event) (comes : Comes setting (x ∷ h) e) (d : ℕ) (st : StandsBehind setting (chronicle setting (x ∷ h)) d)
+  module _ (x : Event) (h : List Event) (e : Event) (comes : IsNextEvent setting (x ∷ h) e) (d : ℕ) (st : StandsBehind setting (chronicle setting (x ∷ h)) d)
       (old_b : is_old (chronicle setting (x ∷ h)) (plan_now setting (chronicle setting (x ∷ h))).backup_root ≡ true)
       (bounded : path_hit setting (chronicle setting (x ∷ h)) (plan_now setting (chronicle setting (x ∷ h))).backup_root ≡ true
       → IsBounded setting (chronicle setting (x ∷ h)) (reference_of e) d) where
@@ -155,7 +155,7 @@ module _ (setting : Setting) (hears_whole : AtNext WholePathHears setting) (seal
 
   -- by the era, which has a mend or not
   module _ (path_no_more : AtNext PathHearsNoMore setting) (mended_hears : AtNext MendedHears setting) (mended_moves : AtNext MendedMoves setting) where
-    bounded_by : (x : Event) (h : List Event) (e : Event) (comes : Comes setting (x ∷ h) e) (d : ℕ) → StandsBehind setting (chronicle setting (x ∷ h)) d
+    bounded_by : (x : Event) (h : List Event) (e : Event) (comes : IsNextEvent setting (x ∷ h) e) (d : ℕ) → StandsBehind setting (chronicle setting (x ∷ h)) d
         → is_old (chronicle setting (x ∷ h)) (plan_now setting (chronicle setting (x ∷ h))).backup_root ≡ true → (m : Bool)
         → mended_now (chronicle setting (x ∷ h)) ≡ m
         → path_hit setting (chronicle setting (x ∷ h)) (plan_now setting (chronicle setting (x ∷ h))).backup_root ≡ true

@@ -2,7 +2,7 @@
 use Rattle.std.specs.Prelude.{◌≡◌, ℕ, ◌<◌, ◌≤◌, Bool, true, false, List, [], ◌∷◌, Option, Some, None, option_map, refl, if◌then◌else◌}
 use Rattle.std.specs.List.{list_any}
 use Rattle.std.proofs.Common.{arith, sym, ◌∙◌, ap, subst}
-use Rattle.sd_checker.specs.Num.Lists.{of_some, latest}
+use Rattle.sd_checker.specs.Num.Lists.{map_or, find_map_or}
 use Rattle.sd_history.specs.Sched.declared.Event.{Event}
 use Rattle.sd_history.specs.Sched.Events.{reference_of, is_stage, is_commit}
 use Rattle.sd_history.specs.World.{Setting, Seen, window, has_commit, latest_reference}
@@ -21,20 +21,20 @@ use Rattle.sd_proof_safety.proofs.frame.PlainSteps.{era_kept, window_goes_on, co
 
 -- the reference of the latest commit of a window
 abbrev commit_time : List Seen → ℕ
-commit_time w = latest (λ x. if is_commit x.event then Some (reference_of x.event) else None) w 0
+commit_time w = find_map_or (λ x. if is_commit x.event then Some (reference_of x.event) else None) w 0
 
 -- with a commit in its window a step neither closes nor opens one
 pub goes_on : (s : Seen) (c st : Bool) (w : Option (List Seen))
-    → of_some (if c then None else if st then Some [] else option_map (λ v. s ∷ v) w) false (list_any (λ x. is_commit x.event)) ≡ true
+    → map_or (if c then None else if st then Some [] else option_map (λ v. s ∷ v) w) false (list_any (λ x. is_commit x.event)) ≡ true
     → (c ≡ false) × (st ≡ false)
 goes_on s true st w has = cc
 goes_on s false true w has = cc
 goes_on s false false w has = (refl, refl)
 
-commit_here : (s : Seen) (w : Option (List Seen)) → of_some (option_map (λ v. s ∷ v) w) false (list_any (λ x. is_commit x.event)) ≡ true
-    → is_commit s.event ≡ true → of_some (option_map (λ v. s ∷ v) w) 0 commit_time ≡ reference_of s.event
+commit_here : (s : Seen) (w : Option (List Seen)) → map_or (option_map (λ v. s ∷ v) w) false (list_any (λ x. is_commit x.event)) ≡ true
+    → is_commit s.event ≡ true → map_or (option_map (λ v. s ∷ v) w) 0 commit_time ≡ reference_of s.event
 commit_here s None has is = cc
-commit_here s (Some v) has is = ap (λ b. of_some (if b then Some (reference_of s.event) else None) (commit_time v) (λ told. told)) is
+commit_here s (Some v) has is = ap (λ b. map_or (if b then Some (reference_of s.event) else None) (commit_time v) (λ told. told)) is
 
 -- the moment has the commit behind it, in the same era
 pub record IsSince (steps : List Step) (q : Moment) : Type 0 where
@@ -54,8 +54,8 @@ since setting q s (x ∷ earlier) is commit late (behind t) =
     by true here shut unstaged rest =
         let goes = window_goes_on setting earlier x shut unstaged in
         let at : commit_at (x ∷ earlier) ≡ reference_of x.seen.event =
-        ap (λ (w : Option (List Seen)). of_some w 0 commit_time) goes
-        ∙ commit_here x.seen (window (seen_of earlier)) (sym (ap (λ (w : Option (List Seen)). of_some w false (list_any (λ y. is_commit y.event))) goes)
+        ap (λ (w : Option (List Seen)). map_or w 0 commit_time) goes
+        ∙ commit_here x.seen (window (seen_of earlier)) (sym (ap (λ (w : Option (List Seen)). map_or w false (list_any (λ y. is_commit y.event))) goes)
         ∙ commit) here in
         let le : when q ≤ reference_of x.seen.event = no_later setting q (x ∷ earlier) is t in
         absurd (omega (arith, at, le, late))
@@ -66,15 +66,15 @@ since setting q s (x ∷ earlier) is commit late (behind t) =
         record { commit = r.commit; same = r.same ∙ sym (era_kept setting earlier x shut) }
 
 -- a commit is no later than the newest step
-commit_by : (s : Seen) (c st b : Bool) (w : Option (List Seen)) (n : ℕ) → is_commit s.event ≡ b → of_some w 0 commit_time ≤ n → n ≤ reference_of s.event
-    → of_some (if c then None else if st then Some [] else option_map (λ v. s ∷ v) w) 0 commit_time ≤ reference_of s.event
+commit_by : (s : Seen) (c st b : Bool) (w : Option (List Seen)) (n : ℕ) → is_commit s.event ≡ b → map_or w 0 commit_time ≤ n → n ≤ reference_of s.event
+    → map_or (if c then None else if st then Some [] else option_map (λ v. s ∷ v) w) 0 commit_time ≤ reference_of s.event
 commit_by s true st b w n is le time = omega arith
 commit_by s false true b w n is le time = omega arith
 commit_by s false false b None n is le time = omega arith
 commit_by s false false b (Some v) n is le time =
-    subst (λ c. of_some (if c then Some (reference_of s.event) else None) (commit_time v) (λ told. told) ≤ reference_of s.event) (sym is) (go b)
+    subst (λ c. map_or (if c then Some (reference_of s.event) else None) (commit_time v) (λ told. told) ≤ reference_of s.event) (sym is) (go b)
   where
-    go : (c : Bool) → of_some (if c then Some (reference_of s.event) else None) (commit_time v) (λ told. told) ≤ reference_of s.event
+    go : (c : Bool) → map_or (if c then Some (reference_of s.event) else None) (commit_time v) (λ told. told) ≤ reference_of s.event
     go true = omega arith
     go false = omega (arith, le, time)
 

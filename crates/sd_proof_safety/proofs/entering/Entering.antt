@@ -3,7 +3,7 @@ use Rattle.std.specs.Prelude.{◌≡◌, ℕ, ◌+◌, ◌*◌, ◌<◌, ◌≤�
 use Rattle.std.proofs.Common.{arith, sym, ◌∙◌, ap, subst}
 use Rattle.std.proofs.lemmas.Bool.{and_parts, eqb-true, ltb-true}
 use Rattle.std.proofs.Math.Nat.{le_antisymm}
-use Rattle.sd_checker.specs.Num.Lists.{of_some}
+use Rattle.sd_checker.specs.Num.Lists.{map_or}
 use Rattle.sd_checker.specs.Plan.Plans.{is_root}
 use Rattle.sd_history.specs.Msg.declared.Stamp.{Stamp}
 use Rattle.sd_history.specs.Core.Calls.{Call, Receive, Past}
@@ -91,7 +91,7 @@ hearer_new setting (x ∷ h) fair clean each q here stamp d link hears =
     let called : IsCalled (chronicle setting st.h) st.e d =
     called_is_up setting (chronicle setting st.h) d call st.e st.comes.clean.is.1 (sym (ap (λ (p : Moment). p.step.act) st.is) ∙ hears.act) in
     let up : is_up (seen_of (chronicle setting (st.e ∷ st.h))) d ≡ true =
-    ap (λ o. of_some o (is_up (seen_of (chronicle setting st.h)) d) (λ told. told)) called.stays ∙ called.up in
+    ap (λ o. map_or o (is_up (seen_of (chronicle setting st.h)) d) (λ told. told)) called.stays ∙ called.up in
     new_from setting (x ∷ h) fair clean each q here d (past_after_ takes.past call)
     (subst (λ (p : Moment). is_up (seen_of (upto p)) d ≡ true) (sym st.is) up) there epoch
 

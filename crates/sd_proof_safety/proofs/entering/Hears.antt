@@ -3,7 +3,7 @@
 use Rattle.std.specs.Prelude.{◌≡◌, ℕ, ◌+◌, ◌-◌, ◌*◌, ◌<◌, ◌≤◌, Bool, true, false, ◌&&◌, not, List, [], ◌∷◌, nat_eq, Some, is_some, refl, ◌⊎◌}
 use Rattle.std.proofs.Common.{arith, sym, ◌∙◌, ap, subst, inl, inr}
 use Rattle.std.proofs.lemmas.Bool.{and_parts, and_from, cases_lt, eqb-true, eq-eqb, false_from_ne_true}
-use Rattle.sd_checker.specs.Num.Lists.{of_some}
+use Rattle.sd_checker.specs.Num.Lists.{map_or}
 use Rattle.sd_checker.specs.Plan.Plans.{is_root}
 use Rattle.sd_history.specs.Core.Calls.{Call, Receive, Past}
 use Rattle.sd_history.specs.Core.Words.{after as past_after_, is_acting, epoch_now}
@@ -17,7 +17,7 @@ use Rattle.sd_proof_safety.specs.invariant.Bounds.{depth, delay, rounds_gap}
 use Rattle.sd_proof_safety.specs.invariant.Eras.{era, is_new, on_primary, moved, live_past, heard_at, silent_for}
 use Rattle.sd_proof_safety.specs.invariant.Clauses.{commit_at, staged_root}
 use Rattle.sd_proof_safety.specs.invariant.Invariant.{Core, Invariant, AtEach}
-use Rattle.sd_proof_safety.specs.invariant.Coming.{IsClean, Comes, AtNext}
+use Rattle.sd_proof_safety.specs.invariant.Coming.{IsClean, IsNextEvent, AtNext}
 use Rattle.sd_proof_safety.specs.invariant.Silences.{NewHears}
 use Rattle.sd_proof_safety.proofs.invariant.Prefix.{clean_before}
 use Rattle.sd_proof_safety.proofs.invariant.Sides.{implied, not_both}
@@ -54,7 +54,7 @@ idle_by false moved_ acts on = cc
 silent_by : (r h a b : ℕ) → r ≤ h + a + b → r - h ≤ a + b
 silent_by r h a b le = omega (arith, le)
 
-module _ (setting : Setting) (history : List Event) (e : Event) (comes : Comes setting history e) (d : ℕ) (new : is_new (chronicle setting history) d ≡ true)
+module _ (setting : Setting) (history : List Event) (e : Event) (comes : IsNextEvent setting history e) (d : ℕ) (new : is_new (chronicle setting history) d ≡ true)
     (other : nat_eq d (staged_root setting (chronicle setting history)) ≡ false) where
   abbrev steps : List Step
   steps = chronicle setting history
@@ -76,7 +76,7 @@ module _ (setting : Setting) (history : List Event) (e : Event) (comes : Comes s
       let linked =
       implied (is_new steps d && not (nat_eq d (staged_root setting steps))) _ (core.committed.linked d)
       (and_from (is_new steps d) (not (nat_eq d (staged_root setting steps))) new (ap not other)) in
-      let primary = (and_parts (on_primary steps d) _ (and_parts (on_primary steps d && of_some (parent_in steps d) false (is_new steps)) _ linked).0).0 in
+      let primary = (and_parts (on_primary steps d) _ (and_parts (on_primary steps d && map_or (parent_in steps d) false (is_new steps)) _ linked).0).0 in
       sym (acts_is setting history d own.past own.up own.there) ∙ idle_by (is_some (live_past steps d)) (moved steps d) (acts_in steps d) primary
 
   -- it last heard after the commit

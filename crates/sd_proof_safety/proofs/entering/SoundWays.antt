@@ -55,7 +55,7 @@ module _ (setting : Setting) (history : List Event) (q : Moment) (k : Known sett
 
 module _ (setting : Setting) (history : List Event) (e : Event) (s0 : ℕ) (after : IsAfter setting history e s0) where
   at_moment : (q : Moment) → IsIn q (chronicle setting (e ∷ history)) → s0 < when q → Known setting (chronicle setting history) q
-  at_moment q here late = known setting history e s0 after q here late
+  at_moment = known setting history e s0 after
 
   pub staged_hop : (y : ℕ) (hop : Hop) → IsClear setting.net (staged_plan setting (chronicle setting history)) [] y hop
       → IsSound setting (top_of setting history e) (staged_epoch (seen_of (chronicle setting history))) s0

@@ -48,7 +48,7 @@ entering_takes TookOver is = cc
 entering_takes Emitted is = cc
 entering_takes Nothing is = cc
 
-none_or_some : {A : Type 0} {o : Option A} {x : A} → o ≡ None → o ≡ Some x → ⊥
+pub none_or_some : {A : Type 0} {o : Option A} {x : A} → o ≡ None → o ≡ Some x → ⊥
 none_or_some none some = cc
 
 module _ (setting : Setting) (history : List Event) (e : Event) (s0 : ℕ) (after : IsAfter setting history e s0) where
@@ -114,7 +114,7 @@ module _ (setting : Setting) (history : List Event) (e : Event) (s0 : ℕ) (afte
       none_or_some (subst (λ p. given_now p ≡ None) (some_is (sym r.there ∙ there)) r.given) (takes_given past call u.0 u.1))
 
   at_moment : (q : Moment) → IsIn q (chronicle setting (e ∷ history)) → s0 < when q → Known setting (chronicle setting history) q
-  at_moment q here late = known setting history e s0 after q here late
+  at_moment = known setting history e s0 after
 
   root_source : IsSource setting (top_of setting history e) (staged_plan setting (chronicle setting history)).root s0
   root_source =

@@ -7,7 +7,7 @@ use Rattle.sd_history.specs.Steps.{Step, seen_of}
 use Rattle.sd_history.specs.Chronicle.{chronicle, next_step}
 use Rattle.sd_proof_safety.specs.invariant.Eras.{era}
 use Rattle.sd_proof_safety.specs.invariant.Invariant.{Invariant, AtEach}
-use Rattle.sd_proof_safety.specs.invariant.Coming.{IsFair, IsClean, Comes}
+use Rattle.sd_proof_safety.specs.invariant.Coming.{IsFair, IsClean, IsNextEvent}
 use Rattle.sd_proof_safety.proofs.invariant.Prefix.{clean_before}
 use Rattle.sd_proof_safety.specs.messages.Moments.{whole, behind, Moment, when, IsIn}
 use Rattle.sd_proof_safety.proofs.messages.Tails.{history_chronicle}
@@ -20,7 +20,7 @@ pub record Stage (setting : Setting) (q : Moment) : Type 0 where
   pub h : List Event
   pub e : Event
   pub is : q ≡ top_of setting h e
-  pub comes : Comes setting h e
+  pub comes : IsNextEvent setting h e
 
 pub stage : (setting : Setting) → IsFair setting → (q : Moment) (history : List Event) (e : Event) → IsClean setting (e ∷ history)
     → AtEach (Invariant setting) (chronicle setting history) → IsIn q (chronicle setting (e ∷ history)) → Stage setting q
@@ -34,7 +34,7 @@ pub record Known (setting : Setting) (steps : List Step) (q : Moment) : Type 0 w
   pub h : List Event
   pub e : Event
   pub is : q ≡ top_of setting h e
-  pub comes : Comes setting h e
+  pub comes : IsNextEvent setting h e
   pub commit : has_commit (seen_of (chronicle setting h)) ≡ true
   pub same : era (chronicle setting h) ≡ era steps
 

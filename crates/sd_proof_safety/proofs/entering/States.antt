@@ -3,7 +3,7 @@
 use Rattle.std.specs.Prelude.{◌≡◌, ℕ, ◌+◌, ◌≤◌, Bool, true, false, ◌&&◌, ◌||◌, not, List, [], ◌∷◌, length, nat_eq, nat_lt, Option, Some, None, is_some, option_map, option_and_then, refl, ◌⊎◌, if◌then◌else◌}
 use Rattle.std.proofs.Common.{arith, sym, ◌∙◌, ap, subst, inl, inr}
 use Rattle.std.proofs.lemmas.Bool.{and_parts, and_from, or_right, eqb-true, eq-eqb, lt-ltb, false_from_ne_true}
-use Rattle.sd_checker.specs.Num.Lists.{of_some, same_number}
+use Rattle.sd_checker.specs.Num.Lists.{map_or, same_number}
 use Rattle.sd_checker.specs.Topo.declared.Thing.{Thing}
 use Rattle.sd_checker.specs.Plan.declared.Hop.{Hop}
 use Rattle.sd_checker.specs.Plan.declared.Plan.{Plan}
@@ -25,7 +25,7 @@ use Rattle.sd_history.proofs.Given.{some_is}
 use Rattle.sd_proof_safety.specs.invariant.Eras.{era, plan_now, will_belong, is_old, is_new, is_blank, on_primary, sent_at, live_past, moved}
 use Rattle.sd_proof_safety.specs.invariant.Clauses.{staged_root}
 use Rattle.sd_proof_safety.specs.invariant.Invariant.{Core}
-use Rattle.sd_proof_safety.specs.invariant.Coming.{IsClean, Comes}
+use Rattle.sd_proof_safety.specs.invariant.Coming.{IsClean, IsNextEvent}
 use Rattle.sd_proof_safety.proofs.invariant.Parents.{IsPlanned, duties_planned, live_is}
 use Rattle.sd_proof_safety.proofs.invariant.Prefix.{clean_before}
 use Rattle.sd_proof_safety.proofs.invariant.Sides.{implied, not_both}
@@ -67,7 +67,7 @@ given_so : (g : Option Duty) (n : ℕ) → same_number (option_map (λ (u : Duty
 given_so None n is = cc
 given_so (Some u) n is = (u, refl, eqb-true u.epoch n is)
 
-nothing_fails : (o : Option Thing) (y : Thing) → is_some o ≡ false → is_thing o y ≡ false
+pub nothing_fails : (o : Option Thing) (y : Thing) → is_some o ≡ false → is_thing o y ≡ false
 nothing_fails None y none = refl
 nothing_fails (Some x) y none = cc
 
@@ -76,7 +76,7 @@ nobody_made None None d a b = refl
 nobody_made (Some x) p d a b = cc
 nobody_made None (Some x) d a b = cc
 
-module _ (setting : Setting) (h : List Event) (e : Event) (comes : Comes setting h e) (commit : has_commit (seen_of (chronicle setting h)) ≡ true) where
+module _ (setting : Setting) (h : List Event) (e : Event) (comes : IsNextEvent setting h e) (commit : has_commit (seen_of (chronicle setting h)) ≡ true) where
   abbrev steps : List Step
   steps = chronicle setting h
 
@@ -108,10 +108,10 @@ module _ (setting : Setting) (h : List Event) (e : Event) (comes : Comes setting
   some = staged_some setting steps opened
 
   pub root_is : staged_root setting (chronicle setting h) ≡ (staged_plan setting (chronicle setting h)).root
-  root_is = ap (λ (o : Option Plan). of_some o 0 (λ p. p.root)) some
+  root_is = ap (λ (o : Option Plan). map_or o 0 (λ p. p.root)) some
 
   pub staged_member : (x : ℕ) → is_member (staged_plan setting (chronicle setting h)) x ≡ is_staged_member setting (seen_of (chronicle setting h)) x
-  staged_member x = sym (ap (λ (o : Option Plan). of_some o false (λ p. is_member p x)) some)
+  staged_member x = sym (ap (λ (o : Option Plan). map_or o false (λ p. is_member p x)) some)
 
   -- nothing fails with the event, and nobody is made
   pub rests : RestsAt e
@@ -173,10 +173,10 @@ module _ (setting : Setting) (h : List Event) (e : Event) (comes : Comes setting
     duty_so : (past : Past) → past_in (chronicle setting h) y ≡ Some past → epoch_now past ≡ staged_epoch (seen_of (chronicle setting h)) → (o : Option Duty)
         → duty_now past ≡ o
         → duty_now past ≡ Some (duty_of setting.net (staged_plan setting (chronicle setting h)) (staged_epoch (seen_of (chronicle setting h))) y)
-    duty_so past there epoch None none = let zero_ : 0 ≡ era steps + 1 = sym (ap (λ (o : Option Duty). of_some o 0 (λ u. u.epoch)) none) ∙ epoch in
+    duty_so past there epoch None none = let zero_ : 0 ≡ era steps + 1 = sym (ap (λ (o : Option Duty). map_or o 0 (λ u. u.epoch)) none) ∙ epoch in
         absurd (omega (arith, zero_))
     duty_so past there epoch (Some u) has =
-        let number : u.epoch ≡ next = sym (ap (λ (o : Option Duty). of_some o 0 (λ v. v.epoch)) has) ∙ epoch in
+        let number : u.epoch ≡ next = sym (ap (λ (o : Option Duty). map_or o 0 (λ v. v.epoch)) has) ∙ epoch in
         let planned : IsPlanned setting y u = (duties_planned setting h y past there).duty u has in
         has ∙ ap Some (planned.is ∙ ap (λ n. duty_of setting.net (plan_numbered setting n) n y) number)
 
@@ -188,7 +188,7 @@ module _ (setting : Setting) (h : List Event) (e : Event) (comes : Comes setting
         let linked =
         implied (is_new steps y && not (nat_eq y (staged_root setting steps))) _ (core.committed.linked y)
         (and_from (is_new steps y) (not (nat_eq y (staged_root setting steps))) new (ap not apart)) in
-        let primary = (and_parts (on_primary steps y) _ (and_parts (on_primary steps y && of_some (parent_in steps y) false (is_new steps)) _ linked).0).0 in
+        let primary = (and_parts (on_primary steps y) _ (and_parts (on_primary steps y && map_or (parent_in steps y) false (is_new steps)) _ linked).0).0 in
         let put = stands_by (is_some (live_past steps y)) (moved steps y) (acts_in steps y) primary in
         ready_of setting.net plan next y hop past (duty_so past there epoch (duty_now past) refl) (sym (moved_is setting h y past own.up there) ∙ put.0)
         (sym (acts_is setting h y past own.up there) ∙ put.1) clear.primary

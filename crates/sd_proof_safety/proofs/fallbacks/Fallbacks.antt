@@ -3,7 +3,7 @@ use Rattle.std.specs.Prelude.{◌≡◌, ℕ, ◌<◌, ◌≤◌, Bool, true, fa
 use Rattle.std.proofs.Common.{arith, ◌∙◌, ap, sym, subst, inl, inr}
 use Rattle.std.proofs.lemmas.Bool.{and_parts, and_from, or_cases, or_left, or_right, or_from, cases_lt, eqb-true, eq-eqb, not-true, not-false, false_from_ne_true}
 use Rattle.std.proofs.Math.Nat.{le_antisymm}
-use Rattle.sd_checker.specs.Num.Lists.{of_some, has, same_number}
+use Rattle.sd_checker.specs.Num.Lists.{map_or, has, same_number}
 use Rattle.sd_checker.specs.Topo.declared.Thing.{Thing}
 use Rattle.sd_checker.specs.Topo.declared.Thing.TheVariants as thing
 use Rattle.sd_checker.specs.Domain.Things.{same_thing}
@@ -30,7 +30,7 @@ use Rattle.sd_proof_safety.proofs.invariant.Sides.{implied, not_both}
 use Rattle.sd_proof_safety.proofs.invariant.Staying.{old_is_member}
 use Rattle.sd_proof_safety.specs.messages.Moments.{Tail}
 use Rattle.sd_proof_safety.proofs.silences.States.{not_old_and_new}
-use Rattle.sd_proof_safety.proofs.silences.Phases.{era_grows, failed_on, chronicles}
+use Rattle.sd_proof_safety.proofs.silences.Phases.{era_grows, failed_on}
 use Rattle.sd_proof_safety.proofs.silences.WalkWays.{Walks, over, walks}
 use Rattle.sd_proof_safety.proofs.silences.Paths.{IsClear, clear_walk, path_misses_cut}
 use Rattle.sd_proof_safety.proofs.silences.FallbackWay.{things_fine, on_fallback, link_of_fallback, fallback_hop}
@@ -41,6 +41,7 @@ use Rattle.sd_proof_safety.proofs.receipts.Stood.{core_of, clean_of, each_of, hi
 use Rattle.sd_proof_safety.proofs.messages.Tails.{tail_trans}
 use Rattle.sd_proof_safety.proofs.terms.Actors.{IsActor, actor_is_current}
 use Rattle.sd_proof_safety.proofs.fallbacks.Onward.{Onward, onward}
+use Rattle.sd_proof_safety.proofs.behind.Failing.{chronicle_tail}
 
 -- what is among the filtered is among all
 pub among_all : (p : Thing → Bool) (xs : List Thing) (x : Thing) → is_among (filter p xs) x ≡ true → is_among xs x ≡ true
@@ -156,7 +157,7 @@ module _ (setting : Setting) (history : List Event) (fair : IsFair setting) (cle
       not-false (is_no_ancestor setting.net plan b)
       (none_found (λ d. not (is_no_ancestor setting.net plan d)) (length setting.net.devices) b fine.accepted.ancestor fine.fits.backup_root) in
       not-true (on_walk setting.net plan hop.parent b)
-      (sym (ap (λ (o : Option Hop). of_some o true
+      (sym (ap (λ (o : Option Hop). map_or o true
       (λ k. if is_backup_root plan b then not (on_walk setting.net plan k.parent b) else not
       (has (devices_of k.parent (short_walk setting.net plan k.parent)) b))) is_hop
       ∙ ap (λ c. if c then not (on_walk setting.net plan hop.parent b) else not (has (devices_of hop.parent (short_walk setting.net plan hop.parent)) b))
@@ -190,7 +191,7 @@ module _ (setting : Setting) (history : List Event) (fair : IsFair setting) (cle
       core = core_of setting then_ each_then
 
       below_now : Tail (chronicle setting then_) (chronicle setting history)
-      below_now = chronicles setting then_ history tail
+      below_now = chronicle_tail setting then_ history tail
 
       module _ (same : era (chronicle setting then_) ≡ era (chronicle setting history)) where
         same_plan : plan_now setting (chronicle setting then_) ≡ plan_now setting (chronicle setting history)

@@ -3,7 +3,7 @@ use Rattle.std.specs.Prelude.{◌≡◌, ℕ, zero, suc, ◌+◌, ◌*◌, ◌<�
 use Rattle.std.proofs.Common.{arith, ◌∙◌, ap, sym, subst, inl, inr}
 use Rattle.std.proofs.lemmas.Bool.{and_from, or_left, or_right, cases_lt, eqb-true, eq-eqb, false_from_ne_true}
 use Rattle.std.proofs.Math.Nat.{le_antisymm}
-use Rattle.sd_checker.specs.Num.Lists.{of_some, has, same_number}
+use Rattle.sd_checker.specs.Num.Lists.{map_or, has, same_number}
 use Rattle.sd_checker.specs.Topo.Network.{greatest_delay}
 use Rattle.sd_checker.specs.Plan.declared.Hop as declared
 use Rattle.sd_checker.specs.Plan.declared.Plan.{Plan}
@@ -27,7 +27,7 @@ use Rattle.sd_proof_safety.specs.invariant.Eras.{era, plan_now, heard_at, is_old
 use Rattle.sd_proof_safety.specs.invariant.Clauses.{backup_root_stays}
 use Rattle.sd_proof_safety.specs.invariant.Silences.{root_failed_at}
 use Rattle.sd_proof_safety.specs.invariant.Invariant.{Invariant, HasFallback, AtEach}
-use Rattle.sd_proof_safety.specs.invariant.Coming.{IsClean, Comes, AtNext}
+use Rattle.sd_proof_safety.specs.invariant.Coming.{IsClean, IsNextEvent, AtNext}
 use Rattle.sd_proof_safety.proofs.invariant.Facts.{IsSound, sound_now}
 use Rattle.sd_proof_safety.proofs.invariant.Parents.{IsPlanned, duties_planned}
 use Rattle.sd_proof_safety.proofs.invariant.Prefix.{clean_before}
@@ -44,7 +44,7 @@ use Rattle.sd_proof_safety.proofs.messages.Flowing.{tail_rest}
 use Rattle.sd_proof_safety.proofs.waits.Waits.{Stands, old_stands}
 use Rattle.sd_proof_safety.proofs.waits.LookingBack.{two_parts}
 use Rattle.sd_proof_safety.proofs.silences.FallbackWay.{falls, the_hop}
-use Rattle.sd_proof_safety.proofs.silences.Phases.{era_grows, chronicles}
+use Rattle.sd_proof_safety.proofs.silences.Phases.{era_grows}
 use Rattle.sd_proof_safety.specs.frame.Descents.{TakesFromAbove}
 use Rattle.sd_proof_safety.proofs.frame.Descending.{takes_from_above}
 use Rattle.sd_proof_safety.proofs.frame.Telling.{links_tell}
@@ -57,11 +57,13 @@ use Rattle.sd_proof_safety.proofs.entering.Stages.{Stage, stage}
 use Rattle.sd_proof_safety.proofs.spans.PathHears.{spared}
 use Rattle.sd_proof_safety.specs.fallbacks.Moved.{MovedHearsNoMore}
 use Rattle.sd_proof_safety.proofs.traced.UpTheWalk.{FromRoot, at_root, from_root}
-use Rattle.sd_proof_safety.proofs.traced.Roots.{root_takes_none, not_acting}
+use Rattle.sd_proof_safety.proofs.traced.Roots.{root_takes_none}
 use Rattle.sd_proof_safety.proofs.traced.Unmoved.{started_by}
 use Rattle.sd_proof_safety.proofs.traced.BeforeFailure.{emits_before}
 use Rattle.sd_proof_safety.proofs.traced.Primaries.{on_path, heard_by_failure}
 use Rattle.sd_proof_safety.proofs.fallbacks.Fallbacks.{reach, stood_on_fallback}
+use Rattle.sd_proof_safety.proofs.behind.Failing.{chronicle_tail}
+use Rattle.sd_proof_safety.proofs.messages.Following.{parent_is_idle}
 
 -- what accepts begins no round
 accepts_no_round : (transition : Transition) (edge : Edge) → accepted_over transition ≡ Some edge → is_emission transition ≡ true → ⊥
@@ -97,7 +99,7 @@ parent_of_edge setting y h (Some g) edge is same = ap (λ (k : declared.Hop). k.
 longer : (a g k d : ℕ) → a ≤ g + k * d → a ≤ g + (k + 1) * d
 longer a g k d le = let more : (k + 1) * d ≡ k * d + d = omega (arith) in omega (arith, le, more)
 
-module _ (setting : Setting) (x : Event) (h : List Event) (e : Event) (comes : Comes setting (x ∷ h) e)
+module _ (setting : Setting) (x : Event) (h : List Event) (e : Event) (comes : IsNextEvent setting (x ∷ h) e)
     (failed : root_failed setting (chronicle setting (x ∷ h)) ≡ true)
     (heard : IsHeard setting (x ∷ h) (plan_now setting (chronicle setting (x ∷ h))).backup_root (era (chronicle setting (x ∷ h)))) where
   abbrev steps : List Step
@@ -176,7 +178,7 @@ module _ (setting : Setting) (x : Event) (h : List Event) (e : Event) (comes : C
       let was : WasAlive setting of.events y past = was_alive setting of.events (history_of setting of.events st.h of.tail clean_at.is) y past then_ in
       let tail : Tail was.then_ st.h = tail_trans was.tail of.tail in
       let le : era (chronicle setting was.then_) ≤ era (chronicle setting st.h) =
-      era_grows (chronicle setting was.then_) (chronicle setting st.h) (chronicles setting was.then_ st.h tail) in
+      era_grows (chronicle setting was.then_) (chronicle setting st.h) (chronicle_tail setting was.then_ st.h tail) in
       next_stood setting was.then_ comes.fair (clean_of setting was.then_ st.h tail clean_at)
       (core_of setting was.then_ (each_of setting was.then_ st.h tail st.comes.before)) y past was.up was.there (era steps) own
       (omega (arith, le, less)) low
@@ -247,7 +249,7 @@ module _ (setting : Setting) (x : Event) (h : List Event) (e : Event) (comes : C
       self_at : device_failed_now (chronicle setting st.h) plan_at.backup_root ≡ false
       self_at = spared_here st.h st.e st.comes old_b
         where
-          spared_here : (hs : List Event) (f : Event) → Comes setting hs f
+          spared_here : (hs : List Event) (f : Event) → IsNextEvent setting hs f
               → is_old (chronicle setting hs) (plan_now setting (chronicle setting hs)).backup_root ≡ true
               → device_failed_now (chronicle setting hs) (plan_now setting (chronicle setting hs)).backup_root ≡ false
           spared_here [] f comes' is = refl
@@ -263,15 +265,15 @@ module _ (setting : Setting) (x : Event) (h : List Event) (e : Event) (comes : C
         where
           by_duty : HasDuties (IsPlanned setting b) heard.past → (o : Option Duty) → duty_now heard.past ≡ o
               → option_map (edge_of setting.net b) (backup_of plan_at b) ≡ Some edge
-          by_duty duties None none = absurd (never (sym (ap (λ (o : Option Duty). of_some o None (λ u. u.backup)) none) ∙ backup))
+          by_duty duties None none = absurd (never (sym (ap (λ (o : Option Duty). map_or o None (λ u. u.backup)) none) ∙ backup))
             where
               never : ◌≡◌ {A = Option Edge} None (Some edge) → ⊥
               never is = cc
           by_duty duties (Some u) is =
-              let number : u.epoch ≡ era older = sym (ap (λ (o : Option Duty). of_some o 0 (λ v. v.epoch)) is) ∙ own ∙ sym same in
+              let number : u.epoch ≡ era older = sym (ap (λ (o : Option Duty). map_or o 0 (λ v. v.epoch)) is) ∙ own ∙ sym same in
               let planned : IsPlanned setting b u = duties.duty u is in
               sym (ap (λ (v : Duty). v.backup) planned.is ∙ ap (λ k. option_map (edge_of setting.net b) (backup_of (plan_numbered setting k) b)) number)
-              ∙ sym (ap (λ (o : Option Duty). of_some o None (λ v. v.backup)) is) ∙ backup
+              ∙ sym (ap (λ (o : Option Duty). map_or o None (λ v. v.backup)) is) ∙ backup
 
       from_in : IsIn from (chronicle setting st.h)
       from_in = subst (λ l. Tail (upto from) l) earlier_is last.before
@@ -361,7 +363,7 @@ module _ (setting : Setting) (x : Event) (h : List Event) (e : Event) (comes : C
           → has_moved heard.past ≡ m_ → (era (chronicle setting st.h) < era (chronicle setting (x ∷ h)))
           ⊎ (era (chronicle setting (x ∷ h)) ≤ era (chronicle setting st.h)) → Bound
       with_past own edge false put (inl less) = over_path (stood_ahead less)
-      with_past own edge false put (inr more) = over_path (stood_now (le_antisymm least more) own put (not_acting heard.past last.receipt.edge edge))
+      with_past own edge false put (inr more) = over_path (stood_now (le_antisymm least more) own put (parent_is_idle heard.past last.receipt.edge edge))
       with_past own edge true put (inl less) =
           absurd (not_both (has_moved heard.past) put
           (next_stood setting st.h comes.fair clean_at (core_of setting st.h st.comes.before) b heard.past up there (era steps) own less other).0)
@@ -406,7 +408,7 @@ pub moved_hears_no_more : (setting : Setting) → AtNext MovedHearsNoMore settin
 moved_hears_no_more setting [] e comes failed old on = cc
 moved_hears_no_more setting (x ∷ h) e comes failed old on =
     by (last_heard setting (x ∷ h) (clean_before setting e (x ∷ h) comes.clean).is (plan_now setting (chronicle setting (x ∷ h))).backup_root s.past s.there
-    (era (chronicle setting (x ∷ h))) (ap (λ (o : Option Duty). of_some o 0 (λ u. u.epoch)) s.duty) (one_at_least (chronicle setting (x ∷ h)))
+    (era (chronicle setting (x ∷ h))) (ap (λ (o : Option Duty). map_or o 0 (λ u. u.epoch)) s.duty) (one_at_least (chronicle setting (x ∷ h)))
     (sym s.acts_is
     ∙ (two_parts (moved (chronicle setting (x ∷ h)) (plan_now setting (chronicle setting (x ∷ h))).backup_root)
     (acts_in (chronicle setting (x ∷ h)) (plan_now setting (chronicle setting (x ∷ h))).backup_root) on).1))

@@ -1,7 +1,7 @@
 -- A member of the era's plan that acts in it acts on until it fails, or takes up the staged plan.
 use Rattle.std.specs.Prelude.{◌≡◌, ℕ, ◌+◌, ◌≤◌, Bool, true, false, List, [], ◌∷◌, Option, Some, None, option_map, refl, ◌⊎◌, if◌then◌else◌}
 use Rattle.std.proofs.Common.{arith, ◌∙◌, ap, sym, subst, inl, inr}
-use Rattle.sd_checker.specs.Num.Lists.{of_some}
+use Rattle.sd_checker.specs.Num.Lists.{map_or}
 use Rattle.sd_checker.specs.Topo.declared.Thing.TheVariants as thing
 use Rattle.sd_checker.specs.Plan.declared.Duty.{Duty}
 use Rattle.sd_checker.specs.Plan.Plans.{is_member}
@@ -37,7 +37,7 @@ pub record ActsYet (setting : Setting) (steps : List Step) (d n : ℕ) : Type 0 
 abbrev pub Onward : Setting → List Step → ℕ → ℕ → Type 0
 Onward setting steps d n = ActsYet setting steps d n ⊎ ((is_new steps d ≡ true) ⊎ (device_failed_now steps d ≡ true))
 
-up_on : (m f up : Bool) → m ≡ false → f ≡ false → up ≡ true → of_some (if m then Some true else if f then Some false else None) up (λ told. told) ≡ true
+up_on : (m f up : Bool) → m ≡ false → f ≡ false → up ≡ true → map_or (if m then Some true else if f then Some false else None) up (λ told. told) ≡ true
 up_on false false up a b is = is
 up_on true f up a b is = cc
 up_on false true up a b is = cc
@@ -74,13 +74,13 @@ module _ (setting : Setting) (e : Event) (history : List Event) (fair : IsFair s
             up = up_now none;
             there = there_now;
             acts = stays_acting p call (transition_of p call) takes (subst (λ z. is_acting z ≡ true) same a.acts);
-            own = ap (λ o. of_some (of_some (option_map Some o) (duty_now p) (λ told. told)) 0 (λ (v : Duty). v.epoch)) takes ∙ sym (ap epoch_now same) ∙ a.own;
+            own = ap (λ o. map_or (map_or (option_map Some o) (duty_now p) (λ told. told)) 0 (λ (v : Duty). v.epoch)) takes ∙ sym (ap epoch_now same) ∙ a.own;
           })
       by_call none p call there there_now (Some u) takes =
           let ahead : IsAhead setting steps d p u =
           always_ahead setting history fair (clean_before setting e history clean) each d p a.up there u (takes_given p call u takes) in
           let epoch : epoch_now (after p call) ≡ u.epoch =
-          ap (λ o. of_some (of_some (option_map Some o) (duty_now p) (λ told. told)) 0 (λ (v : Duty). v.epoch)) takes in
+          ap (λ o. map_or (map_or (option_map Some o) (duty_now p) (λ told. told)) 0 (λ (v : Duty). v.epoch)) takes in
           let own : NewPast now d =
           record { past = after p call; up = up_now none; there = there_now; epoch = epoch ∙ ahead.number ∙ sym (ap (λ k. k + 1) same_era) } in
           inr (inl (new_by_past setting (e ∷ history) d own))

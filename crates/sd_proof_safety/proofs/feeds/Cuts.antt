@@ -34,7 +34,7 @@ pub record IsCutClear (net : Network) (plan : Plan) (failed : List Thing) (y : �
   pub within : IsHop net hop
   pub present : is_present plan hop.link ≡ true
 
-first_hop : (a hop : Hop) (xs hs : List Hop) → ◌≡◌ {A = List Hop} (a ∷ xs) (hop ∷ hs) → (a ≡ hop) × (xs ≡ hs)
+pub first_hop : (a hop : Hop) (xs hs : List Hop) → ◌≡◌ {A = List Hop} (a ∷ xs) (hop ∷ hs) → (a ≡ hop) × (xs ≡ hs)
 first_hop a hop xs hs same = (ap (λ (l : List Hop). elim l [ [] ↦ a | z ∷ zs ↦ z ]) same, ap (λ (l : List Hop). elim l [ [] ↦ xs | z ∷ zs ↦ zs ]) same)
 
 -- the cut walk leads to the backup root, and is shorter than the walk

@@ -16,7 +16,7 @@ use Rattle.sd_history.specs.Chronicle.{chronicle, next_step}
 use Rattle.sd_proof_safety.specs.invariant.Bounds.{depth, delay, rounds_gap, tick_gap}
 use Rattle.sd_proof_safety.specs.invariant.Eras.{era, plan_now, all_started, beginning, is_among, touches, failed_now, device_failed_now, link_failed_now, heard_at, moved_at, is_old, is_behind, moved, on_primary, on_backup, root_failed}
 use Rattle.sd_proof_safety.specs.invariant.Invariant.{Invariant}
-use Rattle.sd_proof_safety.specs.invariant.Coming.{Comes, AtNext}
+use Rattle.sd_proof_safety.specs.invariant.Coming.{IsNextEvent, AtNext}
 use Rattle.sd_proof_safety.proofs.invariant.Sides.{implied}
 use Rattle.sd_proof_safety.specs.messages.Moments.{whole, behind, Moment, when, IsIn}
 use Rattle.sd_proof_safety.proofs.waits.Waits.{Stands, old_stands}
@@ -41,7 +41,7 @@ record IsWhole (setting : Setting) (failed : List Thing) (d n : ℕ) : Type 0 wh
   behind_ : is_behind setting.net (plan_numbered setting n) d ≡ true
   missed : touches failed (epath setting.net (plan_numbered setting n) d) ≡ false
 
-module _ (setting : Setting) (x : Event) (h : List Event) (e : Event) (comes : Comes setting (x ∷ h) e) (s0 : ℕ)
+module _ (setting : Setting) (x : Event) (h : List Event) (e : Event) (comes : IsNextEvent setting (x ∷ h) e) (s0 : ℕ)
     (started : all_started setting (chronicle setting (x ∷ h)) ≤ s0) (kept : root_failed setting (chronicle setting (x ∷ h)) ≡ false)
     (old : is_old (chronicle setting (x ∷ h)) (plan_now setting (chronicle setting (x ∷ h))).backup_root ≡ true)
     (on : on_backup (chronicle setting (x ∷ h)) (plan_now setting (chronicle setting (x ∷ h))).backup_root ≡ true)
@@ -79,7 +79,7 @@ module _ (setting : Setting) (x : Event) (h : List Event) (e : Event) (comes : C
         missed = st.missed;
       }
 
-open_before : (setting : Setting) (x : Event) (h : List Event) (e : Event) (comes : Comes setting (x ∷ h) e) (s0 b d : ℕ)
+open_before : (setting : Setting) (x : Event) (h : List Event) (e : Event) (comes : IsNextEvent setting (x ∷ h) e) (s0 b d : ℕ)
     → all_started setting (chronicle setting (x ∷ h)) ≤ s0 → root_failed setting (chronicle setting (x ∷ h)) ≡ false → s0 < reference_of x
     → (next_step setting (chronicle setting h) x).seen.closed ≡ false → b ≡ (plan_now setting (chronicle setting h)).backup_root
     → is_old (chronicle setting h) b ≡ true → on_backup (chronicle setting h) b ≡ true → moved_at (chronicle setting h) b ≤ s0
@@ -91,7 +91,7 @@ open_before setting x [] e comes s0 b d started kept late open_ is old on put wh
 open_before setting x (y ∷ hs) e comes s0 b d started kept late open_ is old on put whole_ self old_d primary heard =
     let older : List Step = chronicle setting (y ∷ hs) in
     let steps : List Step = chronicle setting (x ∷ y ∷ hs) in
-    let before_ : Comes setting (y ∷ hs) x = comes_before setting x (y ∷ hs) e comes in
+    let before_ : IsNextEvent setting (y ∷ hs) x = comes_before setting x (y ∷ hs) e comes in
     let kept' : root_failed setting older ≡ false = kept_before setting x (y ∷ hs) open_ kept in
     let then_ : (q : Moment) → IsIn q (chronicle setting (x ∷ y ∷ hs)) → s0 < when q
     → IsOnBackup older q b = λ q here after. backup_since setting (y ∷ hs) x before_ s0 b is old on put kept' q here after in
@@ -102,7 +102,7 @@ open_before setting x (y ∷ hs) e comes s0 b d started kept late open_ is old o
     whole_.missed heard
 
 -- up to the event before
-lately : (setting : Setting) (x : Event) (h : List Event) (e : Event) (comes : Comes setting (x ∷ h) e) (s0 : ℕ)
+lately : (setting : Setting) (x : Event) (h : List Event) (e : Event) (comes : IsNextEvent setting (x ∷ h) e) (s0 : ℕ)
     → all_started setting (chronicle setting (x ∷ h)) ≤ s0 → root_failed setting (chronicle setting (x ∷ h)) ≡ false
     → is_old (chronicle setting (x ∷ h)) (plan_now setting (chronicle setting (x ∷ h))).backup_root ≡ true
     → on_backup (chronicle setting (x ∷ h)) (plan_now setting (chronicle setting (x ∷ h))).backup_root ≡ true
@@ -135,10 +135,10 @@ lately setting x h e comes s0 started kept old on put d st heard = go (cases_lt 
     go (inr le) = within_by (reference_of x) s0 (rounds_gap setting.net) (2 * depth setting.net * delay setting.net) le
     go (inl late) = by_closed late (next_step setting (chronicle setting h) x).seen.closed refl
 
-heard_of : (a m s : ℕ) → a ≤ max (max a m) s
+pub heard_of : (a m s : ℕ) → a ≤ max (max a m) s
 heard_of a m s = omega arith
 
-moved_of : (a m s : ℕ) → m ≤ max (max a m) s
+pub moved_of : (a m s : ℕ) → m ≤ max (max a m) s
 moved_of a m s = omega arith
 
 sum : (r l hd m r0 q a c : ℕ) → r ≤ l + q → l ≤ max (max hd m) (r0 + q) + a + c → r0 ≤ hd → r ≤ max hd m + (a + c) + 2 * q

@@ -17,7 +17,7 @@ use Rattle.sd_history.specs.World.{Setting, fails, is_up, link_has_failed, plan_
 use Rattle.sd_history.specs.Steps.{Step, seen_of}
 use Rattle.sd_history.specs.Chronicle.{past_in, chronicle}
 use Rattle.sd_proof_safety.specs.invariant.Eras.{era, plan_now, is_among, failed_now, is_old, is_new, is_ordinary}
-use Rattle.sd_proof_safety.specs.invariant.Coming.{Comes}
+use Rattle.sd_proof_safety.specs.invariant.Coming.{IsNextEvent}
 use Rattle.sd_proof_safety.specs.messages.Moments.{Tail, Moment, when, IsIn}
 use Rattle.sd_proof_safety.specs.messages.Rounds.{IsReady}
 use Rattle.sd_proof_safety.proofs.waits.Standing.{Early, is_up_then}
@@ -58,7 +58,7 @@ cut_then setting older steps y hop t same clear =
     least : (a b : ℕ) → a ≡ b → b ≤ a
     least a b is = omega (arith, is)
 
-module _ (setting : Setting) (x : Event) (h : List Event) (e : Event) (comes : Comes setting (x ∷ h) e) (late : Early setting x h e comes
+module _ (setting : Setting) (x : Event) (h : List Event) (e : Event) (comes : IsNextEvent setting (x ∷ h) e) (late : Early setting x h e comes
     → ⊥) (y : ℕ) (hop : Hop)
     (clear : IsCutClear setting.net (plan_now setting (chronicle setting (x ∷ h))) (failed_now (chronicle setting (x ∷ h))) y hop) where
   abbrev steps : List Step

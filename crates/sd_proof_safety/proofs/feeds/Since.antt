@@ -11,7 +11,7 @@ use Rattle.sd_history.specs.Steps.{Step, seen_of, acts_in, has_settled}
 use Rattle.sd_history.specs.Chronicle.{chronicle, next_step}
 use Rattle.sd_proof_safety.specs.invariant.Eras.{era, plan_now, is_old, live_past, moved, moved_at, on_primary, on_backup, root_failed, belongs}
 use Rattle.sd_proof_safety.specs.invariant.Clauses.{backup_root_acts}
-use Rattle.sd_proof_safety.specs.invariant.Coming.{IsClean, Comes}
+use Rattle.sd_proof_safety.specs.invariant.Coming.{IsClean, IsNextEvent}
 use Rattle.sd_proof_safety.proofs.invariant.Facts.{IsSound, sound_now}
 use Rattle.sd_proof_safety.proofs.invariant.Prefix.{clean_before}
 use Rattle.sd_proof_safety.proofs.invariant.Sides.{implied, not_both}
@@ -30,7 +30,7 @@ abbrev pub IsOnBackup : List Step → Moment → ℕ → Type 0
 IsOnBackup steps q b = (era q.earlier ≡ era steps) × (is_old q.earlier b ≡ true) × (on_backup q.earlier b ≡ true) × (is_up (seen_of q.earlier) b ≡ true)
 
 -- right after a closing it is on its primary
-pub none_closed : (setting : Setting) (x : Event) (h : List Event) (e : Event) → Comes setting (x ∷ h) e
+pub none_closed : (setting : Setting) (x : Event) (h : List Event) (e : Event) → IsNextEvent setting (x ∷ h) e
     → moved (chronicle setting (x ∷ h)) (plan_now setting (chronicle setting (x ∷ h))).backup_root ≡ true
     → (next_step setting (chronicle setting h) x).seen.closed ≡ true → ⊥
 none_closed setting x h e comes put closed =
@@ -47,7 +47,7 @@ none_closed setting x h e comes put closed =
     not_both (moved steps b) put (unmoved (is_some (live_past steps b)) (moved steps b) (acts_in steps b) primary)
 
 -- with the first event it did not move before
-none_first : (setting : Setting) (x e : Event) → Comes setting (x ∷ []) e → (s0 b : ℕ) → b ≡ (plan_now setting (chronicle setting (x ∷ []))).backup_root
+none_first : (setting : Setting) (x e : Event) → IsNextEvent setting (x ∷ []) e → (s0 b : ℕ) → b ≡ (plan_now setting (chronicle setting (x ∷ []))).backup_root
     → moved (chronicle setting (x ∷ [])) b ≡ true → moved_at (chronicle setting (x ∷ [])) b ≤ s0
     → s0 < reference_of x → ⊥
 none_first setting x e comes s0 b is was put less = by_closed (next_step setting (chronicle setting []) x).seen.closed refl
@@ -63,7 +63,7 @@ none_first setting x e comes s0 b is was put less = by_closed (next_step setting
     by_closed true closed = none_closed setting x [] e comes (subst (λ z. moved (chronicle setting (x ∷ [])) z ≡ true) is was) closed
     by_closed false open_ = by (step_back setting x [] b (steps_timed setting x [] e comes) was)
 
-pub backup_since : (setting : Setting) (history : List Event) (e : Event) → Comes setting history e → (s0 b : ℕ)
+pub backup_since : (setting : Setting) (history : List Event) (e : Event) → IsNextEvent setting history e → (s0 b : ℕ)
     → b ≡ (plan_now setting (chronicle setting history)).backup_root → is_old (chronicle setting history) b ≡ true
     → on_backup (chronicle setting history) b ≡ true → moved_at (chronicle setting history) b ≤ s0 → root_failed setting (chronicle setting history) ≡ false
     → (q : Moment) → IsIn q (chronicle setting (e ∷ history)) → s0 < when q → IsOnBackup (chronicle setting history) q b
@@ -94,7 +94,7 @@ backup_since setting (x ∷ y ∷ hs) e comes s0 b is old on put alive q (behind
     less : s0 < reference_of x
     less = lt_of_lt_of_le late last
 
-    open_by : (Comes setting (y ∷ hs) x → b ≡ (plan_now setting (chronicle setting (y ∷ hs))).backup_root → is_old (chronicle setting (y ∷ hs)) b ≡ true
+    open_by : (IsNextEvent setting (y ∷ hs) x → b ≡ (plan_now setting (chronicle setting (y ∷ hs))).backup_root → is_old (chronicle setting (y ∷ hs)) b ≡ true
         → on_backup (chronicle setting (y ∷ hs)) b ≡ true → moved_at (chronicle setting (y ∷ hs)) b ≤ s0
         → root_failed setting (chronicle setting (y ∷ hs)) ≡ false → IsOnBackup (chronicle setting (y ∷ hs)) q b)
         → (next_step setting (chronicle setting (y ∷ hs)) x).seen.closed ≡ false → WasMoved setting x (y ∷ hs) b
@@ -116,7 +116,7 @@ backup_since setting (x ∷ y ∷ hs) e comes s0 b is old on put alive q (behind
         (subst (λ a. a ≤ s0) at put) alive_then in
         (told.0 ∙ sym same, told.1, told.2, told.3)
 
-    by_closed : (Comes setting (y ∷ hs) x → b ≡ (plan_now setting (chronicle setting (y ∷ hs))).backup_root → is_old (chronicle setting (y ∷ hs)) b ≡ true
+    by_closed : (IsNextEvent setting (y ∷ hs) x → b ≡ (plan_now setting (chronicle setting (y ∷ hs))).backup_root → is_old (chronicle setting (y ∷ hs)) b ≡ true
         → on_backup (chronicle setting (y ∷ hs)) b ≡ true → moved_at (chronicle setting (y ∷ hs)) b ≤ s0
         → root_failed setting (chronicle setting (y ∷ hs)) ≡ false → IsOnBackup (chronicle setting (y ∷ hs)) q b) → (c : Bool)
         → (next_step setting (chronicle setting (y ∷ hs)) x).seen.closed ≡ c → IsOnBackup (chronicle setting (x ∷ y ∷ hs)) q b

@@ -3,7 +3,7 @@
 use Rattle.std.specs.Prelude.{◌≡◌, ℕ, ◌+◌, Bool, true, false, ◌&&◌, ◌||◌, not, List, Option, refl}
 use Rattle.std.specs.List.{list_any}
 use Rattle.std.proofs.Common.{◌∙◌, ap, subst}
-use Rattle.sd_checker.specs.Num.Lists.{of_some, same_number, below}
+use Rattle.sd_checker.specs.Num.Lists.{map_or, same_number, below}
 use Rattle.sd_checker.specs.Plan.declared.Plan.{Plan}
 use Rattle.sd_checker.specs.Plan.Plans.{is_member, is_present}
 use Rattle.sd_history.specs.World.{Setting, is_up, link_has_failed, staged_epoch, staged, is_staged_member, is_counted}
@@ -144,10 +144,10 @@ module _ (setting : Setting) (one two : List Step) (alike : IsAlike setting one 
   -- C9, where the same plan is staged
   module _ (staged_is : staged setting (seen_of two) ≡ staged setting (seen_of one)) where
     pub staged_member : (d : ℕ) → is_staged_member setting (seen_of two) d ≡ is_staged_member setting (seen_of one) d
-    staged_member d = ap (λ (o : Option Plan). of_some o false (λ p. is_member p d)) staged_is
+    staged_member d = ap (λ (o : Option Plan). map_or o false (λ p. is_member p d)) staged_is
 
     pub root_of_staged : staged_root setting two ≡ staged_root setting one
-    root_of_staged = ap (λ (o : Option Plan). of_some o 0 (λ p. p.root)) staged_is
+    root_of_staged = ap (λ (o : Option Plan). map_or o 0 (λ p. p.root)) staged_is
 
     pub enters_same : (d : ℕ) → given_in two d ≡ given_in one d → member_enters setting two d ≡ member_enters setting one d
     enters_same d given = rw (alike.commit_is, staged_member d, new d, old d, blank d, given, staged_number) refl
@@ -162,8 +162,8 @@ module _ (setting : Setting) (one two : List Step) (alike : IsAlike setting one 
     leads_same d = ap (λ (f : ℕ → Option ℕ). list_any (λ n. same_number (f n) (staged_root setting two)) (below (depth setting.net + 1))) (λ i n. follows n d i)
         ∙ ap (λ r. list_any (λ n. same_number (follow (parent_in one) n d) r) (below (depth setting.net + 1))) root_of_staged
 
-    parent_is_new : (d : ℕ) → of_some (parent_in two d) false (is_new two) ≡ of_some (parent_in one d) false (is_new one)
-    parent_is_new d = ap (λ o. of_some o false (is_new two)) (parent d) ∙ ap (of_some (parent_in one d) false) (λ i x. new x i)
+    parent_is_new : (d : ℕ) → map_or (parent_in two d) false (is_new two) ≡ map_or (parent_in one d) false (is_new one)
+    parent_is_new d = ap (λ o. map_or o false (is_new two)) (parent d) ∙ ap (map_or (parent_in one d) false) (λ i x. new x i)
 
     pub linked_same : (d : ℕ) → new_is_linked setting two d ≡ new_is_linked setting one d
     linked_same d = rw (new d, leads_same d, root_of_staged, primary_same d, parent_is_new d) refl

@@ -1,45 +1,36 @@
 -- The core is kept before a commit by an event with which what failed only grows, and after which each device either is alike or stands outside: it is
 -- neither old nor new and does not act, as one that fails or joins. What failed grows, and so do hits. There is no commit, so nobody is new.
-use Rattle.std.specs.Prelude.{◌≡◌, ℕ, ◌+◌, ◌*◌, Bool, true, false, ◌&&◌, ◌||◌, not, List, ◌∷◌, filter, max, nat_le, Option, Some, None, is_some, option_map, refl, ◌⊎◌, if◌then◌else◌}
+use Rattle.std.specs.Prelude.{◌≡◌, ℕ, ◌+◌, ◌*◌, Bool, true, false, ◌&&◌, ◌||◌, not, List, ◌∷◌, filter, max, nat_le, Option, Some, None, refl, ◌⊎◌, if◌then◌else◌}
 use Rattle.std.specs.List.{list_any, list_all, cons_option}
 use Rattle.std.proofs.Common.{◌∙◌, ap, sym, inl, inr}
 use Rattle.std.proofs.lemmas.Bool.{and_parts, and_from, and_right, or_left, or_right, or_cases}
-use Rattle.sd_checker.specs.Num.Lists.{of_some, same_number, has}
+use Rattle.sd_checker.specs.Num.Lists.{has}
 use Rattle.sd_checker.specs.Topo.declared.Thing.{Thing}
 use Rattle.sd_checker.specs.Topo.declared.Thing.TheVariants as thing
 use Rattle.sd_checker.specs.Domain.Things.{same_thing}
-use Rattle.sd_checker.specs.Domain.Domains.{holds_device, domains}
 use Rattle.sd_checker.specs.Plan.declared.Plan.{Plan}
-use Rattle.sd_checker.specs.Plan.Plans.{is_member, is_present, is_root}
+use Rattle.sd_checker.specs.Plan.Plans.{is_present, is_root}
 use Rattle.sd_checker.specs.Plan.Walks.{path, epath}
-use Rattle.sd_checker.specs.CheckRoot.Roots.{root_breach}
-use Rattle.sd_checker.specs.Conditions.{RootHolds}
-use Rattle.sd_history.specs.Core.Words.{has_moved}
 use Rattle.sd_history.specs.Sched.declared.Event.{Event}
-use Rattle.sd_history.specs.World.{Setting, is_up, is_untouched, link_has_failed, has_commit, joined_in_window, staged_epoch, is_counted}
-use Rattle.sd_history.specs.Steps.{Answers, Step, seen_of, answers_in, live_answers, acts_in, parent_in, flights}
-use Rattle.sd_history.specs.Chronicle.{chronicle, past_in}
+use Rattle.sd_history.specs.World.{Setting, is_up, is_untouched, link_has_failed, has_commit, joined_in_window, is_counted}
+use Rattle.sd_history.specs.Steps.{Step, seen_of, acts_in, parent_in, flights}
+use Rattle.sd_history.specs.Chronicle.{chronicle}
 use Rattle.sd_proof_safety.specs.invariant.Bounds.{depth, delay, tick_gap}
-use Rattle.sd_proof_safety.specs.invariant.Eras.{era, plan_now, failed_now, is_among, device_failed_now, link_failed_now, touches, is_old, is_new, is_blank, is_past, moved, on_primary, is_ordinary, belongs, hit, hit_otherwise, path_hit, root_failed, root_lives, heard_at}
-use Rattle.sd_proof_safety.specs.invariant.Clauses.{is_beginning, just_closed, was_touched, member_is_up, member_follows, returned_is_joined, outsider_is_past, counted_is_current, blank_is_idle, link_is_sound, root_acts, failed_root_is_not_old, ordinary_follows, backup_root_acts, backup_is_caused, move_is_caused, takeover_is_caused, above_backup_root, backup_root_stays, path_stays, shadow_is_short, none_sent_ahead}
+use Rattle.sd_proof_safety.specs.invariant.Eras.{era, plan_now, failed_now, is_among, device_failed_now, link_failed_now, touches, is_old, is_new, is_blank, is_past, moved, on_primary, is_ordinary, hit, hit_otherwise, path_hit, root_failed, root_lives, heard_at}
+use Rattle.sd_proof_safety.specs.invariant.Clauses.{just_closed, was_touched, member_is_up, member_follows, returned_is_joined, outsider_is_past, counted_is_current, blank_is_idle, link_is_sound, root_acts, failed_root_is_not_old, ordinary_follows, backup_root_acts, backup_is_caused, move_is_caused, takeover_is_caused, above_backup_root, backup_root_stays, path_stays, shadow_is_short, none_sent_ahead}
 use Rattle.sd_proof_safety.specs.invariant.Invariant.{Core}
 use Rattle.sd_proof_safety.specs.invariant.Coming.{IsFair, IsClean}
 use Rattle.sd_proof_safety.proofs.invariant.Prefix.{Passing, some_passing, any_passing}
 use Rattle.sd_proof_safety.proofs.invariant.Sides.{implied, not_both}
-use Rattle.sd_proof_safety.proofs.invariant.Domains.{Holding, each_among, held}
-use Rattle.sd_proof_safety.proofs.invariant.Following.{held_now, accepted_now}
 use Rattle.sd_proof_safety.specs.frame.Frames.{IsAlikeAt}
 use Rattle.sd_proof_safety.proofs.frame.Words as words
 use Rattle.sd_proof_safety.proofs.waits.Beginning.{quiet, still}
 use Rattle.sd_proof_safety.proofs.frame.Timely.{touched_now, member_up_now}
 use Rattle.sd_proof_safety.proofs.frame.Core.{closed_of, committed_none}
 use Rattle.sd_proof_safety.proofs.invariant.Empty.{asks_nothing}
+use Rattle.sd_proof_safety.proofs.invariant.Opening.{gives}
 
-then_ : (a b : Bool) → (a ≡ true → b ≡ true) → (not a || b) ≡ true
-then_ true b holds = holds refl
-then_ false b holds = refl
-
-none_new : (c n : Bool) → c ≡ false → (not (not c) || not n) ≡ true → n ≡ false
+pub none_new : (c n : Bool) → c ≡ false → (not (not c) || not n) ≡ true → n ≡ false
 none_new true n none holds = cc
 none_new false true none holds = cc
 none_new false false none holds = refl
@@ -267,7 +258,7 @@ module _ (setting : Setting) (e : Event) (history : List Event) (fair : IsFair s
   backup_on : (x : ℕ) → backup_is_caused setting (chronicle setting (e ∷ history)) x ≡ true
   backup_on x = elim (each x) [
     | inl s ↦
-        then_ (is_old two x && is_ordinary (plan_now setting two) x && moved two x) _
+        gives (is_old two x && is_ordinary (plan_now setting two) x && moved two x) _
         (λ all.
         caused_on x
         (implied (is_old one x && is_ordinary (plan_now setting one) x && moved one x) _ (core.causes.backups x)
@@ -284,7 +275,7 @@ module _ (setting : Setting) (e : Event) (history : List Event) (fair : IsFair s
   move_on = elim (each B) [
     | inl s ↦
         ap (λ (p : Plan). not (is_old two p.backup_root && moved two p.backup_root) || path_hit setting two p.backup_root) plan
-        ∙ then_ (is_old two B && moved two B) (path_hit setting two B)
+        ∙ gives (is_old two B && moved two B) (path_hit setting two B)
         (λ all.
         path_hit_grows B
         (implied (is_old one B && moved one B) (path_hit setting one B) core.causes.move
@@ -298,7 +289,7 @@ module _ (setting : Setting) (e : Event) (history : List Event) (fair : IsFair s
   takeover_on = elim (each B) [
     | inl s ↦
         ap (λ (p : Plan). not (acts_in two p.backup_root) || root_failed setting two) plan
-        ∙ then_ (acts_in two B) (root_failed setting two)
+        ∙ gives (acts_in two B) (root_failed setting two)
         (λ acting. root_failed_grows (implied (backup_root_acts setting one) (root_failed setting one) core.causes.takeover (sym (acts B s) ∙ acting)))
     | inr f ↦ ap (λ (p : Plan). not (acts_in two p.backup_root) || root_failed setting two) plan ∙ ap (λ b. not b || root_failed setting two) f.acts
   ]

@@ -3,7 +3,7 @@
 use Rattle.std.specs.Prelude.{◌≡◌, ℕ, zero, suc, ◌+◌, ◌*◌, ◌≤◌, Bool, true, false, ◌||◌, List, [], ◌∷◌, map, max, nat_eq, Option, Some, None, is_some, option_map, refl, ◌⊎◌, if◌then◌else◌}
 use Rattle.std.proofs.Common.{arith, ◌∙◌, ap, sym, subst, inl, inr}
 use Rattle.std.proofs.lemmas.Bool.{or_left, or_right, or_cases, eqb-true, eq-eqb}
-use Rattle.sd_checker.specs.Num.Lists.{of_some, has}
+use Rattle.sd_checker.specs.Num.Lists.{map_or, has}
 use Rattle.sd_checker.specs.Topo.Network.{greatest_delay}
 use Rattle.sd_checker.specs.Plan.declared.Edge.{Edge}
 use Rattle.sd_checker.specs.Plan.declared.Plan.{Plan}
@@ -13,7 +13,7 @@ use Rattle.sd_checker.specs.Plan.Walks.{hops}
 use Rattle.sd_history.specs.Msg.declared.Stamp.{Stamp}
 use Rattle.sd_history.specs.Msg.declared.Flight.{Flight}
 use Rattle.sd_history.specs.Core.Calls as calls
-use Rattle.sd_history.specs.Core.Calls.{Call, Transition, Did, Past}
+use Rattle.sd_history.specs.Core.Calls.{Call, Did, Past}
 use Rattle.sd_history.specs.Core.Words.{transition_of, accepted_over}
 use Rattle.sd_history.specs.Sched.declared.Event.{Event}
 use Rattle.sd_history.specs.Sched.declared.Event.TheVariants as event
@@ -23,17 +23,18 @@ use Rattle.sd_history.specs.Chronicle.{past_in, chronicle, next_step, IsHistory}
 use Rattle.sd_proof_safety.specs.invariant.Bounds.{depth, delay, tick_gap}
 use Rattle.sd_proof_safety.specs.invariant.Eras.{plan_now, did_by, does, latest_such, hears, heard_at}
 use Rattle.sd_proof_safety.specs.invariant.Clauses.{above_backup_root, backup_root_stays}
-use Rattle.sd_proof_safety.specs.invariant.Coming.{Comes}
+use Rattle.sd_proof_safety.specs.invariant.Coming.{IsNextEvent}
 use Rattle.sd_history.proofs.Parts.{premises_of}
 use Rattle.sd_proof_safety.proofs.invariant.Sides.{not_both}
 use Rattle.sd_proof_safety.specs.messages.Moments.{Tail, whole, behind, Moment, upto, when, IsIn, IsBefore, Receipt}
 use Rattle.sd_proof_safety.specs.messages.Traces.{Trace, begins, goes_on, Traced}
-use Rattle.sd_proof_safety.proofs.messages.Tails.{tail_trans, rest_of, history_chronicle}
+use Rattle.sd_proof_safety.proofs.messages.Tails.{tail_trans, history_chronicle}
 use Rattle.sd_proof_safety.proofs.messages.Overlap.{hop_time}
 use Rattle.sd_proof_safety.proofs.messages.Tracing.{accepted_traced}
 use Rattle.sd_proof_safety.specs.frame.Receipts.{transition_of_receipt, AboveHears}
 use Rattle.sd_proof_safety.specs.frame.Descents.{TakesFromAbove, ComesDown}
 use Rattle.sd_proof_safety.proofs.frame.Receiving.{such_rises}
+use Rattle.sd_proof_safety.proofs.messages.Flowing.{tail_rest}
 
 -- the device took the round at a moment before, not long before this one
 pub record Took (setting : Setting) (p q : Moment) (x n : ℕ) : Type 0 where
@@ -46,12 +47,8 @@ pub record Took (setting : Setting) (p q : Moment) (x n : ℕ) : Type 0 where
 none_among : (x : ℕ) → has [] x ≡ true → ⊥
 none_among x is = not_both (has [] x) is refl
 
-further : (q from at n d : ℕ) → from ≤ at + n * d → q ≤ from + d → q ≤ at + suc n * d
+pub further : (q from at n d : ℕ) → from ≤ at + n * d → q ≤ from + d → q ≤ at + suc n * d
 further q from at n d x y = let more : suc n * d ≡ n * d + d = omega (arith) in omega (arith, x, y, more)
-
-pub inner : {A : Type 0} {a b : A} {xs ys : List A} → Tail (a ∷ xs) (b ∷ ys) → Tail xs ys
-inner whole = whole
-inner (behind t) = rest_of t
 
 module _ (setting : Setting) (plan : Plan) (stamp : Stamp) (epoch : ℕ) (p : Moment) (on : ℕ → Bool)
     (down : (y : ℕ) → on y ≡ true → is_root plan y ≡ false → (q : Moment) → IsIn q (upto p)
@@ -83,7 +80,7 @@ module _ (setting : Setting) (plan : Plan) (stamp : Stamp) (epoch : ℕ) (p : Mo
         absurd ((down y on_ not_root first here).begins_none message emits st ep)
     climb_by n q y (suc m) (goes_on {from = from} {x = z} trace hop) here on_ not_root (Some h) is within among rest =
         let parent : h.parent ≡ z = (down y on_ not_root q here).takes z from hop h is in
-        let before : IsBefore from p = tail_trans hop.before (inner here) in
+        let before : IsBefore from p = tail_trans hop.before (tail_rest here) in
         let up : Trace setting stamp epoch first source m from h.parent = subst (λ v. Trace setting stamp epoch first source m from v) (sym parent) trace in
         let inside : IsIn from (upto p) = behind before in
         let on_parent : on h.parent ≡ true = within h.parent (or_left (nat_eq h.parent h.parent) _ (eq-eqb h.parent h.parent refl)) in
@@ -152,10 +149,10 @@ pub heard_by_receipt : (at : Moment) (x : ℕ) (f : Flight) → Receipt at x f �
 heard_by_receipt at x f receipt =
     let call : Call = calls.Receive f.link f.message receipt.counter in
     let does_it : does hears at.earlier at.step x ≡ true =
-    ap (λ a. of_some (did_by at.earlier a x) false hears) receipt.act
-    ∙ ap (λ b. of_some (if b then option_map (λ past. record { call = call; transition = transition_of past call }) (past_in at.earlier x) else None) false
+    ap (λ a. map_or (did_by at.earlier a x) false hears) receipt.act
+    ∙ ap (λ b. map_or (if b then option_map (λ past. record { call = call; transition = transition_of past call }) (past_in at.earlier x) else None) false
     hears) (eq-eqb x x refl)
-    ∙ ap (λ (o : Option Past). of_some (option_map (λ past. record { call = call; transition = transition_of past call }) o) false hears) receipt.there
+    ∙ ap (λ (o : Option Past). map_or (option_map (λ past. record { call = call; transition = transition_of past call }) o) false hears) receipt.there
     ∙ ap (λ (o : Option Edge). is_some o) receipt.over in
     ap (λ b. if b then when at else heard_at at.earlier x) (or_right (makes x at.step.seen.event) (does hears at.earlier at.step x) does_it)
 
@@ -169,7 +166,7 @@ rises_on test setting (e ∷ history) is d older (behind t) =
     omega (arith, rest, more)
 
 module _ {setting : Setting} (down : ComesDown setting) (r c n : ℕ) (history : List Event)
-    (comes : Comes setting history (event.Recv r (plan_now setting (chronicle setting history)).backup_root c n)) (edge : Edge)
+    (comes : IsNextEvent setting history (event.Recv r (plan_now setting (chronicle setting history)).backup_root c n)) (edge : Edge)
     (what : transition_of_receipt (chronicle setting history) (plan_now setting (chronicle setting history)).backup_root c n ≡ calls.Accepted edge)
     (stays : backup_root_stays setting (chronicle setting history) ≡ true) (x : ℕ)
     (among : has (above_backup_root setting (chronicle setting history)) x ≡ true)
@@ -200,7 +197,7 @@ module _ {setting : Setting} (down : ComesDown setting) (r c n : ℕ) (history :
       let traced : Traced setting f.message.stamp f.message.epoch now backup =
       accepted_traced setting (chronicle setting (e ∷ history)) (history_chronicle setting (e ∷ history) comes.clean.is)
       (premises_of setting (seen_of (chronicle setting (e ∷ history))) comes.clean.premises).delay now whole
-      backup f.link f.message c past edge there (ap (λ (o : Option Flight). of_some o Passes (λ g. Calls backup (calls.Receive g.link g.message c))) is)
+      backup f.link f.message c past edge there (ap (λ (o : Option Flight). map_or o Passes (λ g. Calls backup (calls.Receive g.link g.message c))) is)
       (ap accepted_over did) in
       by (is_root plan_ backup) refl traced
     where
@@ -229,7 +226,7 @@ module _ {setting : Setting} (down : ComesDown setting) (r c n : ℕ) (history :
 
   found : (o : Option Flight) (p : Option Past) → flight_numbered (chronicle setting history) n ≡ o
       → past_in (chronicle setting history) (plan_now setting (chronicle setting history)).backup_root ≡ p
-      → of_some o calls.Nothing (λ f. of_some p calls.Nothing (λ past. transition_of past (calls.Receive f.link f.message c))) ≡ calls.Accepted edge
+      → map_or o calls.Nothing (λ f. map_or p calls.Nothing (λ past. transition_of past (calls.Receive f.link f.message c))) ≡ calls.Accepted edge
       → r ≤ heard_at (chronicle setting history) x + depth setting.net * delay setting.net
   found None p is there did = cc
   found (Some f) None is there did = cc

@@ -3,7 +3,7 @@ use Rattle.std.specs.Prelude.{◌≡◌, ℕ, ◌+◌, ◌*◌, false, ◌&&◌,
 use Rattle.std.specs.List.{list_any, list_all}
 use Rattle.std.proofs.Common.{◌∙◌, ap}
 use Rattle.std.proofs.lemmas.Bool.{or_left}
-use Rattle.sd_checker.specs.Num.Lists.{of_some, same_number}
+use Rattle.sd_checker.specs.Num.Lists.{map_or, same_number}
 use Rattle.sd_checker.specs.Topo.Network.{device_numbers}
 use Rattle.sd_checker.specs.Plan.Plans.{is_member, is_present, is_root}
 use Rattle.sd_checker.specs.CheckRoot.Timing.{round_gap, silence}
@@ -13,7 +13,7 @@ use Rattle.sd_history.proofs.Among.{all_pass}
 use Rattle.sd_proof_safety.specs.invariant.Bounds.{depth, delay, rounds_gap}
 use Rattle.sd_proof_safety.specs.invariant.Eras.{era, plan_now, is_old, is_new, is_blank, is_ordinary, hit, root_failed, on_primary, belongs, will_belong, heard_at, sent_at}
 use Rattle.sd_proof_safety.specs.invariant.Clauses.{just_closed, member_is_up, shadow_is_short, none_sent_ahead, commit_at, staged_root, leads_to_root, left_out_is_hit, begins_with}
-use Rattle.sd_proof_safety.specs.invariant.Invariant.{Of, Core, IsCalm, IsClosed, IsCommitted}
+use Rattle.sd_proof_safety.specs.invariant.Invariant.{Of, Core, BeganQuietly, IsClosed, IsCommitted}
 use Rattle.sd_proof_safety.specs.frame.Frames.{IsAlike, IsAlikeAt}
 use Rattle.sd_proof_safety.proofs.frame.Alike.{member_follows_same, returned_same, outsider_same, current_same, blank_is_same, link_on, root_acts_same, failed_root_same, ordinary_same, backup_same, move_same, takeover_same, path_same, none_new_same}
 
@@ -32,7 +32,7 @@ closed_of setting steps none =
 
 -- what being alike does not give
 pub record IsTimely (setting : Setting) (steps : List Step) : Type 0 where
-  pub calm : IsCalm setting steps
+  pub calm : BeganQuietly setting steps
   pub members_up : Of (member_is_up setting steps)
   pub shadow : Of (shadow_is_short setting steps)
   pub messages : IsTrue (none_sent_ahead steps)
@@ -94,7 +94,7 @@ committed_none setting steps none old =
           none;
       linked = λ d.
           ap (λ b. not (b && not (nat_eq d (staged_root setting steps)))
-          || (on_primary steps d && of_some (parent_in steps d) false (is_new steps) && leads_to_root setting steps d)) (old d);
+          || (on_primary steps d && map_or (parent_in steps d) false (is_new steps) && leads_to_root setting steps d)) (old d);
       left_out =
           or_left (list_all (left_out_is_hit setting steps) (device_numbers setting.net)) (list_any (begins_with setting steps) (device_numbers setting.net))
           (all_pass (left_out_is_hit setting steps) (device_numbers setting.net)

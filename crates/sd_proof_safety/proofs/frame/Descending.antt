@@ -3,7 +3,7 @@
 use Rattle.std.specs.Prelude.{◌≡◌, ℕ, Bool, true, false, ◌∷◌, Option, Some, None, option_map, refl, if◌then◌else◌}
 use Rattle.std.proofs.Common.{◌∙◌, ap, sym, subst}
 use Rattle.std.proofs.lemmas.Bool.{and_parts}
-use Rattle.sd_checker.specs.Num.Lists.{of_some, has}
+use Rattle.sd_checker.specs.Num.Lists.{map_or, has}
 use Rattle.sd_checker.specs.Topo.Network.{Network}
 use Rattle.sd_checker.specs.Plan.declared.Edge.{Edge}
 use Rattle.sd_checker.specs.Plan.declared.Duty.{Duty}
@@ -33,9 +33,9 @@ on_primary_edge past a m acts moved_ no_act no_move =
     ∙ ap (λ b. if b then backup_now past else primary_now past) (moved_ ∙ no_move)
 
 -- and that is the edge of its primary hop
-primary_edge : (setting : Setting) (y : ℕ) (past : Past) (edge : Edge) (o : Option Duty) → HasDuties (IsPlanned setting y) past → duty_now past ≡ o
-    → of_some o None (λ (u : Duty). u.primary) ≡ Some edge
-    → option_map (edge_of setting.net y) (primary_of (plan_numbered setting (of_some o 0 (λ (u : Duty). u.epoch))) y) ≡ Some edge
+pub primary_edge : (setting : Setting) (y : ℕ) (past : Past) (edge : Edge) (o : Option Duty) → HasDuties (IsPlanned setting y) past → duty_now past ≡ o
+    → map_or o None (λ (u : Duty). u.primary) ≡ Some edge
+    → option_map (edge_of setting.net y) (primary_of (plan_numbered setting (map_or o 0 (λ (u : Duty). u.epoch))) y) ≡ Some edge
 primary_edge setting y past edge None has is same = cc
 primary_edge setting y past edge (Some u) has is same = sym (ap (λ (v : Duty). v.primary) (has.duty u is)) ∙ same
 
@@ -45,7 +45,7 @@ parent_of_edge net y h None edge is same = cc
 parent_of_edge net y h (Some g) edge is same = ap (λ (k : declared.Hop). k.parent) (sym (some_is is)) ∙ ap (λ (k : Edge). k.parent) (some_is same)
 
 -- by why it accepted
-edge_above : (setting : Setting) (y epoch : ℕ) (past : Past) (m : Message) (edge : Edge) → HasDuties (IsPlanned setting y) past → m.epoch ≡ epoch
+pub edge_above : (setting : Setting) (y epoch : ℕ) (past : Past) (m : Message) (edge : Edge) → HasDuties (IsPlanned setting y) past → m.epoch ≡ epoch
     → (epoch_now past ≡ epoch → (has_moved past ≡ false) × (is_acting past ≡ false))
     → Accepts past m edge → option_map (edge_of setting.net y) (primary_of (plan_numbered setting epoch) y) ≡ Some edge
 edge_above setting y epoch past m edge has of_epoch stood (entering duty given number primary) =

@@ -2,7 +2,7 @@
 -- By the word's own clauses, with no premise.
 use Rattle.std.specs.Prelude.{◌≡◌, ℕ, Bool, true, false, ◌&&◌, ◌||◌, not, List, ◌∷◌, nat_eq, Option, Some, None, is_some, option_map, option_and_then, refl, if◌then◌else◌}
 use Rattle.std.proofs.Common.{◌∙◌, ap}
-use Rattle.sd_checker.specs.Num.Lists.{of_some, same_number}
+use Rattle.sd_checker.specs.Num.Lists.{map_or, same_number}
 use Rattle.sd_checker.specs.Topo.declared.Thing.TheVariants as thing
 use Rattle.sd_history.specs.Core.Calls.{Did, Past}
 use Rattle.sd_history.specs.Core.Words.{after, transition_of, has_moved}
@@ -29,12 +29,12 @@ did_elsewhere earlier Passes d other = refl
 module _ (earlier : List Step) (s : Step) (d : ℕ) (alone : IsElsewhere s d) where
   pub up_alone : is_up (seen_of (s ∷ earlier)) d ≡ is_up (seen_of earlier) d
   up_alone =
-      ap (λ b. of_some (if b then Some true else if fails (thing.Device d) s.seen.event then Some false else None) (is_up (seen_of earlier) d) (λ told. told))
+      ap (λ b. map_or (if b then Some true else if fails (thing.Device d) s.seen.event then Some false else None) (is_up (seen_of earlier) d) (λ told. told))
       alone.unmade
-      ∙ ap (λ b. of_some (if b then Some false else None) (is_up (seen_of earlier) d) (λ told. told)) alone.unfailed
+      ∙ ap (λ b. map_or (if b then Some false else None) (is_up (seen_of earlier) d) (λ told. told)) alone.unfailed
 
   pub answers_alone : answers_in (s ∷ earlier) d ≡ answers_in earlier d
-  answers_alone = ap (λ b. of_some (if b then Some s.told.answers else None) (answers_in earlier d) (λ told. told)) alone.changes
+  answers_alone = ap (λ b. map_or (if b then Some s.told.answers else None) (answers_in earlier d) (λ told. told)) alone.changes
 
   pub live_alone : live_answers (s ∷ earlier) d ≡ live_answers earlier d
   live_alone = ap (λ b. if b then answers_in (s ∷ earlier) d else None) up_alone ∙ ap (λ a. if is_up (seen_of earlier) d then a else None) answers_alone
@@ -43,7 +43,7 @@ module _ (earlier : List Step) (s : Step) (d : ℕ) (alone : IsElsewhere s d) wh
   parent_alone = ap (λ (o : Option Answers). option_and_then (λ a. a.parent) o) live_alone
 
   pub acts_alone : acts_in (s ∷ earlier) d ≡ acts_in earlier d
-  acts_alone = ap (λ (o : Option Answers). of_some o false (λ a. a.acts)) live_alone
+  acts_alone = ap (λ (o : Option Answers). map_or o false (λ a. a.acts)) live_alone
 
   pub epoch_alone : epoch_in (s ∷ earlier) d ≡ epoch_in earlier d
   epoch_alone = ap (λ (o : Option Answers). option_map (λ a. a.epoch) o) live_alone
@@ -52,7 +52,7 @@ module _ (earlier : List Step) (s : Step) (d : ℕ) (alone : IsElsewhere s d) wh
   given_alone = ap (λ (o : Option Answers). option_and_then (λ a. option_map (λ duty. duty.epoch) a.given) o) live_alone
 
   pub settled_alone : (epoch : ℕ) → has_settled (s ∷ earlier) epoch d ≡ has_settled earlier epoch d
-  settled_alone epoch = ap (λ (o : Option Answers). of_some o false (λ a. nat_eq a.epoch epoch && a.sealed)) live_alone
+  settled_alone epoch = ap (λ (o : Option Answers). map_or o false (λ a. nat_eq a.epoch epoch && a.sealed)) live_alone
 
   pub past_alone : past_in (s ∷ earlier) d ≡ past_in earlier d
   past_alone = past_elsewhere s.act d (past_in earlier d) alone.changes
@@ -61,18 +61,18 @@ module _ (earlier : List Step) (s : Step) (d : ℕ) (alone : IsElsewhere s d) wh
   live_past_alone = ap (λ b. if b then past_in (s ∷ earlier) d else None) up_alone ∙ ap (λ p. if is_up (seen_of earlier) d then p else None) past_alone
 
   pub moved_alone : moved (s ∷ earlier) d ≡ moved earlier d
-  moved_alone = ap (λ (p : Option Past). of_some p false has_moved) live_past_alone
+  moved_alone = ap (λ (p : Option Past). map_or p false has_moved) live_past_alone
 
   pub on_primary_alone : on_primary (s ∷ earlier) d ≡ on_primary earlier d
   on_primary_alone =
-      ap (λ (p : Option Past). is_some p && not (of_some p false has_moved) && not (acts_in (s ∷ earlier) d)) live_past_alone
+      ap (λ (p : Option Past). is_some p && not (map_or p false has_moved) && not (acts_in (s ∷ earlier) d)) live_past_alone
       ∙ ap (λ b. is_some (live_past earlier d) && not (moved earlier d) && not b) acts_alone
 
   pub on_backup_alone : on_backup (s ∷ earlier) d ≡ on_backup earlier d
   on_backup_alone = ap (λ b. b && not (acts_in (s ∷ earlier) d)) moved_alone ∙ ap (λ b. moved earlier d && not b) acts_alone
 
   pub does_nothing : (test : Did → Bool) → does test earlier s d ≡ false
-  does_nothing test = ap (λ (o : Option Did). of_some o false test) (did_elsewhere earlier s.act d alone.changes)
+  does_nothing test = ap (λ (o : Option Did). map_or o false test) (did_elsewhere earlier s.act d alone.changes)
 
   pub such_alone : (test : Did → Bool) → latest_such test (s ∷ earlier) d ≡ latest_such test earlier d
   such_alone test =

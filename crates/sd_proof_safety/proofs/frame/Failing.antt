@@ -1,45 +1,29 @@
 -- A device that fails stands outside: it is not up, so no clause asks anything of it. And the backup root does not fail once it acts, since no domain
 -- holds it and the root.
-use Rattle.std.specs.Prelude.{◌≡◌, ℕ, ◌+◌, ◌*◌, Bool, true, false, ◌&&◌, ◌||◌, not, List, ◌∷◌, filter, max, nat_le, Option, Some, None, is_some, option_map, refl, ◌⊎◌, if◌then◌else◌}
-use Rattle.std.specs.List.{list_any, list_all}
-use Rattle.std.proofs.Common.{◌∙◌, ap, sym, inl, inr}
-use Rattle.std.proofs.lemmas.Bool.{and_parts, and_from, and_right, or_left, or_right, or_cases}
-use Rattle.sd_checker.specs.Num.Lists.{of_some, same_number, has}
+use Rattle.std.specs.Prelude.{◌≡◌, ℕ, ◌+◌, ◌*◌, true, false, ◌&&◌, ◌||◌, not, List, ◌∷◌, Option, None, is_some, option_map, ◌⊎◌, if◌then◌else◌}
+use Rattle.std.proofs.Common.{◌∙◌, ap}
+use Rattle.std.proofs.lemmas.Bool.{and_right, or_right, false_from_ne_true}
+use Rattle.sd_checker.specs.Num.Lists.{map_or, same_number}
 use Rattle.sd_checker.specs.Topo.declared.Thing.{Thing}
 use Rattle.sd_checker.specs.Topo.declared.Thing.TheVariants as thing
 use Rattle.sd_checker.specs.Domain.Things.{same_thing}
-use Rattle.sd_checker.specs.Domain.Domains.{holds_device, domains}
 use Rattle.sd_checker.specs.Plan.declared.Plan.{Plan}
-use Rattle.sd_checker.specs.Plan.Plans.{is_member, is_present, is_root}
-use Rattle.sd_checker.specs.Plan.Walks.{path, epath}
-use Rattle.sd_checker.specs.CheckRoot.Roots.{root_breach}
-use Rattle.sd_checker.specs.Conditions.{RootHolds}
+use Rattle.sd_checker.specs.Plan.Plans.{is_member}
 use Rattle.sd_history.specs.Core.Words.{has_moved}
 use Rattle.sd_history.specs.Sched.declared.Event.{Event}
-use Rattle.sd_history.specs.World.{Setting, is_up, is_untouched, link_has_failed, has_commit, joined_in_window, staged_epoch, is_counted}
-use Rattle.sd_history.specs.Steps.{Answers, Step, seen_of, answers_in, live_answers, acts_in, parent_in, flights}
+use Rattle.sd_history.specs.World.{Setting, is_up, is_untouched, joined_in_window, staged_epoch}
+use Rattle.sd_history.specs.Steps.{Answers, Step, seen_of, answers_in, live_answers, acts_in, parent_in}
 use Rattle.sd_history.specs.Chronicle.{chronicle, past_in}
-use Rattle.sd_proof_safety.specs.invariant.Bounds.{depth, delay, tick_gap}
-use Rattle.sd_proof_safety.specs.invariant.Eras.{era, plan_now, failed_now, is_among, device_failed_now, link_failed_now, touches, is_old, is_new, is_blank, is_past, moved, on_primary, is_ordinary, belongs, hit, hit_otherwise, path_hit, root_failed, root_lives, heard_at}
-use Rattle.sd_proof_safety.specs.invariant.Clauses.{is_beginning, just_closed, was_touched, member_is_up, member_follows, returned_is_joined, outsider_is_past, counted_is_current, blank_is_idle, link_is_sound, root_acts, failed_root_is_not_old, ordinary_follows, backup_root_acts, backup_is_caused, move_is_caused, takeover_is_caused, above_backup_root, backup_root_stays, path_stays, shadow_is_short, none_sent_ahead}
+use Rattle.sd_proof_safety.specs.invariant.Eras.{era, plan_now, failed_now, is_among, device_failed_now, is_old, is_new, is_blank, is_past, moved, belongs, root_failed}
+use Rattle.sd_proof_safety.specs.invariant.Clauses.{is_beginning, backup_root_acts}
 use Rattle.sd_proof_safety.specs.invariant.Invariant.{Core}
 use Rattle.sd_proof_safety.specs.invariant.Coming.{IsFair, IsClean}
-use Rattle.sd_proof_safety.proofs.invariant.Prefix.{Passing, some_passing, any_passing}
 use Rattle.sd_proof_safety.proofs.invariant.Sides.{implied, not_both}
-use Rattle.sd_proof_safety.proofs.invariant.Domains.{Holding, each_among, held}
 use Rattle.sd_proof_safety.proofs.invariant.Facts.{not_both_failed}
 use Rattle.sd_proof_safety.proofs.invariant.Following.{held_now, accepted_now}
-use Rattle.sd_proof_safety.specs.frame.Frames.{IsAlikeAt}
 use Rattle.sd_proof_safety.proofs.frame.Words as words
-use Rattle.sd_proof_safety.proofs.waits.Beginning.{quiet, still}
-use Rattle.sd_proof_safety.proofs.frame.Timely.{touched_now, member_up_now}
-use Rattle.sd_proof_safety.proofs.frame.Core.{closed_of, committed_none}
 use Rattle.sd_proof_safety.proofs.invariant.Empty.{asks_nothing}
 use Rattle.sd_proof_safety.proofs.frame.Changing.{IsOutside}
-
-false_if : (b : Bool) → (b ≡ true → ⊥) → b ≡ false
-false_if true never = absurd (never refl)
-false_if false never = refl
 
 -- of a device that is not up
 module _ (two : List Step) (x : ℕ) (down : is_up (seen_of two) x ≡ false) where
@@ -56,10 +40,10 @@ module _ (two : List Step) (x : ℕ) (down : is_up (seen_of two) x ≡ false) wh
   blank_none = ap (λ (o : Option Answers). same_number (option_map (λ a. a.epoch) o) 0) live_none
 
   pub acts_none : acts_in two x ≡ false
-  acts_none = ap (λ (o : Option Answers). of_some o false (λ a. a.acts)) live_none
+  acts_none = ap (λ (o : Option Answers). map_or o false (λ a. a.acts)) live_none
 
   moved_none : moved two x ≡ false
-  moved_none = ap (λ b. of_some (if b then past_in two x else None) false has_moved) down
+  moved_none = ap (λ b. map_or (if b then past_in two x else None) false has_moved) down
 
 module _ (setting : Setting) (e : Event) (history : List Event) (fair : IsFair setting) (clean : IsClean setting (e ∷ history))
     (core : Core setting (chronicle setting history))
@@ -85,7 +69,7 @@ module _ (setting : Setting) (e : Event) (history : List Event) (fair : IsFair s
   -- a backup root that acted goes on
   never_acted : (plan_now setting (chronicle setting history)).backup_root ≡ x → backup_root_acts setting (chronicle setting history) ≡ false
   never_acted is =
-      false_if (backup_root_acts setting one)
+      false_from_ne_true (backup_root_acts setting one)
       (λ acting.
       not_both (device_failed_now two (plan_now setting two).backup_root)
       (ap (λ (p : Plan). device_failed_now two p.backup_root) plan ∙ ap (device_failed_now two) is ∙ failed)

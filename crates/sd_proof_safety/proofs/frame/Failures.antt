@@ -2,7 +2,7 @@
 use Rattle.std.specs.Prelude.{◌≡◌, ℕ, Bool, true, false, ◌||◌, not, List, ◌∷◌, nat_eq, Some, None, refl, ◌⊎◌, if◌then◌else◌}
 use Rattle.std.proofs.Common.{◌∙◌, ap, inl, inr}
 use Rattle.std.proofs.lemmas.Bool.{and_right, or_left}
-use Rattle.sd_checker.specs.Num.Lists.{of_some}
+use Rattle.sd_checker.specs.Num.Lists.{map_or}
 use Rattle.sd_checker.specs.Topo.declared.Thing.TheVariants as thing
 use Rattle.sd_history.specs.Sched.declared.Event.{Event}
 use Rattle.sd_history.specs.Sched.declared.Event.TheVariants as event
@@ -12,23 +12,17 @@ use Rattle.sd_history.specs.Steps.{Step, seen_of}
 use Rattle.sd_history.specs.Chronicle.{chronicle, next_step}
 use Rattle.sd_proof_safety.specs.invariant.Eras.{failed_now, is_among, link_failed_now}
 use Rattle.sd_proof_safety.specs.invariant.Invariant.{Core}
-use Rattle.sd_proof_safety.specs.invariant.Coming.{Comes}
+use Rattle.sd_proof_safety.specs.invariant.Coming.{IsNextEvent}
 use Rattle.sd_proof_safety.specs.invariant.Kept.{Keeps}
 use Rattle.sd_proof_safety.proofs.invariant.Orders.{renews}
-use Rattle.sd_proof_safety.proofs.invariant.Closings.{failed_device_closes_none, failed_link_closes_none}
+use Rattle.sd_proof_safety.proofs.invariant.Closings.{failed_device_closes_none, failed_link_closes_none, fails_uncommitted}
 use Rattle.sd_proof_safety.proofs.frame.PlainSteps.{era_kept, failed_more, commit_kept, joined_kept, has_failed_kept}
 use Rattle.sd_proof_safety.proofs.frame.Steps.{alike_elsewhere}
 use Rattle.sd_proof_safety.proofs.invariant.Empty.{core_before}
 use Rattle.sd_proof_safety.proofs.frame.Changing.{Stays, IsOutside, change_keeps}
 use Rattle.sd_proof_safety.proofs.frame.Failing.{falls}
 
--- no failure comes after a commit
-no_commit : (mend commit : Bool) → (not true || not (mend || commit)) ≡ true → commit ≡ false
-no_commit true commit order = cc
-no_commit false true order = cc
-no_commit false false order = refl
-
-module _ {setting : Setting} (r d : ℕ) (history : List Event) (comes : Comes setting history (event.FailDevice r d)) where
+module _ {setting : Setting} (r d : ℕ) (history : List Event) (comes : IsNextEvent setting history (event.FailDevice r d)) where
   abbrev one : List Step
   one = chronicle setting history
 
@@ -42,7 +36,7 @@ module _ {setting : Setting} (r d : ℕ) (history : List Event) (comes : Comes s
   stays = failed_device_closes_none setting history r d comes.clean
 
   before : has_commit (seen_of (chronicle setting history)) ≡ false
-  before = no_commit (has_mend (seen_of one)) (has_commit (seen_of one)) (renews setting (event.FailDevice r d) history comes.clean).fails
+  before = fails_uncommitted (has_mend (seen_of one)) (has_commit (seen_of one)) (renews setting (event.FailDevice r d) history comes.clean).fails
 
   more : failed_now (chronicle setting (event.FailDevice r d ∷ history)) ≡ thing.Device d ∷ failed_now (chronicle setting history)
   more = failed_more setting one s stays
@@ -57,7 +51,7 @@ module _ {setting : Setting} (r d : ℕ) (history : List Event) (comes : Comes s
           inr
           (falls setting (event.FailDevice r d) history comes.fair comes.clean (core_before setting history (event.FailDevice r d) comes)
           (era_kept setting one s stays) (thing.Device d) more x
-          (ap (λ b. of_some (if b then Some false else None) (is_up (seen_of one) x) (λ told. told)) is)
+          (ap (λ b. map_or (if b then Some false else None) (is_up (seen_of one) x) (λ told. told)) is)
           (ap (λ xs. is_among xs (thing.Device x)) more ∙ or_left (nat_eq x d) (is_among (failed_now one) (thing.Device x)) is)
           (and_right (not (was_made (seen_of one) x)) (not (nat_eq x d || has_ever_failed (seen_of one) x))
           (ap not (or_left (nat_eq x d) (has_ever_failed (seen_of one) x) is))))
@@ -77,7 +71,7 @@ module _ {setting : Setting} (r d : ℕ) (history : List Event) (comes : Comes s
       (commit_kept setting one s stays refl refl ∙ before) more each
       (λ l. inr (ap (λ xs. is_among xs (thing.Link l)) more, has_failed_kept one s (thing.Link l) refl refl)) refl stays
 
-module _ {setting : Setting} (r m : ℕ) (history : List Event) (comes : Comes setting history (event.FailLink r m)) where
+module _ {setting : Setting} (r m : ℕ) (history : List Event) (comes : IsNextEvent setting history (event.FailLink r m)) where
   abbrev one_ : List Step
   one_ = chronicle setting history
 
@@ -88,7 +82,7 @@ module _ {setting : Setting} (r m : ℕ) (history : List Event) (comes : Comes s
   stays_ = failed_link_closes_none setting history r m comes.clean
 
   before_ : has_commit (seen_of (chronicle setting history)) ≡ false
-  before_ = no_commit (has_mend (seen_of one_)) (has_commit (seen_of one_)) (renews setting (event.FailLink r m) history comes.clean).fails
+  before_ = fails_uncommitted (has_mend (seen_of one_)) (has_commit (seen_of one_)) (renews setting (event.FailLink r m) history comes.clean).fails
 
   more_ : failed_now (chronicle setting (event.FailLink r m ∷ history)) ≡ thing.Link m ∷ failed_now (chronicle setting history)
   more_ = failed_more setting one_ s_ stays_

@@ -4,7 +4,7 @@ use Rattle.std.specs.Prelude.{◌≡◌, ℕ, ◌+◌, ◌≤◌, Bool, true, fa
 use Rattle.std.specs.List.{list_all}
 use Rattle.std.proofs.Common.{arith, ◌∙◌, ap, sym, subst}
 use Rattle.std.proofs.lemmas.Bool.{and_parts, and_from, eqb-true, le-leb}
-use Rattle.sd_checker.specs.Num.Lists.{of_some, same_number}
+use Rattle.sd_checker.specs.Num.Lists.{map_or, same_number}
 use Rattle.sd_checker.specs.Topo.declared.Thing.TheVariants as thing
 use Rattle.sd_checker.specs.Plan.declared.End.{End}
 use Rattle.sd_checker.specs.Plan.Duties.{ends_of}
@@ -28,7 +28,7 @@ use Rattle.sd_history.proofs.Contained.{none_holds}
 use Rattle.sd_proof_safety.specs.invariant.Eras.{era, is_new, did_by, does, hears, heard_at}
 use Rattle.sd_proof_safety.specs.invariant.Clauses.{none_sent_ahead, shadow_is_short}
 use Rattle.sd_proof_safety.specs.invariant.Invariant.{Core}
-use Rattle.sd_proof_safety.specs.invariant.Coming.{Comes, AtNext}
+use Rattle.sd_proof_safety.specs.invariant.Coming.{IsNextEvent, AtNext}
 use Rattle.sd_proof_safety.specs.invariant.Kept.{Keeps, KeepsTick, transition_of_tick}
 use Rattle.sd_proof_safety.proofs.invariant.Parents.{live_is}
 use Rattle.sd_proof_safety.proofs.invariant.Closings.{ask_closes_none, loss_closes_none, end_closes_none}
@@ -50,7 +50,7 @@ step_at setting history e = next_step setting (chronicle setting history) e
 
 -- Events that pass
 
-module _ {setting : Setting} (enters : AtNext EntersSoon setting) (history : List Event) (e : Event) (comes : Comes setting history e) where
+module _ {setting : Setting} (enters : AtNext EntersSoon setting) (history : List Event) (e : Event) (comes : IsNextEvent setting history e) where
   -- a step that is plain, elsewhere of each device, and sends nothing
   pub passing : IsPlain (step_at setting history e) → ((x : ℕ) → IsElsewhere (step_at setting history e) x) → (step_at setting history e).sent ≡ []
       → Core setting (chronicle setting (e ∷ history))
@@ -108,7 +108,7 @@ sent_in_force setting steps r d epoch (Send m) own unstaged = go (nat_eq epoch (
     go : (b c : Bool) → nat_eq epoch (era steps) ≡ b → c ≡ false
         → list_all (λ f. nat_le f.message.epoch (era steps))
         (flights_to setting steps r d m (flight_count steps + 1)
-        (of_some (if b then Some (in_force setting (seen_of steps)) else if c then staged setting (seen_of steps) else None) []
+        (map_or (if b then Some (in_force setting (seen_of steps)) else if c then staged setting (seen_of steps) else None) []
         (λ plan. ends_of setting.net plan d))) ≡ true
     go true c is none =
         sent_all setting steps r d (flight_count steps + 1) m (era steps) (ends_of setting.net (in_force setting (seen_of steps)) d)
@@ -127,11 +127,11 @@ module _ (setting : Setting) (e : Event) (history : List Event) (d : ℕ) (call 
       → heard_at (chronicle setting (e ∷ history)) x ≡ heard_at (chronicle setting history) x
   heard_called unmade accepts_none x =
       ap (λ b. if b || does hears earlier (step_at setting history e) x then reference_of e else heard_at earlier x) (unmade x)
-      ∙ ap (λ a. if of_some (did_by earlier a x) false hears then reference_of e else heard_at earlier x) named
+      ∙ ap (λ a. if map_or (did_by earlier a x) false hears then reference_of e else heard_at earlier x) named
       ∙ ap (λ b. if b then reference_of e else heard_at earlier x) (go (nat_eq d x) (past_in earlier x) refl refl)
     where
       go : (b : Bool) (p : Option Past) → nat_eq d x ≡ b → past_in (chronicle setting history) x ≡ p
-          → of_some (if b then option_map (λ past. record { call = call; transition = transition_of past call }) p else None) false hears ≡ false
+          → map_or (if b then option_map (λ past. record { call = call; transition = transition_of past call }) p else None) false hears ≡ false
       go true None is there = refl
       go true (Some past) is there = accepts_none past (subst (λ y. past_in (chronicle setting history) y ≡ Some past) (sym (eqb-true d x is)) there)
       go false p is there = refl
@@ -144,9 +144,9 @@ module _ (setting : Setting) (e : Event) (history : List Event) (d : ℕ) (call 
   sends_none quiet_ = sent_is ∙ go (past_in earlier d) refl
     where
       go : (p : Option Past) → past_in (chronicle setting history) d ≡ p
-          → of_some (of_some p tells_nothing (λ past. tells_called (effect_of past call) (answers_by (after past call)))).answers []
+          → map_or (map_or p tells_nothing (λ past. tells_called (effect_of past call) (answers_by (after past call)))).answers []
           (λ a. flights_by setting (chronicle setting history) (reference_of e) d a.epoch
-          (of_some p tells_nothing (λ past. tells_called (effect_of past call) (answers_by (after past call)))).effect) ≡ []
+          (map_or p tells_nothing (λ past. tells_called (effect_of past call) (answers_by (after past call)))).effect) ≡ []
       go None there = refl
       go (Some past) there = ap (flights_by setting (chronicle setting history) (reference_of e) d (epoch_now (after past call))) (quiet_ past there)
 
@@ -165,9 +165,9 @@ module _ (setting : Setting) (e : Event) (history : List Event) (d : ℕ) (call 
 
       go : (p : Option Past) → past_in (chronicle setting history) d ≡ p
           → list_all (λ f. nat_le f.message.epoch (era (chronicle setting history)))
-          (of_some (of_some p tells_nothing (λ past. tells_called (effect_of past call) (answers_by (after past call)))).answers []
+          (map_or (map_or p tells_nothing (λ past. tells_called (effect_of past call) (answers_by (after past call)))).answers []
           (λ a. flights_by setting (chronicle setting history) (reference_of e) d a.epoch
-          (of_some p tells_nothing (λ past. tells_called (effect_of past call) (answers_by (after past call)))).effect)) ≡ true
+          (map_or p tells_nothing (λ past. tells_called (effect_of past call) (answers_by (after past call)))).effect)) ≡ true
       go None there = refl
       go (Some past) there =
           sent_in_force setting earlier (reference_of e) d (epoch_now (after past call)) (effect_of past call) (λ m same. (sends_own past call m same).1)
@@ -182,14 +182,14 @@ caller_is_up setting history e d none plain named =
     let started_ : not_started (seen_of steps) e ≡ false =
     none_holds (causes setting steps e) _ none (later (later (later (later (later (later (later (later (later first))))))))) in
     from_not (is_up (seen_of steps) d)
-    (sym (ap (λ (o : Option ℕ). of_some o false (λ x. not (is_up (seen_of steps) x))) named)
-    ∙ sym (ap (λ b. not b && of_some (device_of e) false (λ x. not (is_up (seen_of steps) x))) plain) ∙ started_)
+    (sym (ap (λ (o : Option ℕ). map_or o false (λ x. not (is_up (seen_of steps) x))) named)
+    ∙ sym (ap (λ b. not b && map_or (device_of e) false (λ x. not (is_up (seen_of steps) x))) plain) ∙ started_)
   where
     from_not : (b : Bool) → not b ≡ false → b ≡ true
     from_not true h = refl
     from_not false h = cc
 
-module _ {setting : Setting} (enters : AtNext EntersSoon setting) (history : List Event) (e : Event) (comes : Comes setting history e) (d : ℕ) (call : Call)
+module _ {setting : Setting} (enters : AtNext EntersSoon setting) (history : List Event) (e : Event) (comes : IsNextEvent setting history e) (d : ℕ) (call : Call)
     (named : act_by setting (chronicle setting history) e ≡ Calls d call) (unmade : (x : ℕ) → makes x e ≡ false) (unfailed : (x : ℕ)
     → fails (thing.Device x) e ≡ false)
     (unstaged : is_stage e ≡ false) (uncommitted : is_commit e ≡ false) (unjoined : joined e ≡ None) (fails_none : failure_of e ≡ None)
@@ -274,7 +274,7 @@ module _ {setting : Setting} (enters : AtNext EntersSoon setting) where
   -- what the tick did
   done : (history : List Event) (d c : ℕ) (transition : Transition) → transition_of_tick (chronicle setting history) d c ≡ transition → (past : Past)
       → past_in (chronicle setting history) d ≡ Some past → transition_of past (calls.Tick c) ≡ transition
-  done history d c transition is past there = sym (ap (λ (o : Option Past). of_some o calls.Nothing (λ p. transition_of p (calls.Tick c))) there) ∙ is
+  done history d c transition is past there = sym (ap (λ (o : Option Past). map_or o calls.Nothing (λ p. transition_of p (calls.Tick c))) there) ∙ is
 
   pub tick_quiet : KeepsTick setting calls.Nothing
   tick_quiet r d c history comes is =

@@ -4,7 +4,7 @@ use Rattle.std.specs.Prelude.{◌≡◌, ℕ, zero, suc, ◌<◌, Bool, true, fa
 use Rattle.std.specs.List.{list_any, list_all}
 use Rattle.std.proofs.Common.{arith, ◌∙◌, ap, sym, inl, inr}
 use Rattle.std.proofs.lemmas.Bool.{and_parts, or_left, or_right, or_cases, both_ways}
-use Rattle.sd_checker.specs.Num.Lists.{of_some, below}
+use Rattle.sd_checker.specs.Num.Lists.{map_or, below}
 use Rattle.sd_checker.specs.Topo.Network.{device_numbers}
 use Rattle.sd_checker.specs.Plan.declared.Plan.{Plan}
 use Rattle.sd_checker.specs.Plan.Plans.{is_member, members}
@@ -35,7 +35,7 @@ use Rattle.sd_proof_safety.proofs.frame.Core.{core_alike}
 -- whether it can, by the words
 abbrev can : Setting → Bool → Option Plan → ℕ → (ℕ → Bool) → (ℕ → ℕ → Bool) → Bool
 can setting commit plan epoch up settled =
-    commit && of_some plan false (λ p. nat_le 1 (length (filter up (members setting.net p))) && list_all (settled epoch) (filter up (members setting.net p)))
+    commit && map_or plan false (λ p. nat_le 1 (length (filter up (members setting.net p))) && list_all (settled epoch) (filter up (members setting.net p)))
 
 -- no window closes with an event that is no stage or commit and after which each device is up and answers as before
 pub closes_none : (setting : Setting) (e : Event) (history : List Event) → is_stage e ≡ false → is_commit e ≡ false
@@ -47,7 +47,7 @@ closes_none setting e history unstaged uncommitted ups answers =
     let s : Step = first_step setting steps e (told_by steps (act_by setting steps e)) in
     let up : is_up (seen_of (s ∷ steps)) ≡ is_up (seen_of steps) = (λ i d. ups d i) in
     let settled : has_settled (s ∷ steps) ≡ has_settled steps =
-    (λ i epoch d. ap (λ (o : Option Answers). of_some o false (λ a. nat_eq a.epoch epoch && a.sealed)) (answers d) i) in
+    (λ i epoch d. ap (λ (o : Option Answers). map_or o false (λ a. nat_eq a.epoch epoch && a.sealed)) (answers d) i) in
     ap (λ c. can setting c (staged setting (seen_of (s ∷ steps))) (staged_epoch (seen_of (s ∷ steps))) (is_up (seen_of (s ∷ steps))) (has_settled (s ∷ steps)))
     (commit_kept setting steps s refl unstaged uncommitted)
     ∙ ap (λ p. can setting (has_commit (seen_of steps)) p (staged_epoch (seen_of (s ∷ steps))) (is_up (seen_of (s ∷ steps))) (has_settled (s ∷ steps)))

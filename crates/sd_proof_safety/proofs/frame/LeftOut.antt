@@ -1,46 +1,28 @@
 -- C9 g at an event that changes neither who is up nor what failed, nor the commit and the staged plan: the members that are left out stay hit; and where all
 -- were right since
 -- some member had time to start, they still have it, or none is untouched any more.
-use Rattle.std.specs.Prelude.{◌≡◌, ℕ, zero, suc, ◌<◌, Bool, true, false, ◌&&◌, ◌||◌, not, List, [], ◌∷◌, length, filter, nat_eq, nat_le, Option, refl, ◌⊎◌}
+use Rattle.std.specs.Prelude.{◌≡◌, ℕ, ◌<◌, Bool, true, false, ◌&&◌, ◌||◌, List, [], ◌∷◌, length, Option, refl, ◌⊎◌}
 use Rattle.std.specs.List.{list_any, list_all}
-use Rattle.std.proofs.Common.{arith, ◌∙◌, ap, sym, inl, inr}
+use Rattle.std.proofs.Common.{◌∙◌, ap, sym, inl, inr}
 use Rattle.std.proofs.lemmas.Bool.{and_parts, or_left, or_right, or_cases, both_ways}
-use Rattle.sd_checker.specs.Num.Lists.{of_some, below}
+use Rattle.sd_checker.specs.Num.Lists.{map_or}
 use Rattle.sd_checker.specs.Topo.Network.{device_numbers}
 use Rattle.sd_checker.specs.Plan.declared.Plan.{Plan}
-use Rattle.sd_checker.specs.Plan.Plans.{is_member, members}
+use Rattle.sd_checker.specs.Plan.Plans.{is_member}
 use Rattle.sd_history.specs.Sched.declared.Event.{Event}
-use Rattle.sd_history.specs.Sched.Events.{reference_of, is_stage, is_commit}
 use Rattle.sd_history.specs.World.{Setting, is_up, is_untouched, has_commit, staged, is_staged_member, plan_numbered}
-use Rattle.sd_history.specs.Steps.{Answers, Step, seen_of, first_step, act_by, has_settled, live_answers, flights}
-use Rattle.sd_history.specs.Chronicle.{chronicle, told_by}
-use Rattle.sd_history.proofs.Among.{Among, first, later, either_side}
+use Rattle.sd_history.specs.Steps.{Step, seen_of}
+use Rattle.sd_history.specs.Chronicle.{chronicle}
+use Rattle.sd_history.proofs.flights.Places.{among_below}
 use Rattle.sd_proof_safety.specs.invariant.Eras.{era, plan_now, failed_now, hit}
-use Rattle.sd_proof_safety.specs.invariant.Clauses.{just_closed, is_beginning, someone_untouched, begins_with, left_out_is_hit, member_enters, member_entered, commit_at, shadow_is_short, none_sent_ahead}
+use Rattle.sd_proof_safety.specs.invariant.Clauses.{is_beginning, someone_untouched, begins_with, left_out_is_hit}
 use Rattle.sd_proof_safety.specs.invariant.Invariant.{Core, leaves_out_rightly}
 use Rattle.sd_proof_safety.specs.invariant.Coming.{IsFair, IsClean}
 use Rattle.sd_proof_safety.proofs.invariant.Prefix.{Passing, some_passing}
-use Rattle.sd_proof_safety.proofs.invariant.Closings.{no_window_closes}
-use Rattle.sd_proof_safety.specs.invariant.Silences.{EntersSoon}
-use Rattle.sd_proof_safety.specs.frame.Frames.{IsAlike, IsAlikeAt}
-use Rattle.sd_proof_safety.proofs.frame.PlainSteps.{commit_kept, staged_kept, staged_epoch_kept}
 use Rattle.sd_proof_safety.proofs.frame.Words.{plan_same, hit_same}
 use Rattle.sd_proof_safety.proofs.waits.LeastWaits.{timely_of}
-use Rattle.sd_proof_safety.proofs.waits.Beginning.{quiet, still, touched}
-use Rattle.sd_proof_safety.proofs.frame.Timely.{begins_before, first_era, late_after, touched_now, member_up_now}
-
-pub among_less : (n d : ℕ) → Among d (below n) → d < n
-among_less zero d a = elim a [ ]
-among_less (suc n) d a = go (among_less n d) (either_side (below n) (n ∷ []) a)
-  where
-    at : (x : ℕ) (xs : List ℕ) → Among d (x ∷ xs) → xs ≡ [] → d ≡ x
-    at x xs first none = refl
-    at x [] (later b) none = elim b [ ]
-    at x (y ∷ ys) (later b) none = cc
-
-    go : (Among d (below n) → d < n) → Among d (below n) ⊎ Among d (n ∷ []) → d < suc n
-    go rest (inl b) = let less : d < n = rest b in omega (arith, less)
-    go rest (inr b) = let same : d ≡ n = at n [] b refl in omega (arith, same)
+use Rattle.sd_proof_safety.proofs.waits.Beginning.{touched}
+use Rattle.sd_proof_safety.proofs.frame.Timely.{begins_before, first_era, late_after}
 
 module _ (setting : Setting) (e : Event) (history : List Event) (fair : IsFair setting) (clean : IsClean setting (e ∷ history))
     (core : Core setting (chronicle setting history))
@@ -60,7 +42,7 @@ module _ (setting : Setting) (e : Event) (history : List Event) (fair : IsFair s
   plan = plan_same setting one two eras
 
   staged_member : (d : ℕ) → is_staged_member setting (seen_of two) d ≡ is_staged_member setting (seen_of one) d
-  staged_member d = ap (λ (o : Option Plan). of_some o false (λ p. is_member p d)) staged_is
+  staged_member d = ap (λ (o : Option Plan). map_or o false (λ p. is_member p d)) staged_is
 
   hits : (d : ℕ) → hit setting two d ≡ hit setting one d
   hits d = hit_same setting one two eras failures d
@@ -79,7 +61,7 @@ module _ (setting : Setting) (e : Event) (history : List Event) (fair : IsFair s
       let parts = and_parts (someone_untouched setting one d) (is_beginning setting one) found.passed in
       let who = and_parts (is_member (plan_numbered setting 1) d) (is_untouched (seen_of one) d) parts.0 in
       both_ways (is_untouched (seen_of two) d)
-      (touched setting (e ∷ history) (timely_of setting (e ∷ history) fair clean) d (among_less (length setting.net.devices) d found.there) who.0
+      (touched setting (e ∷ history) (timely_of setting (e ∷ history) fair clean) d (among_below (length setting.net.devices) d found.there) who.0
       (late_after setting two over (eras ∙ first_era setting one parts.1)))
       (untouched d ∙ who.1)
 

@@ -3,7 +3,7 @@
 use Rattle.std.specs.Prelude.{◌≡◌, ℕ, ◌+◌, Bool, true, false, ◌&&◌, ◌||◌, not, List, [], ◌∷◌, cond, fold, filter_map, Option, Some, None, is_some, option_map, refl, if◌then◌else◌}
 use Rattle.std.specs.List.{list_any, cons_option}
 use Rattle.std.proofs.Common.{◌∙◌, ap}
-use Rattle.sd_checker.specs.Num.Lists.{of_some, same_number, latest, leading}
+use Rattle.sd_checker.specs.Num.Lists.{map_or, same_number, find_map_or, leading}
 use Rattle.sd_checker.specs.Topo.declared.Thing.{Thing}
 use Rattle.sd_checker.specs.Topo.declared.Thing.TheVariants as thing
 use Rattle.sd_history.specs.Sched.Events.{reference_of, joined, is_stage, is_commit}
@@ -51,9 +51,9 @@ module _ (setting : Setting) (earlier : List Step) (s : Step) (stays : s.seen.cl
 
     -- and what passes a test in it is what passed before, where this step does not
     pub in_window_kept : (test : Seen → Bool) → test s.seen ≡ false → in_window test (seen_of (s ∷ earlier)) ≡ in_window test (seen_of earlier)
-    in_window_kept test passes_not = ap (λ (o : Option (List Seen)). of_some o false (list_any test)) window_goes_on ∙ go (window (seen_of earlier))
+    in_window_kept test passes_not = ap (λ (o : Option (List Seen)). map_or o false (list_any test)) window_goes_on ∙ go (window (seen_of earlier))
       where
-        go : (o : Option (List Seen)) → of_some (option_map (λ w. s.seen ∷ w) o) false (list_any test) ≡ of_some o false (list_any test)
+        go : (o : Option (List Seen)) → map_or (option_map (λ w. s.seen ∷ w) o) false (list_any test) ≡ map_or o false (list_any test)
         go None = refl
         go (Some w) = ap (λ b. b || list_any test w) passes_not
 
@@ -76,22 +76,22 @@ module _ (setting : Setting) (earlier : List Step) (s : Step) (stays : s.seen.cl
 
     -- its commit came when it came
     pub commit_at_kept : is_commit s.seen.event ≡ false → commit_at (s ∷ earlier) ≡ commit_at earlier
-    commit_at_kept none = ap (λ (o : Option (List Seen)). of_some o 0 at) window_goes_on ∙ go (window (seen_of earlier))
+    commit_at_kept none = ap (λ (o : Option (List Seen)). map_or o 0 at) window_goes_on ∙ go (window (seen_of earlier))
       where
         at : List Seen → ℕ
-        at w = latest (λ x. if is_commit x.event then Some (reference_of x.event) else None) w 0
+        at w = find_map_or (λ x. if is_commit x.event then Some (reference_of x.event) else None) w 0
 
-        go : (o : Option (List Seen)) → of_some (option_map (λ w. s.seen ∷ w) o) 0 at ≡ of_some o 0 at
+        go : (o : Option (List Seen)) → map_or (option_map (λ w. s.seen ∷ w) o) 0 at ≡ map_or o 0 at
         go None = refl
-        go (Some w) = ap (λ b. of_some (if b then Some (reference_of s.seen.event) else None) (at w) (λ told. told)) none
+        go (Some w) = ap (λ b. map_or (if b then Some (reference_of s.seen.event) else None) (at w) (λ told. told)) none
 
 -- a thing that the step neither fails nor mends is failed as it was
 pub has_failed_kept : (earlier : List Step) (s : Step) (x : Thing) → fails x s.seen.event ≡ false → is_thing (mended s.seen.event) x ≡ false
     → has_failed (seen_of (s ∷ earlier)) x ≡ has_failed (seen_of earlier) x
 has_failed_kept earlier s x unfailed unmended =
-    ap (λ b. of_some (if b then Some true else if is_thing (mended s.seen.event) x then Some false else None) (has_failed (seen_of earlier) x) (λ told. told))
+    ap (λ b. map_or (if b then Some true else if is_thing (mended s.seen.event) x then Some false else None) (has_failed (seen_of earlier) x) (λ told. told))
     unfailed
-    ∙ ap (λ b. of_some (if b then Some false else None) (has_failed (seen_of earlier) x) (λ told. told)) unmended
+    ∙ ap (λ b. map_or (if b then Some false else None) (has_failed (seen_of earlier) x) (λ told. told)) unmended
 
 -- a device that the step neither makes nor fails is untouched as it was
 pub untouched_kept : (earlier : List Step) (s : Step) (d : ℕ) → makes d s.seen.event ≡ false → fails (thing.Device d) s.seen.event ≡ false

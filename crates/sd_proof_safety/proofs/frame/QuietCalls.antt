@@ -3,18 +3,19 @@
 use Rattle.std.specs.Prelude.{◌≡◌, ℕ, Bool, true, false, List, ◌∷◌, nat_eq, Option, Some, None, is_some, option_map, option_and_then, refl, if◌then◌else◌}
 use Rattle.std.proofs.Common.{◌∙◌, ap, sym, subst}
 use Rattle.std.proofs.lemmas.Bool.{eqb-true}
-use Rattle.sd_checker.specs.Num.Lists.{of_some}
+use Rattle.sd_checker.specs.Num.Lists.{map_or}
 use Rattle.sd_checker.specs.Topo.declared.Thing.TheVariants as thing
 use Rattle.sd_checker.specs.Plan.declared.Duty.{Duty}
 use Rattle.sd_checker.specs.Plan.declared.Edge.{Edge}
 use Rattle.sd_history.specs.Msg.declared.Message.{Message}
 use Rattle.sd_history.specs.Core.Calls as calls
-use Rattle.sd_history.specs.Core.Calls.{Call, Transition, Past}
+use Rattle.sd_history.specs.Core.Calls.{Call, Past}
 use Rattle.sd_history.specs.Core.Words.{after, transition_of, has_moved, is_acting, parent_now, epoch_now, given_now}
 use Rattle.sd_history.specs.Sched.declared.Event.{Event}
 use Rattle.sd_history.specs.World.{Setting, makes, fails, is_up}
 use Rattle.sd_history.specs.Steps.{Calls, Answers, seen_of, act_by, live_answers, given_in}
 use Rattle.sd_history.specs.Chronicle.{answers_by, past_in, past_after, next_step, chronicle}
+use Rattle.sd_history.proofs.Core.Reached.{added}
 use Rattle.sd_proof_safety.specs.invariant.Eras.{live_past}
 use Rattle.sd_proof_safety.proofs.invariant.Parents.{live_is}
 use Rattle.sd_proof_safety.specs.frame.Frames.{IsAlikeAt}
@@ -48,22 +49,18 @@ give_turns_nothing past duty = record { parent = refl; acts = refl; epoch = refl
 pub seal_turns_nothing : (past : Past) → TurnsNothing past calls.Seal
 seal_turns_nothing past = record { parent = refl; acts = refl; epoch = refl; stands = refl }
 
--- the past with a call that did this
-abbrev with_transition : Past → Call → Transition → Past
-with_transition past call transition = record { making = past.making; did = record { call = call; transition = transition } ∷ past.did }
-
 pub idle_tick : (past : Past) (c : ℕ) → transition_of past (calls.Tick c) ≡ calls.Nothing → IsIdle past (calls.Tick c)
 idle_tick past c is =
     record {
-      answers = ap (λ transition. answers_by (with_transition past (calls.Tick c) transition)) is;
-      stands = ap (λ transition. has_moved (with_transition past (calls.Tick c) transition)) is;
+      answers = ap (λ transition. answers_by (added past (calls.Tick c) transition)) is;
+      stands = ap (λ transition. has_moved (added past (calls.Tick c) transition)) is;
     }
 
 pub idle_emission : (past : Past) (c : ℕ) → transition_of past (calls.Tick c) ≡ calls.Emitted → IsIdle past (calls.Tick c)
 idle_emission past c is =
     record {
-      answers = ap (λ transition. answers_by (with_transition past (calls.Tick c) transition)) is;
-      stands = ap (λ transition. has_moved (with_transition past (calls.Tick c) transition)) is;
+      answers = ap (λ transition. answers_by (added past (calls.Tick c) transition)) is;
+      stands = ap (λ transition. has_moved (added past (calls.Tick c) transition)) is;
     }
 
 pub idle_fix : (past : Past) (c clock eps : ℕ) → IsIdle past (calls.Fix c clock eps)
@@ -74,16 +71,16 @@ pub idle_receipt : (past : Past) (link : ℕ) (m : Message) (c : ℕ) → transi
     → IsIdle past (calls.Receive link m c)
 idle_receipt past link m c is =
     record {
-      answers = ap (λ transition. answers_by (with_transition past (calls.Receive link m c) transition)) is;
-      stands = ap (λ transition. has_moved (with_transition past (calls.Receive link m c) transition)) is;
+      answers = ap (λ transition. answers_by (added past (calls.Receive link m c) transition)) is;
+      stands = ap (λ transition. has_moved (added past (calls.Receive link m c) transition)) is;
     }
 
 pub idle_accepted : (past : Past) (link : ℕ) (m : Message) (c : ℕ) (edge : Edge) → transition_of past (calls.Receive link m c) ≡ calls.Accepted edge
     → IsIdle past (calls.Receive link m c)
 idle_accepted past link m c edge is =
     record {
-      answers = ap (λ transition. answers_by (with_transition past (calls.Receive link m c) transition)) is;
-      stands = ap (λ transition. has_moved (with_transition past (calls.Receive link m c) transition)) is;
+      answers = ap (λ transition. answers_by (added past (calls.Receive link m c) transition)) is;
+      stands = ap (λ transition. has_moved (added past (calls.Receive link m c) transition)) is;
     }
 
 module _ (setting : Setting) (e : Event) (history : List Event) (d : ℕ) (call : Call) (named : act_by setting (chronicle setting history) e ≡ Calls d call)
@@ -91,9 +88,9 @@ module _ (setting : Setting) (e : Event) (history : List Event) (d : ℕ) (call 
   where
     up_called : (x : ℕ) → is_up (seen_of (chronicle setting (e ∷ history))) x ≡ is_up (seen_of (chronicle setting history)) x
     up_called x =
-        ap (λ b. of_some (if b then Some true else if fails (thing.Device x) e then Some false else None) (is_up (seen_of (chronicle setting history)) x)
+        ap (λ b. map_or (if b then Some true else if fails (thing.Device x) e then Some false else None) (is_up (seen_of (chronicle setting history)) x)
         (λ told. told)) (unmade x)
-        ∙ ap (λ b. of_some (if b then Some false else None) (is_up (seen_of (chronicle setting history)) x) (λ told. told)) (unfailed x)
+        ∙ ap (λ b. map_or (if b then Some false else None) (is_up (seen_of (chronicle setting history)) x) (λ told. told)) (unfailed x)
 
     past_called : (x : ℕ)
         → past_in (chronicle setting (e ∷ history)) x
@@ -111,7 +108,7 @@ module _ (setting : Setting) (e : Event) (history : List Event) (d : ℕ) (call 
     same_by : {B : Type 0} (word : Past → B) (default : B) (u : Bool) (x : ℕ) (b : Bool) (p : Option Past) → nat_eq d x ≡ b
         → past_in (chronicle setting history) x ≡ p
         → ((past : Past) → past_in (chronicle setting history) d ≡ Some past → word (after past call) ≡ word past)
-        → of_some (if u then (if b then option_map (λ q. after q call) p else p) else None) default word ≡ of_some (if u then p else None) default word
+        → map_or (if u then (if b then option_map (λ q. after q call) p else p) else None) default word ≡ map_or (if u then p else None) default word
     same_by word default false x b p same is keeps = refl
     same_by word default true x false p same is keeps = refl
     same_by word default true x true None same is keeps = refl
@@ -120,37 +117,37 @@ module _ (setting : Setting) (e : Event) (history : List Event) (d : ℕ) (call 
 
     word_called : {B : Type 0} (word : Past → B) (default : B) (x : ℕ)
         → ((past : Past) → past_in (chronicle setting history) d ≡ Some past → word (after past call) ≡ word past)
-        → of_some (live_past (chronicle setting (e ∷ history)) x) default word ≡ of_some (live_past (chronicle setting history) x) default word
+        → map_or (live_past (chronicle setting (e ∷ history)) x) default word ≡ map_or (live_past (chronicle setting history) x) default word
     word_called word default x keeps =
-        ap (λ p. of_some p default word) (live_called x)
+        ap (λ p. map_or p default word) (live_called x)
         ∙ same_by word default (is_up (seen_of (chronicle setting history)) x) x (nat_eq d x) (past_in (chronicle setting history) x) refl refl keeps
 
     word_of : {B : Type 0} (word : Answers → B) (default : B) → (x : ℕ)
         → ((past : Past) → past_in (chronicle setting history) d ≡ Some past → word (answers_by (after past call)) ≡ word (answers_by past))
-        → of_some (live_answers (chronicle setting (e ∷ history)) x) default word ≡ of_some (live_answers (chronicle setting history) x) default word
+        → map_or (live_answers (chronicle setting (e ∷ history)) x) default word ≡ map_or (live_answers (chronicle setting history) x) default word
     word_of word default x keeps =
-        ap (λ o. of_some o default word) (live_is setting (e ∷ history) x) ∙ told_of word default (live_past (chronicle setting (e ∷ history)) x)
+        ap (λ o. map_or o default word) (live_is setting (e ∷ history) x) ∙ told_of word default (live_past (chronicle setting (e ∷ history)) x)
         ∙ word_called (λ p. word (answers_by p)) default x keeps
-        ∙ sym (told_of word default (live_past (chronicle setting history) x)) ∙ sym (ap (λ o. of_some o default word) (live_is setting history x))
+        ∙ sym (told_of word default (live_past (chronicle setting history) x)) ∙ sym (ap (λ o. map_or o default word) (live_is setting history x))
       where
         told_of : {C : Type 0} (say : Answers → C) (none : C) (o : Option Past)
-            → of_some (option_map answers_by o) none say ≡ of_some o none (λ p. say (answers_by p))
+            → map_or (option_map answers_by o) none say ≡ map_or o none (λ p. say (answers_by p))
         told_of say none None = refl
         told_of say none (Some p) = refl
 
-    itself : (o : Option Answers) → of_some o None Some ≡ o
+    itself : (o : Option Answers) → map_or o None Some ≡ o
     itself None = refl
     itself (Some a) = refl
 
-    within : {B : Type 0} (word : Answers → Option B) (o : Option Answers) → of_some o None word ≡ option_and_then word o
+    within : {B : Type 0} (word : Answers → Option B) (o : Option Answers) → map_or o None word ≡ option_and_then word o
     within word None = refl
     within word (Some a) = refl
 
-    told : {B : Type 0} (word : Answers → B) (o : Option Answers) → of_some o None (λ a. Some (word a)) ≡ option_map word o
+    told : {B : Type 0} (word : Answers → B) (o : Option Answers) → map_or o None (λ a. Some (word a)) ≡ option_map word o
     told word None = refl
     told word (Some a) = refl
 
-    there : (o : Option Past) → of_some o false (λ p. true) ≡ is_some o
+    there : (o : Option Past) → map_or o false (λ p. true) ≡ is_some o
     there None = refl
     there (Some p) = refl
 

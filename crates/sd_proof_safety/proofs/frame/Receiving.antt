@@ -3,7 +3,7 @@
 use Rattle.std.specs.Prelude.{◌≡◌, ℕ, ◌+◌, ◌*◌, ◌≤◌, Bool, true, false, ◌&&◌, ◌||◌, not, List, [], ◌∷◌, max, nat_eq, nat_le, Option, Some, None, is_some, option_map, option_and_then, refl, if◌then◌else◌}
 use Rattle.std.proofs.Common.{arith, ◌∙◌, ap, sym, subst}
 use Rattle.std.proofs.lemmas.Bool.{and_parts, eqb-true, leb-true, le-leb}
-use Rattle.sd_checker.specs.Num.Lists.{of_some, same_number, has}
+use Rattle.sd_checker.specs.Num.Lists.{map_or, same_number, has}
 use Rattle.sd_checker.specs.Plan.declared.Edge.{Edge}
 use Rattle.sd_checker.specs.Plan.Plans.{is_root}
 use Rattle.sd_history.specs.Msg.declared.Flight.{Flight}
@@ -24,7 +24,7 @@ use Rattle.sd_proof_safety.specs.invariant.Bounds.{depth, delay, tick_gap}
 use Rattle.sd_proof_safety.specs.invariant.Eras.{plan_now, is_old, does, latest_such, hears, heard_at}
 use Rattle.sd_proof_safety.specs.invariant.Clauses.{above_backup_root, backup_root_stays, shadow_is_short}
 use Rattle.sd_proof_safety.specs.invariant.Invariant.{Core}
-use Rattle.sd_proof_safety.specs.invariant.Coming.{Comes, AtNext}
+use Rattle.sd_proof_safety.specs.invariant.Coming.{IsNextEvent, AtNext}
 use Rattle.sd_proof_safety.specs.invariant.Kept.{Keeps}
 use Rattle.sd_proof_safety.proofs.invariant.Sides.{implied}
 use Rattle.sd_proof_safety.specs.invariant.Silences.{EntersSoon}
@@ -37,6 +37,7 @@ use Rattle.sd_proof_safety.proofs.frame.QuietCalls.{IsIdle, idle_receipt, idle_a
 use Rattle.sd_proof_safety.proofs.invariant.Empty.{core_before}
 use Rattle.sd_proof_safety.proofs.frame.Lasting.{closes_none}
 use Rattle.sd_proof_safety.proofs.frame.Idles.{step_at, passing, calling, alike_now, each_called, shadow_called, messages_called, caller_is_up}
+use Rattle.sd_proof_safety.proofs.invariant.Opening.{gives}
 
 -- no such thing came later than the latest event
 pub such_within : (test : Did → Bool) (setting : Setting) (history : List Event) → IsHistory setting history → (d : ℕ)
@@ -77,12 +78,8 @@ such_rises test setting e history is d =
     go true before = before
     go false before = self (latest_such test (chronicle setting history) d)
 
-then_ : (a b : Bool) → (a ≡ true → b ≡ true) → (not a || b) ≡ true
-then_ true b holds = holds refl
-then_ false b holds = refl
-
 module _ {setting : Setting} (enters : AtNext EntersSoon setting) (r d c n : ℕ) (history : List Event)
-    (comes : Comes setting history (event.Recv r d c n)) where
+    (comes : IsNextEvent setting history (event.Recv r d c n)) where
   abbrev e : Event
   e = event.Recv r d c n
 
@@ -94,7 +91,7 @@ module _ {setting : Setting} (enters : AtNext EntersSoon setting) (r d c n : ℕ
   unknown is =
       let alone : (x : ℕ) → IsElsewhere (step_at setting history e) x =
       λ x. record {
-        changes = ap (λ (o : Option Flight). same_number (changed (of_some o Passes (λ f. Calls d (calls.Receive f.link f.message c)))) x) is;
+        changes = ap (λ (o : Option Flight). same_number (changed (map_or o Passes (λ f. Calls d (calls.Receive f.link f.message c)))) x) is;
         unmade = refl;
         unfailed = refl;
       } in
@@ -109,19 +106,19 @@ module _ {setting : Setting} (enters : AtNext EntersSoon setting) (r d c n : ℕ
         unmended = refl;
       })
       alone
-      (ap (λ (o : Option Flight). flights_of setting steps r (of_some o Passes (λ f. Calls d (calls.Receive f.link f.message c)))
-      (told_by steps (of_some o Passes (λ f. Calls d (calls.Receive f.link f.message c))))) is)
+      (ap (λ (o : Option Flight). flights_of setting steps r (map_or o Passes (λ f. Calls d (calls.Receive f.link f.message c)))
+      (told_by steps (map_or o Passes (λ f. Calls d (calls.Receive f.link f.message c))))) is)
 
   module _ (f : Flight) (is : flight_numbered (chronicle setting history) n ≡ Some f) where
     named : act_by setting (chronicle setting history) (event.Recv r d c n) ≡ Calls d (calls.Receive f.link f.message c)
-    named = ap (λ (o : Option Flight). of_some o Passes (λ g. Calls d (calls.Receive g.link g.message c))) is
+    named = ap (λ (o : Option Flight). map_or o Passes (λ g. Calls d (calls.Receive g.link g.message c))) is
 
     did : (transition : Transition) → transition_of_receipt (chronicle setting history) d c n ≡ transition → (past : Past)
         → past_in (chronicle setting history) d ≡ Some past → transition_of past (calls.Receive f.link f.message c) ≡ transition
     did transition what past there =
-        sym (ap (λ (o : Option Past). of_some o calls.Nothing (λ p. transition_of p (calls.Receive f.link f.message c))) there)
-        ∙ sym (ap (λ (o : Option Flight). of_some o calls.Nothing
-        (λ g. of_some (past_in steps d) calls.Nothing (λ p. transition_of p (calls.Receive g.link g.message c)))) is) ∙ what
+        sym (ap (λ (o : Option Past). map_or o calls.Nothing (λ p. transition_of p (calls.Receive f.link f.message c))) there)
+        ∙ sym (ap (λ (o : Option Flight). map_or o calls.Nothing
+        (λ g. map_or (past_in steps d) calls.Nothing (λ p. transition_of p (calls.Receive g.link g.message c)))) is) ∙ what
 
     pub refused : transition_of_receipt (chronicle setting history) d c n ≡ calls.Nothing → Core setting (chronicle setting (event.Recv r d c n ∷ history))
     refused what =
@@ -163,7 +160,7 @@ module _ {setting : Setting} (enters : AtNext EntersSoon setting) (r d c n : ℕ
           let b = and_parts (backup_root_stays setting steps && has (above_backup_root setting steps) x) (not (is_root (plan_now setting steps) x)) a.0 in
           let w = and_parts (backup_root_stays setting steps) (has (above_backup_root setting steps) x) b.0 in
           let near : r ≤ heard_at steps x + room =
-          hears_above r c n history (subst (λ y. Comes setting history (event.Recv r y c n)) at comes) edge
+          hears_above r c n history (subst (λ y. IsNextEvent setting history (event.Recv r y c n)) at comes) edge
           (sym (ap (λ y. transition_of_receipt steps y c n) at) ∙ what) w.0 x w.1 (from_not (is_root (plan_now setting steps) x) b.1) a.1 in
           le-leb _ _
           (far (heard_at (chronicle setting (e ∷ history)) backup) r (heard_at steps x) (heard_at (chronicle setting (e ∷ history)) x) room
@@ -198,7 +195,7 @@ module _ {setting : Setting} (enters : AtNext EntersSoon setting) (r d c n : ℕ
             old setting steps
                 (chronicle setting (e ∷ history)) alike each x,
           )
-          (then_ (backup_root_stays setting steps && has (above_backup_root setting steps) x && not (is_root (plan_now setting steps) x) && is_old steps x) _
+          (gives (backup_root_stays setting steps && has (above_backup_root setting steps) x && not (is_root (plan_now setting steps) x) && is_old steps x) _
           (heard_short x (nat_eq d backup) refl))
 
       pub accepted : Core setting (chronicle setting (event.Recv r d c n ∷ history))
@@ -214,20 +211,20 @@ data Kind : Transition → Type 0 where
   took : (edge : Edge) → Kind (calls.Accepted edge)
   came_in : (duty : Duty) (edge : Edge) → Kind (calls.Entered duty edge)
 
-accepted_kind : (b : Bool) (o : Option Edge) → Kind (of_some (if b then option_map calls.Accepted o else None) calls.Nothing (λ transition. transition))
+accepted_kind : (b : Bool) (o : Option Edge) → Kind (map_or (if b then option_map calls.Accepted o else None) calls.Nothing (λ transition. transition))
 accepted_kind true None = nothing_
 accepted_kind true (Some edge) = took edge
 accepted_kind false o = nothing_
 
 entered_kind : (link : ℕ) (m : Message) (g : Option Duty) (rest : Transition) → Kind rest
-    → Kind (of_some
+    → Kind (map_or
     (option_and_then
     (λ (duty : Duty). if nat_eq duty.epoch m.epoch then option_map (calls.Entered duty) (option_and_then (over_link link) duty.primary) else None) g) rest
     (λ transition. transition))
 entered_kind link m None rest kind = kind
 entered_kind link m (Some duty) rest kind = go (nat_eq duty.epoch m.epoch) (option_and_then (over_link link) duty.primary)
   where
-    go : (b : Bool) (o : Option Edge) → Kind (of_some (if b then option_map (calls.Entered duty) o else None) rest (λ transition. transition))
+    go : (b : Bool) (o : Option Edge) → Kind (map_or (if b then option_map (calls.Entered duty) o else None) rest (λ transition. transition))
     go true None = kind
     go true (Some edge) = came_in duty edge
     go false o = kind
@@ -236,11 +233,11 @@ kind_of : (steps : List Step) (d c n : ℕ) → Kind (transition_of_receipt step
 kind_of steps d c n = go (flight_numbered steps n) (past_in steps d)
   where
     go : (o : Option Flight) (p : Option Past)
-        → Kind (of_some o calls.Nothing (λ f. of_some p calls.Nothing (λ past. transition_of past (calls.Receive f.link f.message c))))
+        → Kind (map_or o calls.Nothing (λ f. map_or p calls.Nothing (λ past. transition_of past (calls.Receive f.link f.message c))))
     go None p = nothing_
     go (Some f) None = nothing_
     go (Some f) (Some past) =
-        entered_kind f.link f.message (given_now past) (of_some (accepted_by past f.link f.message) calls.Nothing (λ transition. transition))
+        entered_kind f.link f.message (given_now past) (map_or (accepted_by past f.link f.message) calls.Nothing (λ transition. transition))
         (accepted_kind (nat_eq (epoch_now past) f.message.epoch && is_newer f.message.stamp (stamp_now past))
         (option_and_then (over_link f.link) (parent_edge past)))
 

@@ -2,7 +2,7 @@
 use Rattle.std.specs.Prelude.{◌≡◌, ℕ, Bool, true, false, ◌&&◌, List, ◌∷◌, nat_eq, Option, Some, None, option_map, option_and_then, refl, if◌then◌else◌}
 use Rattle.std.proofs.Common.{◌∙◌, ap, sym, subst}
 use Rattle.std.proofs.lemmas.Bool.{and_parts, eqb-true}
-use Rattle.sd_checker.specs.Num.Lists.{of_some, same_number}
+use Rattle.sd_checker.specs.Num.Lists.{map_or, same_number}
 use Rattle.sd_checker.specs.Plan.declared.Edge.{Edge}
 use Rattle.sd_checker.specs.Plan.declared.Duty.{Duty}
 use Rattle.sd_history.specs.Msg.declared.Message.{Message}
@@ -26,28 +26,29 @@ use Rattle.sd_proof_safety.specs.invariant.Silences.{EntersSoon}
 use Rattle.sd_proof_safety.specs.invariant.Coming.{AtNext}
 use Rattle.sd_proof_safety.specs.invariant.Kept.{Keeps}
 use Rattle.sd_proof_safety.specs.frame.Descents.{TakesFromAbove, ComesDown, StoodThen}
-use Rattle.sd_proof_safety.proofs.frame.Climbing.{inner, above_hears}
+use Rattle.sd_proof_safety.proofs.frame.Climbing.{above_hears}
 use Rattle.sd_proof_safety.proofs.frame.Descending.{takes_from_above}
 use Rattle.sd_proof_safety.proofs.frame.Telling.{links_tell}
 use Rattle.sd_proof_safety.proofs.frame.Receiving.{receive}
+use Rattle.sd_proof_safety.proofs.messages.Flowing.{tail_rest}
 
 -- what is accepted from the parent is of the device's own epoch
 not_entered : (link : ℕ) (m : Message) (edge : Edge) (g : Option Duty) (rest : Transition)
-    → of_some (option_and_then
+    → map_or (option_and_then
     (λ (duty : Duty). if nat_eq duty.epoch m.epoch then option_map (calls.Entered duty) (option_and_then (over_link link) duty.primary) else None) g) rest
     (λ transition. transition) ≡ calls.Accepted edge
     → rest ≡ calls.Accepted edge
 not_entered link m edge None rest is = is
 not_entered link m edge (Some duty) rest is = go (nat_eq duty.epoch m.epoch) (option_and_then (over_link link) duty.primary) is
   where
-    go : (b : Bool) (o : Option Edge) → of_some (if b then option_map (calls.Entered duty) o else None) rest (λ transition. transition) ≡ calls.Accepted edge
+    go : (b : Bool) (o : Option Edge) → map_or (if b then option_map (calls.Entered duty) o else None) rest (λ transition. transition) ≡ calls.Accepted edge
         → rest ≡ calls.Accepted edge
     go true None h = h
     go true (Some other) h = cc
     go false o h = h
 
 followed : (b c : Bool) (o : Option Edge) (edge : Edge) → b ≡ c
-    → of_some (if c then option_map calls.Accepted o else None) calls.Nothing (λ transition. transition) ≡ calls.Accepted edge → b ≡ true
+    → map_or (if c then option_map calls.Accepted o else None) calls.Nothing (λ transition. transition) ≡ calls.Accepted edge → b ≡ true
 followed b true o edge is h = is
 followed b false o edge is h = cc
 
@@ -57,7 +58,7 @@ accepted_epoch past link m c edge is =
     let both : (nat_eq (epoch_now past) m.epoch && is_newer m.stamp (stamp_now past)) ≡ true =
     followed _ _ (option_and_then (over_link link) (parent_edge past)) edge refl
     (not_entered link m edge (given_now past)
-    (of_some (if nat_eq (epoch_now past) m.epoch && is_newer m.stamp (stamp_now past) then option_map calls.Accepted
+    (map_or (if nat_eq (epoch_now past) m.epoch && is_newer m.stamp (stamp_now past) then option_map calls.Accepted
     (option_and_then (over_link link) (parent_edge past)) else None) calls.Nothing (λ transition. transition)) is) in
     eqb-true (epoch_now past) m.epoch (and_parts (nat_eq (epoch_now past) m.epoch) (is_newer m.stamp (stamp_now past)) both).0
 
@@ -81,11 +82,11 @@ message_epoch : (setting : Setting) (history : List Event) (d c n : ℕ) (f : Fl
     → transition_of_receipt (chronicle setting history) d c n ≡ calls.Accepted edge → f.message.epoch ≡ era (chronicle setting history)
 message_epoch setting history d c n f edge is old what =
     go (past_in (chronicle setting history) d) refl
-    (sym (ap (λ (o : Option Flight). of_some o calls.Nothing
-    (λ g. of_some (past_in (chronicle setting history) d) calls.Nothing (λ past. transition_of past (calls.Receive g.link g.message c)))) is) ∙ what)
+    (sym (ap (λ (o : Option Flight). map_or o calls.Nothing
+    (λ g. map_or (past_in (chronicle setting history) d) calls.Nothing (λ past. transition_of past (calls.Receive g.link g.message c)))) is) ∙ what)
   where
     go : (p : Option Past) → past_in (chronicle setting history) d ≡ p
-        → of_some p calls.Nothing (λ past. transition_of past (calls.Receive f.link f.message c)) ≡ calls.Accepted edge
+        → map_or p calls.Nothing (λ past. transition_of past (calls.Receive f.link f.message c)) ≡ calls.Accepted edge
         → f.message.epoch ≡ era (chronicle setting history)
     go None there did = cc
     go (Some past) there did = sym (accepted_epoch past f.link f.message c edge did) ∙ old_epoch setting history d past old there
@@ -101,7 +102,7 @@ comes_down {setting} stood r c n history comes edge what stays f is y on_ low q 
     (takes_from_above setting (links_tell comes.fair) f.message.stamp (era steps) q y
     (tail_chronicle setting inside (history_chronicle setting (e ∷ history) comes.clean.is))
     (λ past there own. stood history comes.fair (clean_before setting e history comes.clean) comes.before stays y on_ low q.earlier
-    (inner inside) past there own))
+    (tail_rest inside) past there own))
 
 -- C6 at a receipt of the backup root
 pub shadow_from_standing : {setting : Setting} → StoodThen setting → AboveHears setting

@@ -1,9 +1,9 @@
 -- The core is kept by a stage: no window was open, so nobody is new and there is no commit before or after it, and all else is alike.
-use Rattle.std.specs.Prelude.{◌≡◌, ℕ, Bool, true, false, ◌||◌, not, List, [], ◌∷◌, Option, Some, None, is_some, refl, if◌then◌else◌}
+use Rattle.std.specs.Prelude.{◌≡◌, ℕ, Bool, true, false, ◌||◌, List, [], ◌∷◌, Option, Some, None, is_some, refl, if◌then◌else◌}
 use Rattle.std.specs.List.{list_any}
 use Rattle.std.proofs.Common.{◌∙◌, ap, sym, inr}
 use Rattle.std.proofs.lemmas.Bool.{or_parts}
-use Rattle.sd_checker.specs.Num.Lists.{of_some, same_number}
+use Rattle.sd_checker.specs.Num.Lists.{map_or, same_number}
 use Rattle.sd_checker.specs.Topo.declared.Thing.TheVariants as thing
 use Rattle.sd_history.specs.Sched.declared.Event.{Event}
 use Rattle.sd_history.specs.Sched.declared.Event.TheVariants as event
@@ -16,12 +16,12 @@ use Rattle.sd_history.proofs.Among.{first, later}
 use Rattle.sd_history.proofs.Contained.{none_holds}
 use Rattle.sd_proof_safety.specs.invariant.Eras.{is_new}
 use Rattle.sd_proof_safety.specs.invariant.Invariant.{Core}
-use Rattle.sd_proof_safety.specs.invariant.Coming.{Comes}
+use Rattle.sd_proof_safety.specs.invariant.Coming.{IsNextEvent}
 use Rattle.sd_proof_safety.specs.invariant.Kept.{Keeps}
 use Rattle.sd_proof_safety.proofs.invariant.Closings.{stage_closes_none}
 use Rattle.sd_proof_safety.specs.frame.Frames.{IsElsewhere, IsAlike, IsAlikeAt}
 use Rattle.sd_proof_safety.proofs.frame.ElsewhereSteps.{heard_alone}
-use Rattle.sd_proof_safety.proofs.frame.PlainSteps.{era_kept, failed_kept, has_failed_kept}
+use Rattle.sd_proof_safety.proofs.frame.PlainSteps.{era_kept, failed_kept}
 use Rattle.sd_proof_safety.proofs.frame.Steps.{alike_elsewhere}
 use Rattle.sd_proof_safety.proofs.frame.Alike.{new, failed_device}
 use Rattle.sd_proof_safety.proofs.waits.Beginning.{quiet, still}
@@ -29,17 +29,13 @@ use Rattle.sd_proof_safety.proofs.frame.Timely.{touched_now, member_up_now}
 use Rattle.sd_proof_safety.proofs.frame.Core.{core_alike, committed_none}
 use Rattle.sd_proof_safety.proofs.invariant.Empty.{core_before}
 use Rattle.sd_proof_safety.proofs.frame.Lasting.{shadow_same, messages_same}
+use Rattle.sd_proof_safety.proofs.frame.Changing.{none_new}
 
 no_window : (o : Option (List Seen)) → is_some o ≡ false → o ≡ None
 no_window None shut = refl
 no_window (Some w) shut = cc
 
-none_new : (c n : Bool) → c ≡ false → (not (not c) || not n) ≡ true → n ≡ false
-none_new true n none holds = cc
-none_new false true none holds = cc
-none_new false false none holds = refl
-
-module _ {setting : Setting} (r : ℕ) (history : List Event) (comes : Comes setting history (event.Stage r)) where
+module _ {setting : Setting} (r : ℕ) (history : List Event) (comes : IsNextEvent setting history (event.Stage r)) where
   abbrev e : Event
   e = event.Stage r
 
@@ -72,10 +68,10 @@ module _ {setting : Setting} (r : ℕ) (history : List Event) (comes : Comes set
   opened = ap (λ b. if b then None else Some []) stays
 
   uncommitted_before : has_commit (seen_of (chronicle setting history)) ≡ false
-  uncommitted_before = ap (λ (o : Option (List Seen)). of_some o false (list_any (λ x. is_commit x.event))) shut
+  uncommitted_before = ap (λ (o : Option (List Seen)). map_or o false (list_any (λ x. is_commit x.event))) shut
 
   uncommitted : has_commit (seen_of (chronicle setting (event.Stage r ∷ history))) ≡ false
-  uncommitted = ap (λ (o : Option (List Seen)). of_some o false (list_any (λ x. is_commit x.event))) opened
+  uncommitted = ap (λ (o : Option (List Seen)). map_or o false (list_any (λ x. is_commit x.event))) opened
 
   alone : (x : ℕ) → IsElsewhere (next_step setting (chronicle setting history) (event.Stage r)) x
   alone x = record { changes = refl; unmade = refl; unfailed = refl }
@@ -87,8 +83,8 @@ module _ {setting : Setting} (r : ℕ) (history : List Event) (comes : Comes set
         failed_is = failed_kept setting one s stays refl;
         commit_is = uncommitted ∙ sym uncommitted_before;
         joined_is = λ d.
-            ap (λ (o : Option (List Seen)). of_some o false (list_any (λ x. same_number (joined x.event) d))) opened
-            ∙ sym (ap (λ (o : Option (List Seen)). of_some o false (list_any (λ x. same_number (joined x.event) d))) shut);
+            ap (λ (o : Option (List Seen)). map_or o false (list_any (λ x. same_number (joined x.event) d))) opened
+            ∙ sym (ap (λ (o : Option (List Seen)). map_or o false (list_any (λ x. same_number (joined x.event) d))) shut);
         links_no_worse = λ l failed. failed;
       }
 

@@ -2,9 +2,10 @@
 -- neither moved nor does it act. From C5, C2 and C1. At the events before it is a hypothesis (StoodThen).
 use Rattle.std.specs.Prelude.{◌≡◌, ℕ, Bool, true, false, ◌&&◌, ◌||◌, not, List, nat_eq, Option, Some, None, is_some, option_map, refl, if◌then◌else◌}
 use Rattle.std.proofs.Common.{◌∙◌, ap, sym}
-use Rattle.std.proofs.lemmas.Bool.{and_parts, and_from, eqb-true, eq-eqb}
-use Rattle.sd_checker.specs.Num.Lists.{of_some, same_number, has}
+use Rattle.std.proofs.lemmas.Bool.{and_parts, and_from, eqb-true, eq-eqb, not-true}
+use Rattle.sd_checker.specs.Num.Lists.{map_or, same_number, has}
 use Rattle.sd_checker.specs.Plan.Plans.{is_member, is_root, is_backup_root}
+use Rattle.sd_checker.proofs.Num.Shared.{unequal_swap}
 use Rattle.sd_history.specs.Core.Calls.{Past}
 use Rattle.sd_history.specs.Core.Words.{epoch_now, has_moved, is_acting}
 use Rattle.sd_history.specs.Sched.declared.Event.{Event}
@@ -17,16 +18,9 @@ use Rattle.sd_proof_safety.specs.invariant.Invariant.{Core}
 use Rattle.sd_proof_safety.proofs.invariant.Parents.{live_is}
 use Rattle.sd_proof_safety.proofs.invariant.Sides.{implied}
 use Rattle.sd_proof_safety.proofs.invariant.Staying.{old_is_member}
-use Rattle.sd_proof_safety.proofs.frame.Steps.{turned}
-use Rattle.sd_proof_safety.proofs.invariant.Opening.{false_from_not}
+use Rattle.sd_proof_safety.proofs.windows.Leading.{stands_by}
 
-put : (some moved_ acts : Bool) → (some && not moved_ && not acts) ≡ true → (moved_ ≡ false) × (acts ≡ false)
-put true false false h = (refl, refl)
-put true false true h = cc
-put true true acts h = cc
-put false moved_ acts h = cc
-
-chosen : (a b : Bool) → (a || b) ≡ true → a ≡ false → b ≡ true
+pub chosen : (a b : Bool) → (a || b) ≡ true → a ≡ false → b ≡ true
 chosen true b h none = cc
 chosen false b h none = h
 
@@ -47,33 +41,33 @@ module _ (setting : Setting) (history : List Event) (core : Core setting (chroni
       ∙ ap (λ (o : Option Past). same_number (option_map (λ a. a.epoch) (option_map answers_by o)) (era steps)) live ∙ eq-eqb (epoch_now past) (era steps) own
 
   moved_is : moved (chronicle setting history) y ≡ has_moved past
-  moved_is = ap (λ (o : Option Past). of_some o false has_moved) live
+  moved_is = ap (λ (o : Option Past). map_or o false has_moved) live
 
   acts_is : acts_in (chronicle setting history) y ≡ is_acting past
   acts_is =
-      ap (λ (o : Option Answers). of_some o false (λ a. a.acts)) (live_is setting history y)
-      ∙ ap (λ (o : Option Past). of_some (option_map answers_by o) false (λ a. a.acts)) live
+      ap (λ (o : Option Answers). map_or o false (λ a. a.acts)) (live_is setting history y)
+      ∙ ap (λ (o : Option Past). map_or (option_map answers_by o) false (λ a. a.acts)) live
 
   stands : (b : Bool) → nat_eq y (plan_now setting (chronicle setting history)).backup_root ≡ b
       → (moved (chronicle setting history) y ≡ false) × (acts_in (chronicle setting history) y ≡ false)
   stands true same =
       let b = (plan_now setting steps).backup_root in
       let primary : on_primary steps y ≡ true = ap (on_primary steps) (eqb-true y b same) ∙ (and_parts (is_old steps b) (on_primary steps b) stays).1 in
-      put (is_some (live_past steps y)) (moved steps y) (acts_in steps y) primary
+      stands_by (is_some (live_past steps y)) (moved steps y) (acts_in steps y) primary
   stands false other =
       let plan = plan_now setting steps in
       let above : has (above_backup_root setting steps) y ≡ true = chosen (nat_eq y plan.backup_root) (has (above_backup_root setting steps) y) on_ other in
       let member : is_member plan y ≡ true = old_is_member setting steps y (core.census.outsiders y) old in
       let ordinary : is_ordinary plan y ≡ true =
       and_from (is_member plan y && not (is_root plan y)) (not (is_backup_root plan y)) (and_from (is_member plan y) (not (is_root plan y)) member (ap not low))
-      (ap not (turned y plan.backup_root other)) in (
-        false_from_not (moved steps y)
+      (ap not (unequal_swap y plan.backup_root other)) in (
+        not-true (moved steps y)
             (implied (backup_root_stays setting steps && has (above_backup_root setting steps) y && not (is_root plan y) && is_old steps y)
             (not (moved steps y)) (core.causes.path y)
             (and_from (backup_root_stays setting steps && has (above_backup_root setting steps) y && not (is_root plan y)) (is_old steps y)
             (and_from (backup_root_stays setting steps && has (above_backup_root setting steps) y) (not (is_root plan y))
             (and_from (backup_root_stays setting steps) (has (above_backup_root setting steps) y) stays above) (ap not low)) old)),
-        false_from_not (acts_in steps y)
+        not-true (acts_in steps y)
             (implied (is_old steps y && is_ordinary plan y) (not (acts_in steps y)) (core.roles.ordinary y)
             (and_from (is_old steps y) (is_ordinary plan y) old ordinary)),
       )

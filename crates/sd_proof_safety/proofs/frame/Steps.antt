@@ -2,12 +2,12 @@
 -- device from which the step is elsewhere. By the kinds of events.
 use Rattle.std.specs.Prelude.{◌≡◌, ℕ, false, ◌||◌, List, ◌∷◌, nat_eq, Option, Some, None, is_some, refl}
 use Rattle.std.proofs.Common.{◌∙◌, ap, sym}
-use Rattle.std.proofs.lemmas.Bool.{false_from_ne_true, both_ways, eq-eqb, eqb-true}
-use Rattle.sd_checker.specs.Num.Lists.{of_some, same_number}
+use Rattle.sd_checker.specs.Num.Lists.{map_or, same_number}
 use Rattle.sd_checker.specs.Topo.declared.Thing.{Thing}
 use Rattle.sd_checker.specs.Topo.declared.Thing.TheVariants as thing
 use Rattle.sd_checker.specs.Plan.declared.Plan.{Plan}
 use Rattle.sd_checker.specs.Plan.Duties.{duty_of}
+use Rattle.sd_checker.proofs.Num.Shared.{unequal_swap}
 use Rattle.sd_history.specs.Msg.declared.Flight.{Flight}
 use Rattle.sd_history.specs.Core.Calls as calls
 use Rattle.sd_history.specs.Core.Calls.{Past}
@@ -22,17 +22,14 @@ use Rattle.sd_proof_safety.proofs.frame.ElsewhereSteps.{up_alone, parent_alone, 
 use Rattle.sd_proof_safety.proofs.frame.PlainSteps.{era_kept, failed_kept, commit_kept, joined_kept, has_failed_kept, untouched_kept}
 
 changed_receipt : (d x c : ℕ) (o : Option Flight) → nat_eq d x ≡ false
-    → same_number (changed (of_some o Passes (λ f. Calls d (calls.Receive f.link f.message c)))) x ≡ false
+    → same_number (changed (map_or o Passes (λ f. Calls d (calls.Receive f.link f.message c)))) x ≡ false
 changed_receipt d x c None other = refl
 changed_receipt d x c (Some f) other = other
 
 changed_give : (setting : Setting) (epoch d x : ℕ) (o : Option Plan) → nat_eq d x ≡ false
-    → same_number (changed (of_some o Passes (λ plan. Calls d (calls.Give (duty_of setting.net plan epoch d))))) x ≡ false
+    → same_number (changed (map_or o Passes (λ plan. Calls d (calls.Give (duty_of setting.net plan epoch d))))) x ≡ false
 changed_give setting epoch d x None other = refl
 changed_give setting epoch d x (Some plan) other = other
-
-pub turned : (m d : ℕ) → nat_eq m d ≡ false → nat_eq d m ≡ false
-turned m d other = false_from_ne_true (nat_eq d m) (λ is. both_ways (nat_eq m d) other (eq-eqb m d (sym (eqb-true d m is))))
 
 -- an event that does not name the device leaves it alone
 pub elsewhere : (setting : Setting) (steps : List Step) (e : Event) (d : ℕ) → same_number (device_of e) d ≡ false → IsElsewhere (next_step setting steps e) d
@@ -42,7 +39,7 @@ elsewhere setting steps (event.Tick r m c) d other = record { changes = other; u
 elsewhere setting steps (event.Recv r m c n) d other =
     record { changes = changed_receipt m d c (flight_numbered steps n) other; unmade = refl; unfailed = refl }
 elsewhere setting steps (event.Lose r n) d other = record { changes = refl; unmade = refl; unfailed = refl }
-elsewhere setting steps (event.FailDevice r m) d other = record { changes = refl; unmade = refl; unfailed = turned m d other }
+elsewhere setting steps (event.FailDevice r m) d other = record { changes = refl; unmade = refl; unfailed = unequal_swap m d other }
 elsewhere setting steps (event.FailLink r l) d other = record { changes = refl; unmade = refl; unfailed = refl }
 elsewhere setting steps (event.Fix r m c clock eps) d other = record { changes = other; unmade = refl; unfailed = refl }
 elsewhere setting steps (event.Ask r m c) d other = record { changes = refl; unmade = refl; unfailed = refl }

@@ -1,9 +1,10 @@
 -- In an accepted plan that fits its network the link to a parent tells the parent: primary and backup go over different links (rule 4 of the structure).
-use Rattle.std.specs.Prelude.{◌≡◌, ℕ, zero, suc, ◌-◌, ◌<◌, true, not, List, [], ◌∷◌, length, find, slice_get, nat_eq, Option, Some, None, option_map, refl}
-use Rattle.std.proofs.Common.{arith, ◌∙◌, ap, sym, subst, inl, inr}
+use Rattle.std.specs.Prelude.{◌≡◌, ℕ, ◌-◌, ◌<◌, true, not, [], ◌∷◌, length, find, slice_get, nat_eq, Option, Some, None, option_map, refl}
+use Rattle.std.proofs.Common.{◌∙◌, ap, sym, subst, inl, inr}
 use Rattle.std.proofs.lemmas.Bool.{eq-eqb, not-false}
 use Rattle.std.specs.Option.{option_or}
-use Rattle.sd_checker.specs.Num.Lists.{of_some}
+use Rattle.std.proofs.lemmas.Option.{slice_get_within}
+use Rattle.sd_checker.specs.Num.Lists.{map_or}
 use Rattle.sd_checker.specs.Topo.Network.{Network, device_numbers}
 use Rattle.sd_checker.specs.Plan.declared.Hop.{Hop}
 use Rattle.sd_checker.specs.Plan.declared.Plan.{Plan}
@@ -11,13 +12,13 @@ use Rattle.sd_checker.specs.Plan.declared.PlanRow.{PlanRow}
 use Rattle.sd_checker.specs.Plan.Plans.{Fits, primary_of, backup_of}
 use Rattle.sd_checker.specs.Plan.Structure.{structure_breach, roots_breach, first_failing, row_is_right, hops_are_right, links_differ, reaches_root, falls_back}
 use Rattle.sd_checker.proofs.Plan.Numbered.{none_found, both_none}
+use Rattle.sd_checker.proofs.Plan.Rules.{none_mapped}
 use Rattle.sd_history.specs.World.{Setting, no_plan}
 use Rattle.sd_history.proofs.Given.{some_is}
 use Rattle.sd_proof_safety.specs.invariant.Coming.{IsFair}
 use Rattle.sd_proof_safety.proofs.invariant.Sides.{not_both}
 use Rattle.sd_proof_safety.specs.messages.Hops.{IsPlanHop, TellsParent}
 use Rattle.sd_proof_safety.specs.frame.Descents.{LinksTell}
-use Rattle.sd_proof_safety.proofs.invariant.Fallback.{none_mapped}
 
 differ : (net : Network) (plan : Plan) → structure_breach net plan ≡ None → (d : ℕ) → d < length net.devices → links_differ plan d ≡ true
 differ net plan structured d within =
@@ -42,21 +43,16 @@ differ net plan structured d within =
     (none_found (λ x. not (links_differ plan x)) (length net.devices) d
     (none_mapped (λ x. (4, x)) (find (λ x. not (links_differ plan x)) (device_numbers net)) four.0) within)
 
-within_of : {A : Type 0} (xs : List A) (i : ℕ) (x : A) → slice_get xs i ≡ Some x → i < length xs
-within_of [] i x is = cc
-within_of (y ∷ ys) zero x is = omega arith
-within_of (y ∷ ys) (suc i) x is = let less = within_of ys i x is in omega (arith, less)
-
 row_within : (plan : Plan) (d : ℕ) (h : Hop) (o : Option (Option PlanRow)) → slice_get plan.rows d ≡ o
-    → option_map (λ (row : PlanRow). row.primary) (of_some o None (λ row. row)) ≡ Some h → d < length plan.rows
+    → option_map (λ (row : PlanRow). row.primary) (map_or o None (λ row. row)) ≡ Some h → d < length plan.rows
 row_within plan d h None is there = cc
-row_within plan d h (Some row) is there = within_of plan.rows d row is
+row_within plan d h (Some row) is there = slice_get_within plan.rows d row is
 
 same_hop : (a b : Hop) (o : Option Hop) → o ≡ Some a → o ≡ Some b → a ≡ b
 same_hop a b o is is' = some_is (sym is ∙ is')
 
 different : (p b : Hop) (o u : Option Hop) → o ≡ Some p → u ≡ Some b
-    → of_some o true (λ (x : Hop). of_some u true (λ (y : Hop). not (nat_eq x.link y.link))) ≡ true → p.link ≡ b.link → ⊥
+    → map_or o true (λ (x : Hop). map_or u true (λ (y : Hop). not (nat_eq x.link y.link))) ≡ true → p.link ≡ b.link → ⊥
 different p b None u is is' holds same = cc
 different p b (Some x) None is is' holds same = cc
 different p b (Some x) (Some y) is is' holds same =
@@ -89,6 +85,6 @@ no_row d h (inr is) = cc
 pub links_tell : {setting : Setting} → IsFair setting → LinksTell setting
 links_tell {setting} fair epoch = go (slice_get setting.plans (epoch - 1)) refl
   where
-    go : (o : Option Plan) → slice_get setting.plans (epoch - 1) ≡ o → TellsParent (of_some o no_plan (λ plan. plan))
+    go : (o : Option Plan) → slice_get setting.plans (epoch - 1) ≡ o → TellsParent (map_or o no_plan (λ plan. plan))
     go None is = λ d x y link one two. absurd (no_row d one.hop one.is)
     go (Some plan) is = tells_of setting.net plan (fair.fit (epoch - 1) plan is) (fair.accepted (epoch - 1) plan is).structure

@@ -5,7 +5,7 @@ use Rattle.std.specs.List.{list_any, cons_option}
 use Rattle.std.proofs.Common.{arith, ◌∙◌, ap, sym, inl, inr}
 use Rattle.std.proofs.lemmas.Bool.{and_parts, and_from, or_right, leb-true, leb-false, le-leb, ltb-true, eqb-true}
 use Rattle.std.proofs.lemmas.List.Sums.{sum_by-cons}
-use Rattle.sd_checker.specs.Num.Lists.{of_some, leading}
+use Rattle.sd_checker.specs.Num.Lists.{map_or, leading}
 use Rattle.sd_checker.specs.Topo.declared.Thing.{Thing}
 use Rattle.sd_checker.specs.Topo.declared.Thing.TheVariants as thing
 use Rattle.sd_checker.specs.Domain.Things.{same_thing}
@@ -26,6 +26,7 @@ use Rattle.sd_proof_safety.proofs.waits.Beginning.{touched}
 use Rattle.sd_proof_safety.proofs.frame.Words.{plan_same}
 use Rattle.sd_proof_safety.proofs.invariant.Empty.{begins_empty}
 use Rattle.sd_proof_safety.specs.invariant.Invariant.{Core}
+use Rattle.sd_proof_safety.proofs.invariant.Opening.{gives}
 
 -- In the first era what failed is what ever failed.
 
@@ -36,7 +37,7 @@ shorter : (n : ℕ) → 0 + n + 1 ≡ 1 → n + 1 ≡ 1
 shorter n is = omega (arith, is)
 
 among_option : (x : Thing) (o : Option Thing) (xs : List Thing)
-    → (of_some o false (same_thing x) || list_any (same_thing x) xs) ≡ list_any (same_thing x) (cons_option o xs)
+    → (map_or o false (same_thing x) || list_any (same_thing x) xs) ≡ list_any (same_thing x) (cons_option o xs)
 among_option x None xs = refl
 among_option x (Some y) xs = refl
 
@@ -54,7 +55,7 @@ failed_ever (s ∷ seen) first_ d = go s.closed refl (sym (ap (λ n. n + 1) (sum
         shorter (count_by (λ (x : Seen). x.closed) seen) (sym (ap (λ b. cond b 1 0 + count_by (λ (x : Seen). x.closed) seen + 1) is) ∙ one) in
         let failures : failures_since_closing (s ∷ seen) ≡ cons_option (failure_of s.event) (failures_since_closing seen) =
         ap (λ b. filter_map (λ (x : Seen). failure_of x.event) (if not b then s ∷ leading (λ x. not x.closed) seen else [])) is in
-        ap (λ b. of_some (failure_of s.event) false (same_thing (thing.Device d)) || b) (rest before d)
+        ap (λ b. map_or (failure_of s.event) false (same_thing (thing.Device d)) || b) (rest before d)
         ∙ among_option (thing.Device d) (failure_of s.event) (failures_since_closing seen)
         ∙ sym (ap (λ xs. is_among xs (thing.Device d)) failures)
 
@@ -65,7 +66,7 @@ up_if_made (s ∷ seen) d made failed = go (makes d s.event) (fails (thing.Devic
   where
     go : (m f : Bool) → (was_made seen d ≡ true → has_ever_failed seen d ≡ false → is_up seen d ≡ true) → (m || was_made seen d) ≡ true
         → (f || has_ever_failed seen d) ≡ false
-        → of_some (if m then Some true else if f then Some false else None) (is_up seen d) (λ told. told) ≡ true
+        → map_or (if m then Some true else if f then Some false else None) (is_up seen d) (λ told. told) ≡ true
     go true f rest made' failed' = refl
     go false true rest made' failed' = cc
     go false false rest made' failed' = rest made' failed'
@@ -75,10 +76,6 @@ made_if : (m f : Bool) → (not m && not f) ≡ false → f ≡ false → m ≡ 
 made_if true f touched_ none = refl
 made_if false true touched_ none = cc
 made_if false false touched_ none = cc
-
-no_condition : (a b : Bool) → (a ≡ true → b ≡ true) → (not a || b) ≡ true
-no_condition true b then_ = then_ refl
-no_condition false b then_ = refl
 
 -- At an event after which the state is alike.
 
@@ -151,7 +148,7 @@ module _ (setting : Setting) (e : Event) (history : List Event) (fair : IsFair s
         by_time : (b2 b1 : Bool) → is_beginning setting two ≡ b2 → is_beginning setting one ≡ b1 → was_touched setting two d ≡ true
         by_time true b1 is2 is1 = ap (λ b. not (not b && belongs setting.net (plan_now setting two) d) || not (is_untouched (seen_of two) d)) is2
         by_time false true is2 is1 =
-            no_condition (not (is_beginning setting two) && belongs setting.net (plan_now setting two) d) (not (is_untouched (seen_of two) d))
+            gives (not (is_beginning setting two) && belongs setting.net (plan_now setting two) d) (not (is_untouched (seen_of two) d))
             (λ both. ap not
             (touched_late setting (e ∷ history) fair clean is2 (eras ∙ first_era setting one is1) d
             (and_parts (not (is_beginning setting two)) (belongs setting.net (plan_now setting two) d) both).1))
@@ -183,7 +180,7 @@ module _ (setting : Setting) (e : Event) (history : List Event) (fair : IsFair s
         by_time true b1 is2 is1 =
             ap (λ b. not (not b && belongs setting.net (plan_now setting two) d && not (device_failed_now two d)) || is_up (seen_of two) d) is2
         by_time false true is2 is1 =
-            no_condition (not (is_beginning setting two) && belongs setting.net (plan_now setting two) d && not (device_failed_now two d))
+            gives (not (is_beginning setting two) && belongs setting.net (plan_now setting two) d && not (device_failed_now two d))
             (is_up (seen_of two) d)
             (λ all.
             let parts = and_parts (not (is_beginning setting two) && belongs setting.net (plan_now setting two) d) (not (device_failed_now two d)) all in

@@ -1,7 +1,7 @@
 -- The words of the invariant in two states that are alike: each is the same. By the words' clauses.
 use Rattle.std.specs.Prelude.{◌≡◌, ℕ, ◌+◌, false, not, List, filter, Option, option_map, option_and_then}
 use Rattle.std.proofs.Common.{◌∙◌, ap}
-use Rattle.sd_checker.specs.Num.Lists.{of_some, same_number}
+use Rattle.sd_checker.specs.Num.Lists.{map_or, same_number}
 use Rattle.sd_checker.specs.Topo.declared.Thing.TheVariants as thing
 use Rattle.sd_checker.specs.Domain.Things.{same_thing}
 use Rattle.sd_checker.specs.Plan.declared.Plan.{Plan}
@@ -16,7 +16,7 @@ module _ (one two : List Step) (d : ℕ) (same : live_answers two d ≡ live_ans
   parent_same = ap (λ (o : Option Answers). option_and_then (λ a. a.parent) o) same
 
   pub acts_same : acts_in two d ≡ acts_in one d
-  acts_same = ap (λ (o : Option Answers). of_some o false (λ a. a.acts)) same
+  acts_same = ap (λ (o : Option Answers). map_or o false (λ a. a.acts)) same
 
   pub epoch_same : epoch_in two d ≡ epoch_in one d
   epoch_same = ap (λ (o : Option Answers). option_map (λ a. a.epoch) o) same

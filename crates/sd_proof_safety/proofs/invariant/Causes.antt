@@ -12,6 +12,7 @@ use Rattle.sd_checker.specs.Plan.Plans.{is_member, is_root, is_backup_root}
 use Rattle.sd_checker.specs.Plan.Walks.{path, epath, on_walk}
 use Rattle.sd_checker.proofs.Plan.Rules.{KeepsRules}
 use Rattle.sd_checker.specs.CheckRoot.Timing.{round_gap}
+use Rattle.sd_checker.proofs.Domain.Within.{same_thing-true}
 use Rattle.sd_history.specs.World.{Setting, is_up, has_commit}
 use Rattle.sd_history.specs.Steps.{Step, seen_of}
 use Rattle.sd_history.proofs.Among.{Among}
@@ -22,14 +23,9 @@ use Rattle.sd_proof_safety.specs.invariant.Invariant.{Core}
 use Rattle.sd_proof_safety.specs.invariant.Silences.{WholePathHears, BehindWaits, FallbackHears, BesideWaits, root_leads}
 use Rattle.sd_proof_safety.proofs.invariant.Arithmetic.{a1, a2, a4_first, a4_second, a5}
 use Rattle.sd_proof_safety.proofs.invariant.Prefix.{Passing, some_passing, any_passing}
-use Rattle.sd_proof_safety.proofs.invariant.Domains.{same_is}
 use Rattle.sd_proof_safety.proofs.invariant.Sides.{implied, not_both}
 use Rattle.sd_proof_safety.proofs.invariant.Staying.{filter_out, filter_in}
 use Rattle.sd_proof_safety.proofs.invariant.CutPaths.{root_not_on_cut, root_on_cut, root_on_path}
-
-not_true : (b : Bool) → not b ≡ true → b ≡ false
-not_true true is = cc
-not_true false is = refl
 
 pub ordinary_parts : (member root backup : Bool) → (member && not root && not backup) ≡ true → (member ≡ true) × (root ≡ false) × (backup ≡ false)
 ordinary_parts true false false all = (refl, refl, refl)
@@ -70,9 +66,9 @@ module _ (setting : Setting) (steps : List Step) where
       let cut : List Thing = epath setting.net (plan_now setting steps) d in
       let one : Passing (is_among (failed_now steps)) cut = some_passing _ cut is in
       let two : Passing (same_thing one.one) (failed_now steps) = some_passing (same_thing one.one) (failed_now steps) one.passed in
-      let same : one.one ≡ two.one = same_is one.one two.one two.passed in
+      let same : one.one ≡ two.one = same_thing-true one.one two.one two.passed in
       let other : same_thing r two.one ≡ false =
-      false_from_ne_true (same_thing r two.one) (λ root. none (subst (λ y. Among y cut) (same ∙ sym (same_is r two.one root)) one.there)) in
+      false_from_ne_true (same_thing r two.one) (λ root. none (subst (λ y. Among y cut) (same ∙ sym (same_thing-true r two.one root)) one.there)) in
       touched (failed_besides_root setting steps) cut one.one one.there
       (any_passing (same_thing one.one) two.one (failed_besides_root setting steps)
       (filter_in (λ y. not (same_thing r y)) two.one (failed_now steps) two.there (ap not other)) two.passed)

@@ -4,7 +4,7 @@ use Rattle.std.specs.Prelude.{◌≡◌, ℕ, Bool, true, false, ◌&&◌, ◌||
 use Rattle.std.specs.List.{list_any, list_all}
 use Rattle.std.proofs.Common.{◌∙◌, ap, sym}
 use Rattle.std.proofs.lemmas.Bool.{and_left, or_from}
-use Rattle.sd_checker.specs.Num.Lists.{of_some}
+use Rattle.sd_checker.specs.Num.Lists.{map_or}
 use Rattle.sd_checker.specs.Plan.Plans.{members}
 use Rattle.sd_history.specs.Sched.declared.Event.{Event}
 use Rattle.sd_history.specs.Sched.declared.Event.TheVariants as event
@@ -32,8 +32,8 @@ with_closed s activated closed =
 -- whether the window closes, by the window
 abbrev closes : Setting → List Step → Step → Option (List Seen) → Bool
 closes setting steps s w =
-    of_some w false (list_any (λ x. is_commit x.event))
-    && of_some (option_map (λ v. plan_numbered setting (staged_epoch (seen_of (s ∷ steps)))) w) false (λ plan.
+    map_or w false (list_any (λ x. is_commit x.event))
+    && map_or (option_map (λ v. plan_numbered setting (staged_epoch (seen_of (s ∷ steps)))) w) false (λ plan.
     let present = filter (is_up (seen_of (s ∷ steps))) (members setting.net plan) in
     nat_le 1 (length present) && list_all (has_settled (s ∷ steps) (staged_epoch (seen_of (s ∷ steps)))) present)
 
@@ -75,8 +75,8 @@ no_window_closes setting (e ∷ history) = cannot_close setting e history
 -- whether a window can close after these steps, by the window
 abbrev closes_now : Setting → List Step → Option (List Seen) → Bool
 closes_now setting steps w =
-    of_some w false (list_any (λ x. is_commit x.event))
-    && of_some (option_map (λ v. plan_numbered setting (staged_epoch (seen_of steps))) w) false (λ plan.
+    map_or w false (list_any (λ x. is_commit x.event))
+    && map_or (option_map (λ v. plan_numbered setting (staged_epoch (seen_of steps))) w) false (λ plan.
     let present = filter (is_up (seen_of steps)) (members setting.net plan) in
     nat_le 1 (length present) && list_all (has_settled steps (staged_epoch (seen_of steps))) present)
 
@@ -122,8 +122,8 @@ stage_closes_none setting history r = staged_now setting history r
 -- Without a commit no window closes.
 
 uncommitted : (stage : Bool) (x : Seen) (w : Option (List Seen)) → stage ≡ false → is_commit x.event ≡ false
-    → of_some w false (list_any (λ y. is_commit y.event)) ≡ false
-    → of_some (if stage then Some [] else option_map (λ v. x ∷ v) w) false (list_any (λ y. is_commit y.event)) ≡ false
+    → map_or w false (list_any (λ y. is_commit y.event)) ≡ false
+    → map_or (if stage then Some [] else option_map (λ v. x ∷ v) w) false (list_any (λ y. is_commit y.event)) ≡ false
 uncommitted true x w no_stage no_commit none = cc
 uncommitted false x None no_stage no_commit none = refl
 uncommitted false x (Some v) no_stage no_commit none = or_from (is_commit x.event) (list_any (λ y. is_commit y.event) v) no_commit none
@@ -135,7 +135,7 @@ none_closes_uncommitted setting history e no_stage no_commit none =
     and_left (has_commit ((begun setting history e).seen ∷ seen_of (chronicle setting history))) _
     (uncommitted (is_stage e) (begun setting history e).seen (window (seen_of (chronicle setting history))) no_stage no_commit none)
 
-fails_uncommitted : (mend commit : Bool) → (not true || not (mend || commit)) ≡ true → commit ≡ false
+pub fails_uncommitted : (mend commit : Bool) → (not true || not (mend || commit)) ≡ true → commit ≡ false
 fails_uncommitted true commit orderly_ = cc
 fails_uncommitted false true orderly_ = cc
 fails_uncommitted false false orderly_ = refl
@@ -153,11 +153,11 @@ unstaged : (seen : List Seen) → list_any (λ x. is_stage x.event) seen ≡ fal
 unstaged seen none = by_window (window seen) (staged_before seen) none
   where
     by_window : (w : Option (List Seen)) → (is_some w ≡ true → list_any (λ x. is_stage x.event) seen ≡ true) → list_any (λ x. is_stage x.event) seen ≡ false
-        → of_some w false (list_any (λ x. is_commit x.event)) ≡ false
+        → map_or w false (list_any (λ x. is_commit x.event)) ≡ false
     by_window None came none' = refl
     by_window (Some v) came none' = let is = came refl in cc
 
-starts_unstaged : (stage more : Bool) → (not (true && stage) && more) ≡ true → stage ≡ false
+pub starts_unstaged : (stage more : Bool) → (not (true && stage) && more) ≡ true → stage ≡ false
 starts_unstaged true more orderly_ = cc
 starts_unstaged false more orderly_ = refl
 

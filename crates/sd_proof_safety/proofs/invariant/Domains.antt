@@ -1,22 +1,24 @@
 -- What failed in the era lies in one domain of the network, and what it hits that domain hits.
-use Rattle.std.specs.Prelude.{◌≡◌, ℕ, zero, suc, Bool, true, false, not, List, [], ◌∷◌, ◌++◌, find, filter_map, slice_get, Option, Some, None, is_some, option_to_list, refl, if◌then◌else◌}
+use Rattle.std.specs.Prelude.{◌≡◌, ℕ, zero, suc, Bool, true, false, not, List, [], ◌∷◌, ◌++◌, find, filter_map, slice_get, Option, Some, None, option_to_list, refl, if◌then◌else◌}
 use Rattle.std.specs.List.{list_all, cons_option}
-use Rattle.std.proofs.Common.{ap, sym, subst}
-use Rattle.std.proofs.lemmas.Bool.{and_parts, eqb-true}
+use Rattle.std.proofs.Common.{sym, subst}
+use Rattle.std.proofs.lemmas.Bool.{and_parts}
 use Rattle.sd_checker.specs.Num.Lists.{leading}
-use Rattle.sd_checker.specs.Topo.Network.{Network, Each}
+use Rattle.sd_checker.specs.Topo.Network.{Network}
 use Rattle.sd_checker.specs.Topo.declared.Thing.{Thing}
 use Rattle.sd_checker.specs.Topo.declared.Thing.TheVariants as thing
 use Rattle.sd_checker.specs.Domain.Things.{same_thing}
 use Rattle.sd_checker.specs.Domain.Domains.{holds, hits, domains, within_one}
 use Rattle.sd_checker.specs.Domain.declared.DomainId.{DomainId}
 use Rattle.sd_checker.specs.Plan.Walks.{epath, is_hit}
+use Rattle.sd_checker.proofs.Domain.Within.{same_thing-true}
 use Rattle.sd_history.specs.Things.{failure_of}
 use Rattle.sd_history.specs.World.{Setting, Seen}
 use Rattle.sd_history.specs.Steps.{Step, seen_of}
 use Rattle.sd_history.specs.Premises.{domain_holds, fails_within_one, failures_since_closing}
 use Rattle.sd_history.proofs.Among.{Among, first, later, passes}
 use Rattle.sd_history.proofs.Given.{some_is}
+use Rattle.sd_history.proofs.Known.{has_some}
 use Rattle.sd_proof_safety.specs.invariant.Eras.{failed_now, is_among, touches, plan_now, hit}
 use Rattle.sd_proof_safety.proofs.invariant.Prefix.{Passing, some_passing, any_passing}
 
@@ -33,9 +35,6 @@ placed x [] a = elim a [ ]
 placed x (y ∷ xs) first = record { place = zero; at = refl }
 placed x (y ∷ xs) (later a) = placed_further (placed x xs a)
 
-pub each_among : {A : Type 0} (P : A → Type 0) (xs : List A) (x : A) → Each P xs → Among x xs → P x
-each_among P xs x each a = let p : Placed x xs = placed x xs a in each p.place x p.at
-
 found_when : {A : Type 0} (p : A → Bool) (x y : A) (xs : List A) (b : Bool) → p y ≡ b → (find p xs ≡ Some x → Among x xs × (p x ≡ true))
     → (if b then Some y else find p xs) ≡ Some x
     → Among x (y ∷ xs) × (p x ≡ true)
@@ -45,10 +44,6 @@ found_when p x y xs false is rest same = let both = rest same in (later both.0, 
 pub found_passing : {A : Type 0} (p : A → Bool) (x : A) (xs : List A) → find p xs ≡ Some x → Among x xs × (p x ≡ true)
 found_passing p x [] same = cc
 found_passing p x (y ∷ xs) same = found_when p x y xs (p y) refl (found_passing p x xs) same
-
-pub some_of : {A : Type 0} (o : Option A) → is_some o ≡ true → (x : A) × (o ≡ Some x)
-some_of None some = cc
-some_of (Some x) some = (x, refl)
 
 -- a domain of the network that has all that failed in the era
 pub record Holding (setting : Setting) (steps : List Step) : Type 0 where
@@ -70,23 +65,17 @@ holding setting s earlier holds_ =
     let now : fails_within_one setting s.seen (seen_of earlier) ≡ true =
     (and_parts (domain_holds setting (seen_of earlier)) (fails_within_one setting s.seen (seen_of earlier)) holds_).1 in
     let things : List Thing = option_to_list (failure_of s.seen.event) ++ failures_since_closing (seen_of earlier) in
-    let one = some_of (within_one setting.net things) now in
+    let one = has_some (within_one setting.net things) now in
     let both = found_passing (λ f. list_all (holds setting.net f) things) one.0 (domains setting.net) one.1 in
     record { domain = one.0; among = both.0; all = held_when (holds setting.net one.0) s.seen (seen_of earlier) (not s.seen.closed) both.1 }
 
 -- Hits
 
-pub same_is : (x y : Thing) → same_thing x y ≡ true → x ≡ y
-same_is (thing.Device a) (thing.Device b) same = ap thing.Device (eqb-true a b same)
-same_is (thing.Device a) (thing.Link b) same = cc
-same_is (thing.Link a) (thing.Device b) same = cc
-same_is (thing.Link a) (thing.Link b) same = ap thing.Link (eqb-true a b same)
-
 pub held : (net : Network) (f : DomainId) (failed : List Thing) (x : Thing) → list_all (holds net f) failed ≡ true → is_among failed x ≡ true
     → holds net f x ≡ true
 held net f failed x all in_ =
     let found : Passing (same_thing x) failed = some_passing (same_thing x) failed in_ in
-    subst (λ y. holds net f y ≡ true) (sym (same_is x found.one found.passed)) (passes (holds net f) found.there all)
+    subst (λ y. holds net f y ≡ true) (sym (same_thing-true x found.one found.passed)) (passes (holds net f) found.there all)
 
 -- what the failed touch their domain hits
 pub touched_is_hit : (net : Network) (f : DomainId) (failed things : List Thing) → list_all (holds net f) failed ≡ true → touches failed things ≡ true

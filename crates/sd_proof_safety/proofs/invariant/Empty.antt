@@ -13,7 +13,7 @@ use Rattle.sd_proof_safety.specs.invariant.Bounds.{tick_gap}
 use Rattle.sd_proof_safety.specs.invariant.Eras.{plan_now, belongs}
 use Rattle.sd_proof_safety.specs.invariant.Clauses.{is_beginning, begins_with, left_out_is_hit}
 use Rattle.sd_proof_safety.specs.invariant.Invariant.{Core}
-use Rattle.sd_proof_safety.specs.invariant.Coming.{Comes}
+use Rattle.sd_proof_safety.specs.invariant.Coming.{IsNextEvent}
 
 pub begins_empty : (setting : Setting) → is_beginning setting [] ≡ true
 begins_empty setting = ap (λ b. nat_eq 1 1 && b) (le-leb 0 (0 + tick_gap setting.net) (least (0 + tick_gap setting.net)))
@@ -65,6 +65,6 @@ core_empty setting =
     }
 
 -- before each event that comes the core holds
-pub core_before : (setting : Setting) (history : List Event) (e : Event) → Comes setting history e → Core setting (chronicle setting history)
+pub core_before : (setting : Setting) (history : List Event) (e : Event) → IsNextEvent setting history e → Core setting (chronicle setting history)
 core_before setting [] e comes = core_empty setting
 core_before setting (x ∷ history) e comes = comes.before.1.core

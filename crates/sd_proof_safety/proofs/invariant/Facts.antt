@@ -1,35 +1,33 @@
 -- What the plan in force is, in a history over accepted plans: it keeps the rules of structure, root and backup root are members and differ, and its waits
 -- keep the rules of timing. Root and backup root do not fail in one era.
-use Rattle.std.specs.Prelude.{◌≡◌, ℕ, Bool, true, false, ◌&&◌, ◌||◌, not, List, nat_eq, Option, Some, None, option_map, refl, if◌then◌else◌}
-use Rattle.std.proofs.Common.{sym}
-use Rattle.std.proofs.lemmas.Bool.{eqb-true, eq-eqb, false_from_ne_true}
+use Rattle.std.specs.Prelude.{◌≡◌, ℕ, Bool, true, false, ◌&&◌, ◌||◌, not, List, nat_eq, Option, Some, None, refl, if◌then◌else◌}
+use Rattle.std.proofs.lemmas.Bool.{false_from_ne_true}
 use Rattle.sd_checker.specs.Topo.Network.{Network}
 use Rattle.sd_checker.specs.Topo.declared.Thing.{Thing}
 use Rattle.sd_checker.specs.Topo.declared.Thing.TheVariants as thing
 use Rattle.sd_checker.specs.Domain.Domains.{domains, holds_device, hits}
 use Rattle.sd_checker.specs.Plan.declared.Plan.{Plan}
 use Rattle.sd_checker.specs.Plan.Plans.{Fits, is_member}
-use Rattle.sd_checker.specs.Plan.Structure.{structure_breach, roots_breach, first_failing, row_is_right, hops_are_right, links_differ, reaches_root, falls_back}
 use Rattle.sd_checker.specs.Plan.Walks.{path}
 use Rattle.sd_checker.proofs.Plan.Rules.{KeepsRules, keeps_rules}
-use Rattle.sd_checker.proofs.Plan.Numbered.{both_none}
-use Rattle.std.specs.Option.{option_or}
 use Rattle.sd_checker.specs.CheckRoot.Timing.{round_gap}
 use Rattle.sd_checker.specs.CheckRoot.Roots.{root_breach, fallback_breach}
 use Rattle.sd_checker.specs.Conditions.{RootHolds}
 use Rattle.sd_checker.specs.Verdicts.{IsAccepted}
+use Rattle.sd_checker.proofs.Num.Shared.{unequal_swap}
 use Rattle.sd_history.specs.Sched.declared.Event.{Event}
 use Rattle.sd_history.specs.World.{Setting}
 use Rattle.sd_history.specs.Steps.{Step}
 use Rattle.sd_history.specs.Chronicle.{chronicle, IsHistory}
+use Rattle.sd_history.proofs.Shared.{each_among}
 use Rattle.sd_proof_safety.specs.invariant.Bounds.{IsTimedBy, losses, depth, delay, tick_gap, first_low, first_up, second_low, second_up, wait_low}
 use Rattle.sd_proof_safety.specs.invariant.Eras.{plan_now, failed_now, device_failed_now}
 use Rattle.sd_proof_safety.specs.invariant.Coming.{IsFair}
 use Rattle.sd_proof_safety.proofs.invariant.Timed.{timed_by}
-use Rattle.sd_proof_safety.proofs.invariant.Domains.{Holding, held, each_among}
+use Rattle.sd_proof_safety.proofs.invariant.Domains.{Holding, held}
 use Rattle.sd_proof_safety.proofs.invariant.InForce.{in_force_too}
 use Rattle.sd_proof_safety.proofs.invariant.Sides.{not_both}
-use Rattle.sd_proof_safety.proofs.invariant.Fallback.{none_mapped}
+use Rattle.sd_proof_safety.proofs.windows.Roots.{backup_root_member}
 
 pub record IsSound (net : Network) (plan : Plan) : Type 0 where
   pub accepted : IsAccepted net plan
@@ -40,26 +38,11 @@ pub record IsSound (net : Network) (plan : Plan) : Type 0 where
   pub timed : IsTimedBy (losses net) (depth net) (delay net) (round_gap net) (tick_gap net) (first_low net plan) (first_up net plan) (second_low net plan)
       (second_up net plan) (wait_low net plan)
 
-roots_by : (m n s : Bool) (r b : ℕ) → (if not m then Some r else if not n || s then Some b else None) ≡ None → (n ≡ true) × (s ≡ false)
+pub roots_by : (m n s : Bool) (r b : ℕ) → (if not m then Some r else if not n || s then Some b else None) ≡ None → (n ≡ true) × (s ≡ false)
 roots_by true true false r b none = (refl, refl)
 roots_by true true true r b none = cc
 roots_by true false s r b none = cc
 roots_by false n s r b none = cc
-
-roots_of : (net : Network) (plan : Plan) → structure_breach net plan ≡ None
-    → (is_member plan plan.backup_root ≡ true) × (nat_eq plan.root plan.backup_root ≡ false)
-roots_of net plan structured =
-    let both =
-    both_none (option_map (λ d. (1, d)) (roots_breach plan))
-    (option_or (first_failing net 2 (row_is_right plan))
-    (option_or (first_failing net 3 (hops_are_right net plan))
-    (option_or (first_failing net 4 (links_differ plan)) (option_or (first_failing net 5 (reaches_root net plan)) (first_failing net 6 (falls_back plan))))))
-    structured in
-    roots_by (is_member plan plan.root) (is_member plan plan.backup_root) (nat_eq plan.root plan.backup_root) plan.root plan.backup_root
-    (none_mapped (λ d. (1, d)) (roots_breach plan) both.0)
-
-pub turned : (a b : ℕ) → nat_eq a b ≡ false → nat_eq b a ≡ false
-turned a b none = false_from_ne_true (nat_eq b a) (λ is. not_both (nat_eq a b) (eq-eqb a b (sym (eqb-true b a is))) none)
 
 pub sound_now : (setting : Setting) (history : List Event) → IsFair setting → IsHistory setting history
     → IsSound setting.net (plan_now setting (chronicle setting history))
@@ -67,13 +50,13 @@ sound_now setting history fair is =
     let plan = plan_now setting (chronicle setting history) in
     let accepted : IsAccepted setting.net plan = in_force_too (IsAccepted setting.net) setting history fair.accepted fair.some_plan is in
     let structured = accepted.structure in
-    let roots = roots_of setting.net plan structured in
+    let roots = backup_root_member setting.net plan structured in
     record {
       accepted = accepted;
       fits = in_force_too (Fits setting.net) setting history fair.fit fair.some_plan is;
       rules = keeps_rules setting.net plan structured;
       backup_member = roots.0;
-      apart = turned plan.root plan.backup_root roots.1;
+      apart = unequal_swap plan.root plan.backup_root roots.1;
       timed = timed_by setting.net plan fair.network.tick.0 accepted.timing;
     }
 

@@ -16,6 +16,8 @@ use Rattle.sd_checker.proofs.Plan.Numbered.{none_found, both_none}
 use Rattle.sd_checker.specs.CheckRoot.Roots.{fallback_devices, fallback_links, fallback_breach, root_breach}
 use Rattle.sd_checker.specs.Conditions.{RootHolds}
 use Rattle.sd_checker.specs.Verdicts.{IsAccepted}
+use Rattle.sd_checker.proofs.Plan.Rules.{none_mapped}
+use Rattle.sd_checker.proofs.Domain.Within.{same_thing-true}
 use Rattle.sd_history.specs.Sched.declared.Event.{Event}
 use Rattle.sd_history.specs.Sched.declared.Event.TheVariants as event
 use Rattle.sd_history.specs.Things.{failure_of}
@@ -26,10 +28,11 @@ use Rattle.sd_history.specs.Refusals.{causes, unknown_device, unknown_link}
 use Rattle.sd_history.specs.Premises.{failures_since_closing}
 use Rattle.sd_history.proofs.Among.{first, later, passes}
 use Rattle.sd_history.proofs.Contained.{none_holds}
+use Rattle.sd_history.proofs.Shared.{each_among}
 use Rattle.sd_proof_safety.specs.invariant.Eras.{plan_now, failed_now, is_among, device_failed_now, link_failed_now, path_hit}
 use Rattle.sd_proof_safety.specs.invariant.Clauses.{backup_root_moved, move_is_caused, fallback_device_is_sound, fallback_link_is_sound}
 use Rattle.sd_proof_safety.proofs.invariant.Prefix.{Passing, some_passing}
-use Rattle.sd_proof_safety.proofs.invariant.Domains.{Holding, each_among, same_is, held, touched_is_hit}
+use Rattle.sd_proof_safety.proofs.invariant.Domains.{Holding, held, touched_is_hit}
 use Rattle.sd_proof_safety.proofs.invariant.Sides.{implied, not_both}
 
 -- Failed things are things of the network.
@@ -73,7 +76,7 @@ failed_are_known setting (e ∷ history) is =
 pub known : (net : Network) (failed : List Thing) (x : Thing) → list_all (is_known net) failed ≡ true → is_among failed x ≡ true → is_known net x ≡ true
 known net failed x all in_ =
     let found : Passing (same_thing x) failed = some_passing (same_thing x) failed in_ in
-    subst (λ y. is_known net y ≡ true) (sym (same_is x found.one found.passed)) (passes (is_known net) found.there all)
+    subst (λ y. is_known net y ≡ true) (sym (same_thing-true x found.one found.passed)) (passes (is_known net) found.there all)
 
 -- The root condition
 
@@ -81,10 +84,6 @@ breach_when : (both hit_ : Bool) (one two : Option Thing) (x : Thing) → (if bo
 breach_when true hit_ one two x none is = cc
 breach_when false true one two x none is = none
 breach_when false false one two x none is = cc
-
-pub none_mapped : {X Y : Type 0} (f : X → Y) (o : Option X) → option_map f o ≡ None → o ≡ None
-none_mapped f None none = refl
-none_mapped f (Some x) none = cc
 
 -- nothing of the fallback is in a domain that hits the backup root's path
 pub record IsOff (net : Network) (plan : Plan) (devices links : ℕ → Bool) : Type 0 where

@@ -4,7 +4,7 @@ use Rattle.std.specs.List.{list_any}
 use Rattle.std.proofs.Common.{arith, ◌∙◌, sym, subst}
 use Rattle.std.proofs.lemmas.Bool.{and_parts, leb-false}
 use Rattle.std.proofs.lemmas.List.Sums.{sum_by-cons}
-use Rattle.sd_checker.specs.Num.Lists.{of_some, at_place}
+use Rattle.sd_checker.specs.Num.Lists.{map_or, at_place}
 use Rattle.sd_checker.specs.Topo.Network.{Each}
 use Rattle.sd_checker.specs.Plan.declared.Plan.{Plan}
 use Rattle.sd_history.specs.Sched.declared.Event.{Event}
@@ -25,7 +25,7 @@ record HasPlans (setting : Setting) (seen : List Seen) : Type 0 where
 abbrev window_after : Bool → Bool → Seen → Option (List Seen) → Option (List Seen)
 window_after closed stage x w = if closed then None else if stage then Some [] else option_map (λ v. x ∷ v) w
 
-was_open : (stage : Bool) (x : Seen) (w : Option (List Seen)) (test : Seen → Bool) → of_some (window_after false stage x w) false (list_any test) ≡ true
+was_open : (stage : Bool) (x : Seen) (w : Option (List Seen)) (test : Seen → Bool) → map_or (window_after false stage x w) false (list_any test) ≡ true
     → is_some w ≡ true
 was_open true x w test has = cc
 was_open false x None test has = cc

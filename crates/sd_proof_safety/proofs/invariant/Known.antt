@@ -1,7 +1,7 @@
 -- Who is old, has moved or acts is up; and a device that is up is one of the network's, as a test.
 use Rattle.std.specs.Prelude.{◌≡◌, ℕ, Bool, true, false, List, length, nat_lt, Option, None, option_map, refl, if◌then◌else◌}
 use Rattle.std.proofs.lemmas.Bool.{lt-ltb}
-use Rattle.sd_checker.specs.Num.Lists.{of_some, same_number}
+use Rattle.sd_checker.specs.Num.Lists.{map_or, same_number}
 use Rattle.sd_history.specs.Core.Calls.{Past}
 use Rattle.sd_history.specs.Core.Words.{has_moved}
 use Rattle.sd_history.specs.Sched.declared.Event.{Event}
@@ -25,14 +25,14 @@ up_when_numbered false answers n is = cc
 pub old_is_up : (steps : List Step) (d : ℕ) → is_old steps d ≡ true → is_up (seen_of steps) d ≡ true
 old_is_up steps d old = up_when_numbered (is_up (seen_of steps) d) (answers_in steps d) (era steps) old
 
-up_when_moved : (b : Bool) (past : Option Past) → of_some (if b then past else None) false has_moved ≡ true → b ≡ true
+up_when_moved : (b : Bool) (past : Option Past) → map_or (if b then past else None) false has_moved ≡ true → b ≡ true
 up_when_moved true past is = refl
 up_when_moved false past is = cc
 
 pub moved_is_up : (steps : List Step) (d : ℕ) → moved steps d ≡ true → is_up (seen_of steps) d ≡ true
 moved_is_up steps d has = up_when_moved (is_up (seen_of steps) d) (past_in steps d) has
 
-up_when_acting : (b : Bool) (answers : Option Answers) → of_some (if b then answers else None) false (λ a. a.acts) ≡ true → b ≡ true
+up_when_acting : (b : Bool) (answers : Option Answers) → map_or (if b then answers else None) false (λ a. a.acts) ≡ true → b ≡ true
 up_when_acting true answers is = refl
 up_when_acting false answers is = cc
 

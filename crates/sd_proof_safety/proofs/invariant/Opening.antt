@@ -3,7 +3,7 @@
 use Rattle.std.specs.Prelude.{◌≡◌, ℕ, ◌+◌, Bool, true, false, ◌&&◌, ◌||◌, not, List, [], ◌∷◌, filter_map, length, nat_le, nat_lt, is_some, refl, if◌then◌else◌}
 use Rattle.std.specs.List.{list_any}
 use Rattle.std.proofs.Common.{◌∙◌, ap, sym}
-use Rattle.std.proofs.lemmas.Bool.{and_parts, and_from, eq-eqb}
+use Rattle.std.proofs.lemmas.Bool.{and_parts, and_from, eq-eqb, not-true}
 use Rattle.sd_checker.specs.Num.Lists.{has, leading}
 use Rattle.sd_checker.specs.Topo.declared.Thing.{Thing}
 use Rattle.sd_checker.specs.Topo.declared.Thing.TheVariants as thing
@@ -20,18 +20,13 @@ use Rattle.sd_proof_safety.proofs.invariant.Known.{old_is_up, moved_is_up, actin
 use Rattle.sd_proof_safety.proofs.invariant.Sides.{implied, not_both}
 use Rattle.sd_proof_safety.proofs.invariant.Fallback.{from_absurd}
 use Rattle.sd_proof_safety.proofs.invariant.Staying.{old_is_member}
+use Rattle.sd_proof_safety.proofs.windows.Leading.{stands_by}
 
 -- nothing failed in an era that has just begun
 pub none_failed : (steps : List Step) → just_closed steps ≡ true → failed_now steps ≡ []
 none_failed [] closed = cc
 none_failed (s ∷ earlier) closed =
     ap (λ b. filter_map (λ (x : Seen). failure_of x.event) (if not b then s.seen ∷ leading (λ x. not x.closed) (seen_of earlier) else [])) closed
-
-stays_put : (live moved_ acts : Bool) → (live && not moved_ && not acts) ≡ true → (moved_ ≡ false) × (acts ≡ false)
-stays_put true false false on = (refl, refl)
-stays_put true false true on = cc
-stays_put true true acts on = cc
-stays_put false moved_ acts on = cc
 
 ordinary_parts : (member root backup : Bool) → (member && not root && not backup) ≡ true → (member ≡ true) × (root ≡ false)
 ordinary_parts true false backup all = (refl, refl)
@@ -45,10 +40,6 @@ false_gives false b none = refl
 pub gives : (a b : Bool) → (a ≡ true → b ≡ true) → (not a || b) ≡ true
 gives true b then_ = then_ refl
 gives false b then_ = refl
-
-pub false_from_not : (b : Bool) → not b ≡ true → b ≡ false
-false_from_not true is = cc
-false_from_not false is = refl
 
 module _ (setting : Setting) (steps : List Step) (closed : just_closed steps ≡ true) (begins : IsClosed setting steps)
     (known : (d : ℕ) → is_up (seen_of steps) d ≡ true → nat_lt d (length setting.net.devices) ≡ true) where
@@ -68,7 +59,7 @@ module _ (setting : Setting) (steps : List Step) (closed : just_closed steps ≡
       let both = sym
       (ap (λ r. if r then acts_in steps d else (on_primary steps d && nat_le (latest_reference (seen_of steps)) (heard_at steps d + silence setting.net)))
       other) ∙ settled d up member in
-      stays_put (is_some (live_past steps d)) (moved steps d) (acts_in steps d) (and_parts (on_primary steps d) _ both).0
+      stands_by (is_some (live_past steps d)) (moved steps d) (acts_in steps d) (and_parts (on_primary steps d) _ both).0
 
   -- C2
   pub roles_begin : is_member (plan_now setting steps) (plan_now setting steps).root ≡ true → HasRoles setting steps
@@ -126,4 +117,4 @@ module _ (setting : Setting) (steps : List Step) (closed : just_closed steps ≡
       let one = and_parts (backup_root_stays setting steps && has (above_backup_root setting steps) x && not (is_root plan x)) (is_old steps x) all in
       let two = and_parts (backup_root_stays setting steps && has (above_backup_root setting steps) x) (not (is_root plan x)) one.0 in
       not_both (moved steps x) has_moved
-      (put x (old_is_up steps x one.1) (old_is_member setting steps x (outsiders x) one.1) (false_from_not (is_root plan x) two.1)).0)
+      (put x (old_is_up steps x one.1) (old_is_member setting steps x (outsiders x) one.1) (not-true (is_root plan x) two.1)).0)

@@ -4,7 +4,7 @@ use Rattle.std.specs.Prelude.{◌≡◌, Bool, true, false, ◌&&◌, ◌||◌, 
 use Rattle.std.specs.List.{list_any}
 use Rattle.std.proofs.Common.{◌∙◌, ap, sym, subst}
 use Rattle.std.proofs.lemmas.Bool.{and_parts, and_from, or_parts}
-use Rattle.sd_checker.specs.Num.Lists.{of_some}
+use Rattle.sd_checker.specs.Num.Lists.{map_or}
 use Rattle.sd_history.specs.Sched.declared.Event.{Event}
 use Rattle.sd_history.specs.Sched.Events.{given, joined, started, is_stage, is_commit, is_seal}
 use Rattle.sd_history.specs.Things.{mended}
@@ -29,21 +29,21 @@ pub record RenewsAt (setting : Setting) (s : Seen) (seen : List Seen) : Type 0 w
   pub fails : fails_orderly s seen ≡ true
   pub begins : begins_orderly setting s seen ≡ true
 
-four : (a b c d e : Bool) → (e && (a && b && c && d)) ≡ true → (a ≡ true) × (b ≡ true) × (c ≡ true) × (d ≡ true)
-four true true true true true all = (refl, refl, refl, refl)
-four true true true true false all = cc
-four true true true false true all = cc
-four true true true false false all = cc
-four true true false d true all = cc
-four true true false d false all = cc
-four true false c d true all = cc
-four true false c d false all = cc
-four false b c d true all = cc
-four false b c d false all = cc
+and_parts_of_four : (a b c d e : Bool) → (e && (a && b && c && d)) ≡ true → (a ≡ true) × (b ≡ true) × (c ≡ true) × (d ≡ true)
+and_parts_of_four true true true true true all = (refl, refl, refl, refl)
+and_parts_of_four true true true true false all = cc
+and_parts_of_four true true true false true all = cc
+and_parts_of_four true true true false false all = cc
+and_parts_of_four true true false d true all = cc
+and_parts_of_four true true false d false all = cc
+and_parts_of_four true false c d true all = cc
+and_parts_of_four true false c d false all = cc
+and_parts_of_four false b c d true all = cc
+and_parts_of_four false b c d false all = cc
 
 pub renews_at : (setting : Setting) (s : Seen) (seen : List Seen) → renew_holds setting (s ∷ seen) ≡ true → RenewsAt setting s seen
 renews_at setting s seen all =
-    let h = four (commits_orderly setting s seen) (seals_orderly setting s seen) (fails_orderly s seen) (begins_orderly setting s seen)
+    let h = and_parts_of_four (commits_orderly setting s seen) (seals_orderly setting s seen) (fails_orderly s seen) (begins_orderly setting s seen)
     (renew_holds setting seen) all in
     record { commits = h.0; seals = h.1; fails = h.2; begins = h.3 }
 
@@ -73,7 +73,7 @@ orderly setting e history is =
 
 -- a test of the open window, after an event
 window_test : (q : List Seen → Bool) (closed stage : Bool) (x : Seen) (w : Option (List Seen)) → q [] ≡ true → ((v : List Seen) → w ≡ Some v → q (x ∷ v) ≡ true)
-    → of_some (if closed then None else if stage then Some [] else option_map (λ v. x ∷ v) w) true q ≡ true
+    → map_or (if closed then None else if stage then Some [] else option_map (λ v. x ∷ v) w) true q ≡ true
 window_test q true stage x w empty more = refl
 window_test q false true x w empty more = empty
 window_test q false false x None empty more = refl
@@ -85,8 +85,8 @@ both_fail true false true orderly_ = cc
 both_fail true false false orderly_ = (refl, refl)
 both_fail false mend commit orderly_ = (refl, refl)
 
-at_window : {w : Option (List Seen)} {v : List Seen} (test : Seen → Bool) → w ≡ Some v → of_some w false (list_any test) ≡ list_any test v
-at_window test is = ap (λ o. of_some o false (list_any test)) is
+at_window : {w : Option (List Seen)} {v : List Seen} (test : Seen → Bool) → w ≡ Some v → map_or w false (list_any test) ≡ list_any test v
+at_window test is = ap (λ o. map_or o false (list_any test)) is
 
 -- where a window is open, a stage came
 pub staged_before : (seen : List Seen) → window_is_open seen ≡ true → list_any (λ x. is_stage x.event) seen ≡ true
@@ -118,11 +118,11 @@ module _ (setting : Setting) where
       window_test (none_after is_mend is_failure) s.closed (is_stage e) s (window (seen_of steps)) refl
       (go s (seen_of steps) (fails_before_mend history (clean_before setting e history clean)) (renews setting e history clean).fails)
     where
-      go : (s : Seen) (seen : List Seen) → of_some (window seen) true (none_after is_mend is_failure) ≡ true → fails_orderly s seen ≡ true
+      go : (s : Seen) (seen : List Seen) → map_or (window seen) true (none_after is_mend is_failure) ≡ true → fails_orderly s seen ≡ true
           → (v : List Seen) → window seen ≡ Some v → (none_after is_mend is_failure v && not (is_failure s && list_any is_mend v)) ≡ true
       go s seen before fails v is =
           and_from (none_after is_mend is_failure v) (not (is_failure s && list_any is_mend v))
-          (sym (ap (λ o. of_some o true (none_after is_mend is_failure)) is) ∙ before)
+          (sym (ap (λ o. map_or o true (none_after is_mend is_failure)) is) ∙ before)
           (subst (λ b. not (is_failure s && b) ≡ true) (at_window is_mend is) (both_fail (is_failure s) (has_mend seen) (has_commit seen) fails).0)
 
   -- after a commit nothing fails, is mended, starts or joins
@@ -154,7 +154,7 @@ module _ (setting : Setting) where
       (window (seen_of steps)) refl
       (λ v is.
       and_from _ _
-      (sym (ap (λ o. of_some o true (none_after (λ x. is_commit x.event) (λ x. is_failure x || is_mend x || is_start x || is_join x))) is)
+      (sym (ap (λ o. map_or o true (none_after (λ x. is_commit x.event) (λ x. is_failure x || is_mend x || is_start x || is_join x))) is)
       ∙ rests history (clean_before setting e history clean))
       (subst (λ c. not ((is_failure s || is_mend s || is_start s || is_join s) && c) ≡ true) (at_window (λ x. is_commit x.event) is)
       (late_when (is_failure s) (is_mend s) (is_start s) (is_join s) (has_commit (seen_of steps)) (is_some (given e)) (is_commit e)
@@ -186,11 +186,11 @@ module _ (setting : Setting) where
   sealed_when true false false sealed false order before = cc
   sealed_when false false opened sealed false order before = before
 
-  sealed_by : (closed stage : Bool) (s : Seen) (w : Option (List Seen)) (commit sealed : Bool) → of_some w false (list_any (λ x. is_commit x.event)) ≡ commit
-      → of_some w false (list_any (λ x. is_seal x.event)) ≡ sealed
+  sealed_by : (closed stage : Bool) (s : Seen) (w : Option (List Seen)) (commit sealed : Bool) → map_or w false (list_any (λ x. is_commit x.event)) ≡ commit
+      → map_or w false (list_any (λ x. is_seal x.event)) ≡ sealed
       → (is_seal s.event && (not (is_some w) || not commit)) ≡ false → (not (not commit) || not sealed) ≡ true
-      → (not (not (of_some (if closed then None else if stage then Some [] else option_map (λ v. s ∷ v) w) false (list_any (λ x. is_commit x.event))))
-      || not (of_some (if closed then None else if stage then Some [] else option_map (λ v. s ∷ v) w) false (list_any (λ x. is_seal x.event)))) ≡ true
+      → (not (not (map_or (if closed then None else if stage then Some [] else option_map (λ v. s ∷ v) w) false (list_any (λ x. is_commit x.event))))
+      || not (map_or (if closed then None else if stage then Some [] else option_map (λ v. s ∷ v) w) false (list_any (λ x. is_seal x.event)))) ≡ true
   sealed_by true stage s w commit sealed c d order before = refl
   sealed_by false true s w commit sealed c d order before = refl
   sealed_by false false s None commit sealed c d order before = refl

@@ -3,7 +3,7 @@
 use Rattle.std.specs.Prelude.{◌≡◌, ℕ, ◌+◌, Bool, true, false, List, [], ◌∷◌, nat_eq, Option, Some, None, option_map, option_and_then, refl, if◌then◌else◌}
 use Rattle.std.proofs.Common.{arith, ◌∙◌, ap, sym, subst}
 use Rattle.std.proofs.lemmas.Bool.{eqb-true}
-use Rattle.sd_checker.specs.Num.Lists.{of_some, same_number}
+use Rattle.sd_checker.specs.Num.Lists.{map_or, same_number}
 use Rattle.sd_checker.specs.Topo.Network.{Network}
 use Rattle.sd_checker.specs.Plan.declared.Hop.{Hop}
 use Rattle.sd_checker.specs.Plan.declared.Plan.{Plan}
@@ -65,13 +65,13 @@ planned_made setting d c clock eps epoch =
     record { duty = λ u same. subst (IsPlanned setting d) (some_is same) (record { is = refl }); given = λ u same. cc }
 
 planned_receipt : (setting : Setting) (d c : ℕ) (o : Option Flight)
-    → BringsSuch (IsPlanned setting) (of_some o Passes (λ f. Calls d (calls.Receive f.link f.message c)))
+    → BringsSuch (IsPlanned setting) (map_or o Passes (λ f. Calls d (calls.Receive f.link f.message c)))
 planned_receipt setting d c None = tt
 planned_receipt setting d c (Some f) = tt
 
 planned_give : (setting : Setting) (d epoch : ℕ) (w : Option (List Seen))
     → BringsSuch (IsPlanned setting)
-    (of_some (option_map (λ v. plan_numbered setting epoch) w) Passes (λ plan. Calls d (calls.Give (duty_of setting.net plan epoch d))))
+    (map_or (option_map (λ v. plan_numbered setting epoch) w) Passes (λ plan. Calls d (calls.Give (duty_of setting.net plan epoch d))))
 planned_give setting d epoch None = tt
 planned_give setting d epoch (Some w) = record { is = refl }
 
@@ -127,7 +127,7 @@ up_past true p past is = is
 up_past false p past is = cc
 
 duty_is : (setting : Setting) (d epoch : ℕ) (past : Past) (o : Option Duty) → duty_now past ≡ o → ((u : Duty) → o ≡ Some u → IsPlanned setting d u)
-    → of_some o 0 (λ u. u.epoch) ≡ epoch + 1
+    → map_or o 0 (λ u. u.epoch) ≡ epoch + 1
     → duty_now past ≡ Some (duty_of setting.net (plan_numbered setting (epoch + 1)) (epoch + 1) d)
 duty_is setting d epoch past None is planned same = absurd (omega (arith, same))
 duty_is setting d epoch past (Some u) is planned same =
@@ -155,7 +155,7 @@ old_is setting history d old =
 
 -- Parents
 
-over_hop : (net : Network) (d : ℕ) (o : Option Hop) (z : ℕ) → option_map (λ edge. edge.parent) (option_map (edge_of net d) o) ≡ Some z → Over o z
+pub over_hop : (net : Network) (d : ℕ) (o : Option Hop) (z : ℕ) → option_map (λ edge. edge.parent) (option_map (edge_of net d) o) ≡ Some z → Over o z
 over_hop net d None z same = cc
 over_hop net d (Some hop) z same = record { hop = hop; is = refl; leads = some_is same }
 
@@ -169,9 +169,9 @@ hop_of : (net : Network) (plan : Plan) (epoch d z : ℕ) (past : Past) (a m : Bo
     → (a ≡ false) × Over (if m then backup_of plan d else primary_of plan d) z
 hop_of net plan epoch d z past true m duty same = cc
 hop_of net plan epoch d z past false true duty same =
-    (refl, over_hop net d (backup_of plan d) z (sym (ap (λ o. option_map (λ edge. edge.parent) (of_some o None (λ u. u.backup))) duty) ∙ same))
+    (refl, over_hop net d (backup_of plan d) z (sym (ap (λ o. option_map (λ edge. edge.parent) (map_or o None (λ u. u.backup))) duty) ∙ same))
 hop_of net plan epoch d z past false false duty same =
-    (refl, over_hop net d (primary_of plan d) z (sym (ap (λ o. option_map (λ edge. edge.parent) (of_some o None (λ u. u.primary))) duty) ∙ same))
+    (refl, over_hop net d (primary_of plan d) z (sym (ap (λ o. option_map (λ edge. edge.parent) (map_or o None (λ u. u.primary))) duty) ∙ same))
 
 pub follows_of : (setting : Setting) (history : List Event) (d z : ℕ) → IsOld setting (chronicle setting history) d
     → parent_in (chronicle setting history) d ≡ Some z
@@ -182,9 +182,9 @@ follows_of setting history d z old same =
     let parent : parent_now old.past ≡ Some z = sym (ap (option_and_then (λ a. a.parent)) answers) ∙ same in
     let both = hop_of setting.net (plan_now setting steps) (era steps) d z old.past (is_acting old.past) (has_moved old.past) old.duty parent in
     record {
-      idle = ap (λ o. of_some o false (λ a. a.acts)) answers ∙ both.0;
+      idle = ap (λ o. map_or o false (λ a. a.acts)) answers ∙ both.0;
       hop = subst (λ m. Over (if m then backup_of (plan_now setting steps) d else primary_of (plan_now setting steps) d) z)
-          (sym (ap (λ o. of_some o false has_moved) old.live)) both.1;
+          (sym (ap (λ o. map_or o false has_moved) old.live)) both.1;
     }
 
 parentless : (past : Past) (a : Bool) → a ≡ true
@@ -192,7 +192,7 @@ parentless : (past : Past) (a : Bool) → a ≡ true
 parentless past true acts = refl
 parentless past false acts = cc
 
-acting_when : (o : Option Past) → of_some (option_map answers_by o) false (λ a. a.acts) ≡ true
+acting_when : (o : Option Past) → map_or (option_map answers_by o) false (λ a. a.acts) ≡ true
     → option_and_then (λ a. a.parent) (option_map answers_by o) ≡ None
 acting_when None acts = refl
 acting_when (Some past) acts = parentless past (is_acting past) acts
@@ -203,4 +203,4 @@ pub acting_follows_nobody : (setting : Setting) (history : List Event) (d : ℕ)
 acting_follows_nobody setting history d acts =
     let steps = chronicle setting history in
     let same = live_is setting history d in
-    ap (option_and_then (λ a. a.parent)) same ∙ acting_when (live_past steps d) (sym (ap (λ o. of_some o false (λ a. a.acts)) same) ∙ acts)
+    ap (option_and_then (λ a. a.parent)) same ∙ acting_when (live_past steps d) (sym (ap (λ o. map_or o false (λ a. a.acts)) same) ∙ acts)

@@ -1,22 +1,21 @@
 -- Premises that hold of a history hold of each beginning of it. All but loss are tests of each event and those before it; of loss, a spoiled
 -- flight stays spoiled, so the spoiled rounds only grow.
-use Rattle.std.specs.Prelude.{◌≡◌, ℕ, ◌+◌, Bool, true, false, ◌&&◌, ◌||◌, not, List, [], ◌∷◌, filter, map, nat_lt, refl, if◌then◌else◌}
+use Rattle.std.specs.Prelude.{◌≡◌, ℕ, ◌+◌, Bool, true, false, ◌&&◌, ◌||◌, not, List, [], ◌∷◌, filter, map, refl, if◌then◌else◌}
 use Rattle.std.specs.List.{list_any}
 use Rattle.std.proofs.Common.{◌∙◌, ap, sym, subst}
 use Rattle.std.proofs.lemmas.Bool.{and_parts, or_left, or_right}
 use Rattle.sd_checker.specs.Num.Lists.{below}
-use Rattle.sd_history.specs.Msg.declared.Flight.{Flight}
 use Rattle.sd_history.specs.Msg.declared.Stamp.{Stamp}
-use Rattle.sd_history.specs.Sched.Events.{reference_of}
 use Rattle.sd_history.specs.World.{Setting, Seen}
 use Rattle.sd_history.specs.Sched.Honesty.{sets_true_clock}
-use Rattle.sd_history.specs.Premises.{start_holds, reads_honestly, drift_holds, arrives_in_time, delay_holds, ticks_in_time, tick_holds, reaching_flights, is_overdue, was_received, was_interrupted, spoils, spoiled_rounds, is_round, all_from, loss_holds, fails_within_one, domain_holds, commits_orderly, seals_orderly, fails_orderly, begins_orderly, renew_holds, all_hold}
+use Rattle.sd_history.specs.Premises.{start_holds, reads_honestly, drift_holds, arrives_in_time, delay_holds, ticks_in_time, tick_holds, reaching_flights, spoils, spoiled_rounds, is_round, all_from, loss_holds, fails_within_one, domain_holds, commits_orderly, seals_orderly, fails_orderly, begins_orderly, renew_holds, all_hold}
 use Rattle.sd_history.specs.Sched.declared.Event.{Event}
 use Rattle.sd_history.specs.Steps.{seen_of}
 use Rattle.sd_history.specs.Chronicle.{next_step, chronicle}
 use Rattle.sd_history.proofs.Parts.{AllHold, premises_of, premises_hold}
 use Rattle.sd_proof_safety.specs.invariant.Coming.{IsClean}
 use Rattle.sd_history.proofs.Among.{Among, first, later, passes, all_pass, on_right}
+use Rattle.sd_history.proofs.Shared.{stays_spoiled}
 
 -- Lists
 
@@ -88,31 +87,6 @@ to_image p g (y ∷ xs) x (later a) passed = image_past p g y xs (g x) (p y) (to
 overdue_by : (over : Bool) (before late fine : Bool) → (if over then before else late && fine) ≡ true → (late || over) ≡ true
 overdue_by true before late fine spoiled = or_right late true refl
 overdue_by false before late fine spoiled = or_left late false (and_parts late fine spoiled).0
-
--- a spoiled flight is overdue
-spoiled_is_overdue : (seen : List Seen) (f : Flight) → spoils seen f ≡ true → is_overdue seen f ≡ true
-spoiled_is_overdue [] f spoiled = cc
-spoiled_is_overdue (s ∷ seen) f spoiled =
-    overdue_by (is_overdue seen f) (spoils seen f) (nat_lt f.due (reference_of s.event)) _ (regroup (is_overdue seen f) spoiled)
-  where
-    regroup : (over : Bool)
-        → (if over then spoils seen f else (nat_lt f.due (reference_of s.event) && not (was_received (s ∷ seen) f.number)
-        && not (was_interrupted (s ∷ seen) f))) ≡ true
-        → (if over then spoils seen f else (nat_lt f.due (reference_of s.event)
-        && (not (was_received (s ∷ seen) f.number) && not (was_interrupted (s ∷ seen) f)))) ≡ true
-    regroup true h = h
-    regroup false h = go (nat_lt f.due (reference_of s.event)) (not (was_received (s ∷ seen) f.number)) (not (was_interrupted (s ∷ seen) f)) h
-      where
-        go : (a b c : Bool) → (a && b && c) ≡ true → (a && (b && c)) ≡ true
-        go true b c h = h
-        go false b c h = h
-
--- and stays spoiled
-stays_spoiled : (s : Seen) (seen : List Seen) (f : Flight) → spoils seen f ≡ true → spoils (s ∷ seen) f ≡ true
-stays_spoiled s seen f spoiled =
-    ap (λ over. if over then spoils seen f else (nat_lt f.due (reference_of s.event) && not (was_received (s ∷ seen) f.number)
-    && not (was_interrupted (s ∷ seen) f))) (spoiled_is_overdue seen f spoiled)
-    ∙ spoiled
 
 rounds_grow : (s : Seen) (seen : List Seen) → IsWithin (spoiled_rounds seen) (spoiled_rounds (s ∷ seen))
 rounds_grow s seen r a =

@@ -7,11 +7,13 @@ use Rattle.sd_history.specs.Sched.Events.{reference_of}
 use Rattle.sd_history.specs.World.{Setting}
 use Rattle.sd_history.specs.Steps.{Step, acts_in}
 use Rattle.sd_history.specs.Chronicle.{chronicle}
+use Rattle.sd_history.proofs.Base.{steps_of, base}
+use Rattle.sd_history.proofs.Windows.{both_renewals}
 use Rattle.sd_proof_safety.specs.invariant.Bounds.{depth, delay, tick_gap, rounds_gap, first_up, second_up, wait_low}
 use Rattle.sd_proof_safety.specs.invariant.Eras.{plan_now, is_old, is_new, on_primary, on_backup, is_ordinary, is_behind, hit, hit_otherwise, path_hit, root_failed, root_lives, heard_since_made, silent_for, rests_for}
 use Rattle.sd_proof_safety.specs.invariant.Clauses.{◌⟹◌, staged_root}
 use Rattle.sd_proof_safety.specs.invariant.Silences.{root_leads, root_failed_at}
-use Rattle.sd_proof_safety.proofs.invariant.Schedules.{one_plan, two_plans, three_plans, turned_plans, steps_of, base, root_fails, both_renewals, mended_and_joined, backup_root_commits, link_fails, left_out, leaves_out, starts_late}
+use Rattle.sd_proof_safety.proofs.invariant.Schedules.{one_plan, two_plans, three_plans, turned_plans, root_fails, mended_and_joined, backup_root_commits, link_fails, left_out, leaves_out, starts_late}
 
 abbrev device_is_silent : Setting → List Step → ℕ → ℕ → Bool
 device_is_silent setting steps reference d =

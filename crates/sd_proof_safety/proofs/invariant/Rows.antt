@@ -9,8 +9,10 @@ use Rattle.sd_history.specs.Steps.{Step, seen_of, acts_in, parent_in}
 use Rattle.sd_history.specs.Chronicle.{chronicle}
 use Rattle.sd_history.specs.Refusals.{refusal}
 use Rattle.sd_history.specs.Premises.{all_hold}
+use Rattle.sd_history.proofs.Base.{steps_of, same_tick, base}
+use Rattle.sd_history.proofs.Windows.{both_renewals}
 use Rattle.sd_proof_safety.specs.invariant.Invariant.{holds_at_each, invariant_holds}
-use Rattle.sd_proof_safety.proofs.invariant.Schedules.{one_plan, two_plans, three_plans, turned_plans, steps_of, same_tick, base, root_fails, both_renewals, mended_and_joined, backup_root_commits, link_fails, early_plans, commits_early, left_out, leaves_out, starts_late}
+use Rattle.sd_proof_safety.proofs.invariant.Schedules.{one_plan, two_plans, three_plans, turned_plans, root_fails, mended_and_joined, backup_root_commits, link_fails, early_plans, commits_early, left_out, leaves_out, starts_late}
 
 -- each event was accepted
 abbrev are_accepted : Setting → List Step → Bool

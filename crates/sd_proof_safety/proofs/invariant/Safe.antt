@@ -10,6 +10,7 @@ use Rattle.sd_checker.specs.Plan.Plans.{Fits, is_member, is_root, is_backup_root
 use Rattle.sd_checker.proofs.Plan.Rules.{KeepsRules, keeps_rules}
 use Rattle.sd_checker.specs.CheckLoop.Loops.{HasNoCycle}
 use Rattle.sd_checker.specs.Verdicts.{IsAccepted}
+use Rattle.sd_checker.proofs.Num.Shared.{same_number-some}
 use Rattle.sd_history.specs.Sched.declared.Event.{Event}
 use Rattle.sd_history.specs.World.{Setting, is_up, has_commit, is_counted, joined_in_window}
 use Rattle.sd_history.specs.Steps.{seen_of, acts_in}
@@ -20,12 +21,14 @@ use Rattle.sd_proof_safety.specs.invariant.Clauses.{staged_root, backup_root_act
 use Rattle.sd_proof_safety.specs.invariant.Invariant.{Invariant}
 use Rattle.sd_proof_safety.specs.invariant.Kept.{EachKeeps, InvariantIsSafe, StaysSafe}
 use Rattle.sd_history.proofs.Parts.{premises_of}
+use Rattle.sd_history.proofs.Shared.{each_among}
 use Rattle.sd_proof_safety.proofs.invariant.Prefix.{Passing, some_passing}
 use Rattle.sd_proof_safety.proofs.invariant.Whole.{found_none, stays_safe}
 use Rattle.sd_proof_safety.proofs.invariant.Cycles.{no_cycle}
-use Rattle.sd_proof_safety.proofs.invariant.Domains.{Holding, holding, each_among}
+use Rattle.sd_proof_safety.proofs.invariant.Domains.{Holding, holding}
 use Rattle.sd_proof_safety.proofs.invariant.InForce.{in_force_too}
-use Rattle.sd_proof_safety.proofs.invariant.Sides.{implied, not_both, stands, same_is_some, root_stops, edge, backup_root_stops}
+use Rattle.sd_proof_safety.proofs.invariant.Sides.{implied, not_both, stands, root_stops, edge, backup_root_stops}
+use Rattle.sd_proof_safety.proofs.windows.Acting.{no_blank}
 
 -- Loops
 
@@ -53,7 +56,7 @@ module _ (setting : Setting) (history : List Event) (inv : Invariant setting (ch
       let next : found.one + 1 ≡ suc found.one = omega arith in
       comes_back_to_none found.one d
       (ap (λ k. follow (counted_parent setting (chronicle setting history)) k d) (sym next)
-      ∙ same_is_some (follow (counted_parent setting (chronicle setting history)) (found.one + 1) d) d found.passed))
+      ∙ same_number-some (follow (counted_parent setting (chronicle setting history)) (found.one + 1) d) d found.passed))
 
   pub no_loop : first_on_loop setting (chronicle setting history) ≡ None
   no_loop = found_none (is_on_loop setting (chronicle setting history)) (device_numbers setting.net) on_no_loop
@@ -82,12 +85,6 @@ at_most_one : (p : ℕ → Bool) (c n : ℕ) → ((d : ℕ) → p d ≡ true →
 at_most_one p c zero alone = omega arith
 at_most_one p c (suc n) alone =
     subst (λ (xs : List ℕ). length xs ≤ 1) (sym (filter-append p (below n) (n ∷ []))) (one_when p c n (p n) refl alone (at_most_one p c n alone))
-
-acting_is_not_blank : (blank some acts : Bool) → (not blank || (not some && not acts)) ≡ true → acts ≡ true → blank ≡ false
-acting_is_not_blank true true acts idle is = cc
-acting_is_not_blank true false true idle is = cc
-acting_is_not_blank true false false idle is = cc
-acting_is_not_blank false some acts idle is = refl
 
 module _ (setting : Setting) (history : List Event) (inv : Invariant setting (chronicle setting history)) where
   -- who may act while there is no commit
@@ -129,7 +126,7 @@ module _ (setting : Setting) (history : List Event) (inv : Invariant setting (ch
       let not_new : is_new steps d ≡ false =
       false_from_ne_true (is_new steps d)
       (λ new. not_both (not (is_new steps d)) (implied (not (has_commit (seen_of steps))) _ (inv.core.uncommitted.devices d) (ap not none)) (ap not new)) in
-      let not_blank : is_blank steps d ≡ false = acting_is_not_blank (is_blank steps d) _ (acts_in steps d) (inv.core.census.blanks d) acts in
+      let not_blank : is_blank steps d ≡ false = no_blank (is_blank steps d) _ (acts_in steps d) (inv.core.census.blanks d) acts in
       let both =
       stands (is_up (seen_of steps) d) (is_member (plan_now setting steps) d) (joined_in_window (seen_of steps) d) (is_old steps d) (is_new steps d)
       (is_blank steps d)

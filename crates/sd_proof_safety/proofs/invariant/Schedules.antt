@@ -1,16 +1,17 @@
 -- Schedules on the triangle, for examples: a whole round, the root's failure with a takeover, and renewals.
-use Rattle.std.specs.Prelude.{ℕ, zero, suc, ◌+◌, ◌*◌, List, [], ◌∷◌, ◌++◌, reverse, take, flat_map, map, filter, Some, None}
+use Rattle.std.specs.Prelude.{ℕ, zero, suc, ◌+◌, ◌*◌, List, [], ◌∷◌, ◌++◌, flat_map, map, filter, Some, None}
 use Rattle.sd_checker.specs.Num.Lists.{below}
 use Rattle.sd_checker.specs.Topo.Network.{device_numbers}
 use Rattle.sd_checker.specs.Plan.declared.Plan.{Plan}
 use Rattle.sd_checker.specs.Plan.Examples.{triangle, triangle_plan, triangle_params, other_triangle_plan, square_with, square_plan, plan_with, row, hop}
 use Rattle.sd_history.specs.Msg.declared.Flight.{Flight}
 use Rattle.sd_history.specs.Sched.declared.Event.{Event}
-use Rattle.sd_history.specs.Sched.declared.Event.TheVariants.{Start, Tick, Recv, FailDevice, FailLink, Ask, Stage, Give, Commit, Seal, Join, MendDevice, End}
+use Rattle.sd_history.specs.Sched.declared.Event.TheVariants.{Start, Tick, Recv, FailDevice, FailLink, Stage, Give, Commit, Seal, Join, MendDevice}
 use Rattle.sd_history.specs.World.{Setting, is_up}
-use Rattle.sd_history.specs.Steps.{Step, seen_of}
+use Rattle.sd_history.specs.Steps.{seen_of}
 use Rattle.sd_history.specs.Open.{unspent}
 use Rattle.sd_history.specs.Chronicle.{chronicle}
+use Rattle.sd_history.proofs.Base.{same_tick, base_11}
 
 abbrev pub one_plan : Setting
 one_plan = record { net = triangle; plans = triangle_plan ∷ [] }
@@ -21,56 +22,12 @@ two_plans = record { net = triangle; plans = triangle_plan ∷ triangle_plan ∷
 abbrev pub three_plans : Setting
 three_plans = record { net = triangle; plans = triangle_plan ∷ other_triangle_plan ∷ triangle_plan ∷ [] }
 
--- the chronicle of events in the order of the schedule
-abbrev pub steps_of : Setting → List Event → List Step
-steps_of setting events = chronicle setting (reverse events)
-
-abbrev pub same_tick : ℕ → ℕ → Event
-same_tick time device = Tick time device time
-
-abbrev pub base : List Event
-base =
-    Start 0 0 0 0 500
-    ∷ Start 0 1 0 0 800000
-    ∷ Start 0 2 0 0 800000
-    ∷ same_tick 90000000 0
-    ∷ same_tick 90000000 1
-    ∷ same_tick 90000000 2
-    ∷ same_tick 110000000 0
-    ∷ Recv 110700000 1 110700000 1
-    ∷ Recv 111000000 2 111000000 2
-    ∷ Recv 111400000 2 111400000 3
-    ∷ Recv 111700000 1 111700000 4
-    ∷ Ask 121000000 2 121000000
-    ∷ End 121000000
-    ∷ []
-
-abbrev pub base_11 : List Event
-base_11 = take 11 base
-
 -- the ticks of the two that are left where the root has failed
 abbrev pub ticks_of_the_rest : ℕ → List Event
 ticks_of_the_rest rounds = flat_map (λ k. let t = 150000000 + 90000000 * k in same_tick t 1 ∷ same_tick t 2 ∷ []) (below rounds)
 
 abbrev pub root_fails : ℕ → List Event
 root_fails rounds = base_11 ++ FailDevice 112000000 0 ∷ ticks_of_the_rest rounds
-
--- all given, the commit of the root, and its next round received by the others
-abbrev pub renewal_at : ℕ → ℕ → ℕ → ℕ → List Event
-renewal_at time later first second =
-    Stage time ∷ Give time 0 ∷ Give time 1 ∷ Give time 2 ∷ Commit time 0 time
-    ∷ same_tick later 0 ∷ same_tick later 1 ∷ same_tick later 2
-    ∷ Recv (later + 700000) 1 (later + 700000) first
-    ∷ Recv (later + 800000) 2 (later + 800000) second
-    ∷ Seal (later + 800000) 0 ∷ Seal (later + 800000) 1 ∷ Seal (later + 800000) 2
-    ∷ []
-
-abbrev pub both_renewals : List Event
-both_renewals =
-    base_11 ++ same_tick 170000000 0 ∷ same_tick 170000000 1 ∷ same_tick 170000000 2
-    ∷ renewal_at 170000000 215000000 5 6 ++ Recv 216400000 2 216400000 7 ∷ Recv 216500000 1 216500000 8
-    ∷ same_tick 260000000 0 ∷ same_tick 260000000 1 ∷ same_tick 260000000 2
-    ∷ renewal_at 260000000 330000000 9 10
 
 -- a device fails, is mended and joins, and the plan is committed
 abbrev pub mended_and_joined : List Event

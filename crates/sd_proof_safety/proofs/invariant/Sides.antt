@@ -5,7 +5,7 @@ use Rattle.std.specs.List.{list_any}
 use Rattle.std.proofs.Common.{◌∙◌, ap, sym, subst, inl, inr}
 use Rattle.std.proofs.lemmas.Bool.{and_parts, and_from, or_left, or_right, eqb-true, eq-eqb, false_from_ne_true, false≢true}
 use Rattle.std.proofs.lemmas.List.Folds.{list_any-append}
-use Rattle.sd_checker.specs.Num.Lists.{has, below, of_some, same_number}
+use Rattle.sd_checker.specs.Num.Lists.{has, below, map_or, same_number}
 use Rattle.sd_checker.specs.Topo.Network.{Network}
 use Rattle.sd_checker.specs.Plan.declared.Hop.{Hop}
 use Rattle.sd_checker.specs.Plan.declared.Plan.{Plan}
@@ -15,6 +15,7 @@ use Rattle.sd_checker.specs.Plan.Structure.{hop_is_right}
 use Rattle.sd_checker.proofs.Plan.Rules.{KeepsRules, hops_within}
 use Rattle.sd_checker.specs.CheckRoot.Roots.{fallback_devices}
 use Rattle.sd_checker.specs.CheckLoop.Loops.{same_hop}
+use Rattle.sd_checker.proofs.Num.Shared.{same_number-some}
 use Rattle.sd_history.specs.Sched.declared.Event.{Event}
 use Rattle.sd_history.specs.World.{Setting, is_up, has_commit, is_counted, joined_in_window}
 use Rattle.sd_history.specs.Steps.{Step, seen_of, parent_in, acts_in}
@@ -61,10 +62,6 @@ blank_alone true true acts idle is = cc
 blank_alone true false acts idle is = cc
 blank_alone false some acts idle is = refl
 
-pub same_is_some : (o : Option ℕ) (x : ℕ) → same_number o x ≡ true → o ≡ Some x
-same_is_some None x same = cc
-same_is_some (Some y) x same = ap Some (eqb-true y x same)
-
 module _ (setting : Setting) (history : List Event) (inv : Invariant setting (chronicle setting history)) where
   abbrev steps : List Step
   steps = chronicle setting history
@@ -108,7 +105,7 @@ module _ (setting : Setting) (history : List Event) (inv : Invariant setting (ch
       some_passing _ (below (depth net + 1)) leads in
       let root = staged_root setting steps in
       acting_stops root commit (eq-eqb root root refl)
-      (reaches found.one x root (same_is_some (follow (parent_in steps) found.one x) root found.passed) endless)
+      (reaches found.one x root (same_number-some (follow (parent_in steps) found.one x) root found.passed) endless)
 
   new_when : (x : ℕ) (b : Bool) → nat_eq x (staged_root setting steps) ≡ b → has_commit (seen_of steps) ≡ true → is_new steps x ≡ true → Endless parent x → ⊥
   new_when x true is commit new endless = acting_stops x commit is endless
@@ -265,7 +262,7 @@ module _ (setting : Setting) (history : List Event) (inv : Invariant setting (ch
     in_fallback : (hop : Hop) (y : ℕ) → backup_of plan b ≡ Some hop → is_root plan y ≡ false → Among y (devices_of hop.parent (walk net plan hop.parent))
         → has (fallback_devices net plan) y ≡ true
     in_fallback hop y is other a =
-        ap (λ o. has (of_some o [] (λ h. filter (λ d. not (is_root plan d)) (devices_of h.parent (walk net plan h.parent)))) y) is
+        ap (λ o. has (map_or o [] (λ h. filter (λ d. not (is_root plan d)) (devices_of h.parent (walk net plan h.parent)))) y) is
         ∙ any_passing (nat_eq y) y (filter (λ d. not (is_root plan d)) (devices_of hop.parent (walk net plan hop.parent)))
         (filtered (λ d. not (is_root plan d)) y (devices_of hop.parent (walk net plan hop.parent)) a (ap not other)) (eq-eqb y y refl)
 

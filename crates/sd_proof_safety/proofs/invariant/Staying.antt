@@ -2,8 +2,8 @@
 -- cut path lies within the fallback, of which nothing failed. With Fallback this makes C7 follow from C1, C3, C4 and the root condition.
 use Rattle.std.specs.Prelude.{◌≡◌, ℕ, zero, suc, ◌+◌, ◌<◌, Bool, true, false, ◌&&◌, ◌||◌, not, List, [], ◌∷◌, filter, map, length, nat_eq, count_by, Option, Some, None, option_map, refl, if◌then◌else◌, ◌⊎◌, IfSome}
 use Rattle.std.proofs.Common.{arith, ◌∙◌, ap, sym, subst, inl, inr}
-use Rattle.std.proofs.lemmas.Bool.{and_parts, and_from, or_parts, eqb-true, eq-eqb, not-false, false_from_ne_true}
-use Rattle.sd_checker.specs.Num.Lists.{has, of_some, same_number}
+use Rattle.std.proofs.lemmas.Bool.{and_parts, and_from, or_parts, eqb-true, eq-eqb, not-false, false_from_ne_true, not-true}
+use Rattle.sd_checker.specs.Num.Lists.{has, map_or}
 use Rattle.sd_checker.specs.Topo.Network.{Network}
 use Rattle.sd_checker.specs.Topo.declared.Thing.{Thing}
 use Rattle.sd_checker.specs.Topo.declared.Thing.TheVariants as thing
@@ -17,6 +17,8 @@ use Rattle.sd_checker.proofs.Plan.Rules.{KeepsRules, keeps_rules, hops_within}
 use Rattle.sd_checker.proofs.Plan.Numbered.{none_found}
 use Rattle.sd_checker.specs.CheckRoot.Roots.{fallback_devices, fallback_links}
 use Rattle.sd_checker.specs.Verdicts.{IsAccepted}
+use Rattle.sd_checker.proofs.Num.Shared.{same_number-some}
+use Rattle.sd_checker.proofs.Domain.Within.{same_thing-true}
 use Rattle.sd_history.specs.World.{Setting, is_up, joined_in_window}
 use Rattle.sd_history.specs.Steps.{Step, Answers, seen_of, answers_in, epoch_in}
 use Rattle.sd_history.proofs.Among.{Among, first, later}
@@ -24,7 +26,6 @@ use Rattle.sd_history.proofs.Given.{some_is}
 use Rattle.sd_proof_safety.specs.invariant.Eras.{era, plan_now, failed_now, failed_besides_root, is_among, device_failed_now, link_failed_now, is_old, is_new, is_blank, moved, is_ordinary, hit, hit_otherwise}
 use Rattle.sd_proof_safety.specs.invariant.Clauses.{backup_root_moved, backup_root_acts, backup_is_caused, outsider_is_past, fallback_device_is_sound, fallback_link_is_sound, fallback_stays}
 use Rattle.sd_proof_safety.proofs.invariant.Prefix.{Passing, some_passing, any_passing}
-use Rattle.sd_proof_safety.proofs.invariant.Domains.{same_is}
 use Rattle.sd_proof_safety.proofs.invariant.Fallback.{from_absurd}
 use Rattle.sd_proof_safety.proofs.invariant.Sides.{implied, not_both}
 
@@ -131,10 +132,6 @@ up_when : (b : Bool) (answers : Option Answers) (n : ℕ) → option_map (λ a. 
 up_when true answers n is = refl
 up_when false answers n is = cc
 
-is_number : (o : Option ℕ) (n : ℕ) → same_number o n ≡ true → o ≡ Some n
-is_number None n same = cc
-is_number (Some m) n same = ap Some (eqb-true m n same)
-
 member_when : (up member old new blank joined : Bool) → (not (up && not member) || ((up && not (old || new || blank)) || (joined && (blank || new)))) ≡ true
     → up ≡ true → old ≡ true → new ≡ false → blank ≡ false → member ≡ true
 member_when true true old new blank joined clause u o n b = refl
@@ -148,15 +145,15 @@ member_when false member old new blank joined clause u o n b = cc
 pub old_is_member : (setting : Setting) (steps : List Step) (x : ℕ) → outsider_is_past setting steps x ≡ true → is_old steps x ≡ true
     → is_member (plan_now setting steps) x ≡ true
 old_is_member setting steps x clause old =
-    let is : epoch_in steps x ≡ Some (era steps) = is_number (epoch_in steps x) (era steps) old in
+    let is : epoch_in steps x ≡ Some (era steps) = same_number-some (epoch_in steps x) (era steps) old in
     let closings : ℕ = count_by (λ s. s.closed) (seen_of steps) in
     member_when (is_up (seen_of steps) x) (is_member (plan_now setting steps) x) (is_old steps x) (is_new steps x) (is_blank steps x)
     (joined_in_window (seen_of steps) x) clause
     (up_when (is_up (seen_of steps) x) (answers_in steps x) (era steps) is) old
     (false_from_ne_true (is_new steps x)
-    (λ new. let same : closings + 1 ≡ closings + 1 + 1 = some_is (sym is ∙ is_number (epoch_in steps x) (closings + 1 + 1) new) in
+    (λ new. let same : closings + 1 ≡ closings + 1 + 1 = some_is (sym is ∙ same_number-some (epoch_in steps x) (closings + 1 + 1) new) in
     absurd (omega (arith, same))))
-    (false_from_ne_true (is_blank steps x) (λ blank. let same : closings + 1 ≡ 0 = some_is (sym is ∙ is_number (epoch_in steps x) 0 blank) in
+    (false_from_ne_true (is_blank steps x) (λ blank. let same : closings + 1 ≡ 0 = some_is (sym is ∙ same_number-some (epoch_in steps x) 0 blank) in
     absurd (omega (arith, same))))
 
 -- Lists
@@ -184,7 +181,7 @@ filter_in p x (y ∷ xs) (later a) passed = past p x y xs (p y) (filter_in p x x
     past p x y xs true found = later found
     past p x y xs false found = found
 
-mapped_in : {A B : Type 0} (g : A → B) (x : A) (xs : List A) → Among x xs → Among (g x) (map g xs)
+pub mapped_in : {A B : Type 0} (g : A → B) (x : A) (xs : List A) → Among x xs → Among (g x) (map g xs)
 mapped_in g x [] a = elim a [ ]
 mapped_in g x (y ∷ xs) first = first
 mapped_in g x (y ∷ xs) (later a) = later (mapped_in g x xs a)
@@ -205,17 +202,13 @@ record IsAbove (net : Network) (plan : Plan) (x : ℕ) : Type 0 where
   pub among : Among x (devices_of hop.parent (walk net plan hop.parent))
   pub other : is_root plan x ≡ false
 
-not_true : (b : Bool) → not b ≡ true → b ≡ false
-not_true true is = cc
-not_true false is = refl
-
 above_when : (net : Network) (plan : Plan) (x : ℕ) (o : Option Hop) → backup_of plan plan.backup_root ≡ o
-    → has (of_some o [] (λ hop. filter (λ d. not (is_root plan d)) (devices_of hop.parent (walk net plan hop.parent)))) x ≡ true → IsAbove net plan x
+    → has (map_or o [] (λ hop. filter (λ d. not (is_root plan d)) (devices_of hop.parent (walk net plan hop.parent)))) x ≡ true → IsAbove net plan x
 above_when net plan x None is in_ = cc
 above_when net plan x (Some hop) is in_ =
     let both = filter_out (λ d. not (is_root plan d)) x (devices_of hop.parent (walk net plan hop.parent))
     (among_of (filter (λ d. not (is_root plan d)) (devices_of hop.parent (walk net plan hop.parent))) x in_) in
-    record { hop = hop; is = is; among = both.0; other = not_true (is_root plan x) both.1 }
+    record { hop = hop; is = is; among = both.0; other = not-true (is_root plan x) both.1 }
 
 module _ (net : Network) (plan : Plan) (fits : Fits net plan) (accepted : IsAccepted net plan) where
   rules : KeepsRules net plan
@@ -240,14 +233,14 @@ module _ (net : Network) (plan : Plan) (fits : Fits net plan) (accepted : IsAcce
       (and_parts (hop_is_right net plan plan.backup_root (primary_of plan plan.backup_root)) _ (rules.hops plan.backup_root fits.backup_root)).1 is)
 
   ancestor_when : (o : Option Hop) (hop : Hop) (b : Bool) → o ≡ Some hop → b ≡ true
-      → of_some o true
+      → map_or o true
       (λ h. if b then not (on_walk net plan h.parent plan.backup_root) else not
       (has (devices_of h.parent (if ends_walks plan h.parent then [] else short_path net plan h.parent)) plan.backup_root)) ≡ true
       → on_walk net plan hop.parent plan.backup_root ≡ false
   ancestor_when None hop b is yes_ clause = cc
   ancestor_when (Some h) hop false is yes_ clause = cc
   ancestor_when (Some h) hop true is yes_ clause =
-      subst (λ (g : Hop). on_walk net plan g.parent plan.backup_root ≡ false) (some_is is) (not_true (on_walk net plan h.parent plan.backup_root) clause)
+      subst (λ (g : Hop). on_walk net plan g.parent plan.backup_root ≡ false) (some_is is) (not-true (on_walk net plan h.parent plan.backup_root) clause)
 
   -- the backup root is not on its fallback
   not_backup_root : (x : ℕ) (above : IsAbove net plan x) → is_backup_root plan x ≡ false
@@ -272,14 +265,14 @@ module _ (net : Network) (plan : Plan) (fits : Fits net plan) (accepted : IsAcce
 
   link_in_fallback : (x : ℕ) (above : IsAbove net plan x) (h : Hop) → Among h (short_path net plan x) → has (fallback_links net plan) h.link ≡ true
   link_in_fallback x above h a =
-      ap (λ o. has (of_some o [] (λ hop. hop.link ∷ links_of (walk net plan hop.parent))) h.link) above.is
+      ap (λ o. has (map_or o [] (λ hop. hop.link ∷ links_of (walk net plan hop.parent))) h.link) above.is
       ∙ has_of (above.hop.link ∷ links_of (walk net plan above.hop.parent)) h.link
       (later (mapped_in (λ (g : Hop). g.link) h (walk net plan above.hop.parent) (cut_lies x above h a).hop))
 
   device_in_fallback : (x : ℕ) (above : IsAbove net plan x) (h : Hop) → Among h (short_path net plan x) → is_root plan h.parent ≡ false
       → has (fallback_devices net plan) h.parent ≡ true
   device_in_fallback x above h a other =
-      ap (λ o. has (of_some o [] (λ hop. filter (λ d. not (is_root plan d)) (devices_of hop.parent (walk net plan hop.parent)))) h.parent) above.is
+      ap (λ o. has (map_or o [] (λ hop. filter (λ d. not (is_root plan d)) (devices_of hop.parent (walk net plan hop.parent)))) h.parent) above.is
       ∙ has_of (filter (λ d. not (is_root plan d)) (devices_of above.hop.parent (walk net plan above.hop.parent))) h.parent
       (filter_in (λ d. not (is_root plan d)) h.parent (devices_of above.hop.parent (walk net plan above.hop.parent)) (cut_lies x above h a).parent
       (ap not other))
@@ -301,12 +294,12 @@ found_of setting steps x touched =
     let two : Passing (same_thing one.one) (failed_besides_root setting steps) =
     some_passing (same_thing one.one) (failed_besides_root setting steps) one.passed in
     let both = filter_out (λ y. not (same_thing r y)) two.one (failed_now steps) two.there in
-    let same : one.one ≡ two.one = same_is one.one two.one two.passed in
+    let same : one.one ≡ two.one = same_thing-true one.one two.one two.passed in
     record {
       what = one.one;
       among = one.there;
       failed = any_passing (same_thing one.one) two.one (failed_now steps) both.0 two.passed;
-      other = subst (λ y. same_thing r y ≡ false) (sym same) (not_true (same_thing r two.one) both.1);
+      other = subst (λ y. same_thing r y ≡ false) (sym same) (not-true (same_thing r two.one) both.1);
     }
 
 module _ (setting : Setting) (steps : List Step) (fits : Fits setting.net (plan_now setting steps)) (accepted : IsAccepted setting.net (plan_now setting steps))
@@ -370,4 +363,4 @@ module _ (setting : Setting) (steps : List Step) (fits : Fits setting.net (plan_
       not_hit_otherwise x above three.0
       (found_of setting steps x
       (either_way (hit setting steps x) (hit_otherwise setting steps x) (backup_root_acts setting steps) cause
-      (not_true (backup_root_acts setting steps) three.1))))
+      (not-true (backup_root_acts setting steps) three.1))))

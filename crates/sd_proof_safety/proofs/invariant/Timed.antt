@@ -1,5 +1,5 @@
 -- An accepted plan meets the inequalities of Arithmetic, with the numbers of its network; and the waits of each device lie within them.
-use Rattle.std.specs.Prelude.{◌≡◌, ℕ, ◌+◌, ◌*◌, ◌≤◌, ◌<◌, Bool, true, false, List, [], ◌∷◌, map, find, Some, None, refl, if◌then◌else◌}
+use Rattle.std.specs.Prelude.{◌≡◌, ℕ, ◌+◌, ◌*◌, ◌≤◌, ◌<◌, List, [], ◌∷◌, map, None, if◌then◌else◌}
 use Rattle.std.proofs.Common.{arith}
 use Rattle.std.proofs.lemmas.Bool.{ltb-false, leb-false}
 use Rattle.sd_checker.specs.Num.Lists.{least, greatest}
@@ -7,19 +7,9 @@ use Rattle.sd_checker.specs.Num.Numbers.{low, up}
 use Rattle.sd_checker.specs.Topo.Network.{Network, Device, least_low, greatest_up, greatest_delay}
 use Rattle.sd_checker.specs.Plan.declared.Plan.{Plan}
 use Rattle.sd_checker.specs.CheckRoot.Timing.{round_gap, silence, inequalities, is_broken, timing_breach}
-use Rattle.sd_history.proofs.Among.{Among, first, later}
+use Rattle.sd_history.proofs.Among.{first, later}
+use Rattle.sd_history.proofs.Shared.{none_passes}
 use Rattle.sd_proof_safety.specs.invariant.Bounds.{IsTimedBy, depth, losses, delay, tick_gap, first_low, first_up, second_low, second_up, wait_low}
-
-passed_by : {A : Type 0} (p : A → Bool) (y : A) (xs : List A) (b : Bool) → p y ≡ b → (if b then Some y else find p xs) ≡ None
-    → (p y ≡ false) × (find p xs ≡ None)
-passed_by p y xs true is none = cc
-passed_by p y xs false is none = (is, none)
-
--- what is not found fails the test
-pub none_passes : {A : Type 0} (p : A → Bool) (xs : List A) (x : A) → find p xs ≡ None → Among x xs → p x ≡ false
-none_passes p [] x none a = elim a [ ]
-none_passes p (y ∷ xs) x none first = (passed_by p x xs (p x) refl none).0
-none_passes p (y ∷ xs) x none (later a) = none_passes p xs x (passed_by p y xs (p y) refl none).1 a
 
 -- the five inequalities
 pub record IsTimed (net : Network) (plan : Plan) : Type 0 where

@@ -3,7 +3,7 @@
 use Rattle.std.specs.Prelude.{◌≡◌, ℕ, suc, ◌+◌, ◌≤◌, Bool, true, false, ◌||◌, List, [], ◌∷◌, length, filter, find, Option, Some, None, option_and_then, refl, if◌then◌else◌}
 use Rattle.std.specs.List.{list_any}
 use Rattle.std.proofs.Common.{arith, ◌∙◌, ap}
-use Rattle.sd_checker.specs.Num.Lists.{of_some, same_number}
+use Rattle.sd_checker.specs.Num.Lists.{map_or, same_number}
 use Rattle.sd_checker.specs.Topo.Network.{device_numbers}
 use Rattle.sd_history.specs.Core.Calls as calls
 use Rattle.sd_history.specs.Core.Calls.{Transition, Nothing, Emitted, TookOver, Moved, Past}
@@ -15,13 +15,13 @@ use Rattle.sd_history.specs.Chronicle.{past_in, chronicle}
 use Rattle.sd_history.specs.Lines.{counted_parent, follow, is_on_loop}
 use Rattle.sd_proof_safety.specs.invariant.Invariant.{Core, Invariant, AtEach}
 use Rattle.sd_proof_safety.specs.invariant.Clauses.{just_closed}
-use Rattle.sd_proof_safety.specs.invariant.Coming.{Comes}
+use Rattle.sd_proof_safety.specs.invariant.Coming.{IsNextEvent}
 use Rattle.sd_proof_safety.specs.invariant.Kept.{Keeps, transition_of_tick, EachKeeps, StaysInvariant, IsSafe, InvariantIsSafe, SafePhase, StaysSafe}
 use Rattle.sd_proof_safety.proofs.invariant.Prefix.{clean_before}
 use Rattle.sd_proof_safety.proofs.invariant.Following.{invariant_of}
 
 module _ {setting : Setting} (keeps : EachKeeps setting) where
-  tick_by : (r d c : ℕ) (history : List Event) → Comes setting history (event.Tick r d c) → (a b m : Bool)
+  tick_by : (r d c : ℕ) (history : List Event) → IsNextEvent setting history (event.Tick r d c) → (a b m : Bool)
       → transition_of_tick (chronicle setting history) d c ≡ (if a then Emitted else if b then TookOver else if m then Moved else Nothing)
       → Core setting (chronicle setting (event.Tick r d c ∷ history))
   tick_by r d c history comes true b m is = keeps.tick_emits r d c history comes is
@@ -29,14 +29,14 @@ module _ {setting : Setting} (keeps : EachKeeps setting) where
   tick_by r d c history comes false false true is = keeps.tick_moves r d c history comes is
   tick_by r d c history comes false false false is = keeps.tick_quiet r d c history comes is
 
-  tick_of : (r d c : ℕ) (history : List Event) → Comes setting history (event.Tick r d c) → (p : Option Past) → past_in (chronicle setting history) d ≡ p
+  tick_of : (r d c : ℕ) (history : List Event) → IsNextEvent setting history (event.Tick r d c) → (p : Option Past) → past_in (chronicle setting history) d ≡ p
       → Core setting (chronicle setting (event.Tick r d c ∷ history))
-  tick_of r d c history comes None is = keeps.tick_quiet r d c history comes (ap (λ p. of_some p Nothing (λ past. transition_of past (calls.Tick c))) is)
+  tick_of r d c history comes None is = keeps.tick_quiet r d c history comes (ap (λ p. map_or p Nothing (λ past. transition_of past (calls.Tick c))) is)
   tick_of r d c history comes (Some past) is =
       tick_by r d c history comes (emits_at past c) (takes_over_at past c) (moves_at past c)
-      (ap (λ p. of_some p Nothing (λ past. transition_of past (calls.Tick c))) is)
+      (ap (λ p. map_or p Nothing (λ past. transition_of past (calls.Tick c))) is)
 
-  seal_by : (r d : ℕ) (history : List Event) → Comes setting history (event.Seal r d) → (b : Bool)
+  seal_by : (r d : ℕ) (history : List Event) → IsNextEvent setting history (event.Seal r d) → (b : Bool)
       → just_closed (chronicle setting (event.Seal r d ∷ history)) ≡ b
       → Core setting (chronicle setting (event.Seal r d ∷ history))
   seal_by r d history comes true is = keeps.seal_closes r d history comes is

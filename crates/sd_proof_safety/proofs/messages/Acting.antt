@@ -1,18 +1,15 @@
 -- While a device acts, with no entering receipt in between, it acts on, its term stays, and its rounds count its emissions.
 use Rattle.std.specs.Prelude.{◌≡◌, ℕ, ◌+◌, ◌-◌, max, Bool, true, false, ◌&&◌, not, ◌∷◌, nat_eq, nat_le, Option, Some, None, option_map, option_and_then, refl, if◌then◌else◌}
 use Rattle.std.proofs.Common.{arith, sym, ◌∙◌, ap, subst}
-use Rattle.sd_checker.specs.Num.Lists.{of_some}
+use Rattle.sd_checker.specs.Num.Lists.{map_or}
 use Rattle.sd_checker.specs.Plan.declared.Duty.{Duty}
 use Rattle.sd_checker.specs.Plan.declared.Edge.{Edge}
 use Rattle.sd_history.specs.Msg.declared.Message.{Message}
 use Rattle.sd_history.specs.Msg.Stamps.{is_newer}
 use Rattle.sd_history.specs.Core.Calls.{Call, Tick, Receive, Fix, Give, Commit, Seal, Transition, Entered, Committed, Recommitted, Accepted, Moved, TookOver, Emitted, Nothing, Past}
 use Rattle.sd_history.specs.Core.Words.{after, given_now, accepted_by, over_link, parent_edge, epoch_now, stamp_now, is_acting, is_backup_root_now, has_moved, backup_now, primary_now, duty_now, emits_at, takes_over_at, moves_at, heard, moved_at}
+use Rattle.sd_history.proofs.Core.Reached.{added}
 use Rattle.sd_proof_safety.specs.messages.Stamping.{GoesOn, stays, calls, enters, EntersNot, emissions}
-
--- the past with one call more that did this
-abbrev pub with_transition : Past → Call → Transition → Past
-with_transition past call transition = record { making = past.making; did = record { call = call; transition = transition } ∷ past.did }
 
 -- what a call of an acting device leaves: it acts, in the same term, and its rounds less its emissions are the same
 record ActsOn (past new : Past) : Type 0 where
@@ -21,7 +18,7 @@ record ActsOn (past new : Past) : Type 0 where
   rounds : (stamp_now new).round + emissions past.did ≡ (stamp_now past).round + emissions new.did
 
 tick_acts : (past : Past) (counter : ℕ) (a b c : Bool) → is_acting past ≡ true → b ≡ false
-    → ActsOn past (with_transition past (Tick counter) (if a then Emitted else if b then TookOver else if c then Moved else Nothing))
+    → ActsOn past (added past (Tick counter) (if a then Emitted else if b then TookOver else if c then Moved else Nothing))
 tick_acts past counter true b c acts none = record { acts = acts; term = refl; rounds = omega arith }
 tick_acts past counter false true c acts none = cc
 tick_acts past counter false false true acts none = record { acts = acts; term = refl; rounds = refl }
@@ -37,17 +34,17 @@ no_takeover false b c d is = refl
 takes_over_not : (past : Past) (counter : ℕ) → is_acting past ≡ true → takes_over_at past counter ≡ false
 takes_over_not past counter acts =
     no_takeover (is_backup_root_now past) (has_moved past) (is_acting past)
-    (of_some (duty_now past) false (λ duty. nat_le duty.wait_second (counter - max (heard past) (moved_at past)))) acts
+    (map_or (duty_now past) false (λ duty. nat_le duty.wait_second (counter - max (heard past) (moved_at past)))) acts
 
 commit_acts : (past : Past) (counter : ℕ) (g : Option Duty) (b : Bool) → b ≡ true → is_acting past ≡ true
-    → ActsOn past (with_transition past (Commit counter) (of_some g Nothing (λ duty. if b then Recommitted duty else Committed duty)))
+    → ActsOn past (added past (Commit counter) (map_or g Nothing (λ duty. if b then Recommitted duty else Committed duty)))
 commit_acts past counter None b is acts = record { acts = acts; term = refl; rounds = refl }
 commit_acts past counter (Some duty) true is acts = record { acts = refl; term = refl; rounds = refl }
 commit_acts past counter (Some duty) false is acts = cc
 
 -- it has no parent, so it accepts nothing over the link to one
 accepts_none : (b : Bool) (l : ℕ) (o : Option Edge) → o ≡ None
-    → of_some (if b then option_map Accepted (option_and_then (over_link l) o) else None) Nothing (λ transition. transition) ≡ Nothing
+    → map_or (if b then option_map Accepted (option_and_then (over_link l) o) else None) Nothing (λ transition. transition) ≡ Nothing
 accepts_none true l None none = refl
 accepts_none true l (Some edge) none = cc
 accepts_none false l o none = refl
@@ -57,32 +54,32 @@ parentless past acts = ap (λ a. if a then None else if has_moved past then back
 
 receipt_acts : (past : Past) (l : ℕ) (m : Message) (c : ℕ) (rest : Transition) (g : Option Duty) → rest ≡ Nothing → is_acting past ≡ true
     → let transition =
-    of_some (option_and_then (λ duty. if nat_eq duty.epoch m.epoch then option_map (Entered duty) (option_and_then (over_link l) duty.primary) else None) g)
+    map_or (option_and_then (λ duty. if nat_eq duty.epoch m.epoch then option_map (Entered duty) (option_and_then (over_link l) duty.primary) else None) g)
     rest (λ transition. transition) in
-    enters transition ≡ false → ActsOn past (with_transition past (Receive l m c) transition)
+    enters transition ≡ false → ActsOn past (added past (Receive l m c) transition)
 receipt_acts past l m c rest g nothing acts not_ = by_given g not_
   where
-    quiet : ActsOn past (with_transition past (Receive l m c) rest)
-    quiet = subst (λ transition. ActsOn past (with_transition past (Receive l m c) transition)) (sym nothing)
+    quiet : ActsOn past (added past (Receive l m c) rest)
+    quiet = subst (λ transition. ActsOn past (added past (Receive l m c) transition)) (sym nothing)
         (record { acts = acts; term = refl; rounds = refl })
 
-    by_edge : (duty : Duty) (o : Option Edge) → let transition = of_some (option_map (Entered duty) o) rest (λ transition. transition) in
-        enters transition ≡ false → ActsOn past (with_transition past (Receive l m c) transition)
+    by_edge : (duty : Duty) (o : Option Edge) → let transition = map_or (option_map (Entered duty) o) rest (λ transition. transition) in
+        enters transition ≡ false → ActsOn past (added past (Receive l m c) transition)
     by_edge duty None not' = quiet
     by_edge duty (Some e) not' = cc
 
     by_epoch : (duty : Duty) (b : Bool)
         → let transition =
-        of_some (if b then option_map (Entered duty) (option_and_then (over_link l) duty.primary) else None) rest (λ transition. transition) in
-        enters transition ≡ false → ActsOn past (with_transition past (Receive l m c) transition)
+        map_or (if b then option_map (Entered duty) (option_and_then (over_link l) duty.primary) else None) rest (λ transition. transition) in
+        enters transition ≡ false → ActsOn past (added past (Receive l m c) transition)
     by_epoch duty true not' = by_edge duty (option_and_then (over_link l) duty.primary) not'
     by_epoch duty false not' = quiet
 
     by_given : (h : Option Duty)
         → let transition =
-        of_some (option_and_then (λ duty. if nat_eq duty.epoch m.epoch then option_map (Entered duty) (option_and_then (over_link l) duty.primary) else None) h)
+        map_or (option_and_then (λ duty. if nat_eq duty.epoch m.epoch then option_map (Entered duty) (option_and_then (over_link l) duty.primary) else None) h)
         rest (λ transition. transition) in
-        enters transition ≡ false → ActsOn past (with_transition past (Receive l m c) transition)
+        enters transition ≡ false → ActsOn past (added past (Receive l m c) transition)
     by_given None not' = quiet
     by_given (Some duty) not' = by_epoch duty (nat_eq duty.epoch m.epoch) not'
 
@@ -90,7 +87,7 @@ call_acts : (past : Past) (call : Call) → is_acting past ≡ true → EntersNo
 call_acts past (Tick counter) acts not_ =
     tick_acts past counter (emits_at past counter) (takes_over_at past counter) (moves_at past counter) acts (takes_over_not past counter acts)
 call_acts past (Receive l m c) acts not_ =
-    receipt_acts past l m c (of_some (accepted_by past l m) Nothing (λ transition. transition)) (given_now past)
+    receipt_acts past l m c (map_or (accepted_by past l m) Nothing (λ transition. transition)) (given_now past)
     (accepts_none (nat_eq (epoch_now past) m.epoch && is_newer m.stamp (stamp_now past)) l (parent_edge past) (parentless past acts)) acts not_
 call_acts past (Fix counter clock eps) acts not_ = record { acts = acts; term = refl; rounds = refl }
 call_acts past (Give duty) acts not_ = record { acts = acts; term = refl; rounds = refl }

@@ -9,7 +9,7 @@ use Rattle.sd_history.specs.World.{Setting}
 use Rattle.sd_proof_safety.specs.messages.Moments.{whole, behind, IsChronicle, Moment, upto, when, IsIn}
 use Rattle.sd_proof_safety.specs.messages.Traces.{Hop, Trace, begins, goes_on, Chain, stands, hops_on, Place}
 use Rattle.sd_proof_safety.proofs.messages.Tails.{tail_trans, before_is_earlier}
-use Rattle.sd_proof_safety.proofs.messages.Overlap.{hop_time}
+use Rattle.sd_proof_safety.proofs.messages.Overlap.{hop_time, one_more}
 
 -- the place so many hops before the end
 pub place_at : (setting : Setting) (stamp : Stamp) (epoch : ℕ) (first : Moment) (source m : ℕ) (p : Moment) (d k : ℕ)
@@ -20,9 +20,6 @@ place_at setting stamp epoch first source (suc m) p d (suc k) (goes_on {from = f
     let place = place_at setting stamp epoch first source m from x k trace (omega (arith, most)) in
     let sum = place.sum in
     record { moment = place.moment; device = place.device; gone = place.gone; sum = omega (arith, sum); trace = place.trace; chain = hops_on place.chain hop }
-
-one_more : (a b c k D : ℕ) → b ≤ a + k * D → c ≤ b + D → c ≤ a + suc k * D
-one_more a b c k D first second = omega (arith, first, second)
 
 -- how long so many hops last at most
 pub chain_time : (setting : Setting) (stamp : Stamp) (epoch : ℕ) (q : Moment) (y k : ℕ) (p : Moment) (d : ℕ) → Chain setting stamp epoch q y k p d

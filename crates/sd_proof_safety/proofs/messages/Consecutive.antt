@@ -2,7 +2,7 @@
 use Rattle.std.specs.Prelude.{◌≡◌, ℕ, ◌+◌, ◌-◌, Bool, true, false, ◌&&◌, nat_eq, nat_le, Option, Some, None, option_map, option_and_then, refl, if◌then◌else◌}
 use Rattle.std.proofs.Common.{arith, sym, ◌∙◌, ap, subst}
 use Rattle.std.proofs.lemmas.Bool.{and_parts, or_right, eq-eqb}
-use Rattle.sd_checker.specs.Num.Lists.{of_some}
+use Rattle.sd_checker.specs.Num.Lists.{map_or}
 use Rattle.sd_checker.specs.Plan.declared.Duty.{Duty}
 use Rattle.sd_checker.specs.Plan.declared.Edge.{Edge}
 use Rattle.sd_history.specs.Msg.declared.Message.{Message}
@@ -12,46 +12,47 @@ use Rattle.sd_history.specs.Core.Words.{transition_of, after, stamp_now, epoch_n
 use Rattle.sd_history.specs.Steps.{Calls}
 use Rattle.sd_history.specs.Chronicle.{past_in, past_after}
 use Rattle.sd_history.proofs.Given.{some_is}
+use Rattle.sd_history.proofs.Core.Reached.{added}
 use Rattle.sd_proof_safety.specs.messages.Moments.{Moment, upto, IsIn, IsBefore, Emits, is_emission}
 use Rattle.sd_proof_safety.specs.messages.Stamping.{IsOlder, GoesOn, stays, calls, EntersNot, emissions, remakes}
 use Rattle.sd_proof_safety.proofs.messages.Sending.{sends_own}
 use Rattle.sd_proof_safety.proofs.messages.Rising.{emission_enters_not, emission_is_newer}
-use Rattle.sd_proof_safety.proofs.messages.Acting.{Acting, acts_on, with_transition}
+use Rattle.sd_proof_safety.proofs.messages.Acting.{Acting, acts_on}
 use Rattle.sd_proof_safety.proofs.messages.Origins.{Since, past_goes}
 
 -- After an emission a device acts.
 
 tick_acts : (past : Past) (counter : ℕ) (a b c : Bool) → (a ≡ true → is_acting past ≡ true)
     → let transition = if a then Emitted else if b then TookOver else if c then Moved else Nothing in
-    is_emission transition ≡ true → is_acting (with_transition past (Tick counter) transition) ≡ true
+    is_emission transition ≡ true → is_acting (added past (Tick counter) transition) ≡ true
 tick_acts past counter true b c acts is = acts refl
-tick_acts past counter false true c acts is = or_right (of_some (later_entry past) (starts_as_root past.making) (λ entry. is_commit entry.transition)) true refl
+tick_acts past counter false true c acts is = or_right (map_or (later_entry past) (starts_as_root past.making) (λ entry. is_commit entry.transition)) true refl
 tick_acts past counter false false true acts is = cc
 tick_acts past counter false false false acts is = cc
 
 receipt_emits_not : (past : Past) (l : ℕ) (m : Message) (g : Option Duty) (rest : Transition) → is_emission rest ≡ false
     → is_emission
-    (of_some (option_and_then (λ duty. if nat_eq duty.epoch m.epoch then option_map (Entered duty) (option_and_then (over_link l) duty.primary) else None)
+    (map_or (option_and_then (λ duty. if nat_eq duty.epoch m.epoch then option_map (Entered duty) (option_and_then (over_link l) duty.primary) else None)
     g) rest (λ transition. transition)) ≡ false
 receipt_emits_not past l m None rest none = none
 receipt_emits_not past l m (Some duty) rest none = by_epoch (nat_eq duty.epoch m.epoch)
   where
-    by_edge : (o : Option Edge) → is_emission (of_some (option_map (Entered duty) o) rest (λ transition. transition)) ≡ false
+    by_edge : (o : Option Edge) → is_emission (map_or (option_map (Entered duty) o) rest (λ transition. transition)) ≡ false
     by_edge None = none
     by_edge (Some e) = refl
 
     by_epoch : (b : Bool)
-        → is_emission (of_some (if b then option_map (Entered duty) (option_and_then (over_link l) duty.primary) else None) rest (λ transition. transition))
+        → is_emission (map_or (if b then option_map (Entered duty) (option_and_then (over_link l) duty.primary) else None) rest (λ transition. transition))
         ≡ false
     by_epoch true = by_edge (option_and_then (over_link l) duty.primary)
     by_epoch false = none
 
-accepted_emits_not : (b : Bool) (o : Option Edge) → is_emission (of_some (if b then option_map Accepted o else None) Nothing (λ transition. transition)) ≡ false
+accepted_emits_not : (b : Bool) (o : Option Edge) → is_emission (map_or (if b then option_map Accepted o else None) Nothing (λ transition. transition)) ≡ false
 accepted_emits_not true None = refl
 accepted_emits_not true (Some edge) = refl
 accepted_emits_not false o = refl
 
-commit_emits_not : (g : Option Duty) (b : Bool) → is_emission (of_some g Nothing (λ duty. if b then Recommitted duty else Committed duty)) ≡ false
+commit_emits_not : (g : Option Duty) (b : Bool) → is_emission (map_or g Nothing (λ duty. if b then Recommitted duty else Committed duty)) ≡ false
 commit_emits_not None b = refl
 commit_emits_not (Some duty) true = refl
 commit_emits_not (Some duty) false = refl
@@ -59,10 +60,10 @@ commit_emits_not (Some duty) false = refl
 pub emission_acts : (past : Past) (call : Call) → is_emission (transition_of past call) ≡ true → is_acting (after past call) ≡ true
 emission_acts past (Tick counter) is =
     tick_acts past counter (emits_at past counter) (takes_over_at past counter) (moves_at past counter)
-    (λ holds. (and_parts (is_acting past) (of_some (duty_now past) false (λ duty. nat_le duty.period (counter - sent_at past))) holds).0) is
+    (λ holds. (and_parts (is_acting past) (map_or (duty_now past) false (λ duty. nat_le duty.period (counter - sent_at past))) holds).0) is
 emission_acts past (Receive l m c) is =
     let none : is_emission (transition_of past (Receive l m c)) ≡ false =
-    receipt_emits_not past l m (given_now past) (of_some (accepted_by past l m) Nothing (λ transition. transition))
+    receipt_emits_not past l m (given_now past) (map_or (accepted_by past l m) Nothing (λ transition. transition))
     (accepted_emits_not (nat_eq (epoch_now past) m.epoch && is_newer m.stamp (stamp_now past)) (option_and_then (over_link l) (parent_edge past))) in
     let clash : true ≡ false = sym is ∙ none in
     cc

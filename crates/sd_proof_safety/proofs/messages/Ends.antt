@@ -1,9 +1,9 @@
 -- Whom a device sends to: over each link, the one device that follows it there in the plan in force or in the staged one.
-use Rattle.std.specs.Prelude.{◌≡◌, ℕ, zero, suc, ◌<◌, ◌≤◌, Bool, true, false, List, [], ◌∷◌, ◌++◌, length, cond, filter_map, find, nat_eq, Option, Some, None, is_some, option_map, ◌⊎◌, refl, if◌then◌else◌}
+use Rattle.std.specs.Prelude.{◌≡◌, ℕ, ◌<◌, ◌≤◌, Bool, true, false, List, [], ◌∷◌, ◌++◌, length, cond, filter_map, find, nat_eq, Option, Some, None, is_some, option_map, ◌⊎◌, refl, if◌then◌else◌}
 use Rattle.std.specs.List.{cons_option}
-use Rattle.std.proofs.Common.{arith, sym, ◌∙◌, ap, subst, inl, inr}
-use Rattle.std.proofs.lemmas.Bool.{and_from, or_left, or_right, eq-eqb, eqb-true, cases_lt}
-use Rattle.sd_checker.specs.Num.Lists.{of_some, below}
+use Rattle.std.proofs.Common.{arith, sym, ◌∙◌, ap, subst}
+use Rattle.std.proofs.lemmas.Bool.{and_from, or_left, or_right, eq-eqb, eqb-true}
+use Rattle.sd_checker.specs.Num.Lists.{map_or}
 use Rattle.sd_checker.specs.Topo.Network.{Network, device_numbers, link_numbers}
 use Rattle.sd_checker.specs.Plan.declared.Hop.{Hop as PlanHop}
 use Rattle.sd_checker.specs.Plan.declared.Plan.{Plan}
@@ -12,16 +12,8 @@ use Rattle.sd_checker.specs.Plan.Plans.{primary_of, backup_of}
 use Rattle.sd_checker.specs.Plan.Duties.{ends_of, follows_over, leads_to}
 use Rattle.sd_history.specs.World.{Setting, Seen, window, window_is_open, in_force, epoch_in_force, staged, staged_epoch, plan_numbered}
 use Rattle.sd_history.specs.Steps.{Step, seen_of, ends_at}
-use Rattle.sd_history.proofs.Among.{Among, first, later, on_right}
-use Rattle.sd_proof_safety.proofs.messages.Numbers.{on_left}
-
-pub among_below : (n l : ℕ) → l < n → Among l (below n)
-among_below zero l less = absurd (omega (arith, less))
-among_below (suc n) l less = go (cases_lt l n) (among_below n l)
-  where
-    go : (l < n) ⊎ (n ≤ l) → (l < n → Among l (below n)) → Among l (below n ++ n ∷ [])
-    go (inl under) rest = on_left (below n) (n ∷ []) (rest under)
-    go (inr over) rest = let same : n ≡ l = omega (arith, less, over) in on_right (below n) (subst (λ x. Among x (n ∷ [])) same first)
+use Rattle.sd_history.proofs.Among.{Among, first, later}
+use Rattle.sd_history.proofs.Shared.{among_below}
 
 found_by : (p : ℕ → Bool) (x d : ℕ) (xs : List ℕ) (b : Bool) → p x ≡ b → Among d (x ∷ xs) → p d ≡ true → (p x ≡ true → x ≡ d)
     → (Among d xs → find p xs ≡ Some d) → cond b (Some x) (find p xs) ≡ Some d
@@ -66,7 +58,7 @@ ends_has net plan x e link device follows only =
 pub ends_in_force : (setting : Setting) (steps : List Step) (epoch x : ℕ) (e : End) → epoch ≡ epoch_in_force (seen_of steps)
     → Among e (ends_of setting.net (plan_numbered setting epoch) x) → Among e (ends_at setting steps epoch x)
 ends_in_force setting steps epoch x e is a =
-    subst (λ o. Among e (of_some o [] (λ plan. ends_of setting.net plan x)))
+    subst (λ o. Among e (map_or o [] (λ plan. ends_of setting.net plan x)))
     (sym (ap (λ b. if b then Some (in_force setting (seen_of steps)) else if nat_eq epoch (staged_epoch (seen_of steps)) then staged setting
     (seen_of steps) else None) (eq-eqb epoch (epoch_in_force (seen_of steps)) is)))
     (subst (λ n. Among e (ends_of setting.net (plan_numbered setting n) x)) is a)
@@ -81,7 +73,7 @@ pub ends_staged : (setting : Setting) (steps : List Step) (epoch x : ℕ) (e : E
     → Among e (ends_of setting.net (plan_numbered setting epoch) x)
     → Among e (ends_at setting steps epoch x)
 ends_staged setting steps epoch x e is open_ a =
-    subst (λ o. Among e (of_some o [] (λ plan. ends_of setting.net plan x))) (sym (apart (nat_eq epoch (epoch_in_force (seen_of steps))) refl))
+    subst (λ o. Among e (map_or o [] (λ plan. ends_of setting.net plan x))) (sym (apart (nat_eq epoch (epoch_in_force (seen_of steps))) refl))
     (subst (λ n. Among e (ends_of setting.net (plan_numbered setting n) x)) is a)
   where
     apart : (b : Bool) → nat_eq epoch (epoch_in_force (seen_of steps)) ≡ b

@@ -2,8 +2,7 @@
 -- hold of this history.
 use Rattle.std.specs.Prelude.{◌≡◌, ℕ, zero, suc, Bool, true, false, List, [], ◌∷◌, Option, Some, None, refl, codes}
 use Rattle.std.proofs.Common.{arith, sym, ◌∙◌, ap, subst, inl}
-use Rattle.sd_checker.specs.Num.Lists.{of_some}
-use Rattle.sd_checker.specs.Topo.declared.Thing.{Thing}
+use Rattle.sd_checker.specs.Num.Lists.{map_or}
 use Rattle.sd_checker.specs.Topo.declared.Thing.TheVariants as thing
 use Rattle.sd_checker.specs.Topo.Network.{Network}
 use Rattle.sd_checker.specs.Plan.declared.End.{End}
@@ -13,11 +12,11 @@ use Rattle.sd_checker.specs.Plan.Examples.{device_with, link_with, plan_with, ro
 use Rattle.sd_history.specs.Msg.declared.Message.{Message}
 use Rattle.sd_history.specs.Msg.Stamps.{stamp, message_of}
 use Rattle.sd_history.specs.Core.Calls as calls
-use Rattle.sd_history.specs.Core.Calls.{Call, Past, Joined}
+use Rattle.sd_history.specs.Core.Calls.{Past, Joined}
 use Rattle.sd_history.specs.Core.Words.{transition_of}
 use Rattle.sd_history.specs.Sched.declared.Event.{Event}
 use Rattle.sd_history.specs.Sched.declared.Event.TheVariants.{Start, Tick, Recv}
-use Rattle.sd_history.specs.World.{Setting, fails, plan_numbered, epoch_in_force}
+use Rattle.sd_history.specs.World.{Setting, plan_numbered, epoch_in_force}
 use Rattle.sd_history.specs.Steps.{Act, Calls, Step, changed, seen_of}
 use Rattle.sd_history.specs.Chronicle.{past_in, new_past, next_step, chronicle, IsHistory}
 use Rattle.sd_history.specs.Premises.{all_hold}
@@ -28,12 +27,13 @@ use Rattle.sd_proof_safety.specs.messages.Stamping.{IsUpTo}
 use Rattle.sd_proof_safety.proofs.messages.Tails.{history_chronicle}
 use Rattle.sd_proof_safety.proofs.messages.Rising.{up_to_itself}
 use Rattle.sd_proof_safety.proofs.messages.Terms.{stamp_here, stamp_is}
-use Rattle.sd_proof_safety.proofs.messages.Opening.{IsOnItsWay, round_flows}
+use Rattle.sd_proof_safety.proofs.messages.Opening.{IsOnItsWay, round_flows, first_fails}
+use Rattle.sd_proof_safety.proofs.Shared.{tail_of}
 
 -- Tests of a moment by its steps
 
 abbrev emits_by : Act → List Step → Bool
-emits_by (Calls d call) earlier = of_some (past_in earlier d) false (λ past. is_emission (transition_of past call))
+emits_by (Calls d call) earlier = map_or (past_in earlier d) false (λ past. is_emission (transition_of past call))
 emits_by _ earlier = false
 
 abbrev emits_here : List Step → Bool
@@ -47,7 +47,7 @@ device_here (s ∷ earlier) = changed s.act
 emits_is : (p : Moment) (x : ℕ) (m : Message) → Emits p x m → emits_here (upto p) ≡ true
 emits_is p x m emits =
     let s = emits.sends in
-    ap (λ a. emits_by a p.earlier) s.act ∙ ap (λ o. of_some o false (λ past. is_emission (transition_of past s.call))) s.there ∙ emits.emission
+    ap (λ a. emits_by a p.earlier) s.act ∙ ap (λ o. map_or o false (λ past. is_emission (transition_of past s.call))) s.there ∙ emits.emission
 
 device_is : (p : Moment) (x : ℕ) (m : Message) → Emits p x m → device_here (upto p) ≡ Some x
 device_is p x m emits = ap changed emits.sends.act
@@ -99,7 +99,7 @@ abbrev start : Moment
 start = record { step = next_step setting (chronicle setting before) (Tick 100 0 100); earlier = chronicle setting before }
 
 abbrev root_past : Past
-root_past = of_some (past_in start.earlier 0) (new_past (Joined (record { ppm = 0; grain = 0 }) 0 0 0)) (λ past. past)
+root_past = map_or (past_in start.earlier 0) (new_past (Joined (record { ppm = 0; grain = 0 }) 0 0 0)) (λ past. past)
 
 abbrev round : Message
 round = message_of 1 (stamp 0 1) (record { clock = 100; eps = 0 })
@@ -111,14 +111,6 @@ abbrev way : List End
 way = record { link = 0; device = 1 } ∷ []
 
 -- Every moment
-
-abbrev rest_here : List Step → List Step
-rest_here [] = []
-rest_here (s ∷ earlier) = earlier
-
-abbrev fails_here : Thing → List Step → Bool
-fails_here x [] = false
-fails_here x (s ∷ earlier) = fails x s.seen.event
 
 abbrev IsStart : List Step → Type 0
 IsStart xs = emits_here xs ≡ true → (xs ≡ upto start) × (device_here xs ≡ Some 0)
@@ -141,13 +133,13 @@ spaced : IsSpaced setting steps (stamp 0 1) 1 start
 spaced p t x m emits epoch = inl (subst (λ s. IsUpTo s (stamp 0 1)) (sym (stamp_is p x m emits)) (at_moment IsOld steps p all_old t (emits_is p x m emits)))
 
 abbrev IsFirst : List Step → Type 0
-IsFirst xs = 1 ≡ epoch_in_force (seen_of (rest_here xs))
+IsFirst xs = 1 ≡ epoch_in_force (seen_of (tail_of xs))
 
 current : IsCurrent setting steps 1 start 101
 current q t started soon = inl (at_moment IsFirst steps q (refl, (refl, (refl, (refl, (refl, (refl, (refl, tt))))))) t)
 
 abbrev FailsNone : List Step → Type 0
-FailsNone xs = (fails_here (thing.Device 0) xs ≡ false) × (fails_here (thing.Device 1) xs ≡ false) × (fails_here (thing.Link 0) xs ≡ false)
+FailsNone xs = (first_fails (thing.Device 0) xs ≡ false) × (first_fails (thing.Device 1) xs ≡ false) × (first_fails (thing.Link 0) xs ≡ false)
 
 none_fails : AllTails FailsNone steps
 none_fails =
@@ -157,7 +149,7 @@ abbrev edge : Edge
 edge = record { parent = 0; link = 0; bounds = record { mid = 0; half = 1 } }
 
 abbrev AllReady : List Step → Type 0
-AllReady xs = (past : Past) → past_in (rest_here xs) 1 ≡ Some past → IsReady past 1 0
+AllReady xs = (past : Past) → past_in (tail_of xs) 1 ≡ Some past → IsReady past 1 0
 
 is_ready : (p q : Past) → Some q ≡ Some p → IsReady q 1 0 → IsReady p 1 0
 is_ready p q same ready = subst (λ x. IsReady x 1 0) (some_is same) ready

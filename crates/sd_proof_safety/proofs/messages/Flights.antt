@@ -4,39 +4,23 @@ use Rattle.std.specs.Prelude.{◌≡◌, ℕ, ◌+◌, Bool, true, false, ◌||�
 use Rattle.std.specs.List.{list_any}
 use Rattle.std.proofs.Common.{arith, sym, ◌∙◌, ap, subst}
 use Rattle.std.proofs.lemmas.Bool.{eqb-true}
-use Rattle.sd_checker.specs.Num.Lists.{of_some}
-use Rattle.sd_checker.specs.Plan.declared.End.{End}
-use Rattle.sd_history.specs.Msg.declared.Message.{Message}
+use Rattle.sd_checker.specs.Num.Lists.{map_or}
 use Rattle.sd_history.specs.Msg.declared.Flight.{Flight}
 use Rattle.sd_history.specs.Core.declared.Effect.{Effect}
 use Rattle.sd_history.specs.Core.declared.Effect.TheVariants.{Quiet, Send}
 use Rattle.sd_history.specs.Core.Calls.{Call, Past}
 use Rattle.sd_history.specs.Core.Words.{after, effect_of, epoch_now}
 use Rattle.sd_history.specs.World.{Setting}
-use Rattle.sd_history.specs.Steps.{Act, Makes, Calls, Asks, Passes, tells_nothing, tells_called, Step, flights, flight_numbered, flight_count, flight_to, flights_to, ends_at, flights_by, flights_of, act_by}
+use Rattle.sd_history.specs.Steps.{Act, Makes, Calls, Asks, Passes, tells_nothing, tells_called, Step, flights, flight_numbered, flight_count, ends_at, flights_by, flights_of, act_by}
 use Rattle.sd_history.specs.Refusals.{since_sending}
 use Rattle.sd_history.specs.Chronicle.{answers_by, past_in, told_by}
 use Rattle.sd_history.proofs.Among.{Among, first, later}
 use Rattle.sd_history.proofs.Given.{some_is}
+use Rattle.sd_history.proofs.flights.Sending.{IsOver, over_ends}
 use Rattle.sd_proof_safety.specs.messages.Moments.{whole, behind, IsChronicle, Moment, upto, when, IsIn, IsBefore}
 use Rattle.sd_proof_safety.proofs.messages.Tails.{tail_length}
 
 -- What is sent
-
--- a flight of a message over one of these ends
-pub record IsOver (setting : Setting) (steps : List Step) (r d : ℕ) (m : Message) (ends : List End) (f : Flight) : Type 0 where
-  pub end_ : End
-  pub number : ℕ
-  pub among : Among end_ ends
-  pub is : f ≡ flight_to setting steps r d m number end_
-
-over_ends : (setting : Setting) (steps : List Step) (r d : ℕ) (m : Message) (n : ℕ) (ends : List End) (f : Flight)
-    → Among f (flights_to setting steps r d m n ends) → IsOver setting steps r d m ends f
-over_ends setting steps r d m n [] f a = elim a [ ]
-over_ends setting steps r d m n (e ∷ ends) f first = record { end_ = e; number = n; among = first; is = refl }
-over_ends setting steps r d m n (e ∷ ends) f (later a) =
-    let rest = over_ends setting steps r d m (n + 1) ends f a in
-    record { end_ = rest.end_; number = rest.number; among = later rest.among; is = rest.is }
 
 -- the flight was sent by a call of this act, over an end that the device has in the plan that it then follows
 pub record IsSentBy (setting : Setting) (steps : List Step) (r : ℕ) (act : Act) (f : Flight) : Type 0 where
@@ -66,8 +50,8 @@ sent_effect setting steps r d past call (Send m) f there is a =
     }
 
 sent_past : (setting : Setting) (steps : List Step) (r d : ℕ) (call : Call) (o : Option Past) (f : Flight) → past_in steps d ≡ o
-    → Among f (of_some (of_some o tells_nothing (λ past. tells_called (effect_of past call) (answers_by (after past call)))).answers []
-    (λ a. flights_by setting steps r d a.epoch (of_some o tells_nothing (λ past. tells_called (effect_of past call) (answers_by (after past call)))).effect))
+    → Among f (map_or (map_or o tells_nothing (λ past. tells_called (effect_of past call) (answers_by (after past call)))).answers []
+    (λ a. flights_by setting steps r d a.epoch (map_or o tells_nothing (λ past. tells_called (effect_of past call) (answers_by (after past call)))).effect))
     → IsSentBy setting steps r (Calls d call) f
 sent_past setting steps r d call None f there a = elim a [ ]
 sent_past setting steps r d call (Some past) f there a = sent_effect setting steps r d past call (effect_of past call) f there refl a

@@ -1,7 +1,7 @@
 -- A clean round goes along an open way: one hop first, then hop by hop along the whole of it.
 use Rattle.std.specs.Prelude.{◌≡◌, ℕ, suc, ◌+◌, ◌*◌, ◌<◌, ◌≤◌, Bool, true, false, ◌&&◌, not, List, [], ◌∷◌, length, filter, nat_eq, Some, ◌⊎◌, refl}
 use Rattle.std.proofs.Common.{arith, sym, ◌∙◌, ap, subst, inl, inr}
-use Rattle.sd_checker.specs.Num.Lists.{of_some}
+use Rattle.sd_checker.specs.Num.Lists.{map_or}
 use Rattle.sd_checker.specs.Topo.Network.{greatest_delay}
 use Rattle.sd_checker.specs.Plan.declared.End.{End}
 use Rattle.sd_history.specs.Msg.declared.Stamp.{Stamp}
@@ -15,18 +15,20 @@ use Rattle.sd_history.specs.World.{Setting, is_up, link_has_failed, latest_refer
 use Rattle.sd_history.specs.Steps.{Calls, Passes, tells_nothing, tells_called, Step, seen_of, flights, flight_numbered, flight_count, flight_to, flights_to, ends_at, flights_by, flights_of, act_by, taken_by}
 use Rattle.sd_history.specs.Chronicle.{answers_by, told_by}
 use Rattle.sd_history.specs.Premises as premises
-use Rattle.sd_history.specs.Premises.{delay_holds, is_in_time, is_overdue, spoils}
+use Rattle.sd_history.specs.Premises.{delay_holds, is_in_time, is_overdue}
 use Rattle.sd_history.proofs.Among.{Among, first, later, found, on_right}
 use Rattle.sd_history.proofs.Given.{some_is}
+use Rattle.sd_history.proofs.flights.Sending.{counted}
 use Rattle.sd_proof_safety.specs.messages.Moments.{Tail, whole, behind, IsChronicle, Moment, upto, when, IsIn, IsBefore, Sends}
 use Rattle.sd_proof_safety.specs.messages.Rounds.{is_spoiled, Takes, Hears, HeardSince, IsOpen, AreOpen, Flows, arrived, heard}
 use Rattle.sd_proof_safety.proofs.messages.Tails.{Order, before, same, after as comes_after, ordered, tail_trans, tail_chronicle, rest_of, moment_arrives, no_later, step_time, before_is_earlier}
 use Rattle.sd_proof_safety.proofs.messages.Sending.{sends_own}
 use Rattle.sd_proof_safety.proofs.messages.Receipts.{Taken, taken_flight}
 use Rattle.sd_proof_safety.proofs.messages.Overlap.{delay_within, in_time_most}
-use Rattle.sd_proof_safety.proofs.messages.Numbers.{one_flight, numbers_within, newly_numbered, sent_at_moment, counted, on_left}
-use Rattle.sd_proof_safety.proofs.messages.Spoils.{filtered, clean_flight, Overdue, first_overdue, overdue_now, before_due, Received, clean_is_received}
+use Rattle.sd_proof_safety.proofs.messages.Numbers.{one_flight, numbers_within, newly_numbered, sent_at_moment, on_left}
+use Rattle.sd_proof_safety.proofs.messages.Spoils.{clean_flight, Overdue, first_overdue, overdue_now, before_due, Received, clean_is_received}
 use Rattle.sd_proof_safety.proofs.messages.Hearing.{heard_at}
+use Rattle.sd_proof_safety.proofs.invariant.Staying.{filter_in}
 
 -- What a sender's step sends
 
@@ -41,9 +43,9 @@ pub sent_is : (setting : Setting) (p : Moment) (x : ℕ) (m : Message) → IsChr
 sent_is setting p x m is s =
     ap (λ y. y.sent) is.1
     ∙ ap (λ act. flights_of setting p.earlier (when p) act (told_by p.earlier act)) (sym (ap (λ y. y.act) is.1) ∙ s.act)
-    ∙ ap (λ o. of_some (of_some o tells_nothing (λ past. tells_called (effect_of past s.call) (answers_by (after past s.call)))).answers []
+    ∙ ap (λ o. map_or (map_or o tells_nothing (λ past. tells_called (effect_of past s.call) (answers_by (after past s.call)))).answers []
     (λ a. flights_by setting p.earlier (when p) x a.epoch
-    (of_some o tells_nothing (λ past. tells_called (effect_of past s.call) (answers_by (after past s.call)))).effect)) s.there
+    (map_or o tells_nothing (λ past. tells_called (effect_of past s.call) (answers_by (after past s.call)))).effect)) s.there
     ∙ ap (flights_by setting p.earlier (when p) x (epoch_now (after s.past s.call))) s.effect
 
 pub seen_sent : (setting : Setting) (p : Moment) → IsChronicle setting (upto p) → p.step.seen.sent ≡ filter (λ f. f.reaches) p.step.sent
@@ -79,7 +81,7 @@ launched setting p x m e is s a link up =
       sent = sent;
       seen =
           subst (λ fs. Among (flight_to setting p.earlier (when p) x m f.0 e) fs) (sym (seen_sent setting p is))
-          (filtered (λ g. g.reaches) (flight_to setting p.earlier (when p) x m f.0 e) p.step.sent sent
+          (filter_in (λ g. g.reaches) (flight_to setting p.earlier (when p) x m f.0 e) p.step.sent sent
           (both_true (link_has_failed (seen_of p.earlier) e.link) (is_up (seen_of p.earlier) e.device) link up));
     }
 
@@ -165,7 +167,7 @@ delivered setting q g is taken =
     let t : Took q.earlier q.step.seen.event g = took q.earlier q.step.seen.event g (sym (ap (λ s. s.seen.taken) is.1) ∙ taken) in
     let act : q.step.act ≡ Calls t.device (Receive g.link g.message t.counter) =
     ap (λ s. s.act) is.1 ∙ ap (act_by setting q.earlier) t.event_is
-    ∙ ap (λ o. of_some o Passes (λ f. Calls t.device (Receive f.link f.message t.counter))) t.found_ in
+    ∙ ap (λ o. map_or o Passes (λ f. Calls t.device (Receive f.link f.message t.counter))) t.found_ in
     let receipt : Taken q t.device g.link g.message t.counter = taken_flight setting q t.device g.link g.message t.counter is act in
     let one : receipt.flight ≡ g = some_is (sym receipt.taken ∙ taken) in
     let device : t.device ≡ g.receiver = sym receipt.receivable.receiver ∙ ap (λ f. f.receiver) one in
@@ -287,7 +289,7 @@ module _ (setting : Setting) (steps : List Step) (stamp : Stamp) (epoch : ℕ) (
   q_time : when q ≤ when from + greatest_delay setting.net
   q_time =
       let timely : is_in_time setting (when q) f ≡ true =
-      subst (λ o'. of_some o' true (is_in_time setting (when q)) ≡ true) (r.taken ∙ ap Some one) (moment_arrives setting q steps q_in are.delay) in
+      subst (λ o'. map_or o' true (is_in_time setting (when q)) ≡ true) (r.taken ∙ ap Some one) (moment_arrives setting q steps q_in are.delay) in
       let most = in_time_most setting (when q) f timely in
       omega (arith, most, due_most)
 

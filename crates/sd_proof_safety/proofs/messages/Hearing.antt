@@ -2,7 +2,7 @@
 use Rattle.std.specs.Prelude.{◌≡◌, ℕ, Bool, true, false, List, [], ◌∷◌, nat_eq, Option, Some, None, is_some, option_map, option_and_then, refl, if◌then◌else◌}
 use Rattle.std.proofs.Common.{sym, ◌∙◌, ap, subst}
 use Rattle.std.proofs.lemmas.Bool.{eq-eqb, and_from, not-false}
-use Rattle.sd_checker.specs.Num.Lists.{of_some}
+use Rattle.sd_checker.specs.Num.Lists.{map_or}
 use Rattle.sd_checker.specs.Topo.declared.Thing.TheVariants as thing
 use Rattle.sd_checker.specs.Plan.declared.Edge.{Edge}
 use Rattle.sd_checker.specs.Plan.declared.Duty.{Duty}
@@ -70,28 +70,28 @@ over_itself l edge is = ap (λ b. if b then Some edge else None) (eq-eqb edge.li
 
 accepted_edge : (past : Past) (l : ℕ) (m : Message) (edge : Edge) → epoch_now past ≡ m.epoch → is_newer m.stamp (stamp_now past) ≡ true
     → parent_edge past ≡ Some edge → edge.link ≡ l
-    → of_some (accepted_by past l m) Nothing (λ transition. transition) ≡ Accepted edge
+    → map_or (accepted_by past l m) Nothing (λ transition. transition) ≡ Accepted edge
 accepted_edge past l m edge epoch newer parent link =
-    ap (λ b. of_some (if b then option_map Accepted (option_and_then (over_link l) (parent_edge past)) else None) Nothing (λ transition. transition))
+    ap (λ b. map_or (if b then option_map Accepted (option_and_then (over_link l) (parent_edge past)) else None) Nothing (λ transition. transition))
     (and_from (nat_eq (epoch_now past) m.epoch) (is_newer m.stamp (stamp_now past)) (eq-eqb (epoch_now past) m.epoch epoch) newer)
-    ∙ ap (λ o. of_some (option_map Accepted (option_and_then (over_link l) o)) Nothing (λ transition. transition)) parent
-    ∙ ap (λ o. of_some (option_map Accepted o) Nothing (λ transition. transition)) (over_itself l edge link)
+    ∙ ap (λ o. map_or (option_map Accepted (option_and_then (over_link l) o)) Nothing (λ transition. transition)) parent
+    ∙ ap (λ o. map_or (option_map Accepted o) Nothing (λ transition. transition)) (over_itself l edge link)
 
 entering_or : (g : Option Duty) (l : ℕ) (m : Message) (rest : Transition) (edge : Edge) → accepted_over rest ≡ Some edge
     → (e : Edge)
     × (accepted_over
-    (of_some (option_and_then (λ duty. if nat_eq duty.epoch m.epoch then option_map (Entered duty) (option_and_then (over_link l) duty.primary) else None)
+    (map_or (option_and_then (λ duty. if nat_eq duty.epoch m.epoch then option_map (Entered duty) (option_and_then (over_link l) duty.primary) else None)
     g) rest (λ transition. transition)) ≡ Some e)
 entering_or None l m rest edge over = (edge, over)
 entering_or (Some duty) l m rest edge over = by_epoch (nat_eq duty.epoch m.epoch)
   where
-    by_edge : (o : Option Edge) → (e : Edge) × (accepted_over (of_some (option_map (Entered duty) o) rest (λ transition. transition)) ≡ Some e)
+    by_edge : (o : Option Edge) → (e : Edge) × (accepted_over (map_or (option_map (Entered duty) o) rest (λ transition. transition)) ≡ Some e)
     by_edge None = (edge, over)
     by_edge (Some x) = (x, refl)
 
     by_epoch : (b : Bool)
         → (e : Edge)
-        × (accepted_over (of_some (if b then option_map (Entered duty) (option_and_then (over_link l) duty.primary) else None) rest (λ transition. transition))
+        × (accepted_over (map_or (if b then option_map (Entered duty) (option_and_then (over_link l) duty.primary) else None) rest (λ transition. transition))
         ≡ Some e)
     by_epoch true = by_edge (option_and_then (over_link l) duty.primary)
     by_epoch false = (edge, over)
@@ -100,7 +100,7 @@ entering_or (Some duty) l m rest edge over = by_epoch (nat_eq duty.epoch m.epoch
 pub accepted_from_parent : (past : Past) (l : ℕ) (m : Message) (c : ℕ) (edge : Edge) → epoch_now past ≡ m.epoch → is_newer m.stamp (stamp_now past) ≡ true
     → parent_edge past ≡ Some edge → edge.link ≡ l → IsAccepted past l m c
 accepted_from_parent past l m c edge epoch newer parent link =
-    let any = entering_or (given_now past) l m (of_some (accepted_by past l m) Nothing (λ transition. transition)) edge
+    let any = entering_or (given_now past) l m (map_or (accepted_by past l m) Nothing (λ transition. transition)) edge
     (ap accepted_over (accepted_edge past l m edge epoch newer parent link)) in
     record { edge = any.0; over = any.1 }
 
@@ -112,17 +112,17 @@ accepted_by_given past l m c duty edge given epoch primary link =
       edge = edge;
       over =
           ap (λ g. accepted_over
-          (of_some (option_and_then (λ u. if nat_eq u.epoch m.epoch then option_map (Entered u) (option_and_then (over_link l) u.primary) else None) g) rest
+          (map_or (option_and_then (λ u. if nat_eq u.epoch m.epoch then option_map (Entered u) (option_and_then (over_link l) u.primary) else None) g) rest
           (λ transition. transition))) given
           ∙ ap (λ b. accepted_over
-          (of_some (if b then option_map (Entered duty) (option_and_then (over_link l) duty.primary) else None) rest (λ transition. transition)))
+          (map_or (if b then option_map (Entered duty) (option_and_then (over_link l) duty.primary) else None) rest (λ transition. transition)))
           (eq-eqb duty.epoch m.epoch epoch)
-          ∙ ap (λ o. accepted_over (of_some (option_map (Entered duty) (option_and_then (over_link l) o)) rest (λ transition. transition))) primary
-          ∙ ap (λ o. accepted_over (of_some (option_map (Entered duty) o) rest (λ transition. transition))) (over_itself l edge link);
+          ∙ ap (λ o. accepted_over (map_or (option_map (Entered duty) (option_and_then (over_link l) o)) rest (λ transition. transition))) primary
+          ∙ ap (λ o. accepted_over (map_or (option_map (Entered duty) o) rest (λ transition. transition))) (over_itself l edge link);
     }
   where
     rest : Transition
-    rest = of_some (accepted_by past l m) Nothing (λ transition. transition)
+    rest = map_or (accepted_by past l m) Nothing (λ transition. transition)
 
 -- A device that is up was made, and has a past.
 

@@ -3,7 +3,7 @@
 use Rattle.std.specs.Prelude.{◌≡◌, ℕ, zero, suc, Bool, true, false, ◌&&◌, ◌||◌, not, List, [], ◌∷◌, Option, Some, None, option_map, ◌⊎◌, refl, if◌then◌else◌}
 use Rattle.std.proofs.Common.{arith, sym, ◌∙◌, ap, subst, inl, inr}
 use Rattle.std.proofs.lemmas.Bool.{and_parts}
-use Rattle.sd_checker.specs.Num.Lists.{of_some}
+use Rattle.sd_checker.specs.Num.Lists.{map_or}
 use Rattle.sd_checker.specs.Plan.declared.Duty.{Duty}
 use Rattle.sd_checker.specs.Plan.declared.Plan.{Plan}
 use Rattle.sd_checker.specs.Plan.Duties.{duty_of}
@@ -41,9 +41,9 @@ pub answers_are : (setting : Setting) (steps : List Step) (d : ℕ) → IsChroni
 answers_are setting steps d is =
     subst (λ x. answers_in x d ≡ option_map answers_by (past_in x d)) (sym (chronicle_is setting steps is)) (answers_by_words setting (events_of steps) d)
 
-acts_by : (up : Bool) (o : Option Answers) (past : Past) → o ≡ Some (answers_by past) → of_some (if up then o else None) false (λ a. a.acts) ≡ true
+acts_by : (up : Bool) (o : Option Answers) (past : Past) → o ≡ Some (answers_by past) → map_or (if up then o else None) false (λ a. a.acts) ≡ true
     → is_acting past ≡ true
-acts_by true o past is acts = sym (ap (λ x. of_some x false (λ (a : Answers). a.acts)) is) ∙ acts
+acts_by true o past is acts = sym (ap (λ x. map_or x false (λ (a : Answers). a.acts)) is) ∙ acts
 acts_by false o past is acts = cc
 
 pub acts_is : (setting : Setting) (steps : List Step) (d : ℕ) (past : Past) → IsChronicle setting steps → past_in steps d ≡ Some past → acts_in steps d ≡ true
@@ -58,12 +58,12 @@ record IsCommit (e : Event) (d : ℕ) : Type 0 where
   counter : ℕ
   is : e ≡ event.Commit reference d counter
 
-no_receipt : (e : Event) (v d k c : ℕ) (o : Option Flight) → of_some o Passes (λ f. Calls v (calls.Receive f.link f.message k)) ≡ Calls d (Commit c)
+no_receipt : (e : Event) (v d k c : ℕ) (o : Option Flight) → map_or o Passes (λ f. Calls v (calls.Receive f.link f.message k)) ≡ Calls d (Commit c)
     → IsCommit e d
 no_receipt e v d k c None same = cc
 no_receipt e v d k c (Some f) same = let call = call_is same in cc
 
-no_give : (e : Event) (v d c : ℕ) (give : Plan → Duty) (o : Option Plan) → of_some o Passes (λ plan. Calls v (calls.Give (give plan))) ≡ Calls d (Commit c)
+no_give : (e : Event) (v d c : ℕ) (give : Plan → Duty) (o : Option Plan) → map_or o Passes (λ plan. Calls v (calls.Give (give plan))) ≡ Calls d (Commit c)
     → IsCommit e d
 no_give e v d c give None same = cc
 no_give e v d c give (Some plan) same = let call = call_is same in cc
@@ -119,7 +119,7 @@ commit_acts setting steps p d c past is renew here act there =
 
 -- so no commit makes a device act anew
 commit_transition : (past : Past) (g : Option Duty) (b : Bool) (duty : Duty) → b ≡ true
-    → of_some g Nothing (λ u. if b then Recommitted u else Committed u) ≡ Committed duty → ⊥
+    → map_or g Nothing (λ u. if b then Recommitted u else Committed u) ≡ Committed duty → ⊥
 commit_transition past None b duty is same = cc
 commit_transition past (Some u) true duty is same = cc
 commit_transition past (Some u) false duty is same = cc

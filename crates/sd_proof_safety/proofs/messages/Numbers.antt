@@ -1,61 +1,37 @@
 -- Flights of a chronicle are numbered on: no two of them have one number, and none is numbered past how many there are.
-use Rattle.std.specs.Prelude.{◌≡◌, ℕ, ◌+◌, ◌<◌, ◌≤◌, List, [], ◌∷◌, ◌++◌, length, Option, Some, None, ◌⊎◌, refl}
+use Rattle.std.specs.Prelude.{◌≡◌, ℕ, ◌+◌, ◌<◌, ◌≤◌, List, [], ◌∷◌, ◌++◌, Option, Some, None, ◌⊎◌, refl}
 use Rattle.std.proofs.Common.{arith, sym, ap, subst, inl, inr}
-use Rattle.std.proofs.lemmas.List.Sums.{sum_by-cons}
-use Rattle.sd_checker.specs.Num.Lists.{of_some}
-use Rattle.sd_checker.specs.Plan.declared.End.{End}
-use Rattle.sd_history.specs.Msg.declared.Message.{Message}
+use Rattle.sd_checker.specs.Num.Lists.{map_or}
 use Rattle.sd_history.specs.Msg.declared.Flight.{Flight}
-use Rattle.sd_history.specs.Core.declared.Effect.{Effect}
-use Rattle.sd_history.specs.Core.declared.Effect.TheVariants.{Quiet, Send}
 use Rattle.sd_history.specs.World.{Setting}
-use Rattle.sd_history.specs.Steps.{changed, Told, Answers, Step, flights, flight_count, flights_to, ends_at, flights_by, act_by}
+use Rattle.sd_history.specs.Steps.{changed, Told, Answers, Step, flights, flight_count, flights_by, act_by}
 use Rattle.sd_history.specs.Chronicle.{told_by}
 use Rattle.sd_history.proofs.Among.{Among, first, later, either_side, on_right}
 use Rattle.sd_history.specs.Sched.Events.{reference_of}
+use Rattle.sd_history.specs.flights.Flights.{AreNumberedOn}
+use Rattle.sd_history.proofs.flights.Finds.{within}
+use Rattle.sd_history.proofs.flights.Sending.{numbered_by, counted}
 use Rattle.sd_proof_safety.specs.messages.Moments.{whole, behind, IsChronicle, Moment, upto, IsIn}
 
--- numbered on from n
-abbrev pub Numbered : ℕ → List Flight → Type 0
-Numbered n [] = Unit {0}
-Numbered n (f ∷ fs) = (f.number ≡ n) × Numbered (n + 1) fs
-
-numbered_to : (setting : Setting) (steps : List Step) (r d : ℕ) (m : Message) (n : ℕ) (ends : List End) → Numbered n (flights_to setting steps r d m n ends)
-numbered_to setting steps r d m n [] = tt
-numbered_to setting steps r d m n (e ∷ ends) = (refl, numbered_to setting steps r d m (n + 1) ends)
-
-numbered_by : (setting : Setting) (steps : List Step) (r d epoch : ℕ) (effect : Effect)
-    → Numbered (flight_count steps + 1) (flights_by setting steps r d epoch effect)
-numbered_by setting steps r d epoch Quiet = tt
-numbered_by setting steps r d epoch (Send m) = numbered_to setting steps r d m (flight_count steps + 1) (ends_at setting steps epoch d)
-
 numbered_of : (setting : Setting) (steps : List Step) (r : ℕ) (told : Told) (o : Option ℕ) (a : Option Answers)
-    → Numbered (flight_count steps + 1) (of_some o [] (λ d. of_some a [] (λ b. flights_by setting steps r d b.epoch told.effect)))
+    → AreNumberedOn (flight_count steps + 1) (map_or o [] (λ d. map_or a [] (λ b. flights_by setting steps r d b.epoch told.effect)))
 numbered_of setting steps r told None a = tt
 numbered_of setting steps r told (Some d) None = tt
 numbered_of setting steps r told (Some d) (Some b) = numbered_by setting steps r d b.epoch told.effect
 
-pub step_numbered : (setting : Setting) (s : Step) (earlier : List Step) → IsChronicle setting (s ∷ earlier) → Numbered (flight_count earlier + 1) s.sent
+pub step_numbered : (setting : Setting) (s : Step) (earlier : List Step) → IsChronicle setting (s ∷ earlier) → AreNumberedOn (flight_count earlier + 1) s.sent
 step_numbered setting s earlier is =
     let act = act_by setting earlier s.seen.event in
     let told = told_by earlier act in
-    subst (Numbered (flight_count earlier + 1)) (sym (ap (λ x. x.sent) is.1))
+    subst (AreNumberedOn (flight_count earlier + 1)) (sym (ap (λ x. x.sent) is.1))
     (numbered_of setting earlier (reference_of s.seen.event) told (changed act) told.answers)
 
-within : (n : ℕ) (fs : List Flight) (f : Flight) → Numbered n fs → Among f fs → (n ≤ f.number) × (f.number < n + length fs)
-within n (g ∷ fs) f is first = let number : f.number ≡ n = is.0 in (omega (arith, number), omega (arith, number))
-within n (g ∷ fs) f is (later a) = let rest = within (n + 1) fs f is.1 a in (omega (arith, rest.0), omega (arith, rest.1))
-within n [] f is a = elim a [ ]
-
-one_number : (n : ℕ) (fs : List Flight) (f g : Flight) → Numbered n fs → Among f fs → Among g fs → f.number ≡ g.number → f ≡ g
+one_number : (n : ℕ) (fs : List Flight) (f g : Flight) → AreNumberedOn n fs → Among f fs → Among g fs → f.number ≡ g.number → f ≡ g
 one_number n [] f g is a b same = elim a [ ]
 one_number n (x ∷ fs) f g is first first same = refl
 one_number n (x ∷ fs) f g is first (later b) same = let past = within (n + 1) fs g is.1 b in absurd (omega (arith, past.0, is.0, same))
 one_number n (x ∷ fs) f g is (later a) first same = let past = within (n + 1) fs f is.1 a in absurd (omega (arith, past.0, is.0, same))
 one_number n (x ∷ fs) f g is (later a) (later b) same = one_number (n + 1) fs f g is.1 a b same
-
-pub counted : (s : Step) (earlier : List Step) → flight_count (s ∷ earlier) ≡ length s.sent + flight_count earlier
-counted s earlier = sum_by-cons (λ x. length x.sent) s earlier
 
 -- the numbers of all flights
 pub numbers_within : (setting : Setting) (steps : List Step) (f : Flight) → IsChronicle setting steps → Among f (flights steps) → f.number ≤ flight_count steps

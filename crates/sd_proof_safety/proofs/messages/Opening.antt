@@ -2,7 +2,7 @@
 -- it is not spoiled, is heard by each of its devices.
 use Rattle.std.specs.Prelude.{◌≡◌, ℕ, ◌+◌, ◌*◌, ◌≤◌, Bool, true, false, List, [], ◌∷◌, length, Some, None, ◌⊎◌, refl, if◌then◌else◌}
 use Rattle.std.proofs.Common.{arith, sym, ◌∙◌, ap, inl, inr}
-use Rattle.sd_checker.specs.Num.Lists.{of_some}
+use Rattle.sd_checker.specs.Num.Lists.{map_or}
 use Rattle.sd_checker.specs.Topo.declared.Thing.{Thing}
 use Rattle.sd_checker.specs.Topo.declared.Thing.TheVariants as thing
 use Rattle.sd_checker.specs.Topo.Network.{greatest_delay}
@@ -30,7 +30,7 @@ use Rattle.sd_proof_safety.proofs.messages.Flowing.{IsClean, tail_rest, flows}
 
 -- What does not fail stays.
 
-up_stays_by : (m f up : Bool) → f ≡ false → up ≡ true → of_some (if m then Some true else if f then Some false else None) up (λ told. told) ≡ true
+pub up_stays_by : (m f up : Bool) → f ≡ false → up ≡ true → map_or (if m then Some true else if f then Some false else None) up (λ told. told) ≡ true
 up_stays_by true f up none is = refl
 up_stays_by false false up none is = is
 up_stays_by false true up none is = cc
@@ -43,7 +43,7 @@ up_stays older (s ∷ earlier) d (behind t) up none =
     (up_stays older earlier d t up (λ q u v. none q (behind u) v))
 
 whole_stays_by : (f m failed : Bool) → f ≡ false → failed ≡ false
-    → of_some (if f then Some true else if m then Some false else None) failed (λ told. told) ≡ false
+    → map_or (if f then Some true else if m then Some false else None) failed (λ told. told) ≡ false
 whole_stays_by false true failed none is = refl
 whole_stays_by false false failed none is = is
 whole_stays_by true m failed none is = cc
@@ -81,7 +81,7 @@ sending_fails_not setting p x m y is sends =
     ap (λ o. is_thing o y) (call_fails setting p.earlier p.step.seen.event x sends.call (sym (ap (λ s. s.act) is.1) ∙ sends.act))
 
 -- whether the newest event fails a thing
-abbrev first_fails : Thing → List Step → Bool
+abbrev pub first_fails : Thing → List Step → Bool
 first_fails y [] = false
 first_fails y (s ∷ earlier) = fails y s.seen.event
 

@@ -3,7 +3,7 @@
 use Rattle.std.specs.Prelude.{◌≡◌, ℕ, Bool, true, false, ◌&&◌, List, [], ◌∷◌, nat_eq, Option, Some, None, option_map, option_and_then, ◌⊎◌, refl, if◌then◌else◌}
 use Rattle.std.proofs.Common.{sym, ◌∙◌, ap, subst, inl, inr}
 use Rattle.std.proofs.lemmas.Bool.{eqb-true}
-use Rattle.sd_checker.specs.Num.Lists.{of_some}
+use Rattle.sd_checker.specs.Num.Lists.{map_or}
 use Rattle.sd_checker.specs.Plan.declared.Duty.{Duty}
 use Rattle.sd_checker.specs.Plan.declared.Edge.{Edge}
 use Rattle.sd_history.specs.Msg.declared.Message.{Message}
@@ -14,10 +14,10 @@ use Rattle.sd_history.specs.Core.Words.{transition_of, after, given_now, epoch_n
 use Rattle.sd_history.specs.Steps.{Act, Makes, Calls, Asks, Passes, Step}
 use Rattle.sd_history.specs.Chronicle.{new_past, past_in, past_after}
 use Rattle.sd_history.proofs.Given.{some_is}
+use Rattle.sd_history.proofs.Core.Reached.{added}
 use Rattle.sd_proof_safety.specs.messages.Moments.{Tail, whole, behind, Moment, IsIn}
 use Rattle.sd_proof_safety.specs.messages.Stamping.{remakes, GoesOn, stays, calls, StampFrom, unset, sent, committed}
 use Rattle.sd_proof_safety.proofs.messages.Sending.{sends_own}
-use Rattle.sd_proof_safety.proofs.messages.Acting.{with_transition}
 
 -- How a past goes on
 
@@ -63,58 +63,58 @@ past_goes kind older (s ∷ earlier) d p (behind t) there each =
 
 -- what a call leaves of the stamp, or sets
 data Sets (past : Past) (call : Call) (transition : Transition) : Type 0 where
-  keeps : stamp_now (with_transition past call transition) ≡ stamp_now past → epoch_now (with_transition past call transition) ≡ epoch_now past
-      → is_acting (with_transition past call transition) ≡ is_acting past → Sets past call transition
-  recommits : stamp_now (with_transition past call transition) ≡ stamp_now past → is_acting (with_transition past call transition) ≡ true
+  keeps : stamp_now (added past call transition) ≡ stamp_now past → epoch_now (added past call transition) ≡ epoch_now past
+      → is_acting (added past call transition) ≡ is_acting past → Sets past call transition
+  recommits : stamp_now (added past call transition) ≡ stamp_now past → is_acting (added past call transition) ≡ true
       → Sets past call transition
-  sends_it : (m : Message) → effect_of_latest (with_transition past call transition) (record { call = call; transition = transition }) ≡ Send m
+  sends_it : (m : Message) → effect_of_latest (added past call transition) (record { call = call; transition = transition }) ≡ Send m
       → Sets past call transition
   commits : (duty : Duty) (counter : ℕ) → transition ≡ Committed duty → call ≡ Commit counter → Sets past call transition
 
 tick_sets : (past : Past) (counter : ℕ) (a b c : Bool) → Sets past (Tick counter) (if a then Emitted else if b then TookOver else if c then Moved else Nothing)
 tick_sets past counter true b c =
-    sends_it (message_of (epoch_now past) (stamp_now (with_transition past (Tick counter) Emitted))
-    (report_at (with_transition past (Tick counter) Emitted) counter)) refl
+    sends_it (message_of (epoch_now past) (stamp_now (added past (Tick counter) Emitted))
+    (report_at (added past (Tick counter) Emitted) counter)) refl
 tick_sets past counter false true c =
-    sends_it (message_of (epoch_now past) (stamp_now (with_transition past (Tick counter) TookOver))
-    (report_at (with_transition past (Tick counter) TookOver) counter)) refl
+    sends_it (message_of (epoch_now past) (stamp_now (added past (Tick counter) TookOver))
+    (report_at (added past (Tick counter) TookOver) counter)) refl
 tick_sets past counter false false true = keeps refl refl refl
 tick_sets past counter false false false = keeps refl refl refl
 
 commit_sets : (past : Past) (counter : ℕ) (g : Option Duty) (b : Bool)
-    → Sets past (Commit counter) (of_some g Nothing (λ duty. if b then Recommitted duty else Committed duty))
+    → Sets past (Commit counter) (map_or g Nothing (λ duty. if b then Recommitted duty else Committed duty))
 commit_sets past counter None b = keeps refl refl refl
 commit_sets past counter (Some duty) true = recommits refl refl
 commit_sets past counter (Some duty) false = commits duty counter refl refl
 
 accepted_sets : (past : Past) (l : ℕ) (m : Message) (c : ℕ) (b : Bool) (o : Option Edge)
-    → Sets past (Receive l m c) (of_some (if b then option_map Accepted o else None) Nothing (λ transition. transition))
+    → Sets past (Receive l m c) (map_or (if b then option_map Accepted o else None) Nothing (λ transition. transition))
 accepted_sets past l m c false o = keeps refl refl refl
 accepted_sets past l m c true None = keeps refl refl refl
 accepted_sets past l m c true (Some edge) =
-    sends_it (relayed (with_transition past (Receive l m c) (Accepted edge))) refl
+    sends_it (relayed (added past (Receive l m c) (Accepted edge))) refl
 
 receipt_sets : (past : Past) (l : ℕ) (m : Message) (c : ℕ) (g : Option Duty) (rest : Transition) → Sets past (Receive l m c) rest
     → Sets past (Receive l m c)
-    (of_some (option_and_then (λ duty. if nat_eq duty.epoch m.epoch then option_map (Entered duty) (option_and_then (over_link l) duty.primary) else None)
+    (map_or (option_and_then (λ duty. if nat_eq duty.epoch m.epoch then option_map (Entered duty) (option_and_then (over_link l) duty.primary) else None)
     g) rest (λ transition. transition))
 receipt_sets past l m c None rest sets = sets
 receipt_sets past l m c (Some duty) rest sets = by_epoch (nat_eq duty.epoch m.epoch)
   where
-    by_edge : (o : Option Edge) → Sets past (Receive l m c) (of_some (option_map (Entered duty) o) rest (λ transition. transition))
+    by_edge : (o : Option Edge) → Sets past (Receive l m c) (map_or (option_map (Entered duty) o) rest (λ transition. transition))
     by_edge None = sets
-    by_edge (Some e) = sends_it (relayed (with_transition past (Receive l m c) (Entered duty e))) refl
+    by_edge (Some e) = sends_it (relayed (added past (Receive l m c) (Entered duty e))) refl
 
     by_epoch : (b : Bool)
         → Sets past (Receive l m c)
-        (of_some (if b then option_map (Entered duty) (option_and_then (over_link l) duty.primary) else None) rest (λ transition. transition))
+        (map_or (if b then option_map (Entered duty) (option_and_then (over_link l) duty.primary) else None) rest (λ transition. transition))
     by_epoch true = by_edge (option_and_then (over_link l) duty.primary)
     by_epoch false = sets
 
 call_sets : (past : Past) (call : Call) → Sets past call (transition_of past call)
 call_sets past (Tick counter) = tick_sets past counter (emits_at past counter) (takes_over_at past counter) (moves_at past counter)
 call_sets past (Receive l m c) =
-    receipt_sets past l m c (given_now past) (of_some (accepted_by past l m) Nothing (λ transition. transition))
+    receipt_sets past l m c (given_now past) (map_or (accepted_by past l m) Nothing (λ transition. transition))
     (accepted_sets past l m c (nat_eq (epoch_now past) m.epoch && is_newer m.stamp (stamp_now past)) (option_and_then (over_link l) (parent_edge past)))
 call_sets past (Fix counter clock eps) = keeps refl refl refl
 call_sets past (Give duty) = keeps refl refl refl

@@ -59,7 +59,7 @@ hop_time setting stamp epoch from to x d hop =
     let at = hop.sent_at in
     omega (arith, most, within, at)
 
-one_more : (a b c m D : ℕ) → b ≤ a + m * D → c ≤ b + D → c ≤ a + suc m * D
+pub one_more : (a b c m D : ℕ) → b ≤ a + m * D → c ≤ b + D → c ≤ a + suc m * D
 one_more a b c m D first second = omega (arith, first, second)
 
 pub trace_time : (setting : Setting) (stamp : Stamp) (epoch : ℕ) (first : Moment) (source m : ℕ) (p : Moment) (d : ℕ)

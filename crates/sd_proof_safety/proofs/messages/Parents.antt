@@ -4,7 +4,7 @@ use Rattle.std.specs.Prelude.{◌≡◌, ℕ, Bool, true, false, List, [], ◌�
 use Rattle.std.specs.List.{cons_option}
 use Rattle.std.proofs.Common.{sym, ◌∙◌, ap, subst, inl, inr}
 use Rattle.std.proofs.lemmas.Bool.{and_parts, or_cases, eqb-true}
-use Rattle.sd_checker.specs.Num.Lists.{of_some}
+use Rattle.sd_checker.specs.Num.Lists.{map_or}
 use Rattle.sd_checker.specs.Topo.Network.{Network, device_numbers, link_numbers}
 use Rattle.sd_checker.specs.Plan.declared.Hop.{Hop as PlanHop}
 use Rattle.sd_checker.specs.Plan.declared.Plan.{Plan}
@@ -49,11 +49,11 @@ started_planned : (setting : Setting) (epoch m c clock eps : ℕ)
 started_planned setting epoch m c clock eps = record { duty = λ u same. subst (IsPlanned setting m) (some_is same) refl; given = λ u same. cc }
 
 give_planned : (setting : Setting) (epoch d : ℕ) (o : Option (List Seen))
-    → PlannedAct setting (of_some (option_map (λ w. plan_numbered setting epoch) o) Passes (λ plan. Calls d (calls.Give (duty_of setting.net plan epoch d))))
+    → PlannedAct setting (map_or (option_map (λ w. plan_numbered setting epoch) o) Passes (λ plan. Calls d (calls.Give (duty_of setting.net plan epoch d))))
 give_planned setting epoch d None = tt
 give_planned setting epoch d (Some w) = refl
 
-receipt_planned : (setting : Setting) (d c : ℕ) (o : Option Flight) → PlannedAct setting (of_some o Passes (λ f. Calls d (calls.Receive f.link f.message c)))
+receipt_planned : (setting : Setting) (d c : ℕ) (o : Option Flight) → PlannedAct setting (map_or o Passes (λ f. Calls d (calls.Receive f.link f.message c)))
 receipt_planned setting d c None = tt
 receipt_planned setting d c (Some f) = tt
 
@@ -167,19 +167,19 @@ ends_lead setting steps epoch x e a = go (nat_eq epoch (epoch_in_force (seen_of 
         (subst (λ k. Among e (ends_of setting.net (plan_numbered setting k) x)) (sym same) b)
 
     by_window : epoch ≡ staged_epoch (seen_of steps) → (o : Option (List Seen))
-        → Among e (of_some (option_map (λ w. plan_numbered setting (staged_epoch (seen_of steps))) o) [] (λ plan. ends_of setting.net plan x))
+        → Among e (map_or (option_map (λ w. plan_numbered setting (staged_epoch (seen_of steps))) o) [] (λ plan. ends_of setting.net plan x))
         → Leads (plan_numbered setting epoch) e.device x e.link
     by_window same None b = elim b [ ]
     by_window same (Some w) b = here (staged_epoch (seen_of steps)) same b
 
     second : (t : Bool) → nat_eq epoch (staged_epoch (seen_of steps)) ≡ t
-        → Among e (of_some (if t then staged setting (seen_of steps) else None) [] (λ plan. ends_of setting.net plan x))
+        → Among e (map_or (if t then staged setting (seen_of steps) else None) [] (λ plan. ends_of setting.net plan x))
         → Leads (plan_numbered setting epoch) e.device x e.link
     second true is b = by_window (eqb-true epoch (staged_epoch (seen_of steps)) is) (window (seen_of steps)) b
     second false is b = elim b [ ]
 
     go : (t : Bool) → nat_eq epoch (epoch_in_force (seen_of steps)) ≡ t
-        → Among e (of_some
+        → Among e (map_or
         (if t then Some (in_force setting (seen_of steps)) else if nat_eq epoch (staged_epoch (seen_of steps)) then staged setting
         (seen_of steps) else None) [] (λ plan. ends_of setting.net plan x)) → Leads (plan_numbered setting epoch) e.device x e.link
     go true is b = here (epoch_in_force (seen_of steps)) (eqb-true epoch (epoch_in_force (seen_of steps)) is) b
@@ -224,8 +224,8 @@ backup_leads setting d u edge is same =
     (sym (ap (λ v. v.backup) is) ∙ same)
 
 parent_leads : (setting : Setting) (d : ℕ) (o : Option Duty) (edge : Edge) (epoch : ℕ) (a m : Bool) → ((u : Duty) → o ≡ Some u → IsPlanned setting d u)
-    → of_some o 0 (λ duty. duty.epoch) ≡ epoch
-    → (if a then None else if m then of_some o None (λ duty. duty.backup) else of_some o None (λ duty. duty.primary)) ≡ Some edge
+    → map_or o 0 (λ duty. duty.epoch) ≡ epoch
+    → (if a then None else if m then map_or o None (λ duty. duty.backup) else map_or o None (λ duty. duty.primary)) ≡ Some edge
     → Leads (plan_numbered setting epoch) d edge.parent edge.link
 parent_leads setting d o edge epoch true m is epoch_is same = cc
 parent_leads setting d None edge epoch false true is epoch_is same = cc

@@ -3,7 +3,7 @@ use Rattle.std.specs.Prelude.{◌≡◌, ℕ, Bool, true, false, ◌||◌, not, 
 use Rattle.std.specs.List.{list_any}
 use Rattle.std.proofs.Common.{sym, ◌∙◌, ap, subst}
 use Rattle.std.proofs.lemmas.Bool.{eqb-true, or_parts, and_parts, not-false, not-true}
-use Rattle.sd_checker.specs.Num.Lists.{of_some, same_number}
+use Rattle.sd_checker.specs.Num.Lists.{map_or, same_number}
 use Rattle.sd_checker.specs.Topo.declared.Thing.TheVariants as thing
 use Rattle.sd_checker.specs.Plan.declared.Edge.{Edge}
 use Rattle.sd_checker.specs.Plan.declared.End.{End}
@@ -25,11 +25,12 @@ use Rattle.sd_history.specs.Premises.{delay_holds, is_in_time}
 use Rattle.sd_history.proofs.Among.{Among, first, later}
 use Rattle.sd_history.proofs.Contained.{none_holds}
 use Rattle.sd_history.proofs.Given.{some_is}
+use Rattle.sd_history.proofs.flights.Sending.{IsOver}
 use Rattle.sd_proof_safety.specs.messages.Moments.{IsChronicle, Moment, upto, when, IsIn, IsBefore, Sends, Receipt}
 use Rattle.sd_proof_safety.specs.messages.Traces.{Hop}
 use Rattle.sd_proof_safety.proofs.messages.Tails.{tail_chronicle, moment_arrives}
 use Rattle.sd_proof_safety.proofs.messages.Sending.{accepted_why}
-use Rattle.sd_proof_safety.proofs.messages.Flights.{IsOver, IsSentBy, moment_sends, SentAt, sent_where}
+use Rattle.sd_proof_safety.proofs.messages.Flights.{IsSentBy, moment_sends, SentAt, sent_where}
 
 -- the event received this flight
 record Got (earlier : List Step) (e : Event) (d : ℕ) (l : ℕ) (m : Message) (c : ℕ) : Type 0 where
@@ -55,7 +56,7 @@ receive_is {l = l} {m = m} {c = c} same = (
 )
 
 got_recv : (earlier : List Step) (r v k n : ℕ) (o : Option Flight) (d l : ℕ) (m : Message) (c : ℕ) → flight_numbered earlier n ≡ o
-    → of_some o Passes (λ f. Calls v (Receive f.link f.message k)) ≡ Calls d (Receive l m c) → Got earlier (event.Recv r v k n) d l m c
+    → map_or o Passes (λ f. Calls v (Receive f.link f.message k)) ≡ Calls d (Receive l m c) → Got earlier (event.Recv r v k n) d l m c
 got_recv earlier r v k n None d l m c found same = cc
 got_recv earlier r v k n (Some f) d l m c found same =
     let parts : (f.link ≡ l) × (f.message ≡ m) × (k ≡ c) = receive_is (call_is same) in
@@ -71,7 +72,7 @@ got_recv earlier r v k n (Some f) d l m c found same =
 
 got_give : (earlier : List Step) (e : Event) (v : ℕ) (give : Plan → Call) (o : Option Plan) (d l : ℕ) (m : Message) (c : ℕ)
     → ((plan : Plan) → give plan ≡ Receive l m c → ⊥)
-    → of_some o Passes (λ plan. Calls v (give plan)) ≡ Calls d (Receive l m c) → Got earlier e d l m c
+    → map_or o Passes (λ plan. Calls v (give plan)) ≡ Calls d (Receive l m c) → Got earlier e d l m c
 got_give earlier e v give None d l m c none same = cc
 got_give earlier e v give (Some plan) d l m c none same = absurd (none plan (call_is same))
 
@@ -105,21 +106,21 @@ pub record IsReceivable (earlier : List Step) (d : ℕ) (f : Flight) : Type 0 wh
   pub unused : was_used earlier f.number ≡ false
   pub unswept : was_swept earlier f ≡ false
 
-four : (a b c d : Bool) → (a || b || c || not d) ≡ false → (a ≡ false) × (b ≡ false) × (c ≡ false) × (d ≡ true)
-four false false false true h = (refl, refl, refl, refl)
-four false false false false h = cc
-four true b c d h = cc
-four false true c d h = cc
-four false false true d h = cc
+or_parts_of_four : (a b c d : Bool) → (a || b || c || not d) ≡ false → (a ≡ false) × (b ≡ false) × (c ≡ false) × (d ≡ true)
+or_parts_of_four false false false true h = (refl, refl, refl, refl)
+or_parts_of_four false false false false h = cc
+or_parts_of_four true b c d h = cc
+or_parts_of_four false true c d h = cc
+or_parts_of_four false false true d h = cc
 
-receivable_by : (earlier : List Step) (r d : ℕ) (o : Option Flight) (f : Flight) → o ≡ Some f → of_some o false (is_spent earlier r) ≡ false
-    → of_some o false (λ g. not (same_number (Some d) g.receiver)) ≡ false
+receivable_by : (earlier : List Step) (r d : ℕ) (o : Option Flight) (f : Flight) → o ≡ Some f → map_or o false (is_spent earlier r) ≡ false
+    → map_or o false (λ g. not (same_number (Some d) g.receiver)) ≡ false
     → IsReceivable earlier d f
 receivable_by earlier r d None f is spent right = cc
 receivable_by earlier r d (Some g) f is spent right =
     let parts : (was_used earlier g.number ≡ false) × (was_swept earlier g ≡ false) × (nat_lt g.last (max r (latest_reference (seen_of earlier))) ≡ false)
     × (g.reaches ≡ true) =
-    four (was_used earlier g.number) (was_swept earlier g) (nat_lt g.last (max r (latest_reference (seen_of earlier)))) g.reaches spent in
+    or_parts_of_four (was_used earlier g.number) (was_swept earlier g) (nat_lt g.last (max r (latest_reference (seen_of earlier)))) g.reaches spent in
     subst (IsReceivable earlier d) (some_is is)
     (record { receiver = sym (eqb-true d g.receiver (not-false (nat_eq d g.receiver) right)); reaches = parts.3; unused = parts.0; unswept = parts.1 })
 
@@ -272,7 +273,7 @@ hop_of setting p steps d l m c past edge here is delay act there over =
             sent_at = came.sent_at;
             before = came.before;
             receipt = receipt_of setting p d l m c past edge t act there over;
-            in_time = subst (λ o. of_some o true (is_in_time setting (when p)) ≡ true) t.taken (moment_arrives setting p steps here delay);
+            in_time = subst (λ o. map_or o true (is_in_time setting (when p)) ≡ true) t.taken (moment_arrives setting p steps here delay);
             link_whole = came.link_whole;
             receiver_up = came.receiver_up;
             unharmed = came.unharmed;

@@ -2,7 +2,7 @@
 use Rattle.std.specs.Prelude.{◌≡◌, ℕ, ◌+◌, Bool, true, false, ◌&&◌, nat_eq, nat_lt, Option, Some, None, option_map, option_and_then, ◌⊎◌, refl, if◌then◌else◌}
 use Rattle.std.proofs.Common.{arith, sym, ◌∙◌, ap, inl, inr}
 use Rattle.std.proofs.lemmas.Bool.{and_parts, or_cases, eqb-true, ltb-true}
-use Rattle.sd_checker.specs.Num.Lists.{of_some}
+use Rattle.sd_checker.specs.Num.Lists.{map_or}
 use Rattle.sd_checker.specs.Plan.declared.Duty.{Duty}
 use Rattle.sd_checker.specs.Plan.declared.Edge.{Edge}
 use Rattle.sd_history.specs.Msg.declared.Stamp.{Stamp}
@@ -71,14 +71,14 @@ tick_rises before counter false false true = kept_stamp before Moved refl
 tick_rises before counter false false false = kept_stamp before Nothing refl
 
 commit_rises : (before : Stamp) (counter : ℕ) (g : Option Duty) (b : Bool)
-    → let transition = of_some g Nothing (λ duty. if b then Recommitted duty else Committed duty) in
+    → let transition = map_or g Nothing (λ duty. if b then Recommitted duty else Committed duty) in
     Rises before (stamp_after (record { call = Commit counter; transition = transition }) before) transition
 commit_rises before counter None b = kept_stamp before Nothing refl
 commit_rises before counter (Some duty) true = kept_stamp before (Recommitted duty) refl
 commit_rises before counter (Some duty) false = newer_stamp before (record { term = before.term + 1; round = 0 }) (Committed duty) (inl (omega arith))
 
 accepted_rises : (before : Stamp) (l : ℕ) (m : Message) (c : ℕ) (e b : Bool) (o : Option Edge) → is_newer m.stamp before ≡ b
-    → let transition = of_some (if e && b then option_map Accepted o else None) Nothing (λ transition. transition) in
+    → let transition = map_or (if e && b then option_map Accepted o else None) Nothing (λ transition. transition) in
     Rises before (stamp_after (record { call = Receive l m c; transition = transition }) before) transition
 accepted_rises before l m c false b o newer = kept_stamp before Nothing refl
 accepted_rises before l m c true false o newer = kept_stamp before Nothing refl
@@ -88,20 +88,20 @@ accepted_rises before l m c true true (Some edge) newer = newer_stamp before m.s
 entering_or : (before : Stamp) (l : ℕ) (m : Message) (c : ℕ) (rest : Transition) (g : Option Duty)
     → Rises before (stamp_after (record { call = Receive l m c; transition = rest }) before) rest
     → let transition =
-    of_some (option_and_then (λ duty. if nat_eq duty.epoch m.epoch then option_map (Entered duty) (option_and_then (over_link l) duty.primary) else None) g)
+    map_or (option_and_then (λ duty. if nat_eq duty.epoch m.epoch then option_map (Entered duty) (option_and_then (over_link l) duty.primary) else None) g)
     rest (λ transition. transition) in
     enters transition ≡ false → Rises before (stamp_after (record { call = Receive l m c; transition = transition }) before) transition
 entering_or before l m c rest None rises not_ = rises
 entering_or before l m c rest (Some duty) rises not_ = by_epoch (nat_eq duty.epoch m.epoch) not_
   where
-    by_edge : (o : Option Edge) → let transition = of_some (option_map (Entered duty) o) rest (λ transition. transition) in enters transition ≡ false
+    by_edge : (o : Option Edge) → let transition = map_or (option_map (Entered duty) o) rest (λ transition. transition) in enters transition ≡ false
         → Rises before (stamp_after (record { call = Receive l m c; transition = transition }) before) transition
     by_edge None not' = rises
     by_edge (Some e) not' = cc
 
     by_epoch : (b : Bool)
         → let transition =
-        of_some (if b then option_map (Entered duty) (option_and_then (over_link l) duty.primary) else None) rest (λ transition. transition) in
+        map_or (if b then option_map (Entered duty) (option_and_then (over_link l) duty.primary) else None) rest (λ transition. transition) in
         enters transition ≡ false → Rises before (stamp_after (record { call = Receive l m c; transition = transition }) before) transition
     by_epoch true not' = by_edge (option_and_then (over_link l) duty.primary) not'
     by_epoch false not' = rises
@@ -109,7 +109,7 @@ entering_or before l m c rest (Some duty) rises not_ = by_epoch (nat_eq duty.epo
 call_rises : (past : Past) (call : Call) → EntersNot past call → Rises (stamp_now past) (stamp_now (after past call)) (transition_of past call)
 call_rises past (Tick counter) not_ = tick_rises (stamp_now past) counter (emits_at past counter) (takes_over_at past counter) (moves_at past counter)
 call_rises past (Receive l m c) not_ =
-    entering_or (stamp_now past) l m c (of_some (accepted_by past l m) Nothing (λ transition. transition)) (given_now past)
+    entering_or (stamp_now past) l m c (map_or (accepted_by past l m) Nothing (λ transition. transition)) (given_now past)
     (accepted_rises (stamp_now past) l m c (nat_eq (epoch_now past) m.epoch) (is_newer m.stamp (stamp_now past))
     (option_and_then (over_link l) (parent_edge past)) refl) not_
 call_rises past (Fix counter clock eps) not_ = kept_stamp (stamp_now past) Nothing refl

@@ -2,20 +2,18 @@
 use Rattle.std.specs.Prelude.{◌≡◌, ℕ, Bool, true, false, ◌&&◌, ◌∷◌, nat_eq, Option, Some, None, option_map, option_and_then, refl, if◌then◌else◌}
 use Rattle.std.proofs.Common.{◌∙◌, ap, subst}
 use Rattle.std.proofs.lemmas.Bool.{eqb-true, and_parts}
-use Rattle.sd_checker.specs.Num.Lists.{of_some}
+use Rattle.sd_checker.specs.Num.Lists.{map_or}
 use Rattle.sd_checker.specs.Plan.declared.Edge.{Edge}
 use Rattle.sd_checker.specs.Plan.declared.Duty.{Duty}
 use Rattle.sd_history.specs.Msg.declared.Stamp.{Stamp}
 use Rattle.sd_history.specs.Msg.declared.Message.{Message}
 use Rattle.sd_history.specs.Msg.Stamps.{is_newer}
-use Rattle.sd_history.specs.Core.declared.Effect.TheVariants.{Quiet, Send}
+use Rattle.sd_history.specs.Core.declared.Effect.TheVariants.{Send}
 use Rattle.sd_history.specs.Core.Calls.{Call, Tick, Receive, Fix, Give, Commit, Seal, Transition, Entered, Committed, Recommitted, Accepted, Moved, TookOver, Emitted, Nothing, Past}
 use Rattle.sd_history.specs.Core.Words.{transition_of, after, accepted_over, counter_of, given_now, accepted_by, over_link, parent_edge, epoch_now, stamp_now, stamp_after, is_acting, effect_of, effect_of_latest, emitted, emits_at, takes_over_at, moves_at}
 use Rattle.sd_proof_safety.specs.messages.Moments.{is_emission, Accepts, entering, following}
 use Rattle.sd_history.proofs.Owned.{over_is}
-
-pub send_is : {a b : Message} → Send a ≡ Send b → a ≡ b
-send_is {a = a} same = ap (λ e. elim e [ Quiet ↦ a | Send m ↦ m ]) same
+use Rattle.sd_history.proofs.Contained.{send_same}
 
 -- the message has the device's stamp and epoch as they are after the call
 
@@ -25,12 +23,12 @@ record Carries (past : Past) (m : Message) : Type 0 where
 
 emitted_carries : (past : Past) (o : Option ℕ) (m : Message) → emitted past o ≡ Send m → Carries past m
 emitted_carries past None m same = cc
-emitted_carries past (Some c) m same = subst (Carries past) (send_is same) (record { stamp = refl; epoch = refl })
+emitted_carries past (Some c) m same = subst (Carries past) (send_same same) (record { stamp = refl; epoch = refl })
 
 latest_carries : (past : Past) (call : Call) (transition : Transition) (m : Message)
     → effect_of_latest past (record { call = call; transition = transition }) ≡ Send m → Carries past m
-latest_carries past call (Entered duty edge) m same = subst (Carries past) (send_is same) (record { stamp = refl; epoch = refl })
-latest_carries past call (Accepted edge) m same = subst (Carries past) (send_is same) (record { stamp = refl; epoch = refl })
+latest_carries past call (Entered duty edge) m same = subst (Carries past) (send_same same) (record { stamp = refl; epoch = refl })
+latest_carries past call (Accepted edge) m same = subst (Carries past) (send_same same) (record { stamp = refl; epoch = refl })
 latest_carries past call TookOver m same = emitted_carries past (counter_of call) m same
 latest_carries past call Emitted m same = emitted_carries past (counter_of call) m same
 latest_carries past call (Committed duty) m same = cc
@@ -61,8 +59,8 @@ over_edge link (Some e) edge same =
 
 accepted_took : (past : Past) (m : Message) (link : ℕ) (edge : Edge) (b : Bool) (o : Option Edge)
     → (nat_eq (epoch_now past) m.epoch && is_newer m.stamp (stamp_now past)) ≡ b → option_and_then (over_link link) (parent_edge past) ≡ o
-    → accepted_over (of_some (if b then option_map Accepted o else None) Nothing (λ transition. transition)) ≡ Some edge
-    → Took past m link edge (of_some (if b then option_map Accepted o else None) Nothing (λ transition. transition))
+    → accepted_over (map_or (if b then option_map Accepted o else None) Nothing (λ transition. transition)) ≡ Some edge
+    → Took past m link edge (map_or (if b then option_map Accepted o else None) Nothing (λ transition. transition))
 accepted_took past m link edge false o holds parent same = cc
 accepted_took past m link edge true None holds parent same = cc
 accepted_took past m link edge true (Some e) holds parent same =
@@ -79,19 +77,19 @@ accepted_took past m link edge true (Some e) holds parent same =
 entered_took : (past : Past) (m : Message) (link : ℕ) (edge : Edge) (rest : Transition) (g : Option Duty) → given_now past ≡ g
     → (accepted_over rest ≡ Some edge → Took past m link edge rest)
     → accepted_over
-    (of_some (option_and_then
+    (map_or (option_and_then
     (λ duty. if nat_eq duty.epoch m.epoch then option_map (Entered duty) (option_and_then (over_link link) duty.primary) else None) g) rest
     (λ transition. transition)) ≡ Some edge
     → Took past m link edge
-    (of_some (option_and_then
+    (map_or (option_and_then
     (λ duty. if nat_eq duty.epoch m.epoch then option_map (Entered duty) (option_and_then (over_link link) duty.primary) else None) g) rest
     (λ transition. transition))
 entered_took past m link edge rest None given others same = others same
 entered_took past m link edge rest (Some duty) given others same = in_epoch (nat_eq duty.epoch m.epoch) refl same
   where
     by_edge : (o : Option Edge) → nat_eq duty.epoch m.epoch ≡ true → option_and_then (over_link link) duty.primary ≡ o
-        → accepted_over (of_some (option_map (Entered duty) o) rest (λ transition. transition)) ≡ Some edge
-        → Took past m link edge (of_some (option_map (Entered duty) o) rest (λ transition. transition))
+        → accepted_over (map_or (option_map (Entered duty) o) rest (λ transition. transition)) ≡ Some edge
+        → Took past m link edge (map_or (option_map (Entered duty) o) rest (λ transition. transition))
     by_edge None holds primary same' = others same'
     by_edge (Some e) holds primary same' =
         let edges : (duty.primary ≡ Some edge) × (edge.link ≡ link) = over_edge link duty.primary edge (primary ∙ same') in
@@ -104,16 +102,16 @@ entered_took past m link edge rest (Some duty) given others same = in_epoch (nat
 
     in_epoch : (b : Bool) → nat_eq duty.epoch m.epoch ≡ b
         → accepted_over
-        (of_some (if b then option_map (Entered duty) (option_and_then (over_link link) duty.primary) else None) rest (λ transition. transition)) ≡ Some edge
+        (map_or (if b then option_map (Entered duty) (option_and_then (over_link link) duty.primary) else None) rest (λ transition. transition)) ≡ Some edge
         → Took past m link edge
-        (of_some (if b then option_map (Entered duty) (option_and_then (over_link link) duty.primary) else None) rest (λ transition. transition))
+        (map_or (if b then option_map (Entered duty) (option_and_then (over_link link) duty.primary) else None) rest (λ transition. transition))
     in_epoch true holds same' = by_edge (option_and_then (over_link link) duty.primary) holds refl same'
     in_epoch false holds same' = others same'
 
 receipt_took : (past : Past) (link : ℕ) (m : Message) (c : ℕ) (edge : Edge) → accepted_over (transition_of past (Receive link m c)) ≡ Some edge
     → Took past m link edge (transition_of past (Receive link m c))
 receipt_took past link m c edge same =
-    entered_took past m link edge (of_some (accepted_by past link m) Nothing (λ transition. transition)) (given_now past) refl
+    entered_took past m link edge (map_or (accepted_by past link m) Nothing (λ transition. transition)) (given_now past) refl
     (λ e. accepted_took past m link edge (nat_eq (epoch_now past) m.epoch && is_newer m.stamp (stamp_now past))
     (option_and_then (over_link link) (parent_edge past)) refl refl e) same
 
@@ -155,8 +153,8 @@ tick_sender past q counter false false true n same = cc
 tick_sender past q counter false false false n same = cc
 
 commit_sender : (past q : Past) (counter : ℕ) (g : Option Duty) (b : Bool) (n : Message)
-    → effect_of_latest q (record { call = Commit counter; transition = of_some g Nothing (λ duty. if b then Recommitted duty else Committed duty) }) ≡ Send n
-    → Sender past (Commit counter) (of_some g Nothing (λ duty. if b then Recommitted duty else Committed duty))
+    → effect_of_latest q (record { call = Commit counter; transition = map_or g Nothing (λ duty. if b then Recommitted duty else Committed duty) }) ≡ Send n
+    → Sender past (Commit counter) (map_or g Nothing (λ duty. if b then Recommitted duty else Committed duty))
 commit_sender past q counter None b n same = cc
 commit_sender past q counter (Some duty) true n same = cc
 commit_sender past q counter (Some duty) false n same = cc

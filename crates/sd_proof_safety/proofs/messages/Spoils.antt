@@ -3,8 +3,8 @@
 use Rattle.std.specs.Prelude.{◌≡◌, ℕ, ◌<◌, ◌≤◌, Bool, true, false, ◌&&◌, ◌||◌, not, cond, List, [], ◌∷◌, filter, map, nat_eq, nat_lt, Option, Some, None, ◌⊎◌, refl, if◌then◌else◌}
 use Rattle.std.specs.List.{list_any}
 use Rattle.std.proofs.Common.{arith, sym, ◌∙◌, ap, subst, inl, inr}
-use Rattle.std.proofs.lemmas.Bool.{or_parts, or_cases, or_left, or_right, ltb-true, ltb-false, lt-ltb, eq-eqb, eqb-true}
-use Rattle.sd_checker.specs.Num.Lists.{of_some}
+use Rattle.std.proofs.lemmas.Bool.{or_parts, or_cases, or_left, ltb-true, ltb-false, lt-ltb, eq-eqb, eqb-true, false_from_ne_true}
+use Rattle.sd_checker.specs.Num.Lists.{map_or}
 use Rattle.sd_checker.specs.Topo.declared.Thing.TheVariants as thing
 use Rattle.sd_history.specs.Msg.declared.Stamp.{Stamp}
 use Rattle.sd_history.specs.Msg.declared.Flight.{Flight}
@@ -13,29 +13,18 @@ use Rattle.sd_history.specs.World.{Seen, fails, latest_reference}
 use Rattle.sd_history.specs.Steps.{Step, seen_of}
 use Rattle.sd_history.specs.Premises.{reaching_flights, seen_since_sending, was_received, is_overdue, was_interrupted, spoils, spoiled_rounds, is_round}
 use Rattle.sd_history.proofs.Among.{Among, first, later, on_right}
+use Rattle.sd_history.proofs.Shared.{stays_spoiled}
 use Rattle.sd_proof_safety.specs.messages.Moments.{Tail, whole, behind, Moment, upto, when, IsIn, IsBefore}
 use Rattle.sd_proof_safety.specs.messages.Rounds.{is_spoiled}
+use Rattle.sd_proof_safety.proofs.invariant.Prefix.{Passing, some_passing, any_passing}
+use Rattle.sd_proof_safety.proofs.invariant.Staying.{filter_out, filter_in, mapped_in}
 
 -- Membership and tests
 
-pub any_from : {A : Type 0} (test : A → Bool) (x : A) (xs : List A) → Among x xs → test x ≡ true → list_any test xs ≡ true
-any_from test x xs (first {xs = ys}) holds = or_left (test x) (list_any test ys) holds
-any_from test x xs (later {y = y} {xs = ys} a) holds = or_right (test y) (list_any test ys) (any_from test x ys a holds)
-
--- an element that passes
-pub record Passing {A : Type 0} (test : A → Bool) (xs : List A) : Type 0 where
-  pub element : A
-  pub among : Among element xs
-  pub passes : test element ≡ true
-
 passing_by : {A : Type 0} (test : A → Bool) (x : A) (xs : List A) → (test x ≡ true) ⊎ (list_any test xs ≡ true) → (list_any test xs ≡ true → Passing test xs)
     → Passing test (x ∷ xs)
-passing_by test x xs (inl here) rest = record { element = x; among = first; passes = here }
-passing_by test x xs (inr there) rest = let p = rest there in record { element = p.element; among = later p.among; passes = p.passes }
-
-pub any_passing : {A : Type 0} (test : A → Bool) (xs : List A) → list_any test xs ≡ true → Passing test xs
-any_passing test [] any = cc
-any_passing test (x ∷ xs) any = passing_by test x xs (or_cases (test x) (list_any test xs) any) (any_passing test xs)
+passing_by test x xs (inl here) rest = record { one = x; there = first; passed = here }
+passing_by test x xs (inr there) rest = let p = rest there in record { one = p.one; there = later p.there; passed = p.passed }
 
 pub none_any : {A : Type 0} (test : A → Bool) (xs : List A) → ((x : A) → Among x xs → test x ≡ false) → list_any test xs ≡ false
 none_any test [] each = refl
@@ -52,23 +41,11 @@ kept_by x y xs test true is holds (later a) rest = later (rest a)
 kept_by x y xs test false is holds first rest = let clash : true ≡ false = sym holds ∙ is in cc
 kept_by x y xs test false is holds (later a) rest = rest a
 
-pub filtered : {A : Type 0} (test : A → Bool) (x : A) (xs : List A) → Among x xs → test x ≡ true → Among x (filter test xs)
-filtered test x [] a holds = elim a [ ]
-filtered test x (y ∷ xs) a holds = kept_by x y xs test (test y) refl holds a (λ b. filtered test x xs b holds)
-
 unfiltered_by : {A : Type 0} (x y : A) (xs : List A) (test : A → Bool) (b : Bool) → test y ≡ b → Among x (cond b (y ∷ filter test xs) (filter test xs))
     → (Among x (filter test xs) → Among x xs × (test x ≡ true)) → Among x (y ∷ xs) × (test x ≡ true)
 unfiltered_by x y xs test true is first rest = (first, is)
 unfiltered_by x y xs test true is (later a) rest = let both = rest a in (later both.0, both.1)
 unfiltered_by x y xs test false is a rest = let both = rest a in (later both.0, both.1)
-
-pub unfiltered : {A : Type 0} (test : A → Bool) (x : A) (xs : List A) → Among x (filter test xs) → Among x xs × (test x ≡ true)
-unfiltered test x [] a = elim a [ ]
-unfiltered test x (y ∷ xs) a = unfiltered_by x y xs test (test y) refl a (unfiltered test x xs)
-
-mapped : {A B : Type 0} (f : A → B) (x : A) (xs : List A) → Among x xs → Among (f x) (map f xs)
-mapped f x xs (first {xs = ys}) = first
-mapped f x xs (later {y = y} {xs = ys} a) = later (mapped f x ys a)
 
 -- Spoiled rounds
 
@@ -77,18 +54,14 @@ pub spoiled_from : (seen : List Seen) (f : Flight) (term round : ℕ) → Among 
     → spoils seen f ≡ true
     → is_spoiled seen term round ≡ true
 spoiled_from seen f term round a is bad =
-    any_from (λ other. is_round other term round) f.message.stamp (spoiled_rounds seen)
-    (mapped (λ g. g.message.stamp) f (filter (spoils seen) (reaching_flights seen)) (filtered (spoils seen) f (reaching_flights seen) a bad)) is
-
-false_from : (b : Bool) → (b ≡ true → ⊥) → b ≡ false
-false_from true none = absurd (none refl)
-false_from false none = refl
+    any_passing (λ other. is_round other term round) f.message.stamp (spoiled_rounds seen)
+    (mapped_in (λ g. g.message.stamp) f (filter (spoils seen) (reaching_flights seen)) (filter_in (spoils seen) f (reaching_flights seen) a bad)) is
 
 -- so no flight of a clean round is
 pub clean_flight : (seen : List Seen) (f : Flight) (stamp : Stamp) → Among f (reaching_flights seen) → f.message.stamp ≡ stamp
     → is_spoiled seen stamp.term stamp.round ≡ false → spoils seen f ≡ false
 clean_flight seen f stamp a carries clean =
-    false_from (spoils seen f) (λ bad. clash (spoiled_from seen f stamp.term stamp.round a itself bad))
+    false_from_ne_true (spoils seen f) (λ bad. clash (spoiled_from seen f stamp.term stamp.round a itself bad))
   where
     both : (a b : Bool) → a ≡ true → b ≡ true → (a && b) ≡ true
     both true b one two = two
@@ -181,7 +154,7 @@ pub since_after : (steps : List Step) (from : Moment) (f : Flight) → IsIn from
 since_after [] from f t sent s a = elim t [ ]
 since_after (x ∷ rest) from f whole sent s a =
     let has : list_any (λ g. nat_eq g.number f.number) x.seen.sent ≡ true =
-    any_from (λ g. nat_eq g.number f.number) f x.seen.sent sent (eq-eqb f.number f.number refl) in
+    any_passing (λ g. nat_eq g.number f.number) f x.seen.sent sent (eq-eqb f.number f.number refl) in
     let none : Among s [] = subst (λ b. Among s (cond (not b) (x.seen ∷ seen_since_sending (seen_of rest) f.number) [])) has a in
     elim none [ ]
 since_after (x ∷ rest) from f (behind t) sent s a =
@@ -197,16 +170,16 @@ pub record Received (steps : List Step) (n : ℕ) : Type 0 where
   pub taken : moment.step.seen.taken ≡ Some flight
   pub number : flight.number ≡ n
 
-taken_flight : (o : Option Flight) (n : ℕ) → of_some o false (λ f. nat_eq f.number n) ≡ true → (f : Flight) × (o ≡ Some f) × (f.number ≡ n)
+taken_flight : (o : Option Flight) (n : ℕ) → map_or o false (λ f. nat_eq f.number n) ≡ true → (f : Flight) × (o ≡ Some f) × (f.number ≡ n)
 taken_flight None n is = cc
 taken_flight (Some f) n is = (f, refl, eqb-true f.number n is)
 
 pub received_at : (steps : List Step) (n : ℕ) → was_received (seen_of steps) n ≡ true → Received steps n
 received_at [] n is = cc
 received_at (s ∷ earlier) n is =
-    go (or_cases (of_some s.seen.taken false (λ f. nat_eq f.number n)) (was_received (seen_of earlier) n) is) (received_at earlier n)
+    go (or_cases (map_or s.seen.taken false (λ f. nat_eq f.number n)) (was_received (seen_of earlier) n) is) (received_at earlier n)
   where
-    go : (of_some s.seen.taken false (λ f. nat_eq f.number n) ≡ true) ⊎ (was_received (seen_of earlier) n ≡ true)
+    go : (map_or s.seen.taken false (λ f. nat_eq f.number n) ≡ true) ⊎ (was_received (seen_of earlier) n ≡ true)
         → (was_received (seen_of earlier) n ≡ true → Received earlier n) → Received (s ∷ earlier) n
     go (inl here) rest =
         let t = taken_flight s.seen.taken n here in
@@ -257,30 +230,9 @@ clean_is_received steps from f t sent over clean o inside whole_ =
 
 -- What is spoiled stays so.
 
-spoils_overdue : (seen : List Seen) (f : Flight) → spoils seen f ≡ true → is_overdue seen f ≡ true
-spoils_overdue [] f bad = cc
-spoils_overdue (s ∷ earlier) f bad = go (is_overdue earlier f) bad
-  where
-    go : (b : Bool)
-        → (if b then spoils earlier f else nat_lt f.due (reference_of s.event) && not (was_received (s ∷ earlier) f.number)
-        && not (was_interrupted (s ∷ earlier) f)) ≡ true → (nat_lt f.due (reference_of s.event) || b) ≡ true
-    go true bad' = or_right (nat_lt f.due (reference_of s.event)) true refl
-    go false bad' =
-        or_left (nat_lt f.due (reference_of s.event)) false
-        (first_of_three (nat_lt f.due (reference_of s.event)) (not (was_received (s ∷ earlier) f.number)) (not (was_interrupted (s ∷ earlier) f)) bad')
-      where
-        first_of_three : (a b c : Bool) → (a && b && c) ≡ true → a ≡ true
-        first_of_three true b c h = refl
-        first_of_three false b c h = cc
-
-spoils_on : (s : Seen) (earlier : List Seen) (f : Flight) → spoils earlier f ≡ true → spoils (s ∷ earlier) f ≡ true
-spoils_on s earlier f bad =
-    ap (λ b. if b then spoils earlier f else nat_lt f.due (reference_of s.event) && not (was_received (s ∷ earlier) f.number)
-    && not (was_interrupted (s ∷ earlier) f)) (spoils_overdue earlier f bad) ∙ bad
-
 pub spoils_stays : (older steps : List Step) (f : Flight) → Tail older steps → spoils (seen_of older) f ≡ true → spoils (seen_of steps) f ≡ true
 spoils_stays older steps f whole bad = bad
-spoils_stays older (s ∷ steps) f (behind t) bad = spoils_on s.seen (seen_of steps) f (spoils_stays older steps f t bad)
+spoils_stays older (s ∷ steps) f (behind t) bad = stays_spoiled s.seen (seen_of steps) f (spoils_stays older steps f t bad)
 
 flights_on : (older steps : List Step) (f : Flight) → Tail older steps → Among f (reaching_flights (seen_of older)) → Among f (reaching_flights (seen_of steps))
 flights_on older steps f whole a = a
@@ -308,15 +260,15 @@ unmapped seen term round (f ∷ fs) each s is a =
 
 spoiled_by : (seen : List Seen) (term round : ℕ) → is_spoiled seen term round ≡ true → SpoiledFlight seen term round
 spoiled_by seen term round spoiled =
-    let p = any_passing (λ other. is_round other term round) (spoiled_rounds seen) spoiled in
+    let p = some_passing (λ other. is_round other term round) (spoiled_rounds seen) spoiled in
     unmapped seen term round (filter (spoils seen) (reaching_flights seen))
-    (λ f a. unfiltered (spoils seen) f (reaching_flights seen) a) p.element p.passes p.among
+    (λ f a. filter_out (spoils seen) f (reaching_flights seen) a) p.one p.passed p.there
 
 -- so a round that is clean at an event was clean before
 pub clean_before : (older steps : List Step) (term round : ℕ) → Tail older steps → is_spoiled (seen_of steps) term round ≡ false
     → is_spoiled (seen_of older) term round ≡ false
 clean_before older steps term round t clean =
-    false_from (is_spoiled (seen_of older) term round)
+    false_from_ne_true (is_spoiled (seen_of older) term round)
     (λ spoiled.
     let f = spoiled_by (seen_of older) term round spoiled in
     let now = spoiled_from (seen_of steps) f.flight term round (flights_on older steps f.flight t f.among) f.is (spoils_stays older steps f.flight t f.bad) in

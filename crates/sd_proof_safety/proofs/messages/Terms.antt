@@ -3,7 +3,7 @@
 use Rattle.std.specs.Prelude.{◌≡◌, ℕ, ◌+◌, ◌<◌, ◌≤◌, List, [], ◌∷◌, ◌⊎◌}
 use Rattle.std.proofs.Common.{arith, sym, ◌∙◌, ap, subst, inl, inr}
 use Rattle.std.proofs.lemmas.Bool.{cases_lt}
-use Rattle.sd_checker.specs.Num.Lists.{of_some}
+use Rattle.sd_checker.specs.Num.Lists.{map_or}
 use Rattle.sd_checker.specs.Topo.Network.{least_low}
 use Rattle.sd_history.specs.Msg.declared.Stamp.{Stamp}
 use Rattle.sd_history.specs.Msg.declared.Message.{Message}
@@ -23,7 +23,7 @@ use Rattle.sd_proof_safety.proofs.messages.Consecutive.{later_is_newer}
 -- The stamp that the newest step leaves its device
 
 abbrev pub stamp_by : Act → List Step → Stamp
-stamp_by (Calls d call) earlier = of_some (past_in earlier d) (stamp_at 0 0) (λ past. stamp_now (after past call))
+stamp_by (Calls d call) earlier = map_or (past_in earlier d) (stamp_at 0 0) (λ past. stamp_now (after past call))
 stamp_by _ earlier = stamp_at 0 0
 
 abbrev pub stamp_here : List Step → Stamp
@@ -34,7 +34,7 @@ pub stamp_is : (p : Moment) (x : ℕ) (m : Message) → Emits p x m → m.stamp 
 stamp_is p x m emits =
     let s = emits.sends in
     (sends_own s.past s.call m s.effect).0
-    ∙ sym (ap (λ a. stamp_by a p.earlier) s.act ∙ ap (λ o. of_some o (stamp_at 0 0) (λ past. stamp_now (after past s.call))) s.there)
+    ∙ sym (ap (λ a. stamp_by a p.earlier) s.act ∙ ap (λ o. map_or o (stamp_at 0 0) (λ past. stamp_now (after past s.call))) s.there)
 
 -- No two emissions have one stamp.
 

@@ -4,7 +4,7 @@ use Rattle.std.specs.Prelude.{◌≡◌, ℕ, ◌+◌, ◌<◌, Bool, true, fals
 use Rattle.std.specs.List.{list_all}
 use Rattle.std.proofs.Common.{◌∙◌, ap, sym, subst, inl, inr}
 use Rattle.std.proofs.lemmas.Bool.{and_parts, or_parts, not-false, eqb-true, eq-eqb, both_ways}
-use Rattle.sd_checker.specs.Num.Lists.{of_some, same_number}
+use Rattle.sd_checker.specs.Num.Lists.{map_or, same_number}
 use Rattle.sd_checker.specs.Topo.declared.Thing.TheVariants as thing
 use Rattle.sd_checker.specs.Plan.declared.Plan.{Plan}
 use Rattle.sd_checker.specs.Plan.declared.Duty.{Duty}
@@ -12,7 +12,7 @@ use Rattle.sd_checker.specs.Plan.Plans.{is_member, members}
 use Rattle.sd_checker.specs.Plan.Duties.{duty_of}
 use Rattle.sd_history.specs.Msg.declared.Flight.{Flight}
 use Rattle.sd_history.specs.Core.Calls as calls
-use Rattle.sd_history.specs.Core.Calls.{Making, Call, Did, Past}
+use Rattle.sd_history.specs.Core.Calls.{Call, Past}
 use Rattle.sd_history.specs.Core.Words.{after, given_now, epoch_now, is_sealed}
 use Rattle.sd_history.proofs.Core.Reached.{added}
 use Rattle.sd_history.specs.Sched.declared.Event.{Event}
@@ -29,18 +29,18 @@ use Rattle.sd_history.proofs.Contained.{none_holds}
 use Rattle.sd_history.proofs.Bridges.{answers_by_words}
 use Rattle.sd_proof_safety.specs.invariant.Eras.{era, is_new}
 use Rattle.sd_proof_safety.specs.invariant.Invariant.{Core, Invariant, AtEach}
-use Rattle.sd_proof_safety.specs.invariant.Coming.{IsFair, IsClean, Comes}
+use Rattle.sd_proof_safety.specs.invariant.Coming.{IsFair, IsClean, IsNextEvent}
 use Rattle.sd_proof_safety.proofs.invariant.Orders.{orderly}
 use Rattle.sd_proof_safety.proofs.invariant.Prefix.{clean_before}
 use Rattle.sd_proof_safety.proofs.invariant.Staying.{filter_in}
 use Rattle.sd_proof_safety.specs.timers.Times.{Fits, gives_duty, makes_device}
-use Rattle.sd_proof_safety.proofs.timers.Deadlines.{among_below}
 use Rattle.sd_history.proofs.Known.{up_is_known}
+use Rattle.sd_history.proofs.Given.{some_is}
+use Rattle.sd_history.proofs.Shared.{among_below}
 use Rattle.sd_proof_safety.proofs.timers.Histories.{timed}
 use Rattle.sd_proof_safety.proofs.waits.LeastWaits.{timely_of}
 use Rattle.sd_proof_safety.proofs.invariant.Empty.{core_before}
 use Rattle.sd_proof_safety.proofs.timers.Transitions.{Cases, by_case}
-use Rattle.sd_proof_safety.proofs.timers.Marks.{some_is}
 
 -- the duty was given by this call, or before it
 abbrev GivenBy : Past → Duty → Call → Past → Type 0
@@ -75,12 +75,12 @@ given_by past call u is =
 
 -- an act that gives a duty is that of a give
 module _ (setting : Setting) (steps : List Step) where
-  by_staged : (d m n : ℕ) (u : Duty) (o : Option Plan) → of_some o Passes (λ plan. Calls d (calls.Give (duty_of setting.net plan n d))) ≡ Calls m (calls.Give u)
+  by_staged : (d m n : ℕ) (u : Duty) (o : Option Plan) → map_or o Passes (λ plan. Calls d (calls.Give (duty_of setting.net plan n d))) ≡ Calls m (calls.Give u)
       → (u.epoch ≡ n) × (Some d ≡ Some m)
   by_staged d m n u None same = cc
-  by_staged d m n u (Some plan) same = (sym (ap (λ act. of_some (gives_duty act) 0 (λ (v : Duty). v.epoch)) same), ap (λ act. changed act) same)
+  by_staged d m n u (Some plan) same = (sym (ap (λ act. map_or (gives_duty act) 0 (λ (v : Duty). v.epoch)) same), ap (λ act. changed act) same)
 
-  by_flight : (d m c : ℕ) (u : Duty) (o : Option Flight) → of_some o Passes (λ f. Calls d (calls.Receive f.link f.message c)) ≡ Calls m (calls.Give u) → ⊥
+  by_flight : (d m c : ℕ) (u : Duty) (o : Option Flight) → map_or o Passes (λ f. Calls d (calls.Receive f.link f.message c)) ≡ Calls m (calls.Give u) → ⊥
   by_flight d m c u None same = cc
   by_flight d m c u (Some f) same = cc
 
@@ -100,21 +100,21 @@ abbrev pub AreAhead : Setting → List Step → Type 0
 AreAhead setting steps = (x : ℕ) (p : Past) → is_up (seen_of steps) x ≡ true → past_in steps x ≡ Some p → (u : Duty) → given_now p ≡ Some u
     → IsAhead setting steps x p u
 
-pub up_since : (m f : Bool) (before : Bool) → m ≡ false → of_some (if m then Some true else if f then Some false else None) before (λ y. y) ≡ true
+pub up_since : (m f : Bool) (before : Bool) → m ≡ false → map_or (if m then Some true else if f then Some false else None) before (λ y. y) ≡ true
     → before ≡ true
 up_since true f before none up = cc
 up_since false true before none up = cc
 up_since false false before none up = up
 
 staged_on : (s : Seen) (x : ℕ) (plan : Plan) (g : Bool) (w : Option (List Seen)) → (g && is_some w) ≡ false
-    → of_some (option_map (λ (v : List Seen). plan) w) false (λ q. is_member q x) ≡ true
-    → of_some (option_map (λ (v : List Seen). plan) (if g then Some [] else option_map (λ v. s ∷ v) w)) false (λ q. is_member q x) ≡ true
+    → map_or (option_map (λ (v : List Seen). plan) w) false (λ q. is_member q x) ≡ true
+    → map_or (option_map (λ (v : List Seen). plan) (if g then Some [] else option_map (λ v. s ∷ v) w)) false (λ q. is_member q x) ≡ true
 staged_on s x plan true None none m = cc
 staged_on s x plan true (Some v) none m = cc
 staged_on s x plan false None none m = cc
 staged_on s x plan false (Some v) none m = m
 
-given_member : (a c : Bool) (o : Option ℕ) (m : ℕ) (test : ℕ → Bool) → o ≡ Some m → (a || of_some o false (λ d. not (test d)) || c) ≡ false → test m ≡ true
+given_member : (a c : Bool) (o : Option ℕ) (m : ℕ) (test : ℕ → Bool) → o ≡ Some m → (a || map_or o false (λ d. not (test d)) || c) ≡ false → test m ≡ true
 given_member a c None m test is none = cc
 given_member a c (Some d) m test is none =
     subst (λ n. test n ≡ true) (some_is is) (not-false (test d) (or_parts a (not (test d)) (or_parts (a || not (test d)) c none).0).1)
@@ -145,7 +145,7 @@ not_new_then true b h is = cc
 not_new_then false true h is = cc
 not_new_then false false h is = refl
 
-module _ (setting : Setting) (e : Event) (history : List Event) (comes : Comes setting history e) (was : AreAhead setting (chronicle setting history)) where
+module _ (setting : Setting) (e : Event) (history : List Event) (comes : IsNextEvent setting history e) (was : AreAhead setting (chronicle setting history)) where
   abbrev steps : List Step
   steps = chronicle setting history
 
@@ -200,8 +200,8 @@ module _ (setting : Setting) (e : Event) (history : List Event) (comes : Comes s
           let gives = gives_staged setting steps e m u act in
           let to : m ≡ x = eqb-true m x is in
           let of_staged : is_staged_member setting (seen_of steps) m ≡ true =
-          given_member (of_some (started e) false (λ d. not (is_member (in_force setting (seen_of steps)) d)))
-          (of_some (joined e) false (λ d. not (is_staged_member setting (seen_of steps) d))) (given e) m (is_staged_member setting (seen_of steps)) gives.1
+          given_member (map_or (started e) false (λ d. not (is_member (in_force setting (seen_of steps)) d)))
+          (map_or (joined e) false (λ d. not (is_staged_member setting (seen_of steps) d))) (given e) m (is_staged_member setting (seen_of steps)) gives.1
           (none_holds (causes setting steps e) _ comes.clean.is.1
           (later (later (later (later (later (later (later (later (later (later (later (later (later (later (later first)))))))))))))))) in
           let early : has_commit (seen_of steps) ≡ false =
@@ -254,8 +254,8 @@ module _ (setting : Setting) (e : Event) (history : List Event) (comes : Comes s
       live = ap (λ b. if b then answers_in (step_with None false ∷ steps) x else None) up ∙ answers_by_words setting (e ∷ history) x
           ∙ ap (option_map answers_by) there
 
-      by : (o : Option Plan) → of_some o false (λ plan. is_member plan x) ≡ true
-          → of_some o false (λ plan.
+      by : (o : Option Plan) → map_or o false (λ plan. is_member plan x) ≡ true
+          → map_or o false (λ plan.
           let present = filter (is_up (seen_of (step_with None false ∷ steps))) (members setting.net plan) in
           nat_le 1 (length present) && list_all (has_settled (step_with None false ∷ steps) (staged_epoch (seen_of (step_with None false ∷ steps)))) present)
           ≡ true → (epoch_now p ≡ era steps + 1 → ⊥) → ⊥
@@ -270,7 +270,7 @@ module _ (setting : Setting) (e : Event) (history : List Event) (comes : Comes s
           passes (has_settled (step_with None false ∷ steps) n) among
           (and_parts (nat_le 1 (length (filter (is_up (seen_of (step_with None false ∷ steps))) (members setting.net plan)))) _ c).1 in
           let both : (nat_eq (epoch_now p) n && is_sealed p) ≡ true =
-          sym (ap (λ (o : Option Answers). of_some o false (λ a'. nat_eq a'.epoch n && a'.sealed)) live) ∙ settled in
+          sym (ap (λ (o : Option Answers). map_or o false (λ a'. nat_eq a'.epoch n && a'.sealed)) live) ∙ settled in
           other (eqb-true (epoch_now p) n (and_parts (nat_eq (epoch_now p) n) (is_sealed p) both).0)
 
   pub ahead_next : AreAhead setting (chronicle setting (e ∷ history))

@@ -19,7 +19,7 @@ use Rattle.sd_proof_safety.proofs.waits.LeastWaits.{timely_of}
 use Rattle.sd_proof_safety.proofs.moves.Happened.{HasRoots, roots_of}
 use Rattle.sd_proof_safety.proofs.moves.Sealings.{sealed_in_time}
 
-within : (q h s f : ℕ) → q ≤ h + s → s ≤ f → q ≤ h + f
+pub within : (q h s f : ℕ) → q ≤ h + s → s ≤ f → q ≤ h + f
 within q h s f x y = omega (arith, x, y)
 
 pub backup_root_ends : (setting : Setting) → AtNext BackupRootEnds setting

@@ -1,9 +1,8 @@
 -- The step of a tick that takes up nothing, and that no window closes with it. And of the plan in force: its root and backup root are two members.
 use Rattle.std.specs.Prelude.{◌≡◌, ℕ, ◌<◌, Bool, true, false, ◌&&◌, ◌||◌, not, List, ◌∷◌, length, filter, nat_eq, nat_lt, Option, Some, None, option_map, refl, if◌then◌else◌}
-use Rattle.std.specs.Option.{option_or}
 use Rattle.std.proofs.Common.{◌∙◌, ap, sym}
 use Rattle.std.proofs.lemmas.Bool.{and_from, lt-ltb, eqb-true, eq-eqb, false_from_ne_true, both_ways}
-use Rattle.sd_checker.specs.Num.Lists.{of_some}
+use Rattle.sd_checker.specs.Num.Lists.{map_or}
 use Rattle.sd_checker.specs.Topo.Network.{Network}
 use Rattle.sd_checker.specs.Plan.declared.Plan.{Plan}
 use Rattle.sd_checker.specs.Plan.Plans.{Fits, is_member}
@@ -12,6 +11,7 @@ use Rattle.sd_checker.proofs.Plan.Rules.{KeepsRules, keeps_rules}
 use Rattle.sd_history.specs.Msg.declared.Flight.{Flight}
 use Rattle.sd_checker.specs.Verdicts.{IsAccepted}
 use Rattle.sd_checker.specs.CheckRoot.Timing.{round_gap}
+use Rattle.sd_checker.proofs.Num.Shared.{first_none}
 use Rattle.sd_history.specs.Core.Calls as calls
 use Rattle.sd_history.specs.Core.Calls.{Transition, Past}
 use Rattle.sd_history.specs.Core.Words.{transition_of, taken_up, effect_of}
@@ -25,27 +25,18 @@ use Rattle.sd_proof_safety.specs.invariant.Bounds.{IsTimedBy, losses, depth, del
 use Rattle.sd_proof_safety.specs.invariant.Eras.{plan_now, belongs, root_failed}
 use Rattle.sd_proof_safety.specs.invariant.Clauses.{is_beginning}
 use Rattle.sd_proof_safety.specs.invariant.Invariant.{Core}
-use Rattle.sd_proof_safety.specs.invariant.Coming.{IsFair, Comes}
+use Rattle.sd_proof_safety.specs.invariant.Coming.{IsFair, IsNextEvent}
 use Rattle.sd_proof_safety.proofs.invariant.Timed.{timed_by}
 use Rattle.sd_proof_safety.proofs.invariant.InForce.{in_force_too}
 use Rattle.sd_proof_safety.proofs.invariant.Sides.{implied}
 use Rattle.sd_proof_safety.proofs.invariant.Closings.{no_window_closes}
 use Rattle.sd_proof_safety.proofs.moves.Ticks as ticks
 use Rattle.sd_proof_safety.proofs.moves.Movers.{live, answers}
-
-first_none : {X : Type 0} (o rest : Option X) → option_or o rest ≡ None → o ≡ None
-first_none None rest is = refl
-first_none (Some x) rest is = cc
+use Rattle.sd_proof_safety.proofs.invariant.Facts.{roots_by}
 
 unmapped : (o : Option ℕ) → option_map {U = ℕ × ℕ} (λ d. (1, d)) o ≡ None → o ≡ None
 unmapped None is = refl
 unmapped (Some x) is = cc
-
-two_roots : (a b e : Bool) (x y : ℕ) → (if not a then Some x else if not b || e then Some y else None) ≡ None → (b ≡ true) × (e ≡ false)
-two_roots true true false x y is = (refl, refl)
-two_roots true true true x y is = cc
-two_roots true false e x y is = cc
-two_roots false b e x y is = cc
 
 -- root and backup root
 pub record HasRoots (net : Network) (plan : Plan) : Type 0 where
@@ -78,7 +69,7 @@ roots_of setting history fair is =
     let accepted : IsAccepted setting.net plan = in_force_too (IsAccepted setting.net) setting history fair.accepted fair.some_plan is in
     let formed : structure_breach setting.net plan ≡ None = accepted.structure in
     let fits : Fits setting.net plan = in_force_too (Fits setting.net) setting history fair.fit fair.some_plan is in
-    let both = two_roots (is_member plan plan.root) (is_member plan plan.backup_root) (nat_eq plan.root plan.backup_root) plan.root plan.backup_root
+    let both = roots_by (is_member plan plan.root) (is_member plan plan.backup_root) (nat_eq plan.root plan.backup_root) plan.root plan.backup_root
     (unmapped (roots_breach plan) (first_none (option_map (λ d. (1, d)) (roots_breach plan)) _ formed)) in
     record {
       rules = keeps_rules setting.net plan formed;
@@ -90,7 +81,7 @@ roots_of setting history fair is =
       timed = timed_by setting.net plan fair.network.tick.0 accepted.timing;
     }
 
-module _ (setting : Setting) (r d c : ℕ) (history : List Event) (comes : Comes setting history (event.Tick r d c)) (p : Past)
+module _ (setting : Setting) (r d c : ℕ) (history : List Event) (comes : IsNextEvent setting history (event.Tick r d c)) (p : Past)
     (there : past_in (chronicle setting history) d ≡ Some p) where
   pub roots_then : HasRoots setting.net (plan_now setting (chronicle setting history))
   roots_then = roots_of setting history comes.fair comes.clean.is.0
@@ -116,7 +107,7 @@ module _ (setting : Setting) (r d c : ℕ) (history : List Event) (comes : Comes
   module _ (transition : Transition) (transition_is : transition_of p (calls.Tick c) ≡ transition) where
     pub told_is : told.answers ≡ Some (answers_by (added p (calls.Tick c) transition))
     told_is =
-        ap (λ o. (of_some o tells_nothing
+        ap (λ o. (map_or o tells_nothing
         (λ past. tells_called (effect_of past (calls.Tick c)) (answers_by (added past (calls.Tick c) (transition_of past (calls.Tick c)))))).answers) there
         ∙ ap (λ x. Some (answers_by (added p (calls.Tick c) x))) transition_is
 

@@ -4,7 +4,7 @@ use Rattle.std.specs.Prelude.{◌≡◌, ℕ, ◌+◌, ◌-◌, ◌*◌, ◌<◌
 use Rattle.std.specs.List.{list_all}
 use Rattle.std.proofs.Common.{arith, sym, ◌∙◌, ap, subst}
 use Rattle.std.proofs.lemmas.Bool.{and_parts, and_from, or_left, eqb-true, eq-eqb, leb-true, leb-false, false_from_ne_true, both_ways}
-use Rattle.sd_checker.specs.Num.Lists.{of_some, same_number, below}
+use Rattle.sd_checker.specs.Num.Lists.{map_or, same_number, below}
 use Rattle.sd_checker.specs.Topo.Network.{least_low}
 use Rattle.sd_checker.specs.Plan.declared.Duty.{Duty}
 use Rattle.sd_checker.specs.Plan.Plans.{is_member, members}
@@ -28,7 +28,7 @@ use Rattle.sd_proof_safety.specs.invariant.Eras.{era, plan_now, beginning, is_ol
 use Rattle.sd_proof_safety.specs.invariant.Clauses.{is_beginning, staged_root}
 use Rattle.sd_proof_safety.specs.invariant.Invariant.{Invariant, AtEach}
 use Rattle.sd_proof_safety.specs.invariant.Silences.{NewHears}
-use Rattle.sd_proof_safety.specs.invariant.Coming.{Comes}
+use Rattle.sd_proof_safety.specs.invariant.Coming.{IsNextEvent}
 use Rattle.sd_proof_safety.proofs.invariant.Sides.{implied}
 use Rattle.sd_proof_safety.proofs.invariant.Staying.{old_is_member}
 use Rattle.sd_proof_safety.proofs.invariant.InForce.{in_force_too}
@@ -39,8 +39,8 @@ use Rattle.sd_proof_safety.proofs.timers.NotEarly.{Waited, move_waited}
 use Rattle.sd_proof_safety.proofs.timers.Pasts.{of_life, Goes, move_from_primary}
 use Rattle.sd_proof_safety.proofs.timers.CalmBeginning.{counts_from_first}
 use Rattle.sd_proof_safety.proofs.timers.Periods.{tick_within}
-use Rattle.sd_proof_safety.proofs.timers.Deadlines.{among_below}
 use Rattle.sd_history.proofs.Known.{named_is_known}
+use Rattle.sd_history.proofs.Shared.{among_below}
 use Rattle.sd_proof_safety.proofs.timers.Histories.{Timely, timed, before, move_waits}
 use Rattle.sd_proof_safety.proofs.waits.SameReferences.{heard_is}
 use Rattle.sd_proof_safety.proofs.waits.LeastWaits.{timely_of, waits_are_long}
@@ -77,7 +77,7 @@ one_or_two n e one low high other = eq-eqb n (e + 1) (by one low high (λ same. 
         pick true is = absurd (never (let le : n ≤ e = leb-true n e is in omega (arith, x, y, le)))
         pick false is = let lt : e < n = leb-false n e is in omega (arith, lt, z)
 
-module _ (setting : Setting) (r d c : ℕ) (history : List Event) (comes : Comes setting history (event.Tick r d c)) (p : Past)
+module _ (setting : Setting) (r d c : ℕ) (history : List Event) (comes : IsNextEvent setting history (event.Tick r d c)) (p : Past)
     (there : past_in (chronicle setting history) d ≡ Some p) where
   pub timely_now : Timely setting (event.Tick r d c ∷ history)
   timely_now = timely_of setting (event.Tick r d c ∷ history) comes.fair comes.clean
@@ -111,7 +111,7 @@ module _ (setting : Setting) (r d c : ℕ) (history : List Event) (comes : Comes
   epoch_is = ap (λ o. option_map (λ a. a.epoch) o) answers_live
 
   pub acts_is : acts_in (chronicle setting history) d ≡ is_acting p
-  acts_is = ap (λ o. of_some o false (λ a. a.acts)) answers_live
+  acts_is = ap (λ o. map_or o false (λ a. a.acts)) answers_live
 
   pub known : d < length setting.net.devices
   known = named_is_known setting (chronicle setting history) (event.Tick r d c) d comes.clean.is.1 refl
@@ -123,7 +123,7 @@ module _ (setting : Setting) (r d c : ℕ) (history : List Event) (comes : Comes
   pub with_duty_not_blank : (u : Duty) → duty_now p ≡ Some u → is_blank (chronicle setting history) d ≡ false
   with_duty_not_blank u has =
       let numbered : IsNumbered (era (chronicle setting history)) u = duty_numbered setting history d p there u has in
-      ap (λ o. same_number o 0) (epoch_is ∙ ap (λ o. Some (of_some o 0 (λ (duty : Duty). duty.epoch))) has) ∙ not_zero u.epoch numbered.0
+      ap (λ o. same_number o 0) (epoch_is ∙ ap (λ o. Some (map_or o 0 (λ (duty : Duty). duty.epoch))) has) ∙ not_zero u.epoch numbered.0
     where
       not_zero : (n : ℕ) → 1 ≤ n → nat_eq n 0 ≡ false
       not_zero n le = false_from_ne_true (nat_eq n 0) (λ is. let same : n ≡ 0 = eqb-true n 0 is in omega (arith, le, same))
@@ -207,7 +207,7 @@ module _ (setting : Setting) (r d c : ℕ) (history : List Event) (comes : Comes
         numbered = duty_numbered setting history d p there w.0 w.2.has
 
         number_is : epoch_in (chronicle setting history) d ≡ Some w.0.epoch
-        number_is = epoch_is ∙ ap (λ o. Some (of_some o 0 (λ (duty : Duty). duty.epoch))) w.2.has
+        number_is = epoch_is ∙ ap (λ o. Some (map_or o 0 (λ (duty : Duty). duty.epoch))) w.2.has
 
         old_in_first : era (chronicle setting history) ≡ 1 → is_old (chronicle setting history) d ≡ true
         old_in_first one = go (nat_eq w.0.epoch (era (chronicle setting history))) refl

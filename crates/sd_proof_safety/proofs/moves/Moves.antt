@@ -4,7 +4,7 @@ use Rattle.std.specs.Prelude.{◌≡◌, ℕ, ◌≤◌, Bool, true, false, ◌&
 use Rattle.std.specs.List.{list_all}
 use Rattle.std.proofs.Common.{◌∙◌, ap, sym, subst}
 use Rattle.std.proofs.lemmas.Bool.{and_parts, and_from, eqb-true, eq-eqb, false_from_ne_true, both_ways, not-true}
-use Rattle.sd_checker.specs.Num.Lists.{of_some, has}
+use Rattle.sd_checker.specs.Num.Lists.{map_or, has}
 use Rattle.sd_checker.specs.Topo.Network.{Network}
 use Rattle.sd_checker.specs.Plan.declared.Plan.{Plan}
 use Rattle.sd_checker.specs.Plan.declared.Hop.{Hop}
@@ -23,18 +23,18 @@ use Rattle.sd_history.specs.Sched.declared.Event.TheVariants as event
 use Rattle.sd_history.specs.World.{Setting, has_commit}
 use Rattle.sd_history.specs.Steps.{Answers, Step, seen_of, acts_in, tells_nothing, tells_called, flights_by, flights}
 use Rattle.sd_history.specs.Chronicle.{answers_by, past_in, chronicle}
+use Rattle.sd_history.proofs.Given.{some_is}
 use Rattle.sd_proof_safety.specs.invariant.Bounds.{first_low, wait_low}
 use Rattle.sd_proof_safety.specs.invariant.Eras.{era, plan_now, is_old, is_new, is_blank, live_past, moved, on_primary, silent_for, is_ordinary, hit, hit_otherwise, path_hit, root_failed, failed_now, is_among}
 use Rattle.sd_proof_safety.specs.invariant.Clauses.{is_beginning, nothing_emitted, stays, root_acts, ordinary_follows, backup_is_caused, move_is_caused, takeover_is_caused, path_stays, above_backup_root, backup_root_stays, backup_root_acts, none_sent_ahead, committer_acts}
 use Rattle.sd_proof_safety.specs.invariant.Invariant.{Core}
 use Rattle.sd_proof_safety.specs.invariant.Silences.{AreSilent}
 use Rattle.sd_proof_safety.specs.invariant.Kept.{KeepsTick}
-use Rattle.sd_proof_safety.specs.invariant.Coming.{Comes, AtNext}
+use Rattle.sd_proof_safety.specs.invariant.Coming.{IsNextEvent, AtNext}
 use Rattle.sd_proof_safety.proofs.invariant.Prefix.{any_passing}
 use Rattle.sd_proof_safety.proofs.invariant.Fallback.{from_absurd}
 use Rattle.sd_proof_safety.proofs.invariant.Causes.{move_is_hit, move_needs_hit, above_does_not_move, ordinary_parts}
 use Rattle.sd_proof_safety.proofs.invariant.CutPaths.{root_on_path}
-use Rattle.sd_proof_safety.proofs.timers.Marks.{some_is}
 use Rattle.sd_proof_safety.proofs.timers.NotEarly.{move_waited}
 use Rattle.sd_proof_safety.proofs.waits.Waits.{Stands, old_stands, backup_root_moves, ordinary_moves}
 use Rattle.sd_proof_safety.specs.invariant.Silences.{EntersSoon}
@@ -42,11 +42,13 @@ use Rattle.sd_proof_safety.proofs.waits.Beginning.{quiet, still}
 use Rattle.sd_proof_safety.proofs.moves.Ticks as ticks
 use Rattle.sd_proof_safety.proofs.moves.Ticks.{tick_step}
 use Rattle.sd_proof_safety.proofs.moves.Tickings as tickings
-use Rattle.sd_proof_safety.proofs.moves.Tickings.{shown, stays_on}
+use Rattle.sd_proof_safety.proofs.moves.Tickings.{stays_on}
 use Rattle.sd_proof_safety.proofs.moves.Movers.{timely_now, inv, live, answers, acts_is, known, with_duty_not_blank, from_primary, mover_is_not_new, not_beginning}
 use Rattle.sd_proof_safety.proofs.moves.Happened.{HasRoots, root_up, roots_then, told, sent, reaching, activated, acted, told_is, now_is}
 use Rattle.sd_proof_safety.proofs.moves.Happened as happened
 use Rattle.sd_proof_safety.proofs.moves.Ends.{backup_root_ends}
+use Rattle.sd_proof_safety.proofs.waits.LookingBack.{all_three}
+use Rattle.sd_proof_safety.proofs.invariant.Opening.{gives}
 
 moved_when : (e t m : Bool) → (if e then Emitted else if t then TookOver else if m then Moved else Nothing) ≡ Moved → m ≡ true
 moved_when true t m is = cc
@@ -59,7 +61,7 @@ waits_with_backup : (net : Network) (plan : Plan) (epoch d w : ℕ) → is_root 
     → wait_to_move (duty_of net plan epoch d) ≡ Some w → has_backup plan d ≡ true
 waits_with_backup net plan epoch d w root backup waits = by (backup_of plan d) (rw (root, backup) at waits)
   where
-    by : (o : Option Hop) → (if is_some (option_map (edge_of net d) o) then Some plan.wait else None) ≡ Some w → of_some o false (λ hop. true) ≡ true
+    by : (o : Option Hop) → (if is_some (option_map (edge_of net d) o) then Some plan.wait else None) ≡ Some w → map_or o false (λ hop. true) ≡ true
     by None h = cc
     by (Some hop) h = refl
 
@@ -67,14 +69,8 @@ pub put_there : (l a : Bool) → (l && not true && not a) ≡ false
 put_there true a = refl
 put_there false a = refl
 
-on_it : (l m a : Bool) → l ≡ true → m ≡ false → a ≡ false → (l && not m && not a) ≡ true
-on_it true false false x y z = refl
-on_it true false true x y z = cc
-on_it true true a x y z = cc
-on_it false m a x y z = cc
-
 module _ (setting : Setting) (silent : AreSilent setting) (enters : AtNext EntersSoon setting) (r d c : ℕ) (history : List Event)
-    (comes : Comes setting history (event.Tick r d c))
+    (comes : IsNextEvent setting history (event.Tick r d c))
     (p : Past) (there : past_in (chronicle setting history) d ≡ Some p) (transition_is : transition_of p (calls.Tick c) ≡ Moved) where
   abbrev steps : List Step
   steps = chronicle setting history
@@ -114,7 +110,7 @@ module _ (setting : Setting) (silent : AreSilent setting) (enters : AtNext Enter
       (activated setting r d c history comes p there) (acted setting r d c history comes p there) (told setting r d c history comes p there)
       (sent setting r d c history comes p there) p Moved refl (live setting r d c history comes p there) there
       (answers setting r d c history comes p there) transition_is (told_is setting r d c history comes p there Moved transition_is)
-      (λ o. of_some o false (λ a. a.acts)) refl
+      (λ o. map_or o false (λ a. a.acts)) refl
 
   moved_now : moved now d ≡ true
   moved_now = ticks.moved_now setting (chronicle setting history) r d c (reaching setting r d c history comes p there)
@@ -125,7 +121,7 @@ module _ (setting : Setting) (silent : AreSilent setting) (enters : AtNext Enter
   was_on_primary : on_primary steps d ≡ true
   was_on_primary =
       let from = from_primary setting r d c history comes p there goes in
-      on_it (is_some (live_past steps d)) (moved steps d) (acts_in steps d)
+      all_three (is_some (live_past steps d)) (moved steps d) (acts_in steps d)
       (ap (λ b. is_some (if b then past_in steps d else None)) (live setting r d c history comes p there) ∙ ap (λ (o : Option Past). is_some o) there)
       (ticks.moved_before setting (chronicle setting history) r d c (reaching setting r d c history comes p there)
       (activated setting r d c history comes p there) (acted setting r d c history comes p there) (told setting r d c history comes p there)
@@ -172,7 +168,7 @@ module _ (setting : Setting) (silent : AreSilent setting) (enters : AtNext Enter
       (acted setting r d c history comes p there) (told setting r d c history comes p there) (sent setting r d c history comes p there) p Moved refl refl
       (live setting r d c history comes p there) there (answers setting r d c history comes p there) transition_is
       (told_is setting r d c history comes p there Moved transition_is) core_then not_new not_blank started (λ x. IsTrue (backup_is_caused setting now x))
-      (shown (is_old now d && is_ordinary plan d && moved now d) (hit setting now d && (hit_otherwise setting now d || backup_root_acts setting now))
+      (gives (is_old now d && is_ordinary plan d && moved now d) (hit setting now d && (hit_otherwise setting now d || backup_root_acts setting now))
       (λ is.
       let front = and_parts (is_old now d) (is_ordinary plan d) (and_parts (is_old now d && is_ordinary plan d) (moved now d) is).0 in
       let old : is_old steps d ≡ true = sym (olds d) ∙ front.0 in
@@ -219,7 +215,7 @@ module _ (setting : Setting) (silent : AreSilent setting) (enters : AtNext Enter
     where
       go : (b : Bool) → nat_eq d plan.backup_root ≡ b → IsTrue (move_is_caused setting now)
       go true is =
-          shown (is_old now plan.backup_root && moved now plan.backup_root) (path_hit setting now plan.backup_root)
+          gives (is_old now plan.backup_root && moved now plan.backup_root) (path_hit setting now plan.backup_root)
           (λ both.
           let same : d ≡ plan.backup_root = eqb-true d plan.backup_root is in
           let old : is_old steps plan.backup_root ≡ true = sym (olds plan.backup_root)
@@ -275,14 +271,14 @@ module _ (setting : Setting) (silent : AreSilent setting) (enters : AtNext Enter
 
   quiet_effect : (told setting r d c history comes p there).effect ≡ Quiet
   quiet_effect =
-      ap (λ o. (of_some o tells_nothing
+      ap (λ o. (map_or o tells_nothing
       (λ past. tells_called (effect_of past (calls.Tick c)) (answers_by (added past (calls.Tick c) (transition_of past (calls.Tick c)))))).effect) there
       ∙ ap (λ x. effect_of_latest (added p (calls.Tick c) x) (record { call = calls.Tick c; transition = x })) transition_is
 
   none_sent : sent setting r d c history comes p there ≡ []
   none_sent =
-      ap (λ e. of_some (told setting r d c history comes p there).answers [] (λ a. flights_by setting steps r d a.epoch e)) quiet_effect
-      ∙ ap (λ o. of_some o [] (λ (a : Answers). [])) (told_is setting r d c history comes p there Moved transition_is)
+      ap (λ e. map_or (told setting r d c history comes p there).answers [] (λ a. flights_by setting steps r d a.epoch e)) quiet_effect
+      ∙ ap (λ o. map_or o [] (λ (a : Answers). [])) (told_is setting r d c history comes p there Moved transition_is)
 
   messages : IsTrue (none_sent_ahead now)
   messages =
@@ -340,7 +336,7 @@ pub move_keeps : (setting : Setting) → AreSilent setting → AtNext EntersSoon
 move_keeps setting silent enters r d c history comes is = go (past_in (chronicle setting history) d) refl
   where
     go : (o : Option Past) → past_in (chronicle setting history) d ≡ o → Core setting (chronicle setting (event.Tick r d c ∷ history))
-    go None at = let none : Nothing ≡ Moved = sym (ap (λ (o : Option Past). of_some o Nothing (λ past. transition_of past (calls.Tick c))) at) ∙ is in cc
+    go None at = let none : Nothing ≡ Moved = sym (ap (λ (o : Option Past). map_or o Nothing (λ past. transition_of past (calls.Tick c))) at) ∙ is in cc
     go (Some p) at =
         moved_keeps setting silent enters r d c history comes p at
-        (sym (ap (λ (o : Option Past). of_some o Nothing (λ past. transition_of past (calls.Tick c))) at) ∙ is)
+        (sym (ap (λ (o : Option Past). map_or o Nothing (λ past. transition_of past (calls.Tick c))) at) ∙ is)

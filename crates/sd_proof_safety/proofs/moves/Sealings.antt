@@ -1,9 +1,9 @@
 -- An old device on its primary was sealed at most W after it last heard: by its start, or by the closing, at which its silence was at most W. By induction
 -- on the history: who takes up a duty while no window closes is of the staged plan.
-use Rattle.std.specs.Prelude.{◌≡◌, ℕ, ◌+◌, ◌<◌, ◌≤◌, Bool, true, false, ◌&&◌, not, List, [], ◌∷◌, length, nat_eq, nat_le, nat_lt, Option, Some, None, is_some, option_map, refl, if◌then◌else◌}
+use Rattle.std.specs.Prelude.{◌≡◌, ℕ, ◌+◌, ◌<◌, ◌≤◌, Bool, true, false, ◌&&◌, List, [], ◌∷◌, length, nat_eq, nat_le, nat_lt, Option, Some, None, is_some, option_map, refl, if◌then◌else◌}
 use Rattle.std.proofs.Common.{arith, ◌∙◌, ap, sym, subst}
 use Rattle.std.proofs.lemmas.Bool.{and_parts, and_from, lt-ltb, eq-eqb, leb-true, both_ways}
-use Rattle.sd_checker.specs.Num.Lists.{of_some, same_number}
+use Rattle.sd_checker.specs.Num.Lists.{map_or, same_number}
 use Rattle.sd_checker.specs.Topo.declared.Thing.TheVariants as thing
 use Rattle.sd_checker.specs.Plan.declared.Duty.{Duty}
 use Rattle.sd_checker.specs.Plan.Plans.{is_member, is_root}
@@ -16,7 +16,7 @@ use Rattle.sd_history.specs.World.{Setting, makes, fails, is_up, latest_referenc
 use Rattle.sd_history.specs.Steps.{Act, Makes, Calls, Asks, Passes, Answers, Step, seen_of, act_by, answers_in, live_answers, acts_in, has_settled}
 use Rattle.sd_history.specs.Chronicle.{new_past, past_in, past_after, answers_by, chronicle, next_step}
 use Rattle.sd_history.proofs.Bridges.{answers_by_words}
-use Rattle.sd_history.proofs.Given.{takes_given}
+use Rattle.sd_history.proofs.Given.{takes_given, some_is}
 use Rattle.sd_proof_safety.specs.invariant.Eras.{era, plan_now, is_old, live_past, moved, on_primary, heard_at, belongs}
 use Rattle.sd_proof_safety.specs.invariant.Clauses.{just_closed}
 use Rattle.sd_proof_safety.specs.invariant.Invariant.{Invariant, AtEach}
@@ -25,9 +25,9 @@ use Rattle.sd_proof_safety.proofs.invariant.Sides.{implied}
 use Rattle.sd_proof_safety.proofs.invariant.Prefix.{clean_before}
 use Rattle.sd_proof_safety.proofs.invariant.Staying.{old_is_member}
 use Rattle.sd_proof_safety.specs.timers.Times as times
-use Rattle.sd_proof_safety.specs.timers.Times.{AreTimed, Fits, makes_device, heard_in, sealed_in, seal_after, reference_after}
-use Rattle.sd_proof_safety.specs.timers.Since.{whole, beyond, at_once, goes_on, enters_by}
-use Rattle.sd_proof_safety.proofs.timers.Marks.{some_is}
+use Rattle.sd_proof_safety.specs.timers.Times.{AreTimed, makes_device, heard_in, sealed_in, seal_after, reference_after}
+use Rattle.sd_proof_safety.specs.timers.Since.{at_once, goes_on, enters_by}
+use Rattle.sd_proof_safety.specs.messages.Moments.{whole, behind}
 use Rattle.sd_proof_safety.proofs.timers.Pasts.{Inside, itself, onward, was_unmoved, was_not_acting, inside_duty}
 use Rattle.sd_proof_safety.proofs.timers.Emissions.{reference_rises}
 use Rattle.sd_proof_safety.proofs.timers.Sealed.{seal_within, seal_stays, sealed_since}
@@ -38,6 +38,7 @@ use Rattle.sd_proof_safety.proofs.waits.Waits.{Stands, old_stands}
 use Rattle.sd_proof_safety.specs.moves.Wanted.{IsSealedBy, SealedInTime}
 use Rattle.sd_proof_safety.proofs.waits.LeastWaits.{timely_of, epoch_kept}
 use Rattle.sd_proof_safety.proofs.moves.Ahead.{AreAhead, always_ahead, up_since}
+use Rattle.sd_proof_safety.proofs.windows.Leading.{stands_by}
 
 -- the same of the pasts, with the references of timers
 abbrev AreSealed : Setting → List Step → Type 0
@@ -48,12 +49,6 @@ AreSealed setting steps =
 no_root : (root acts on : Bool) → (if root then acts else on) ≡ true → acts ≡ false → on ≡ true
 no_root true acts on is none = absurd (both_ways acts none is)
 no_root false acts on is none = is
-
-primary_of : (l m a : Bool) → (l && not m && not a) ≡ true → (m ≡ false) × (a ≡ false)
-primary_of true false false h = (refl, refl)
-primary_of true false true h = cc
-primary_of true true a h = cc
-primary_of false m a h = cc
 
 module _ (setting : Setting) (e : Event) (history : List Event) (fair : IsFair setting) (clean : IsClean setting (e ∷ history))
     (inv : Invariant setting (chronicle setting (e ∷ history)))
@@ -92,10 +87,10 @@ module _ (setting : Setting) (e : Event) (history : List Event) (fair : IsFair s
       && nat_le (latest_reference (seen_of now)) (heard_at now x + silence setting.net)) begins in
       let sealed : is_sealed p ≡ true =
       (and_parts (nat_eq (epoch_now p) (era now)) (is_sealed p)
-      (sym (ap (λ (o : Option Answers). of_some o false (λ a. nat_eq a.epoch (era now) && a.sealed)) live) ∙ parts.0)).1 in
+      (sym (ap (λ (o : Option Answers). map_or o false (λ a. nat_eq a.epoch (era now) && a.sealed)) live) ∙ parts.0)).1 in
       let since = sealed_since setting now all_timed x p there sealed in
       let within : since.0 ≤ latest_reference (seen_of now) = seal_within setting now all_timed x since.0 since.1 in
-      let idle_now : acts_in now x ≡ false = ap (λ (o : Option Answers). of_some o false (λ a. a.acts)) live ∙ idle in
+      let idle_now : acts_in now x ≡ false = ap (λ (o : Option Answers). map_or o false (λ a. a.acts)) live ∙ idle in
       let soon : latest_reference (seen_of now) ≤ heard_at now x + silence setting.net =
       leb-true (latest_reference (seen_of now)) (heard_at now x + silence setting.net)
       (and_parts (on_primary now x) (nat_le (latest_reference (seen_of now)) (heard_at now x + silence setting.net))
@@ -117,7 +112,7 @@ module _ (setting : Setting) (e : Event) (history : List Event) (fair : IsFair s
       → IsSealedBy now x (heard_in now x + silence setting.net)
   keep x q live at epoch unmoved idle stays =
       let before : IsSealedBy steps x (heard_in steps x + silence setting.net) = was x q live at epoch unmoved idle in
-      let rises : heard_in steps x ≤ heard_in now x = reference_rises times.hears setting steps now x (beyond whole) all_timed in
+      let rises : heard_in steps x ≤ heard_in now x = reference_rises times.hears setting steps now x (behind whole) all_timed in
       record {
         seal = before.seal;
         sealed = seal_stays x before.seal steps now (goes_on stays at_once) before.sealed;
@@ -162,19 +157,19 @@ module _ (setting : Setting) (e : Event) (history : List Event) (fair : IsFair s
           by_transition q same at to (Some u) takes =
               let number : u.epoch ≡ era steps + 1 = (ahead x q live at u (takes_given q call u takes)).number in
               let here : epoch_now (after q call) ≡ u.epoch =
-              ap (λ (o : Option Duty). of_some (of_some (option_map Some o) (duty_now q) (λ y. y)) 0 (λ (v : Duty). v.epoch)) takes in
+              ap (λ (o : Option Duty). map_or (map_or (option_map Some o) (duty_now q) (λ y. y)) 0 (λ (v : Duty). v.epoch)) takes in
               absurd (never (era steps) (sym same_era ∙ ap epoch_now (sym to) ∙ here ∙ number))
             where
               never : (n : ℕ) → n ≡ n + 1 → ⊥
               never n is' = omega (arith, is')
           by_transition q same at to None takes =
               let inside : Inside q (after q call) = onward call takes itself in
-              keep x q live at (ap (λ (o : Option Duty). of_some o 0 (λ (v : Duty). v.epoch)) (sym (inside_duty q (after q call) inside)) ∙ ap epoch_now to
+              keep x q live at (ap (λ (o : Option Duty). map_or o 0 (λ (v : Duty). v.epoch)) (sym (inside_duty q (after q call) inside)) ∙ ap epoch_now to
               ∙ same_era)
               (was_unmoved q (after q call) inside (ap has_moved to ∙ unmoved)) (was_not_acting q (after q call) inside (ap is_acting to ∙ idle))
               (ap (λ a. enters_by a x (past_in steps x)) is
-              ∙ ap (λ b. b && of_some (past_in steps x) false (λ z. is_some (taken_up (transition_of z call)))) same
-              ∙ ap (λ (o : Option Past). of_some o false (λ z. is_some (taken_up (transition_of z call)))) at ∙ ap (λ (o : Option Duty). is_some o) takes)
+              ∙ ap (λ b. b && map_or (past_in steps x) false (λ z. is_some (taken_up (transition_of z call)))) same
+              ∙ ap (λ (o : Option Past). map_or o false (λ z. is_some (taken_up (transition_of z call)))) at ∙ ap (λ (o : Option Duty). is_some o) takes)
 
           go : (b : Bool) → nat_eq m x ≡ b → (o : Option Past) → past_in steps x ≡ o → (if b then option_map (λ past. after past call) o else o) ≡ Some p
               → IsSealedBy now x (heard_in now x + silence setting.net)
@@ -183,7 +178,7 @@ module _ (setting : Setting) (e : Event) (history : List Event) (fair : IsFair s
           go false same o at h' =
               keep x p live (at ∙ h') same_era unmoved idle
               (ap (λ a. enters_by a x (past_in steps x)) is
-              ∙ ap (λ b. b && of_some (past_in steps x) false (λ z. is_some (taken_up (transition_of z call)))) same)
+              ∙ ap (λ b. b && map_or (past_in steps x) false (λ z. is_some (taken_up (transition_of z call)))) same)
       by_act (Asks m counter) is h =
           keep x p (up_then x (ap (λ a. makes_device a x) is) up) h same_era unmoved idle (ap (λ a. enters_by a x (past_in steps x)) is)
       by_act Passes is h = keep x p (up_then x (ap (λ a. makes_device a x) is) up) h same_era unmoved idle (ap (λ a. enters_by a x (past_in steps x)) is)
@@ -208,9 +203,9 @@ sealed_in_time setting history e comes d old on =
     let steps = chronicle setting history in
     let clean : IsClean setting history = clean_before setting e history comes.clean in
     let s : Stands setting steps d = old_stands setting history d old in
-    let put = primary_of (is_some (live_past steps d)) (moved steps d) (acts_in steps d) on in
+    let put = stands_by (is_some (live_past steps d)) (moved steps d) (acts_in steps d) on in
     let by : IsSealedBy steps d (heard_in steps d + silence setting.net) =
-    always_sealed setting history comes.fair clean comes.before d s.past s.live s.there (ap (λ o. of_some o 0 (λ (u : Duty). u.epoch)) s.duty)
+    always_sealed setting history comes.fair clean comes.before d s.past s.live s.there (ap (λ o. map_or o 0 (λ (u : Duty). u.epoch)) s.duty)
     (sym s.moved_is ∙ put.0) (sym s.acts_is ∙ put.1) in
     subst (λ h. IsSealedBy steps d (h + silence setting.net))
     (sym (heard_is setting steps (timed setting history (timely_of setting history comes.fair clean)) d)) by

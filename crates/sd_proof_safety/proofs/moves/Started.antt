@@ -4,7 +4,7 @@ use Rattle.std.specs.Prelude.{◌≡◌, ℕ, ◌+◌, ◌*◌, ◌<◌, ◌≤�
 use Rattle.std.specs.List.{list_any, list_all}
 use Rattle.std.proofs.Common.{arith, ◌∙◌, ap, sym, subst}
 use Rattle.std.proofs.lemmas.Bool.{and_parts, and_from, and_left, and_right, or_parts, or_left, eqb-true, eq-eqb, leb-true, le-leb, false_from_ne_true, both_ways, not-true}
-use Rattle.sd_checker.specs.Num.Lists.{of_some, same_number, has}
+use Rattle.sd_checker.specs.Num.Lists.{map_or, same_number, has}
 use Rattle.sd_checker.specs.Topo.Network.{device_numbers}
 use Rattle.sd_checker.specs.Topo.declared.Thing.TheVariants as thing
 use Rattle.sd_checker.specs.Plan.declared.Plan.{Plan}
@@ -29,9 +29,9 @@ use Rattle.sd_proof_safety.specs.invariant.Eras.{era, plan_now, device_failed_no
 use Rattle.sd_proof_safety.specs.invariant.Clauses.{is_beginning, nothing_emitted, stays, member_follows, returned_is_joined, outsider_is_past, counted_is_current, blank_is_idle, root_acts, failed_root_is_not_old, ordinary_follows, backup_is_caused, move_is_caused, takeover_is_caused, path_stays, above_backup_root, backup_root_stays, shadow_is_short, none_sent_ahead, staged_root, left_out_is_hit}
 use Rattle.sd_proof_safety.specs.invariant.Invariant.{Core}
 use Rattle.sd_proof_safety.specs.invariant.Kept.{Keeps}
-use Rattle.sd_proof_safety.specs.invariant.Coming.{Comes}
+use Rattle.sd_proof_safety.specs.invariant.Coming.{IsNextEvent}
 use Rattle.sd_proof_safety.proofs.invariant.Orders.{renews}
-use Rattle.sd_proof_safety.proofs.invariant.Closings.{start_closes_none}
+use Rattle.sd_proof_safety.proofs.invariant.Closings.{start_closes_none, starts_unstaged}
 use Rattle.sd_proof_safety.specs.timers.Times as times
 use Rattle.sd_proof_safety.proofs.invariant.Known.{old_is_up}
 use Rattle.sd_proof_safety.specs.timers.Times.{AreTimed, heard_in}
@@ -43,14 +43,10 @@ use Rattle.sd_proof_safety.proofs.timers.Histories.{Timely, timed}
 use Rattle.sd_proof_safety.proofs.waits.SameReferences.{heard_is}
 use Rattle.sd_proof_safety.proofs.waits.Beginning.{quiet, still}
 use Rattle.sd_proof_safety.proofs.waits.LeastWaits.{timely_of, starts_in_time}
-use Rattle.sd_proof_safety.proofs.invariant.Empty.{core_before}
+use Rattle.sd_proof_safety.proofs.invariant.Empty.{core_before, asks_nothing}
 use Rattle.sd_proof_safety.proofs.moves.Happened.{HasRoots, roots_of}
-use Rattle.sd_proof_safety.proofs.moves.Tickings.{shown, vacuous}
 use Rattle.sd_proof_safety.proofs.moves.Starts.{IsUnstaged, no_window, first_era, none_mended, never_failed, not_among}
-
-no_stage : (stage more : Bool) → (not (true && stage) && more) ≡ true → stage ≡ false
-no_stage true more h = cc
-no_stage false more h = refl
+use Rattle.sd_proof_safety.proofs.invariant.Opening.{gives}
 
 plan_in : (u n : Bool) → u ≡ true → (not u || n) ≡ true → n ≡ true
 plan_in true n is h = h
@@ -87,7 +83,7 @@ not_old_past true true new blank o = refl
 not_old_past true false new blank o = cc
 not_old_past false old new blank o = refl
 
-module _ (setting : Setting) (r d c clock eps : ℕ) (history : List Event) (comes : Comes setting history (event.Start r d c clock eps)) where
+module _ (setting : Setting) (r d c clock eps : ℕ) (history : List Event) (comes : IsNextEvent setting history (event.Start r d c clock eps)) where
   abbrev e : Event
   e = event.Start r d c clock eps
 
@@ -138,7 +134,7 @@ module _ (setting : Setting) (r d c clock eps : ℕ) (history : List Event) (com
   -- No stage came before
 
   unstaged : IsUnstaged (seen_of (chronicle setting history))
-  unstaged = no_stage (list_any (λ x. is_stage x.event) (seen_of (chronicle setting history))) _
+  unstaged = starts_unstaged (list_any (λ x. is_stage x.event) (seen_of (chronicle setting history))) _
       (renews setting (event.Start r d c clock eps) history comes.clean).begins
 
   shut : window (seen_of (chronicle setting history)) ≡ None
@@ -148,10 +144,10 @@ module _ (setting : Setting) (r d c clock eps : ℕ) (history : List Event) (com
   one = first_era setting history unstaged
 
   no_commit : has_commit (seen_of now) ≡ false
-  no_commit = ap (λ (w : Option (List Seen)). of_some (option_map (λ v. (start_step false).seen ∷ v) w) false (list_any (λ x. is_commit x.event))) shut
+  no_commit = ap (λ (w : Option (List Seen)). map_or (option_map (λ v. (start_step false).seen ∷ v) w) false (list_any (λ x. is_commit x.event))) shut
 
   no_commit_then : has_commit (seen_of (chronicle setting history)) ≡ false
-  no_commit_then = ap (λ (w : Option (List Seen)). of_some w false (list_any (λ x. is_commit x.event))) shut
+  no_commit_then = ap (λ (w : Option (List Seen)). map_or w false (list_any (λ x. is_commit x.event))) shut
 
   -- What is not refused
 
@@ -202,20 +198,20 @@ module _ (setting : Setting) (r d c clock eps : ℕ) (history : List Event) (com
   -- What the step leaves alone
 
   up_other : (x : ℕ) → nat_eq d x ≡ false → is_up (seen_of now) x ≡ is_up (seen_of steps) x
-  up_other x other = ap (λ b. of_some (if b || false then Some true else None) (is_up (seen_of steps) x) (λ y. y)) other
+  up_other x other = ap (λ b. map_or (if b || false then Some true else None) (is_up (seen_of steps) x) (λ y. y)) other
 
   up_here : is_up (seen_of now) d ≡ true
-  up_here = ap (λ b. of_some (if b || false then Some true else None) (is_up (seen_of steps) d) (λ y. y)) (eq-eqb d d refl)
+  up_here = ap (λ b. map_or (if b || false then Some true else None) (is_up (seen_of steps) d) (λ y. y)) (eq-eqb d d refl)
 
   live_other : (x : ℕ) → nat_eq d x ≡ false → live_answers now x ≡ live_answers steps x
   live_other x other =
-      ap (λ u. if u then of_some (if nat_eq d x then Some (Some (answers_by made)) else None) (answers_in steps x) (λ o. o) else None) (up_other x other)
-      ∙ ap (λ b. if is_up (seen_of steps) x then of_some (if b then Some (Some (answers_by made)) else None) (answers_in steps x) (λ o. o) else None) other
+      ap (λ u. if u then map_or (if nat_eq d x then Some (Some (answers_by made)) else None) (answers_in steps x) (λ o. o) else None) (up_other x other)
+      ∙ ap (λ b. if is_up (seen_of steps) x then map_or (if b then Some (Some (answers_by made)) else None) (answers_in steps x) (λ o. o) else None) other
 
   live_here : live_answers now d ≡ Some (answers_by made)
   live_here =
-      ap (λ u. if u then of_some (if nat_eq d d then Some (Some (answers_by made)) else None) (answers_in steps d) (λ o. o) else None) up_here
-      ∙ ap (λ b. of_some (if b then Some (Some (answers_by made)) else None) (answers_in steps d) (λ o. o)) (eq-eqb d d refl)
+      ap (λ u. if u then map_or (if nat_eq d d then Some (Some (answers_by made)) else None) (answers_in steps d) (λ o. o) else None) up_here
+      ∙ ap (λ b. map_or (if b then Some (Some (answers_by made)) else None) (answers_in steps d) (λ o. o)) (eq-eqb d d refl)
 
   epoch_here : epoch_in now d ≡ Some (era steps)
   epoch_here = ap (λ (o : Option Answers). option_map (λ a. a.epoch) o) live_here
@@ -227,20 +223,20 @@ module _ (setting : Setting) (r d c clock eps : ℕ) (history : List Event) (com
   old_here = ap (λ o. same_number o (era steps)) epoch_here ∙ eq-eqb (era steps) (era steps) refl
 
   acts_other : (x : ℕ) → nat_eq d x ≡ false → acts_in now x ≡ acts_in steps x
-  acts_other x other = ap (λ (o : Option Answers). of_some o false (λ a. a.acts)) (live_other x other)
+  acts_other x other = ap (λ (o : Option Answers). map_or o false (λ a. a.acts)) (live_other x other)
 
   acts_root : is_root plan d ≡ true → acts_in now d ≡ true
-  acts_root root = ap (λ (o : Option Answers). of_some o false (λ a. a.acts)) live_here ∙ begins_root (is_root plan d) (is_backup_root plan d) root
+  acts_root root = ap (λ (o : Option Answers). map_or o false (λ a. a.acts)) live_here ∙ begins_root (is_root plan d) (is_backup_root plan d) root
 
   acts_not : is_root plan d ≡ false → acts_in now d ≡ false
-  acts_not other = ap (λ (o : Option Answers). of_some o false (λ a. a.acts)) live_here ∙ begins_other (is_root plan d) (is_backup_root plan d) other
+  acts_not other = ap (λ (o : Option Answers). map_or o false (λ a. a.acts)) live_here ∙ begins_other (is_root plan d) (is_backup_root plan d) other
 
   joined_same : (x : ℕ) → joined_in_window (seen_of now) x ≡ joined_in_window (seen_of steps) x
   joined_same x = go (window (seen_of steps))
     where
       go : (w : Option (List Seen))
-          → of_some (option_map (λ v. (start_step false).seen ∷ v) w) false (list_any (λ s. same_number (joined s.event) x))
-          ≡ of_some w false (list_any (λ s. same_number (joined s.event) x))
+          → map_or (option_map (λ v. (start_step false).seen ∷ v) w) false (list_any (λ s. same_number (joined s.event) x))
+          ≡ map_or w false (list_any (λ s. same_number (joined s.event) x))
       go None = refl
       go (Some v) = refl
 
@@ -260,13 +256,13 @@ module _ (setting : Setting) (r d c clock eps : ℕ) (history : List Event) (com
 
   follow_all : (x : ℕ) → IsTrue (member_follows setting now x)
   follow_all =
-      by_device (λ x. IsTrue (member_follows setting now x)) (shown _ (is_old now d || is_new now d) (λ all. or_left (is_old now d) (is_new now d) old_here))
+      by_device (λ x. IsTrue (member_follows setting now x)) (gives _ (is_old now d || is_new now d) (λ all. or_left (is_old now d) (is_new now d) old_here))
       (λ x other. rw (epoch_other x other, up_other x other) (core_then.census.members_follow x))
 
   returned : (x : ℕ) → IsTrue (returned_is_joined setting now x)
   returned =
       by_device (λ x. IsTrue (returned_is_joined setting now x))
-      (vacuous (is_member plan d && device_failed_now steps d && is_up (seen_of now) d) _
+      (asks_nothing (is_member plan d && device_failed_now steps d && is_up (seen_of now) d) _
       (false_from_ne_true (is_member plan d && device_failed_now steps d && is_up (seen_of now) d)
       (λ all. both_ways (device_failed_now steps d) sound_now
       (and_parts (is_member plan d) (device_failed_now steps d)
@@ -276,13 +272,13 @@ module _ (setting : Setting) (r d c clock eps : ℕ) (history : List Event) (com
   outsiders : (x : ℕ) → IsTrue (outsider_is_past setting now x)
   outsiders =
       by_device (λ x. IsTrue (outsider_is_past setting now x))
-      (vacuous (is_up (seen_of now) d && not (is_member plan d)) _ (and_right (is_up (seen_of now) d) (not (is_member plan d)) (ap not member)))
+      (asks_nothing (is_up (seen_of now) d && not (is_member plan d)) _ (and_right (is_up (seen_of now) d) (not (is_member plan d)) (ap not member)))
       (λ x other. rw (epoch_other x other, up_other x other, joined_same x) (core_then.census.outsiders x))
 
   current : (x : ℕ) → IsTrue (counted_is_current setting now x)
   current =
       by_device (λ x. IsTrue (counted_is_current setting now x))
-      (shown (is_counted setting (seen_of now) d) (not (is_past now d))
+      (gives (is_counted setting (seen_of now) d) (not (is_past now d))
       (λ counted. ap not (not_old_past (is_up (seen_of now) d) (is_old now d) (is_new now d) (is_blank now d) old_here)))
       (λ x other. rw (epoch_other x other, up_other x other, joined_same x) (core_then.census.current x))
 
@@ -291,7 +287,7 @@ module _ (setting : Setting) (r d c clock eps : ℕ) (history : List Event) (com
 
   idle : (x : ℕ) → IsTrue (blank_is_idle now x)
   idle =
-      by_device (λ x. IsTrue (blank_is_idle now x)) (vacuous (is_blank now d) _ not_blank)
+      by_device (λ x. IsTrue (blank_is_idle now x)) (asks_nothing (is_blank now d) _ not_blank)
       (λ x other. rw (live_other x other) (core_then.census.blanks x))
 
   -- C2
@@ -302,20 +298,20 @@ module _ (setting : Setting) (r d c clock eps : ℕ) (history : List Event) (com
       go : (b : Bool) → nat_eq d plan.root ≡ b → IsTrue (root_acts setting now)
       go true is =
           let same : d ≡ plan.root = eqb-true d plan.root is in
-          shown (root_lives setting now) (acts_in now plan.root) (λ lives. subst (λ y. acts_in now y ≡ true) same (acts_root (eq-eqb plan.root d (sym same))))
+          gives (root_lives setting now) (acts_in now plan.root) (λ lives. subst (λ y. acts_in now y ≡ true) same (acts_root (eq-eqb plan.root d (sym same))))
       go false other = rw (live_other plan.root other, up_other plan.root other) core_then.roles.root
 
   failed_root : IsTrue (failed_root_is_not_old setting now)
   failed_root = go (nat_eq d plan.root) refl
     where
       go : (b : Bool) → nat_eq d plan.root ≡ b → IsTrue (failed_root_is_not_old setting now)
-      go true is = vacuous (root_failed setting now) _ (subst (λ y. device_failed_now steps y ≡ false) (eqb-true d plan.root is) sound_now)
+      go true is = asks_nothing (root_failed setting now) _ (subst (λ y. device_failed_now steps y ≡ false) (eqb-true d plan.root is) sound_now)
       go false other = rw (epoch_other plan.root other) core_then.roles.failed_root
 
   ordinary_idle : (x : ℕ) → IsTrue (ordinary_follows setting now x)
   ordinary_idle =
       by_device (λ x. IsTrue (ordinary_follows setting now x))
-      (shown (is_old now d && is_ordinary plan d) (not (acts_in now d))
+      (gives (is_old now d && is_ordinary plan d) (not (acts_in now d))
       (λ all.
       let ordinary : is_ordinary plan d ≡ true = (and_parts (is_old now d) (is_ordinary plan d) all).1 in
       let two = and_parts (is_member plan d) (not (is_root plan d))
@@ -326,11 +322,11 @@ module _ (setting : Setting) (r d c clock eps : ℕ) (history : List Event) (com
   -- C3 to C6
 
   caused : (x : ℕ) → IsTrue (backup_is_caused setting now x)
-  caused x = vacuous (is_old now x && is_ordinary plan x && moved now x) _ (and_right (is_old now x && is_ordinary plan x) (moved now x) (nobody_moved x))
+  caused x = asks_nothing (is_old now x && is_ordinary plan x && moved now x) _ (and_right (is_old now x && is_ordinary plan x) (moved now x) (nobody_moved x))
 
   move_caused : IsTrue (move_is_caused setting now)
   move_caused =
-      vacuous (is_old now plan.backup_root && moved now plan.backup_root) _
+      asks_nothing (is_old now plan.backup_root && moved now plan.backup_root) _
       (and_right (is_old now plan.backup_root) (moved now plan.backup_root) (nobody_moved plan.backup_root))
 
   takeover_caused : IsTrue (takeover_is_caused setting now)
@@ -339,7 +335,7 @@ module _ (setting : Setting) (r d c clock eps : ℕ) (history : List Event) (com
       go : (b : Bool) → nat_eq d plan.backup_root ≡ b → IsTrue (takeover_is_caused setting now)
       go true is =
           let same : d ≡ plan.backup_root = eqb-true d plan.backup_root is in
-          vacuous (acts_in now plan.backup_root) _
+          asks_nothing (acts_in now plan.backup_root) _
           (subst (λ y. acts_in now y ≡ false) same
           (acts_not (false_from_ne_true (is_root plan d)
           (λ root. both_ways (nat_eq plan.backup_root plan.root) roots.apart
@@ -347,7 +343,7 @@ module _ (setting : Setting) (r d c clock eps : ℕ) (history : List Event) (com
       go false other = rw (live_other plan.backup_root other) core_then.causes.takeover
 
   path_put : (x : ℕ) → IsTrue (path_stays setting now x)
-  path_put x = shown _ (not (moved now x)) (λ all. ap not (nobody_moved x))
+  path_put x = gives _ (not (moved now x)) (λ all. ap not (nobody_moved x))
 
   abbrev all : List Step
   all = chronicle setting (event.Start r d c clock eps ∷ history)
@@ -355,7 +351,7 @@ module _ (setting : Setting) (r d c clock eps : ℕ) (history : List Event) (com
   shadow : (x : ℕ) → IsTrue (shadow_is_short setting now x)
   shadow x =
       subst (λ n. IsTrue (shadow_is_short setting n x)) now_is
-      (shown (backup_root_stays setting all && has (above_backup_root setting all) x && not (is_root (plan_now setting all) x) && is_old all x)
+      (gives (backup_root_stays setting all && has (above_backup_root setting all) x && not (is_root (plan_now setting all) x) && is_old all x)
       (nat_le (heard_at all (plan_now setting all).backup_root) (heard_at all x + max (depth setting.net * delay setting.net) (tick_gap setting.net)))
       (λ is.
       let old : is_old all x ≡ true =
@@ -406,7 +402,7 @@ module _ (setting : Setting) (r d c clock eps : ℕ) (history : List Event) (com
 
   left_out : (x : ℕ) → left_out_is_hit setting now x ≡ true
   left_out x =
-      ap (λ b. not (b && is_up (seen_of now) x && is_member plan x && not (of_some (staged setting (seen_of now)) false (λ p. is_member p x)))
+      ap (λ b. not (b && is_up (seen_of now) x && is_member plan x && not (map_or (staged setting (seen_of now)) false (λ p. is_member p x)))
       || (hit setting steps x && is_ordinary plan x)) no_commit
 
   core_now : Core setting now
@@ -430,14 +426,14 @@ module _ (setting : Setting) (r d c clock eps : ℕ) (history : List Event) (com
             };
         roles = record { root = roots_act; failed_root = failed_root; ordinary = ordinary_idle };
         causes = record { backups = caused; move = move_caused; takeover = takeover_caused; path = path_put; shadow = shadow };
-        uncommitted = record { devices = λ x. shown (not (has_commit (seen_of now))) (not (is_new now x)) (λ none. ap not (new_not x)); messages = messages };
+        uncommitted = record { devices = λ x. gives (not (has_commit (seen_of now))) (not (is_new now x)) (λ none. ap not (new_not x)); messages = messages };
         committed =
             record {
               entering = λ x. rw no_commit refl;
               entered = λ x. rw no_commit refl;
               committer = rw no_commit refl;
               acting = λ x. rw no_commit refl;
-              linked = λ x. vacuous (is_new now x && not (nat_eq x (staged_root setting now))) _ (and_left (is_new now x) _ (new_not x));
+              linked = λ x. asks_nothing (is_new now x && not (nat_eq x (staged_root setting now))) _ (and_left (is_new now x) _ (new_not x));
               left_out = or_left (list_all (left_out_is_hit setting now) (device_numbers setting.net)) _
                   (all_pass (left_out_is_hit setting now) (device_numbers setting.net) (λ x a. left_out x));
             };
@@ -446,7 +442,7 @@ module _ (setting : Setting) (r d c clock eps : ℕ) (history : List Event) (com
     where
       messages : IsTrue (none_sent_ahead now)
       messages =
-          shown (not (has_commit (seen_of now))) (list_all (λ f. nat_le f.message.epoch (era now)) (flights now))
+          gives (not (has_commit (seen_of now))) (list_all (λ f. nat_le f.message.epoch (era now)) (flights now))
           (λ none. plan_in (not (has_commit (seen_of steps))) (list_all (λ f. nat_le f.message.epoch (era steps)) (flights steps))
           (ap not no_commit_then) core_then.uncommitted.messages)
 

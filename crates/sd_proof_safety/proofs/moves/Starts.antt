@@ -4,7 +4,7 @@ use Rattle.std.specs.Prelude.{◌≡◌, Bool, true, false, ◌&&◌, ◌||◌, 
 use Rattle.std.specs.List.{list_any}
 use Rattle.std.proofs.Common.{◌∙◌, ap}
 use Rattle.std.proofs.lemmas.Bool.{and_left, or_parts, or_from, both_ways}
-use Rattle.sd_checker.specs.Num.Lists.{of_some, leading}
+use Rattle.sd_checker.specs.Num.Lists.{map_or, leading}
 use Rattle.sd_checker.specs.Topo.declared.Thing.{Thing}
 use Rattle.sd_checker.specs.Domain.Things.{same_thing}
 use Rattle.sd_history.specs.Sched.declared.Event.{Event}
@@ -36,9 +36,9 @@ not_closed : (setting : Setting) (e : Event) (history : List Event) → is_stage
     → (next_step setting (chronicle setting history) e).seen.closed ≡ false
 not_closed setting e history plain none =
     and_left (has_commit (begun.seen ∷ seen_of (chronicle setting history))) _
-    (ap (λ g. of_some (if g then Some [] else option_map (λ v. begun.seen ∷ v) (window (seen_of (chronicle setting history)))) false
+    (ap (λ g. map_or (if g then Some [] else option_map (λ v. begun.seen ∷ v) (window (seen_of (chronicle setting history)))) false
     (list_any (λ x. is_commit x.event))) plain
-    ∙ ap (λ (w : Option (List Seen)). of_some (option_map (λ v. begun.seen ∷ v) w) false (list_any (λ x. is_commit x.event)))
+    ∙ ap (λ (w : Option (List Seen)). map_or (option_map (λ v. begun.seen ∷ v) w) false (list_any (λ x. is_commit x.event)))
     (no_window (seen_of (chronicle setting history)) none))
   where
     begun : Step
@@ -84,7 +84,7 @@ never_failed (s ∷ seen) x none sound =
     by (fails x s.event) (mended s.event) parts.0 sound (never_failed seen x parts.1)
   where
     by : (f : Bool) (m : Option Thing) → is_some m ≡ false
-        → of_some (if f then Some true else if is_thing m x then Some false else None) (has_failed seen x) (λ y. y) ≡ false
+        → map_or (if f then Some true else if is_thing m x then Some false else None) (has_failed seen x) (λ y. y) ≡ false
         → (has_failed seen x ≡ false → list_any (λ y. fails x y.event) seen ≡ false) → (f || list_any (λ y. fails x y.event) seen) ≡ false
     by true m plain h rest = cc
     by false None plain h rest = rest h
@@ -98,7 +98,7 @@ not_among (s ∷ seen) x none =
     let parts = or_parts (fails x s.event) (list_any (λ y. fails x y.event) seen) none in
     by s.closed (failure_of s.event) refl parts.0 (not_among seen x parts.1)
   where
-    by : (b : Bool) (f : Option Thing) → failure_of s.event ≡ f → of_some f false (same_thing x) ≡ false
+    by : (b : Bool) (f : Option Thing) → failure_of s.event ≡ f → map_or f false (same_thing x) ≡ false
         → list_any (same_thing x) (filter_map (λ y. failure_of y.event) (leading (λ y. not y.closed) seen)) ≡ false
         → list_any (same_thing x) (filter_map (λ y. failure_of y.event) (if not b then s ∷ leading (λ y. not y.closed) seen else [])) ≡ false
     by true f is h rest = refl

@@ -4,7 +4,7 @@ use Rattle.std.specs.Prelude.{◌≡◌, ℕ, ◌+◌, ◌≤◌, ◌<◌, Bool,
 use Rattle.std.specs.List.{list_any, list_all}
 use Rattle.std.proofs.Common.{arith, ◌∙◌, ap, sym, subst}
 use Rattle.std.proofs.lemmas.Bool.{and_parts, and_from, eqb-true, eq-eqb, leb-true, leb-false, le-leb, false_from_ne_true, both_ways, not-true}
-use Rattle.sd_checker.specs.Num.Lists.{of_some, same_number, has}
+use Rattle.sd_checker.specs.Num.Lists.{map_or, same_number, has}
 use Rattle.sd_checker.specs.Plan.declared.Plan.{Plan}
 use Rattle.sd_checker.specs.Plan.declared.Duty.{Duty}
 use Rattle.sd_checker.specs.Plan.declared.End.{End}
@@ -25,16 +25,16 @@ use Rattle.sd_history.specs.Sched.declared.Event.TheVariants as event
 use Rattle.sd_history.specs.World.{Setting, is_up, has_commit, is_counted, joined_in_window}
 use Rattle.sd_history.specs.Steps.{Answers, Step, seen_of, acts_in, tells_nothing, tells_called, flights_by, flights_to, ends_at, flight_count, flights}
 use Rattle.sd_history.specs.Chronicle.{answers_by, past_in, chronicle}
+use Rattle.sd_history.proofs.Given.{some_is}
 use Rattle.sd_proof_safety.specs.invariant.Bounds.{second_low}
 use Rattle.sd_proof_safety.specs.invariant.Eras.{era, plan_now, is_old, is_new, is_blank, live_past, moved, on_primary, on_backup, rests_for, is_ordinary, hit, hit_otherwise, root_failed, root_lives, device_failed_now}
 use Rattle.sd_proof_safety.specs.invariant.Clauses.{is_beginning, nothing_emitted, stays, root_acts, ordinary_follows, backup_is_caused, move_is_caused, takeover_is_caused, path_stays, above_backup_root, backup_root_stays, none_sent_ahead, committer_acts, staged_root}
 use Rattle.sd_proof_safety.specs.invariant.Invariant.{Core}
 use Rattle.sd_proof_safety.specs.invariant.Silences.{AreSilent}
 use Rattle.sd_proof_safety.specs.invariant.Kept.{KeepsTick}
-use Rattle.sd_proof_safety.specs.invariant.Coming.{Comes, AtNext}
+use Rattle.sd_proof_safety.specs.invariant.Coming.{IsNextEvent, AtNext}
 use Rattle.sd_proof_safety.proofs.invariant.Sides.{implied}
 use Rattle.sd_proof_safety.proofs.invariant.Causes.{takeover_needs_failure}
-use Rattle.sd_proof_safety.proofs.timers.Marks.{some_is}
 use Rattle.sd_proof_safety.proofs.timers.Pasts.{Takes, takeover_from_backup}
 use Rattle.sd_proof_safety.proofs.waits.Waits.{Stands, old_stands, backup_root_takes_over}
 use Rattle.sd_proof_safety.specs.invariant.Silences.{EntersSoon}
@@ -42,12 +42,14 @@ use Rattle.sd_proof_safety.proofs.waits.Beginning.{quiet, still, moved_late}
 use Rattle.sd_proof_safety.proofs.waits.LeastWaits.{not_late}
 use Rattle.sd_proof_safety.proofs.moves.Ticks as ticks
 use Rattle.sd_proof_safety.proofs.moves.Tickings as tickings
-use Rattle.sd_proof_safety.proofs.moves.Tickings.{shown, stays_on, vacuous}
+use Rattle.sd_proof_safety.proofs.moves.Tickings.{stays_on}
 use Rattle.sd_proof_safety.proofs.waits.Epochs.{IsNumbered, duty_numbered}
 use Rattle.sd_proof_safety.proofs.moves.Movers.{timely_now, timely_then, inv, live, answers, acts_is, epoch_is, with_duty_not_blank, new_root_acts}
 use Rattle.sd_proof_safety.proofs.moves.Happened.{HasRoots, root_up, roots_then, told, sent, reaching, activated, acted, told_is, now_is}
 use Rattle.sd_proof_safety.proofs.moves.Happened as happened
 use Rattle.sd_proof_safety.proofs.moves.Moves.{put_there}
+use Rattle.sd_proof_safety.proofs.invariant.Opening.{gives}
+use Rattle.sd_proof_safety.proofs.invariant.Empty.{asks_nothing}
 
 took_when : (e t m : Bool) → (if e then Emitted else if t then TookOver else if m then Moved else Nothing) ≡ TookOver → t ≡ true
 took_when true t m is = cc
@@ -56,7 +58,7 @@ took_when false false true is = cc
 took_when false false false is = cc
 
 -- a backup root has a duty
-duty_of_backup : (o : Option Duty) → of_some o false (λ duty. elim duty.role [ role.BackupRoot ↦ true | _ ↦ false ]) ≡ true → (u : Duty) × (o ≡ Some u)
+duty_of_backup : (o : Option Duty) → map_or o false (λ duty. elim duty.role [ role.BackupRoot ↦ true | _ ↦ false ]) ≡ true → (u : Duty) × (o ≡ Some u)
 duty_of_backup None is = cc
 duty_of_backup (Some u) is = (u, refl)
 
@@ -120,7 +122,7 @@ all_to limit setting steps r d message n (x ∷ ends) small =
     and_from (nat_le message.epoch limit) _ small (all_to limit setting steps r d message (n + 1) ends small)
 
 module _ (setting : Setting) (silent : AreSilent setting) (enters : AtNext EntersSoon setting) (r d c : ℕ) (history : List Event)
-    (comes : Comes setting history (event.Tick r d c))
+    (comes : IsNextEvent setting history (event.Tick r d c))
     (p : Past) (there : past_in (chronicle setting history) d ≡ Some p) (transition_is : transition_of p (calls.Tick c) ≡ TookOver) where
   abbrev steps : List Step
   steps = chronicle setting history
@@ -186,7 +188,7 @@ module _ (setting : Setting) (silent : AreSilent setting) (enters : AtNext Enter
 
   others_act : (x : ℕ) → nat_eq d x ≡ false → acts_in now x ≡ acts_in steps x
   others_act x other =
-      ap (λ (o : Option Answers). of_some o false (λ a. a.acts))
+      ap (λ (o : Option Answers). map_or o false (λ a. a.acts))
       (ticks.others_kept setting (chronicle setting history) r d c (reaching setting r d c history comes p there)
       (activated setting r d c history comes p there) (acted setting r d c history comes p there) (told setting r d c history comes p there)
       (sent setting r d c history comes p there) p TookOver x other)
@@ -196,7 +198,7 @@ module _ (setting : Setting) (silent : AreSilent setting) (enters : AtNext Enter
       (activated setting r d c history comes p there) (acted setting r d c history comes p there) (told setting r d c history comes p there)
       (sent setting r d c history comes p there) p TookOver refl (live setting r d c history comes p there) there
       (answers setting r d c history comes p there) transition_is (told_is setting r d c history comes p there TookOver transition_is)
-      ∙ or_true (of_some (later_entry p) (starts_as_root p.making) (λ entry. is_commit entry.transition))
+      ∙ or_true (map_or (later_entry p) (starts_as_root p.making) (λ entry. is_commit entry.transition))
       (list_any (λ x. is_takeover x.transition) (since_entry p))
 
   acts_grow : (x : ℕ) → acts_in steps x ≡ true → acts_in now x ≡ true
@@ -229,7 +231,7 @@ module _ (setting : Setting) (silent : AreSilent setting) (enters : AtNext Enter
       let s : Stands setting steps d = old_stands setting history d old in
       let mine : duty_now p ≡ Some (duty_of setting.net plan (era steps) d) = ap duty_now (some_is (sym there ∙ s.there)) ∙ s.duty in
       role_backup (is_root plan d) (is_backup_root plan d)
-      (sym (ap (λ o. of_some o false (λ (u : Duty). elim u.role [ role.BackupRoot ↦ true | _ ↦ false ])) mine) ∙ took.backup_root)
+      (sym (ap (λ o. map_or o false (λ (u : Duty). elim u.role [ role.BackupRoot ↦ true | _ ↦ false ])) mine) ∙ took.backup_root)
 
   -- C4: the root failed
 
@@ -270,7 +272,7 @@ module _ (setting : Setting) (silent : AreSilent setting) (enters : AtNext Enter
       (live setting r d c history comes p there) there (answers setting r d c history comes p there) transition_is
       (told_is setting r d c history comes p there TookOver transition_is) core_then not_new not_blank started
       (λ x. IsTrue (ordinary_follows setting now x))
-      (vacuous (is_old now d && is_ordinary plan d) _
+      (asks_nothing (is_old now d && is_ordinary plan d) _
       (false_from_ne_true (is_old now d && is_ordinary plan d)
       (λ is.
       let parts = and_parts (is_old now d) (is_ordinary plan d) is in
@@ -294,7 +296,7 @@ module _ (setting : Setting) (silent : AreSilent setting) (enters : AtNext Enter
   takeover_caused = go (nat_eq d plan.backup_root) refl
     where
       go : (b : Bool) → nat_eq d plan.backup_root ≡ b → IsTrue (takeover_is_caused setting now)
-      go true is = shown (acts_in now plan.backup_root) (root_failed setting steps) (λ acts. root_was_failed is)
+      go true is = gives (acts_in now plan.backup_root) (root_failed setting steps) (λ acts. root_was_failed is)
       go false other = rw (others_act plan.backup_root other) core_then.causes.takeover
 
   off_primary : on_primary now d ≡ false
@@ -327,7 +329,7 @@ module _ (setting : Setting) (silent : AreSilent setting) (enters : AtNext Enter
   epoch_small : epoch_now p ≤ era steps
   epoch_small =
       let numbered : IsNumbered (era steps) duty.0 = duty_numbered setting history d p there duty.0 duty.1 in
-      let is : epoch_now p ≡ duty.0.epoch = ap (λ o. of_some o 0 (λ (u : Duty). u.epoch)) duty.1 in
+      let is : epoch_now p ≡ duty.0.epoch = ap (λ o. map_or o 0 (λ (u : Duty). u.epoch)) duty.1 in
       subst (λ n. n ≤ era steps) (sym is)
       (below duty.0.epoch (era steps) numbered.1
       (λ same. both_ways (is_new steps d) not_new (ap (λ o. same_number o (era steps + 1)) (epoch_is setting r d c history comes p there ∙ ap (λ n. Some n) is)
@@ -348,19 +350,19 @@ module _ (setting : Setting) (silent : AreSilent setting) (enters : AtNext Enter
 
   effect_is : (told setting r d c history comes p there).effect ≡ Send message
   effect_is =
-      ap (λ o. (of_some o tells_nothing
+      ap (λ o. (map_or o tells_nothing
       (λ past. tells_called (effect_of past (calls.Tick c)) (answers_by (added past (calls.Tick c) (transition_of past (calls.Tick c)))))).effect) there
       ∙ ap (λ x. effect_of_latest (added p (calls.Tick c) x) (record { call = calls.Tick c; transition = x })) transition_is
 
   sent_is : sent setting r d c history comes p there ≡ flights_to setting steps r d message (flight_count steps + 1) (ends_at setting steps (epoch_now after) d)
   sent_is =
-      ap (λ e. of_some (told setting r d c history comes p there).answers [] (λ a. flights_by setting steps r d a.epoch e)) effect_is
-      ∙ ap (λ o. of_some o [] (λ (a : Answers). flights_to setting steps r d message (flight_count steps + 1) (ends_at setting steps a.epoch d)))
+      ap (λ e. map_or (told setting r d c history comes p there).answers [] (λ a. flights_by setting steps r d a.epoch e)) effect_is
+      ∙ ap (λ o. map_or o [] (λ (a : Answers). flights_to setting steps r d message (flight_count steps + 1) (ends_at setting steps a.epoch d)))
       (told_is setting r d c history comes p there TookOver transition_is)
 
   messages : IsTrue (none_sent_ahead now)
   messages =
-      shown (not (has_commit (seen_of now))) (list_all (λ f. nat_le f.message.epoch (era now)) (flights now))
+      gives (not (has_commit (seen_of now))) (list_all (λ f. nat_le f.message.epoch (era now)) (flights now))
       (λ none.
       all_append (λ f. nat_le f.message.epoch (era steps)) (sent setting r d c history comes p there) (flights steps)
       (subst (λ fs. list_all (λ (f : Flight). nat_le f.message.epoch (era steps)) fs ≡ true) (sym sent_is)
@@ -395,7 +397,7 @@ module _ (setting : Setting) (silent : AreSilent setting) (enters : AtNext Enter
       (acted setting r d c history comes p there) (told setting r d c history comes p there) (sent setting r d c history comes p there) p TookOver refl refl
       (live setting r d c history comes p there) there (answers setting r d c history comes p there) transition_is
       (told_is setting r d c history comes p there TookOver transition_is) core_then not_new not_blank started (λ x. IsTrue (committer_acts setting now x))
-      (shown (has_commit (seen_of now) && is_counted setting (seen_of now) d)
+      (gives (has_commit (seen_of now) && is_counted setting (seen_of now) d)
       (if nat_eq d (staged_root setting now) then acts_in now d else not (acts_in now d))
       (λ both.
       let parts = and_parts (has_commit (seen_of now)) (is_counted setting (seen_of now) d) both in
@@ -457,7 +459,7 @@ pub takeover_keeps : (setting : Setting) → AreSilent setting → AtNext Enters
 takeover_keeps setting silent enters r d c history comes is = go (past_in (chronicle setting history) d) refl
   where
     go : (o : Option Past) → past_in (chronicle setting history) d ≡ o → Core setting (chronicle setting (event.Tick r d c ∷ history))
-    go None at = let none : Nothing ≡ TookOver = sym (ap (λ (o : Option Past). of_some o Nothing (λ past. transition_of past (calls.Tick c))) at) ∙ is in cc
+    go None at = let none : Nothing ≡ TookOver = sym (ap (λ (o : Option Past). map_or o Nothing (λ past. transition_of past (calls.Tick c))) at) ∙ is in cc
     go (Some p) at =
         took_over_keeps setting silent enters r d c history comes p at
-        (sym (ap (λ (o : Option Past). of_some o Nothing (λ past. transition_of past (calls.Tick c))) at) ∙ is)
+        (sym (ap (λ (o : Option Past). map_or o Nothing (λ past. transition_of past (calls.Tick c))) at) ∙ is)

@@ -4,9 +4,10 @@ use Rattle.std.specs.Prelude.{◌≡◌, ℕ, zero, suc, ◌+◌, Bool, true, fa
 use Rattle.std.specs.List.{list_any, list_all}
 use Rattle.std.proofs.Common.{◌∙◌, ap, sym, subst}
 use Rattle.std.proofs.lemmas.Bool.{and_parts, and_from, or_left, eqb-true, eq-eqb, false_from_ne_true, both_ways, not-true}
-use Rattle.sd_checker.specs.Num.Lists.{of_some, same_number, below, has}
+use Rattle.sd_checker.specs.Num.Lists.{map_or, same_number, below, has}
 use Rattle.sd_checker.specs.Topo.Network.{device_numbers}
 use Rattle.sd_checker.specs.Plan.Plans.{is_member, is_root}
+use Rattle.sd_checker.proofs.Num.Shared.{same_number-some}
 use Rattle.sd_history.specs.Msg.declared.Flight.{Flight}
 use Rattle.sd_history.specs.Core.Calls as calls
 use Rattle.sd_history.specs.Core.Calls.{Transition, Past}
@@ -22,13 +23,15 @@ use Rattle.sd_proof_safety.specs.invariant.Bounds.{depth}
 use Rattle.sd_proof_safety.specs.invariant.Eras.{plan_now, is_old, is_new, is_blank, is_past, on_primary, heard_at, root_failed}
 use Rattle.sd_proof_safety.specs.invariant.Clauses.{is_beginning, was_touched, member_is_up, member_follows, returned_is_joined, outsider_is_past, counted_is_current, blank_is_idle, link_is_sound, failed_root_is_not_old, shadow_is_short, above_backup_root, backup_root_stays, none_is_new, member_enters, member_entered, committer_is_root, new_is_linked, left_out_is_hit, someone_untouched, leads_to_root, staged_root, nothing_emitted, stays, root_acts, ordinary_follows, backup_is_caused, move_is_caused, takeover_is_caused, path_stays, none_sent_ahead, committer_acts}
 use Rattle.sd_proof_safety.specs.invariant.Invariant.{Core, IsCounted, IsClosed, leaves_out_rightly}
-use Rattle.sd_proof_safety.proofs.invariant.Sides.{implied, same_is_some}
+use Rattle.sd_proof_safety.proofs.invariant.Sides.{implied}
 use Rattle.sd_proof_safety.proofs.invariant.Prefix.{Passing, some_passing, any_passing}
 use Rattle.sd_proof_safety.proofs.invariant.Parents.{acting_follows_nobody}
 use Rattle.sd_proof_safety.specs.invariant.Silences.{EntersSoon}
 use Rattle.sd_proof_safety.proofs.moves.Ticks as ticks
 use Rattle.sd_proof_safety.proofs.moves.Movers.{counted_when, not_past}
 use Rattle.sd_proof_safety.proofs.invariant.Known.{up_when_numbered}
+use Rattle.sd_proof_safety.proofs.invariant.Opening.{gives}
+use Rattle.sd_proof_safety.proofs.invariant.Empty.{asks_nothing}
 
 once : (b m u : Bool) → (not (not false && m) || u) ≡ true → (not (not b && m) || u) ≡ true
 once true m u clause = refl
@@ -43,14 +46,6 @@ stays_on false was a b c n on clause = refl
 stays_on true true a b c n on clause = clause
 stays_on true false a b c n on clause = let is = on refl in cc
 
-pub vacuous : (b x : Bool) → b ≡ false → (not b || x) ≡ true
-vacuous true x is = cc
-vacuous false x is = refl
-
-pub shown : (b x : Bool) → (b ≡ true → x ≡ true) → (not b || x) ≡ true
-shown true x says = says refl
-shown false x says = refl
-
 none_begin : (f : ℕ → Bool) (xs : List ℕ) → list_any (λ x. f x && false) xs ≡ false
 none_begin f [] = refl
 none_begin f (x ∷ xs) = by (f x) (none_begin f xs)
@@ -59,14 +54,14 @@ none_begin f (x ∷ xs) = by (f x) (none_begin f xs)
     by true rest = rest
     by false rest = rest
 
-first_only : (a b : Bool) → (a || b) ≡ true → b ≡ false → a ≡ true
+pub first_only : (a b : Bool) → (a || b) ≡ true → b ≡ false → a ≡ true
 first_only true b is none = refl
 first_only false true is none = cc
 first_only false false is none = cc
 
-of_some_same : (f g : ℕ → Bool) → ((y : ℕ) → f y ≡ g y) → (o : Option ℕ) → of_some o false f ≡ of_some o false g
-of_some_same f g same None = refl
-of_some_same f g same (Some y) = same y
+map_or_same : (f g : ℕ → Bool) → ((y : ℕ) → f y ≡ g y) → (o : Option ℕ) → map_or o false f ≡ map_or o false g
+map_or_same f g same None = refl
+map_or_same f g same (Some y) = same y
 
 module _ (setting : Setting) (history : List Event) (r d c : ℕ) (reaching : List Flight) (activated : Option ℕ) (acted : Bool) (told : Told)
     (sent : List Flight) (p : Past) (transition : Transition)
@@ -149,7 +144,7 @@ module _ (setting : Setting) (history : List Event) (r d c : ℕ) (reaching : Li
 
   pub idle : (x : ℕ) → IsTrue (blank_is_idle now x)
   idle =
-      by_device (λ x. IsTrue (blank_is_idle now x)) (vacuous (is_blank now d) _ (blanks d ∙ not_blank))
+      by_device (λ x. IsTrue (blank_is_idle now x)) (asks_nothing (is_blank now d) _ (blanks d ∙ not_blank))
       (λ x other. rw (ticks.others_kept setting (chronicle setting history) r d c reaching activated acted told sent p transition x other)
       (core.census.blanks x))
 
@@ -252,10 +247,10 @@ module _ (setting : Setting) (history : List Event) (r d c : ℕ) (reaching : Li
       cc)
 
   linked_then : (x : ℕ) → is_new steps x ≡ true → nat_eq x (staged_root setting steps) ≡ false
-      → (on_primary steps x && of_some (parent_in steps x) false (is_new steps) && leads_to_root setting steps x) ≡ true
+      → (on_primary steps x && map_or (parent_in steps x) false (is_new steps) && leads_to_root setting steps x) ≡ true
   linked_then x new other =
       implied (is_new steps x && not (nat_eq x (staged_root setting steps)))
-      (on_primary steps x && of_some (parent_in steps x) false (is_new steps) && leads_to_root setting steps x) (core.committed.linked x)
+      (on_primary steps x && map_or (parent_in steps x) false (is_new steps) && leads_to_root setting steps x) (core.committed.linked x)
       (and_from (is_new steps x) (not (nat_eq x (staged_root setting steps))) new (ap not other))
 
   parents : (x : ℕ) → nat_eq d x ≡ false → parent_in now x ≡ parent_in steps x
@@ -275,7 +270,7 @@ module _ (setting : Setting) (history : List Event) (r d c : ℕ) (reaching : Li
   three_from true false c' x y z = cc
   three_from false b c' x y z = cc
 
-  parent_new : (o : Option ℕ) (y : ℕ) → o ≡ Some y → of_some o false (is_new steps) ≡ true → is_new steps y ≡ true
+  parent_new : (o : Option ℕ) (y : ℕ) → o ≡ Some y → map_or o false (is_new steps) ≡ true → is_new steps y ≡ true
   parent_new None y same new = cc
   parent_new (Some z) y same new = subst (λ v. is_new steps v ≡ true) (some_is same) new
 
@@ -291,7 +286,7 @@ module _ (setting : Setting) (history : List Event) (r d c : ℕ) (reaching : Li
       go (Some z) is to before =
           let at = before z new is in
           let linked =
-          three (on_primary steps z) (of_some (parent_in steps z) false (is_new steps)) (leads_to_root setting steps z)
+          three (on_primary steps z) (map_or (parent_in steps z) false (is_new steps)) (leads_to_root setting steps z)
           (linked_then z at.0 (follower z y at.0 to)) in
           (parent_new (parent_in steps z) y to linked.1, ap (λ (o : Option ℕ). option_and_then (parent_in now) o) at.1 ∙ parents z (is_other z at.0) ∙ to)
 
@@ -300,24 +295,24 @@ module _ (setting : Setting) (history : List Event) (r d c : ℕ) (reaching : Li
       let found : Passing (λ n. same_number (follow (parent_in steps) n x) (staged_root setting steps)) (below (depth setting.net + 1)) =
       some_passing _ (below (depth setting.net + 1)) is in
       let root : ℕ = staged_root setting steps in
-      let to = chain found.one x root new (same_is_some (follow (parent_in steps) found.one x) root found.passed) in
+      let to = chain found.one x root new (same_number-some (follow (parent_in steps) found.one x) root found.passed) in
       subst (λ z. list_any (λ n. same_number (follow (parent_in now) n x) z) (below (depth setting.net + 1)) ≡ true) (sym staged_roots)
       (any_passing (λ n. same_number (follow (parent_in now) n x) root) found.one (below (depth setting.net + 1)) found.there
       (ap (λ o. same_number o root) to.1 ∙ eq-eqb root root refl))
 
   pub linked : (x : ℕ) → IsTrue (new_is_linked setting now x)
   linked x =
-      shown (is_new now x && not (nat_eq x (staged_root setting now)))
-      (on_primary now x && of_some (parent_in now x) false (is_new now) && leads_to_root setting now x)
+      gives (is_new now x && not (nat_eq x (staged_root setting now)))
+      (on_primary now x && map_or (parent_in now x) false (is_new now) && leads_to_root setting now x)
       (λ is.
       let both = and_parts (is_new now x) (not (nat_eq x (staged_root setting now))) is in
       let new : is_new steps x ≡ true = sym (news x) ∙ both.0 in
       let other : nat_eq x (staged_root setting steps) ≡ false =
       ap (λ z. nat_eq x z) (sym staged_roots) ∙ not-true (nat_eq x (staged_root setting now)) both.1 in
-      let was = three (on_primary steps x) (of_some (parent_in steps x) false (is_new steps)) (leads_to_root setting steps x) (linked_then x new other) in
-      three_from (on_primary now x) (of_some (parent_in now x) false (is_new now)) (leads_to_root setting now x)
+      let was = three (on_primary steps x) (map_or (parent_in steps x) false (is_new steps)) (leads_to_root setting steps x) (linked_then x new other) in
+      three_from (on_primary now x) (map_or (parent_in now x) false (is_new now)) (leads_to_root setting now x)
       (ticks.other_on_primary setting (chronicle setting history) r d c reaching activated acted told sent p transition x (is_other x new) ∙ was.0)
-      (ap (λ (o : Option ℕ). of_some o false (is_new now)) (parents x (is_other x new)) ∙ of_some_same (is_new now) (is_new steps) news (parent_in steps x)
+      (ap (λ (o : Option ℕ). map_or o false (is_new now)) (parents x (is_other x new)) ∙ map_or_same (is_new now) (is_new steps) news (parent_in steps x)
       ∙ was.1)
       (leads x new was.2))
 

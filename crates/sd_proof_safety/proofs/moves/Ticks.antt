@@ -4,7 +4,7 @@ use Rattle.std.specs.Prelude.{◌≡◌, ℕ, Bool, true, false, ◌&&◌, ◌||
 use Rattle.std.specs.List.{list_any, list_all}
 use Rattle.std.proofs.Common.{◌∙◌, ap, sym, subst}
 use Rattle.std.proofs.lemmas.Bool.{eqb-true, eq-eqb}
-use Rattle.sd_checker.specs.Num.Lists.{of_some, latest, same_number}
+use Rattle.sd_checker.specs.Num.Lists.{map_or, find_map_or, same_number}
 use Rattle.sd_checker.specs.Plan.declared.Plan.{Plan}
 use Rattle.sd_checker.specs.Plan.Plans.{members, is_member}
 use Rattle.sd_checker.specs.Plan.declared.Duty.{Duty}
@@ -76,8 +76,8 @@ module _ (setting : Setting) (steps : List Step) (r d c : ℕ) (reaching : List 
   commit_kept = go (window (seen_of steps))
     where
       go : (w : Option (List Seen))
-          → of_some (option_map (λ v. (tick_step r d c reaching activated acted told sent false).seen ∷ v) w) false (list_any (λ s. is_commit s.event))
-          ≡ of_some w false (list_any (λ s. is_commit s.event))
+          → map_or (option_map (λ v. (tick_step r d c reaching activated acted told sent false).seen ∷ v) w) false (list_any (λ s. is_commit s.event))
+          ≡ map_or w false (list_any (λ s. is_commit s.event))
       go None = refl
       go (Some v) = refl
 
@@ -95,16 +95,16 @@ module _ (setting : Setting) (steps : List Step) (r d c : ℕ) (reaching : List 
   joined_kept x = go (window (seen_of steps))
     where
       go : (w : Option (List Seen))
-          → of_some (option_map (λ v. (tick_step r d c reaching activated acted told sent false).seen ∷ v) w) false
-          (list_any (λ s. same_number (joined s.event) x)) ≡ of_some w false (list_any (λ s. same_number (joined s.event) x))
+          → map_or (option_map (λ v. (tick_step r d c reaching activated acted told sent false).seen ∷ v) w) false
+          (list_any (λ s. same_number (joined s.event) x)) ≡ map_or w false (list_any (λ s. same_number (joined s.event) x))
       go None = refl
       go (Some v) = refl
 
   pub staged_member_kept : (x : ℕ) → is_staged_member setting (seen_of now) x ≡ is_staged_member setting (seen_of steps) x
-  staged_member_kept x = ap (λ (o : Option Plan). of_some o false (λ plan. is_member plan x)) staged_kept
+  staged_member_kept x = ap (λ (o : Option Plan). map_or o false (λ plan. is_member plan x)) staged_kept
 
   pub staged_root_kept : staged_root setting now ≡ staged_root setting steps
-  staged_root_kept = ap (λ (o : Option Plan). of_some o 0 (λ plan. plan.root)) staged_kept
+  staged_root_kept = ap (λ (o : Option Plan). map_or o 0 (λ plan. plan.root)) staged_kept
 
   pub counted_kept : (x : ℕ) → is_counted setting (seen_of now) x ≡ is_counted setting (seen_of steps) x
   counted_kept x = ap (λ b. is_up (seen_of steps) x && (is_member (plan_now setting steps) x || b)) (joined_kept x)
@@ -116,9 +116,9 @@ module _ (setting : Setting) (steps : List Step) (r d c : ℕ) (reaching : List 
       test s = if is_commit s.event then Some (reference_of s.event) else None
 
       go : (w : Option (List Seen))
-          → of_some (option_map (λ v. (tick_step r d c reaching activated acted told sent false).seen ∷ v) w) 0
-          (λ v. latest (λ s. if is_commit s.event then Some (reference_of s.event) else None) v 0)
-          ≡ of_some w 0 (λ v. latest (λ s. if is_commit s.event then Some (reference_of s.event) else None) v 0)
+          → map_or (option_map (λ v. (tick_step r d c reaching activated acted told sent false).seen ∷ v) w) 0
+          (λ v. find_map_or (λ s. if is_commit s.event then Some (reference_of s.event) else None) v 0)
+          ≡ map_or w 0 (λ v. find_map_or (λ s. if is_commit s.event then Some (reference_of s.event) else None) v 0)
       go None = refl
       go (Some v) = refl
 
@@ -128,7 +128,7 @@ module _ (setting : Setting) (steps : List Step) (r d c : ℕ) (reaching : List 
   live_of_tick x = go (nat_eq d x) (is_up (seen_of steps) x)
     where
       go : (b u : Bool)
-          → (if u then of_some (if b then Some told.answers else None) (answers_in steps x) (λ o. o) else None)
+          → (if u then map_or (if b then Some told.answers else None) (answers_in steps x) (λ o. o) else None)
           ≡ (if b then (if u then told.answers else None) else (if u then answers_in steps x else None))
       go true true = refl
       go true false = refl
@@ -140,7 +140,7 @@ module _ (setting : Setting) (steps : List Step) (r d c : ℕ) (reaching : List 
 
   pub other_moved : (x : ℕ) → nat_eq d x ≡ false → moved now x ≡ moved steps x
   other_moved x other =
-      ap (λ b. of_some
+      ap (λ b. map_or
       (if is_up (seen_of steps) x then (if b then option_map (λ past. after past (calls.Tick c)) (past_in steps x) else past_in steps x) else None) false
       has_moved) other
 
@@ -148,10 +148,10 @@ module _ (setting : Setting) (steps : List Step) (r d c : ℕ) (reaching : List 
   other_on_primary x other =
       ap (λ b. is_some
       (if is_up (seen_of steps) x then (if b then option_map (λ past. after past (calls.Tick c)) (past_in steps x) else past_in steps x) else None)
-      && not (of_some
+      && not (map_or
       (if is_up (seen_of steps) x then (if b then option_map (λ past. after past (calls.Tick c)) (past_in steps x) else past_in steps x) else None) false
       has_moved) && not (acts_in now x)) other
-      ∙ ap (λ (o : Option Answers). is_some (live_past steps x) && not (moved steps x) && not (of_some o false (λ a. a.acts))) (others_kept x other)
+      ∙ ap (λ (o : Option Answers). is_some (live_past steps x) && not (moved steps x) && not (map_or o false (λ a. a.acts))) (others_kept x other)
 
   module _ (none : taken_up transition ≡ None) (live : is_up (seen_of steps) d ≡ true) (there : past_in steps d ≡ Some p)
       (answers : answers_in steps d ≡ Some (answers_by p)) (transition_is : transition_of p (calls.Tick c) ≡ transition)
@@ -185,7 +185,7 @@ module _ (setting : Setting) (steps : List Step) (r d c : ℕ) (reaching : List 
 
     pub settled_kept : (epoch x : ℕ) → has_settled now epoch x ≡ has_settled steps epoch x
     settled_kept epoch =
-        word_kept (λ o. of_some o false (λ a. nat_eq a.epoch epoch && a.sealed))
+        word_kept (λ o. map_or o false (λ a. nat_eq a.epoch epoch && a.sealed))
         (ap (λ n. nat_eq n epoch && is_sealed (added p (calls.Tick c) transition)) (kept_epoch p c transition none)
         ∙ ap (λ b. nat_eq (epoch_now p) epoch && b) (kept_seal p c transition none))
 
@@ -204,20 +204,20 @@ module _ (setting : Setting) (steps : List Step) (r d c : ℕ) (reaching : List 
 
     pub moved_now : moved now d ≡ has_moved (added p (calls.Tick c) transition)
     moved_now =
-        ap (λ u. of_some (if u then (if nat_eq d d then option_map (λ past. after past (calls.Tick c)) (past_in steps d) else past_in steps d) else None) false
+        ap (λ u. map_or (if u then (if nat_eq d d then option_map (λ past. after past (calls.Tick c)) (past_in steps d) else past_in steps d) else None) false
         has_moved) live
-        ∙ ap (λ b. of_some (if b then option_map (λ past. after past (calls.Tick c)) (past_in steps d) else past_in steps d) false has_moved) (eq-eqb d d refl)
-        ∙ ap (λ (o : Option Past). of_some (option_map (λ past. after past (calls.Tick c)) o) false has_moved) there
+        ∙ ap (λ b. map_or (if b then option_map (λ past. after past (calls.Tick c)) (past_in steps d) else past_in steps d) false has_moved) (eq-eqb d d refl)
+        ∙ ap (λ (o : Option Past). map_or (option_map (λ past. after past (calls.Tick c)) o) false has_moved) there
         ∙ ap (λ x. has_moved (added p (calls.Tick c) x)) transition_is
 
     pub moved_before : moved steps d ≡ has_moved p
-    moved_before = ap (λ u. of_some (if u then past_in steps d else None) false has_moved) live ∙ ap (λ (o : Option Past). of_some o false has_moved) there
+    moved_before = ap (λ u. map_or (if u then past_in steps d else None) false has_moved) live ∙ ap (λ (o : Option Past). map_or o false has_moved) there
 
     pub acts_now : acts_in now d ≡ is_acting (added p (calls.Tick c) transition)
-    acts_now = ap (λ (o : Option Answers). of_some o false (λ a. a.acts)) now_answers
+    acts_now = ap (λ (o : Option Answers). map_or o false (λ a. a.acts)) now_answers
 
     pub acts_before : acts_in steps d ≡ is_acting p
-    acts_before = ap (λ (o : Option Answers). of_some o false (λ a. a.acts)) was_answers
+    acts_before = ap (λ (o : Option Answers). map_or o false (λ a. a.acts)) was_answers
 
     module _ (deaf : accepted_over transition ≡ None) where
       pub heard_kept : (x : ℕ) → heard_at now x ≡ heard_at steps x
@@ -225,16 +225,16 @@ module _ (setting : Setting) (steps : List Step) (r d c : ℕ) (reaching : List 
         where
           go : (b : Bool) → nat_eq d x ≡ b → heard_at now x ≡ heard_at steps x
           go true is =
-              ap (λ b. if of_some
+              ap (λ b. if map_or
               (if b then option_map (λ past. record { call = calls.Tick c; transition = transition_of past (calls.Tick c) }) (past_in steps x) else None)
               false hears then r else heard_at steps x) is
-              ∙ subst (λ y. (if of_some (option_map (λ past. record { call = calls.Tick c; transition = transition_of past (calls.Tick c) }) (past_in steps y))
+              ∙ subst (λ y. (if map_or (option_map (λ past. record { call = calls.Tick c; transition = transition_of past (calls.Tick c) }) (past_in steps y))
               false hears then r else heard_at steps y) ≡ heard_at steps y) (eqb-true d x is)
-              (ap (λ (o : Option Past). if of_some (option_map (λ past. record { call = calls.Tick c; transition = transition_of past (calls.Tick c) }) o) false
+              (ap (λ (o : Option Past). if map_or (option_map (λ past. record { call = calls.Tick c; transition = transition_of past (calls.Tick c) }) o) false
               hears then r else heard_at steps d) there
               ∙ ap (λ y. if is_some (accepted_over y) then r else heard_at steps d) transition_is ∙ ap (λ o. if is_some o then r else heard_at steps d) deaf)
           go false is =
-              ap (λ b. if of_some
+              ap (λ b. if map_or
               (if b then option_map (λ past. record { call = calls.Tick c; transition = transition_of past (calls.Tick c) }) (past_in steps x) else None) false
               hears then r else heard_at steps x) is
 
@@ -243,13 +243,13 @@ module _ (setting : Setting) (steps : List Step) (r d c : ℕ) (reaching : List 
     closes_kept = go (window (seen_of steps))
       where
         go : (w : Option (List Seen))
-            → (of_some (option_map (λ v. (tick_step r d c reaching activated acted told sent false).seen ∷ v) w) false (list_any (λ s. is_commit s.event))
-            && of_some (option_map (λ (v : List Seen). plan_numbered setting (staged_epoch (seen_of steps)))
+            → (map_or (option_map (λ v. (tick_step r d c reaching activated acted told sent false).seen ∷ v) w) false (list_any (λ s. is_commit s.event))
+            && map_or (option_map (λ (v : List Seen). plan_numbered setting (staged_epoch (seen_of steps)))
             (option_map (λ v. (tick_step r d c reaching activated acted told sent false).seen ∷ v) w)) false (λ plan.
             let present = filter (is_up (seen_of steps)) (members setting.net plan) in
             nat_le 1 (length present) && list_all (has_settled now (staged_epoch (seen_of steps))) present))
-            ≡ (of_some w false (list_any (λ s. is_commit s.event))
-            && of_some (option_map (λ (v : List Seen). plan_numbered setting (staged_epoch (seen_of steps))) w) false (λ plan.
+            ≡ (map_or w false (list_any (λ s. is_commit s.event))
+            && map_or (option_map (λ (v : List Seen). plan_numbered setting (staged_epoch (seen_of steps))) w) false (λ plan.
             let present = filter (is_up (seen_of steps)) (members setting.net plan) in
             nat_le 1 (length present) && list_all (has_settled steps (staged_epoch (seen_of steps))) present))
         go None = refl

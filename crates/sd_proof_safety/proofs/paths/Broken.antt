@@ -3,7 +3,7 @@ use Rattle.std.specs.Prelude.{◌≡◌, ℕ, ◌+◌, ◌*◌, ◌<◌, ◌≤�
 use Rattle.std.specs.List.{list_any}
 use Rattle.std.proofs.Common.{arith, ◌∙◌, ap, sym, inl, inr}
 use Rattle.std.proofs.lemmas.Bool.{eq-eqb, false_from_ne_true}
-use Rattle.sd_checker.specs.Num.Lists.{of_some}
+use Rattle.sd_checker.specs.Num.Lists.{map_or}
 use Rattle.sd_checker.specs.Topo.declared.Thing.{Thing}
 use Rattle.sd_checker.specs.Topo.declared.Thing.TheVariants as thing
 use Rattle.sd_checker.specs.Plan.declared.Plan.{Plan}
@@ -16,14 +16,14 @@ use Rattle.sd_history.specs.Steps.{Step, seen_of}
 use Rattle.sd_history.specs.Chronicle.{chronicle}
 use Rattle.sd_proof_safety.specs.invariant.Bounds.{depth, delay, tick_gap}
 use Rattle.sd_proof_safety.specs.invariant.Eras.{era, plan_now, all_started, late, first_failure, heard_at, is_old, on_primary, path_hit}
-use Rattle.sd_proof_safety.specs.invariant.Coming.{IsClean, Comes, AtNext}
+use Rattle.sd_proof_safety.specs.invariant.Coming.{IsClean, IsNextEvent, AtNext}
 use Rattle.sd_proof_safety.proofs.invariant.Prefix.{clean_before}
 use Rattle.sd_proof_safety.proofs.invariant.Sides.{not_both}
 use Rattle.sd_proof_safety.proofs.spans.SilenceStarts.{idle_of}
 use Rattle.sd_proof_safety.specs.messages.Moments.{whole, behind, IsChronicle, Moment, upto, when, IsIn, IsBefore}
 use Rattle.sd_proof_safety.proofs.messages.Flowing.{tail_rest}
 use Rattle.sd_proof_safety.proofs.messages.Tails.{Order, before, same, after, ordered, tail_trans, rest_of, tail_chronicle, history_chronicle, before_is_earlier}
-use Rattle.sd_proof_safety.proofs.silences.Phases.{as_tail, era_grows}
+use Rattle.sd_proof_safety.proofs.silences.Phases.{era_grows}
 use Rattle.sd_proof_safety.proofs.silences.SoundWays.{top_of}
 use Rattle.sd_proof_safety.proofs.waits.Waits.{Stands, old_stands}
 use Rattle.sd_proof_safety.proofs.receipts.Hearings.{IsHeard, IsStarted, LastHeard, last_heard}
@@ -38,7 +38,7 @@ use Rattle.sd_proof_safety.proofs.paths.Links.{stays_failed, unmended_back}
 use Rattle.sd_proof_safety.proofs.paths.Senders.{sender_spared}
 
 -- where the backup root was started in the era and heard nothing since, that was before all had started, and so before its path counts as broken
-pub started_first : (setting : Setting) (x : Event) (h : List Event) (e : Event) (comes : Comes setting (x ∷ h) e) (d : ℕ)
+pub started_first : (setting : Setting) (x : Event) (h : List Event) (e : Event) (comes : IsNextEvent setting (x ∷ h) e) (d : ℕ)
     → IsStarted setting (x ∷ h) d (era (chronicle setting (x ∷ h)))
     → heard_at (chronicle setting (x ∷ h)) d ≤ path_failed_at setting (chronicle setting (x ∷ h))
 started_first setting x h e comes d s =
@@ -59,7 +59,7 @@ started_first setting x h e comes d s =
     sum : (a r s t g : ℕ) → a ≡ r → r ≤ s → s ≡ t → t ≤ g → a ≤ g
     sum a r s t g one two three four = omega (arith, one, two, three, four)
 
-module _ (setting : Setting) (x : Event) (h : List Event) (e : Event) (comes : Comes setting (x ∷ h) e)
+module _ (setting : Setting) (x : Event) (h : List Event) (e : Event) (comes : IsNextEvent setting (x ∷ h) e)
     (broken : path_hit setting (chronicle setting (x ∷ h)) (plan_now setting (chronicle setting (x ∷ h))).backup_root ≡ true)
     (old : is_old (chronicle setting (x ∷ h)) (plan_now setting (chronicle setting (x ∷ h))).backup_root ≡ true)
     (on : on_primary (chronicle setting (x ∷ h)) (plan_now setting (chronicle setting (x ∷ h))).backup_root ≡ true) where
@@ -94,7 +94,7 @@ module _ (setting : Setting) (x : Event) (h : List Event) (e : Event) (comes : C
   found = hit_first things (seen_of steps) broken
 
   failed_at : path_failed_at setting (chronicle setting (x ∷ h)) ≡ late setting (chronicle setting (x ∷ h)) found.0
-  failed_at = ap (λ (o : Option ℕ). late setting steps (of_some o 0 (λ reference. reference))) found.1
+  failed_at = ap (λ (o : Option ℕ). late setting steps (map_or o 0 (λ reference. reference))) found.1
 
   -- what came before the era came before that
   pub before_break : (p : Moment) → IsIn p (chronicle setting (x ∷ h)) → era (upto p) < era (chronicle setting (x ∷ h))
@@ -102,7 +102,7 @@ module _ (setting : Setting) (x : Event) (h : List Event) (e : Event) (comes : C
   before_break p here less =
       let f : FirstFailure setting things (x ∷ h) found.0 = first_failing setting things (x ∷ h) found.0 found.1 in
       let g : Moment = top_of setting f.earlier f.event in
-      let g_in : IsIn g steps = as_tail (chronicle_tail setting (f.event ∷ f.earlier) (x ∷ h) f.tail) in
+      let g_in : IsIn g steps = (chronicle_tail setting (f.event ∷ f.earlier) (x ∷ h) f.tail) in
       let in_era : era (chronicle setting f.earlier) ≡ era steps = f.era in
       let grows : era (chronicle setting f.earlier) ≤ era (upto g) = era_grows (chronicle setting f.earlier) (upto g) (behind whole) in
       let far : era steps ≤ era (upto g) = omega (arith, in_era, grows) in
@@ -131,7 +131,7 @@ module _ (setting : Setting) (x : Event) (h : List Event) (e : Event) (comes : C
     g = top_of setting f.earlier f.event
 
     g_in : IsIn g (chronicle setting (x ∷ h))
-    g_in = as_tail (chronicle_tail setting (f.event ∷ f.earlier) (x ∷ h) f.tail)
+    g_in = (chronicle_tail setting (f.event ∷ f.earlier) (x ∷ h) f.tail)
 
     in_era : era (chronicle setting (x ∷ h)) ≤ era (chronicle setting f.earlier)
     in_era = let same_ = f.era in omega (arith, same_)
@@ -144,10 +144,10 @@ module _ (setting : Setting) (x : Event) (h : List Event) (e : Event) (comes : C
     too_late t =
         not_both (list_any (λ y. fails y f.event) things) f.fails
         (crossed_path setting x h e comes old on heard (λ y. fails y f.event)
-        (λ from since inside l whole_. false_from_ne_true (fails (thing.Link l) f.event)
+        (λ from since inside l whole. false_from_ne_true (fails (thing.Link l) f.event)
         (λ failing. not_both (link_has_failed (seen_of from.earlier) l)
         (stays_failed (thing.Link l) g from.earlier heard.moment.earlier (since_of from since) (tail_rest inside) (era_before (since_of from since) inside)
-        (none_before (since_of from since) inside) failing) whole_))
+        (none_before (since_of from since) inside) failing) whole))
         (λ from since inside m z up. sender_spared setting x h comes.fair clean comes.before heard.message.stamp first
         (traced setting x h e comes old on heard).source g from (within setting x h e comes old on heard from inside) (since_of from since) in_era m z up))
       where
@@ -194,7 +194,7 @@ module _ (setting : Setting) (x : Event) (h : List Event) (e : Event) (comes : C
 
   pub heard_by_break : mended_now (chronicle setting (x ∷ h)) ≡ false → Bound
   heard_by_break none =
-      by (last_heard setting (x ∷ h) clean.is b stands.past stands.there (era steps) (ap (λ (o : Option Duty). of_some o 0 (λ u. u.epoch)) stands.duty)
+      by (last_heard setting (x ∷ h) clean.is b stands.past stands.there (era steps) (ap (λ (o : Option Duty). map_or o 0 (λ u. u.epoch)) stands.duty)
       (one_at_least steps) (sym stands.acts_is ∙ idle_of steps b on))
     where
       one_at_least : (l : List Step) → 1 ≤ era l

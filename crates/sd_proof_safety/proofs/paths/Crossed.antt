@@ -4,11 +4,10 @@ use Rattle.std.specs.Prelude.{◌≡◌, ℕ, zero, suc, Bool, true, false, ◌|
 use Rattle.std.specs.List.{list_any}
 use Rattle.std.proofs.Common.{◌∙◌, ap, sym, subst}
 use Rattle.std.proofs.lemmas.Bool.{or_left, or_right, or_from, eq-eqb}
-use Rattle.sd_checker.specs.Num.Lists.{of_some, has}
+use Rattle.sd_checker.specs.Num.Lists.{has}
 use Rattle.sd_checker.specs.Topo.Network.{Network}
 use Rattle.sd_checker.specs.Topo.declared.Thing.{Thing}
 use Rattle.sd_checker.specs.Topo.declared.Thing.TheVariants as thing
-use Rattle.sd_checker.specs.Plan.declared.Duty.{Duty}
 use Rattle.sd_checker.specs.Plan.declared.Edge.{Edge}
 use Rattle.sd_checker.specs.Plan.declared.Hop as declared
 use Rattle.sd_checker.specs.Plan.declared.Plan.{Plan}
@@ -16,21 +15,21 @@ use Rattle.sd_checker.specs.Plan.Plans.{is_root, primary_of}
 use Rattle.sd_checker.specs.Plan.Duties.{edge_of}
 use Rattle.sd_checker.specs.Plan.Walks.{things_of}
 use Rattle.sd_history.specs.Msg.declared.Stamp.{Stamp}
-use Rattle.sd_history.specs.Msg.declared.Message.{Message}
 use Rattle.sd_history.specs.Core.Calls.{Past}
-use Rattle.sd_history.specs.Core.Words.{duty_now, epoch_now, has_moved, is_acting, parent_edge, primary_now, backup_now}
+use Rattle.sd_history.specs.Core.Words.{epoch_now, has_moved, is_acting, parent_edge, primary_now, backup_now}
 use Rattle.sd_history.specs.World.{Setting, link_has_failed, plan_numbered}
 use Rattle.sd_history.specs.Steps.{seen_of}
 use Rattle.sd_history.specs.Chronicle.{past_in}
-use Rattle.sd_history.proofs.Given.{some_is, HasDuties}
-use Rattle.sd_proof_safety.specs.messages.Moments.{behind, IsChronicle, Moment, upto, IsIn, IsBefore, Accepts, entering, following}
+use Rattle.sd_history.proofs.Given.{some_is}
+use Rattle.sd_proof_safety.specs.messages.Moments.{behind, IsChronicle, Moment, upto, IsIn, IsBefore}
 use Rattle.sd_proof_safety.specs.messages.Traces.{Hop, Trace, begins, goes_on}
 use Rattle.sd_proof_safety.proofs.messages.Tails.{tail_trans}
-use Rattle.sd_proof_safety.proofs.messages.Parents.{IsPlanned, planned, entering_primary}
+use Rattle.sd_proof_safety.proofs.messages.Parents.{planned}
 use Rattle.sd_proof_safety.proofs.messages.Latest.{trace_first}
 use Rattle.sd_proof_safety.proofs.silences.WalkWays.{Walks, over, walks, IsPrimary}
 use Rattle.sd_proof_safety.specs.frame.Descents.{TakesFromAbove}
-use Rattle.sd_proof_safety.proofs.frame.Climbing.{inner}
+use Rattle.sd_proof_safety.proofs.messages.Flowing.{tail_rest}
+use Rattle.sd_proof_safety.proofs.frame.Descending.{edge_above}
 
 -- The link over which a device that has neither moved nor acts accepts is that of its primary hop.
 
@@ -38,23 +37,6 @@ primary_parent : (past : Past) → is_acting past ≡ false → has_moved past �
 primary_parent past idle unmoved =
     ap (λ b. if b then None else if has_moved past then backup_now past else primary_now past) idle
     ∙ ap (λ b. if b then backup_now past else primary_now past) unmoved
-
-primary_edge : (setting : Setting) (y : ℕ) (past : Past) (edge : Edge) (o : Option Duty) → HasDuties (IsPlanned setting y) past → duty_now past ≡ o
-    → of_some o None (λ (u : Duty). u.primary) ≡ Some edge
-    → option_map (edge_of setting.net y) (primary_of (plan_numbered setting (of_some o 0 (λ (u : Duty). u.epoch))) y) ≡ Some edge
-primary_edge setting y past edge None planned_ is same = cc
-primary_edge setting y past edge (Some u) planned_ is same = sym (ap (λ (v : Duty). v.primary) (planned_.duty u is)) ∙ same
-
-accepts_over : (setting : Setting) (y epoch : ℕ) (past : Past) (m : Message) (edge : Edge) → HasDuties (IsPlanned setting y) past → m.epoch ≡ epoch
-    → (epoch_now past ≡ epoch → (has_moved past ≡ false) × (is_acting past ≡ false))
-    → Accepts past m edge → option_map (edge_of setting.net y) (primary_of (plan_numbered setting epoch) y) ≡ Some edge
-accepts_over setting y epoch past m edge planned_ of_epoch stood (entering duty given number primary) =
-    subst (λ n. option_map (edge_of setting.net y) (primary_of (plan_numbered setting n) y) ≡ Some edge) (number ∙ of_epoch)
-    (entering_primary setting y past duty edge planned_ given primary)
-accepts_over setting y epoch past m edge planned_ of_epoch stood (following number parent newer) =
-    let here = stood (number ∙ of_epoch) in
-    subst (λ n. option_map (edge_of setting.net y) (primary_of (plan_numbered setting n) y) ≡ Some edge) (number ∙ of_epoch)
-    (primary_edge setting y past edge (duty_now past) planned_ refl (sym (primary_parent past here.1 here.0) ∙ parent))
 
 link_of_edge : (net : Network) (y : ℕ) (h : declared.Hop) (o : Option declared.Hop) (edge : Edge) → o ≡ Some h → option_map (edge_of net y) o ≡ Some edge
     → h.link ≡ edge.link
@@ -67,7 +49,7 @@ pub over_primary : (setting : Setting) (stamp : Stamp) (epoch : ℕ) (from q : M
     → primary_of (plan_numbered setting epoch) y ≡ Some h → h.link ≡ hop.flight.link
 over_primary setting stamp epoch from q x y is hop stood h primary =
     link_of_edge setting.net y h (primary_of (plan_numbered setting epoch) y) hop.receipt.edge primary
-    (accepts_over setting y epoch hop.receipt.past hop.flight.message hop.receipt.edge
+    (edge_above setting y epoch hop.receipt.past hop.flight.message hop.receipt.edge
     (planned setting q.earlier y hop.receipt.past is.0 hop.receipt.there) hop.epoch_is (stood hop.receipt.past hop.receipt.there) hop.receipt.accepts)
     ∙ hop.receipt.link
 
@@ -92,7 +74,7 @@ module _ (setting : Setting) (plan : Plan) (stamp : Stamp) (epoch : ℕ) (p : Mo
       absurd ((down y on_ at.1 first here).begins_none message emits carries epoch_is)
   crossed (h ∷ hs) y (walks at rest) q (suc m) (goes_on {from = from} {x = z} trace hop) here on_ within =
       let parent : h.parent ≡ z = (down y on_ at.1 q here).takes z from hop h at.0 in
-      let before : IsBefore from p = tail_trans hop.before (inner here) in
+      let before : IsBefore from p = tail_trans hop.before (tail_rest here) in
       let since : IsIn first (upto from) = trace_first setting stamp epoch first source m from z trace in
       let up : Trace setting stamp epoch first source m from h.parent = subst (λ v. Trace setting stamp epoch first source m from v) (sym parent) trace in
       let link : bad (thing.Link h.link) ≡ false =

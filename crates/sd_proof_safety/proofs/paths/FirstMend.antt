@@ -5,7 +5,7 @@ use Rattle.std.specs.Prelude.{◌≡◌, ◌≤◌, Bool, true, false, ◌||◌,
 use Rattle.std.specs.List.{list_any}
 use Rattle.std.proofs.Common.{arith, ◌∙◌, ap, sym, subst}
 use Rattle.std.proofs.lemmas.Bool.{or_right}
-use Rattle.sd_checker.specs.Num.Lists.{of_some, leading}
+use Rattle.sd_checker.specs.Num.Lists.{map_or, leading}
 use Rattle.sd_checker.specs.Topo.declared.Thing.{Thing}
 use Rattle.sd_history.specs.Sched.declared.Event.{Event}
 use Rattle.sd_history.specs.Sched.declared.Event.TheVariants as event
@@ -99,7 +99,7 @@ module _ (setting : Setting) where
       (none_failed e h clean older t le is)
       (still_on older h (clean_before setting e h clean) t (era_then e h clean older t le is) is)
 
-  whole_by : (f m rest : Bool) → f ≡ false → rest ≡ false → of_some (if f then Some true else if m then Some false else None) rest (λ told. told) ≡ false
+  whole_by : (f m rest : Bool) → f ≡ false → rest ≡ false → map_or (if f then Some true else if m then Some false else None) rest (λ told. told) ≡ false
   whole_by false true rest a b = refl
   whole_by false false rest a b = b
   whole_by true m rest a b = cc

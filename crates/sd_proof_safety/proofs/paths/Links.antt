@@ -1,9 +1,9 @@
 -- A link that failed in the era stays failed where nothing was mended in it.
-use Rattle.std.specs.Prelude.{◌≡◌, ◌≤◌, Bool, true, false, not, List, [], ◌∷◌, Option, Some, None, is_some, refl, if◌then◌else◌}
+use Rattle.std.specs.Prelude.{◌≡◌, ◌≤◌, Bool, true, false, not, List, [], ◌∷◌, Some, None, is_some, refl, if◌then◌else◌}
 use Rattle.std.specs.List.{list_any}
 use Rattle.std.proofs.Common.{arith, ap}
 use Rattle.std.proofs.lemmas.Bool.{or_parts}
-use Rattle.sd_checker.specs.Num.Lists.{of_some, leading}
+use Rattle.sd_checker.specs.Num.Lists.{map_or, leading}
 use Rattle.sd_checker.specs.Topo.declared.Thing.{Thing}
 use Rattle.sd_history.specs.Things.{mended}
 use Rattle.sd_history.specs.World.{Seen, fails, is_thing, has_failed}
@@ -13,6 +13,8 @@ use Rattle.sd_proof_safety.specs.messages.Moments.{Tail, whole, behind, Moment, 
 use Rattle.sd_proof_safety.proofs.messages.Tails.{rest_of}
 use Rattle.sd_proof_safety.proofs.silences.Phases.{era_grows, open_at}
 use Rattle.sd_proof_safety.specs.behind.Feeding.{mended_now}
+use Rattle.sd_proof_safety.proofs.entering.States.{nothing_fails}
+use Rattle.sd_proof_safety.proofs.messages.Opening.{up_stays_by}
 
 unmended_by : (c : Bool) (s : Seen) (rest : List Seen) → s.closed ≡ c → c ≡ false
     → list_any (λ (x : Seen). is_some (mended x.event)) (if not c then s ∷ rest else []) ≡ false
@@ -44,22 +46,13 @@ unmended_back older _ (behind {x = w} {xs = ws} t) le none =
     let next : era ws ≤ era (w ∷ ws) = era_grows ws (w ∷ ws) (behind whole) in
     unmended_back older ws t (omega (arith, le, next)) (unmended w ws (open_at w ws (omega (arith, le, grows))) none).1
 
-failed_by : (f m : Bool) (rest : Bool) → m ≡ false → rest ≡ true → of_some (if f then Some true else if m then Some false else None) rest (λ told. told) ≡ true
-failed_by true m rest none is = refl
-failed_by false false rest none is = is
-failed_by false true rest none is = cc
-
-no_thing : (o : Option Thing) (x : Thing) → is_some o ≡ false → is_thing o x ≡ false
-no_thing None x none = refl
-no_thing (Some y) x none = cc
-
 pub stays_failed : (x : Thing) (g : Moment) (older steps : List Step) → Tail (upto g) older → Tail older steps → era steps ≤ era (upto g)
     → mended_now steps ≡ false → fails x g.step.seen.event ≡ true → has_failed (seen_of older) x ≡ true
 stays_failed x g _ steps whole t le none failing =
-    ap (λ f. of_some (if f then Some true else if is_thing (mended g.step.seen.event) x then Some false else None) (has_failed (seen_of g.earlier) x)
+    ap (λ f. map_or (if f then Some true else if is_thing (mended g.step.seen.event) x then Some false else None) (has_failed (seen_of g.earlier) x)
     (λ told. told)) failing
 stays_failed x g _ steps (behind {x = s} {xs = older} u) t le none failing =
     let grows : era (upto g) ≤ era older = era_grows (upto g) older u in
-    failed_by (fails x s.seen.event) (is_thing (mended s.seen.event) x) (has_failed (seen_of older) x)
-    (no_thing (mended s.seen.event) x (unmended_then s older steps t (omega (arith, le, grows)) none))
+    up_stays_by (fails x s.seen.event) (is_thing (mended s.seen.event) x) (has_failed (seen_of older) x)
+    (nothing_fails (mended s.seen.event) x (unmended_then s older steps t (omega (arith, le, grows)) none))
     (stays_failed x g older steps u (rest_of t) le none failing)

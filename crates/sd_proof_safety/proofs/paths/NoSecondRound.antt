@@ -2,7 +2,7 @@
 -- round once.
 use Rattle.std.specs.Prelude.{◌≡◌, ℕ, ◌+◌, ◌*◌, ◌<◌, ◌≤◌, true, List, ◌∷◌, Some}
 use Rattle.std.proofs.Common.{arith, ◌∙◌, ap, sym, subst}
-use Rattle.sd_checker.specs.Num.Lists.{of_some}
+use Rattle.sd_checker.specs.Num.Lists.{map_or}
 use Rattle.sd_checker.specs.Topo.Network.{least_low}
 use Rattle.sd_history.specs.Msg.declared.Message.{Message}
 use Rattle.sd_history.specs.Core.Calls.{Receive}
@@ -14,7 +14,7 @@ use Rattle.sd_history.specs.Chronicle.{past_in, chronicle}
 use Rattle.sd_history.proofs.Given.{some_is}
 use Rattle.sd_proof_safety.specs.invariant.Bounds.{depth, delay}
 use Rattle.sd_proof_safety.specs.invariant.Eras.{era, plan_now, is_old, on_primary}
-use Rattle.sd_proof_safety.specs.invariant.Coming.{IsClean, Comes}
+use Rattle.sd_proof_safety.specs.invariant.Coming.{IsClean, IsNextEvent}
 use Rattle.sd_proof_safety.proofs.invariant.Prefix.{clean_before}
 use Rattle.sd_proof_safety.specs.messages.Moments.{Tail, IsChronicle, Moment, upto, when, IsIn, Emits}
 use Rattle.sd_proof_safety.specs.messages.Stamping.{IsUpTo, EntersNot}
@@ -44,7 +44,7 @@ module _ (h d q low_ : ℕ) (rule : 2 * (h + 1) * d + q < low_) where
   first_after : (s1 s0 m1 m0 : ℕ) → s0 + low_ ≤ s1 → m0 ≤ s0 + h * d → s1 ≤ m1 → m1 ≤ m0 → ⊥
   first_after s1 s0 m1 m0 one two three four = omega (arith, rule, one, two, three, four)
 
-module _ (setting : Setting) (x : Event) (h : List Event) (e : Event) (comes : Comes setting (x ∷ h) e)
+module _ (setting : Setting) (x : Event) (h : List Event) (e : Event) (comes : IsNextEvent setting (x ∷ h) e)
     (old : is_old (chronicle setting (x ∷ h)) (plan_now setting (chronicle setting (x ∷ h))).backup_root ≡ true)
     (on : on_primary (chronicle setting (x ∷ h)) (plan_now setting (chronicle setting (x ∷ h))).backup_root ≡ true)
     (heard : IsHeard setting (x ∷ h) (plan_now setting (chronicle setting (x ∷ h))).backup_root (era (chronicle setting (x ∷ h))))
@@ -114,7 +114,7 @@ module _ (setting : Setting) (x : Event) (h : List Event) (e : Event) (comes : C
         called_is_up setting (chronicle setting st.h) b (Receive earlier_.link earlier_.message earlier_.counter) st.e st.comes.clean.is.1
         (sym (ap (λ (q : Moment). q.step.act) st.is) ∙ earlier_.act) in
         subst (λ (q : Moment). is_up (seen_of (upto q)) b ≡ true) (sym st.is)
-        (ap (λ o. of_some o (is_up (seen_of (chronicle setting st.h)) b) (λ told. told)) called.stays ∙ called.up)
+        (ap (λ o. map_or o (is_up (seen_of (chronicle setting st.h)) b) (λ told. told)) called.stays ∙ called.up)
 
     there_after : past_in (upto earlier_.moment) b ≡ Some (after earlier_.past (Receive earlier_.link earlier_.message earlier_.counter))
     there_after = past_after_call earlier_.moment b (Receive earlier_.link earlier_.message earlier_.counter) earlier_.past earlier_.act earlier_.there

@@ -12,7 +12,7 @@ use Rattle.sd_history.specs.World.{Setting, is_up}
 use Rattle.sd_history.specs.Steps.{Step, seen_of}
 use Rattle.sd_history.specs.Chronicle.{past_in, chronicle}
 use Rattle.sd_proof_safety.specs.invariant.Eras.{era, is_old}
-use Rattle.sd_proof_safety.specs.invariant.Coming.{IsClean, Comes}
+use Rattle.sd_proof_safety.specs.invariant.Coming.{IsClean, IsNextEvent}
 use Rattle.sd_proof_safety.proofs.invariant.Prefix.{clean_before}
 use Rattle.sd_proof_safety.specs.messages.Moments.{Tail, IsChronicle, Moment, upto, when, IsIn, IsBefore, Emits}
 use Rattle.sd_proof_safety.specs.messages.Rounds.{IsUnbroken}
@@ -22,7 +22,7 @@ use Rattle.sd_proof_safety.proofs.messages.Consecutive.{rounds_apart}
 use Rattle.sd_proof_safety.proofs.timers.Histories.{before}
 use Rattle.sd_proof_safety.proofs.waits.Standing.{times, steps_timed}
 use Rattle.sd_proof_safety.proofs.silences.Phases.{era_grows}
-use Rattle.sd_proof_safety.proofs.silences.Spacing.{timed_to, emissions_are_apart}
+use Rattle.sd_proof_safety.proofs.silences.Spacing.{emissions_are_apart}
 use Rattle.sd_proof_safety.proofs.silences.FirstEra.{emitter_up}
 use Rattle.sd_proof_safety.proofs.silences.SoundWays.{top_of}
 use Rattle.sd_proof_safety.proofs.silences.RootIsSource.{emission_keeps}
@@ -30,8 +30,9 @@ use Rattle.sd_proof_safety.proofs.windows.Senders.{called_is_up}
 use Rattle.sd_proof_safety.proofs.receipts.Stood.{epoch_is}
 use Rattle.sd_proof_safety.proofs.entering.Stages.{Stage, stage}
 use Rattle.sd_proof_safety.proofs.paths.Unbroken.{unbroken_since}
+use Rattle.sd_proof_safety.proofs.timers.Emissions.{timed_tail}
 
-module _ (setting : Setting) (x : Event) (h : List Event) (e : Event) (comes : Comes setting (x ∷ h) e) (p q : Moment)
+module _ (setting : Setting) (x : Event) (h : List Event) (e : Event) (comes : IsNextEvent setting (x ∷ h) e) (p q : Moment)
     (here : IsIn q (chronicle setting (x ∷ h))) (order : IsBefore p q) (late : era (chronicle setting (x ∷ h)) ≤ era (upto p))
     (a : ℕ) (m k : Message) (one : Emits p a m) (two : Emits q a k) (own : k.epoch ≡ era (chronicle setting (x ∷ h))) where
   abbrev steps : List Step
@@ -47,7 +48,7 @@ module _ (setting : Setting) (x : Event) (h : List Event) (e : Event) (comes : C
   p_in = tail_trans order (rest_of here)
 
   up_p : is_up (seen_of (upto p)) a ≡ true
-  up_p = emitter_up setting p a m (tail_chronicle setting p_in all) (timed_to setting (upto p) steps p_in (steps_timed setting x h e comes)) one
+  up_p = emitter_up setting p a m (tail_chronicle setting p_in all) (timed_tail setting (upto p) steps p_in (steps_timed setting x h e comes)) one
 
   number : epoch_now two.sends.past ≡ era (chronicle setting (x ∷ h))
   number = let s = two.sends in sym ((sends_own s.past s.call k s.effect).1 ∙ emission_keeps s.past s.call two.emission) ∙ own
@@ -59,7 +60,7 @@ module _ (setting : Setting) (x : Event) (h : List Event) (e : Event) (comes : C
       let least = late in
       le_antisymm le (omega (arith, grows, least))
 
-  unbroken_by : (hs : List Event) (f : Event) → q ≡ top_of setting hs f → Comes setting hs f → IsUnbroken p q a
+  unbroken_by : (hs : List Event) (f : Event) → q ≡ top_of setting hs f → IsNextEvent setting hs f → IsUnbroken p q a
   unbroken_by [] f is comes_ = absurd (none (subst (λ (r : Moment). Tail (upto p) r.earlier) is order))
     where
       none : Tail (upto p) [] → ⊥

@@ -15,7 +15,7 @@ use Rattle.sd_history.specs.World.{Setting, is_up, plan_numbered}
 use Rattle.sd_history.specs.Steps.{Step, seen_of}
 use Rattle.sd_history.specs.Chronicle.{past_in, chronicle}
 use Rattle.sd_proof_safety.specs.invariant.Eras.{era, plan_now, is_old, on_primary}
-use Rattle.sd_proof_safety.specs.invariant.Coming.{IsClean, Comes}
+use Rattle.sd_proof_safety.specs.invariant.Coming.{IsClean, IsNextEvent}
 use Rattle.sd_proof_safety.proofs.invariant.Prefix.{clean_before}
 use Rattle.sd_proof_safety.specs.messages.Moments.{Tail, whole, behind, Moment, upto, IsBefore, Accepts}
 use Rattle.sd_proof_safety.proofs.messages.Tails.{rest_of}
@@ -30,7 +30,7 @@ use Rattle.sd_proof_safety.proofs.entering.Stages.{Stage, stage}
 use Rattle.sd_proof_safety.proofs.behind.Moved.{not_root}
 use Rattle.sd_proof_safety.proofs.paths.Senders.{ahead_not, newer_then}
 
-module _ (setting : Setting) (x : Event) (h : List Event) (e : Event) (comes : Comes setting (x ∷ h) e)
+module _ (setting : Setting) (x : Event) (h : List Event) (e : Event) (comes : IsNextEvent setting (x ∷ h) e)
     (old : is_old (chronicle setting (x ∷ h)) (plan_now setting (chronicle setting (x ∷ h))).backup_root ≡ true)
     (on : on_primary (chronicle setting (x ∷ h)) (plan_now setting (chronicle setting (x ∷ h))).backup_root ≡ true)
     (heard : IsHeard setting (x ∷ h) (plan_now setting (chronicle setting (x ∷ h))).backup_root (era (chronicle setting (x ∷ h)))) where
@@ -46,7 +46,7 @@ module _ (setting : Setting) (x : Event) (h : List Event) (e : Event) (comes : C
     pub ys : List Event
     pub f : Event
     pub is : heard.moment ≡ top_of setting (y ∷ ys) f
-    pub comes_ : Comes setting (y ∷ ys) f
+    pub comes_ : IsNextEvent setting (y ∷ ys) f
     pub same : era (chronicle setting (y ∷ ys)) ≡ era (chronicle setting (x ∷ h))
     pub inside : Tail (chronicle setting (y ∷ ys)) (chronicle setting (x ∷ h))
     pub old_ : is_old (chronicle setting (y ∷ ys)) (plan_now setting (chronicle setting (y ∷ ys))).backup_root ≡ true
@@ -87,7 +87,7 @@ module _ (setting : Setting) (x : Event) (h : List Event) (e : Event) (comes : C
         let four = late in
         le_antisymm three (omega (arith, one, two, four))
 
-    by_event : (hs : List Event) (f : Event) → heard.moment ≡ top_of setting hs f → Comes setting hs f → StoodBefore
+    by_event : (hs : List Event) (f : Event) → heard.moment ≡ top_of setting hs f → IsNextEvent setting hs f → StoodBefore
     by_event [] f is comes_ = absurd (none (subst (λ (q : Moment). past_in q.earlier b ≡ Some heard.past) is heard.there))
       where
         none : past_in (chronicle setting []) b ≡ Some heard.past → ⊥

@@ -17,7 +17,7 @@ use Rattle.sd_history.specs.Steps.{Step, Calls, seen_of}
 use Rattle.sd_history.specs.Chronicle.{past_in, chronicle}
 use Rattle.sd_proof_safety.specs.invariant.Eras.{era, device_failed_now, is_old}
 use Rattle.sd_proof_safety.specs.invariant.Invariant.{Invariant, AtEach}
-use Rattle.sd_proof_safety.specs.invariant.Coming.{IsFair, IsClean, Comes}
+use Rattle.sd_proof_safety.specs.invariant.Coming.{IsFair, IsClean, IsNextEvent}
 use Rattle.sd_proof_safety.proofs.invariant.Prefix.{clean_before}
 use Rattle.sd_proof_safety.proofs.invariant.Sides.{not_both}
 use Rattle.sd_proof_safety.specs.messages.Moments.{whole, behind, Moment, upto, IsIn, IsBefore, Accepts, entering, following}
@@ -44,7 +44,8 @@ module _ (setting : Setting) (x : Event) (h : List Event) (fair : IsFair setting
   by_old : (q : Moment) (st : Stage setting q) (z : ℕ) → is_old (chronicle setting st.h) z ≡ true → device_failed_now (chronicle setting st.h) z ≡ false
   by_old q st z old = go st.h st.e st.comes old
     where
-      go : (hs : List Event) (e : Event) → Comes setting hs e → is_old (chronicle setting hs) z ≡ true → device_failed_now (chronicle setting hs) z ≡ false
+      go : (hs : List Event) (e : Event) → IsNextEvent setting hs e → is_old (chronicle setting hs) z ≡ true
+          → device_failed_now (chronicle setting hs) z ≡ false
       go [] e comes old' = refl
       go (y ∷ hs) e comes old' = (spared setting y hs e comes z old').self
 

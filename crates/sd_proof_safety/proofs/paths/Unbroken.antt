@@ -4,7 +4,7 @@ use Rattle.std.specs.Prelude.{◌≡◌, ℕ, ◌+◌, ◌≤◌, true, false, L
 use Rattle.std.proofs.Common.{arith, ◌∙◌, ap, sym, subst}
 use Rattle.std.proofs.lemmas.Bool.{false_from_ne_true}
 use Rattle.std.proofs.Math.Nat.{le_antisymm}
-use Rattle.sd_checker.specs.Num.Lists.{of_some}
+use Rattle.sd_checker.specs.Num.Lists.{map_or}
 use Rattle.sd_checker.specs.Topo.declared.Thing.TheVariants as thing
 use Rattle.sd_checker.specs.Plan.Plans.{is_member}
 use Rattle.sd_history.specs.Core.Calls.{Call, Past}
@@ -15,7 +15,7 @@ use Rattle.sd_history.specs.Steps.{Calls, Step, seen_of}
 use Rattle.sd_history.specs.Chronicle.{past_in, chronicle}
 use Rattle.sd_history.proofs.Given.{takes_given}
 use Rattle.sd_proof_safety.specs.invariant.Eras.{era, plan_now, device_failed_now, is_old}
-use Rattle.sd_proof_safety.specs.invariant.Coming.{IsClean, Comes}
+use Rattle.sd_proof_safety.specs.invariant.Coming.{IsClean, IsNextEvent}
 use Rattle.sd_proof_safety.proofs.invariant.Prefix.{clean_before}
 use Rattle.sd_proof_safety.proofs.invariant.Sides.{not_both}
 use Rattle.sd_proof_safety.specs.messages.Moments.{Tail, whole, behind, Moment, upto, IsIn, IsBefore}
@@ -24,7 +24,6 @@ use Rattle.sd_proof_safety.specs.messages.Stamping.{remakes, enters, EntersNot}
 use Rattle.sd_proof_safety.proofs.messages.Tails.{rest_of}
 use Rattle.sd_proof_safety.proofs.messages.Consecutive.{past_after_call}
 use Rattle.sd_proof_safety.proofs.silences.States.{not_old_and_new}
-use Rattle.sd_proof_safety.proofs.silences.FirstEra.{up_after_by}
 use Rattle.sd_proof_safety.proofs.silences.NoMaking.{not_made}
 use Rattle.sd_proof_safety.proofs.silences.Phases.{era_grows, open_at, fails_among, fewer}
 use Rattle.sd_proof_safety.proofs.silences.SoundWays.{top_of}
@@ -36,6 +35,7 @@ use Rattle.sd_proof_safety.proofs.entering.Source.{entering_takes}
 use Rattle.sd_proof_safety.proofs.entering.Stages.{Stage, stage}
 use Rattle.sd_proof_safety.proofs.entering.Entering.{new_from}
 use Rattle.sd_proof_safety.proofs.spans.PathHears.{IsSpared, spared}
+use Rattle.sd_proof_safety.proofs.messages.Opening.{up_stays_by}
 
 -- who was up, and did not fail in the era, is up
 pub up_on : (d : ℕ) (older steps : List Step) → Tail older steps → era steps ≤ era older → device_failed_now steps d ≡ false → is_up (seen_of older) d ≡ true
@@ -48,10 +48,10 @@ up_on d older _ (behind {x = s} {xs = earlier} t) le kept up =
     let stays : fails (thing.Device d) s.seen.event ≡ false =
     false_from_ne_true (fails (thing.Device d) s.seen.event)
     (λ is. not_both (device_failed_now (s ∷ earlier) d) (fails_among s earlier (thing.Device d) open_ is) kept) in
-    up_after_by (makes d s.seen.event) (fails (thing.Device d) s.seen.event) (is_up (seen_of earlier) d) stays
+    up_stays_by (makes d s.seen.event) (fails (thing.Device d) s.seen.event) (is_up (seen_of earlier) d) stays
     (up_on d older earlier t (omega (arith, le, next)) (fewer (thing.Device d) earlier (s ∷ earlier) (behind whole) (omega (arith, le, before)) kept) up)
 
-module _ (setting : Setting) (y : Event) (ys : List Event) (f : Event) (comes : Comes setting (y ∷ ys) f) (d : ℕ)
+module _ (setting : Setting) (y : Event) (ys : List Event) (f : Event) (comes : IsNextEvent setting (y ∷ ys) f) (d : ℕ)
     (old : is_old (chronicle setting (y ∷ ys)) d ≡ true) (p : Moment)
     (late : era (chronicle setting (y ∷ ys)) ≤ era (upto p)) (up : is_up (seen_of (upto p)) d ≡ true) where
   abbrev steps : List Step
@@ -110,7 +110,7 @@ module _ (setting : Setting) (y : Event) (ys : List Event) (f : Event) (comes : 
         let called : IsCalled (chronicle setting st.h) st.e d =
         called_is_up setting (chronicle setting st.h) d call st.e st.comes.clean.is.1 (sym (ap (λ (q : Moment). q.step.act) st.is) ∙ act) in
         let up_next : is_up (seen_of (chronicle setting (st.e ∷ st.h))) d ≡ true =
-        ap (λ o. of_some o (is_up (seen_of (chronicle setting st.h)) d) (λ told. told)) called.stays ∙ called.up in
+        ap (λ o. map_or o (is_up (seen_of (chronicle setting st.h)) d) (λ told. told)) called.stays ∙ called.up in
         not_old_and_new steps d old
         (new_from setting (y ∷ ys) comes.fair clean comes.before r here d (after past call)
         (subst (λ (q : Moment). is_up (seen_of (upto q)) d ≡ true) (sym st.is) up_next) (past_after_call r d call past act there) number))

@@ -2,7 +2,7 @@
 use Rattle.std.specs.Prelude.{◌≡◌, ℕ, Bool, true, false, ◌||◌, List, [], ◌∷◌, nat_eq, Option, Some, None, is_some, option_map, refl, ◌⊎◌, if◌then◌else◌}
 use Rattle.std.proofs.Common.{◌∙◌, ap, sym, inl, inr}
 use Rattle.std.proofs.lemmas.Bool.{eqb-true}
-use Rattle.sd_checker.specs.Num.Lists.{of_some, same_number}
+use Rattle.sd_checker.specs.Num.Lists.{map_or, same_number}
 use Rattle.sd_checker.specs.Topo.Network.{rates_of}
 use Rattle.sd_checker.specs.Plan.Duties.{duty_of}
 use Rattle.sd_history.specs.Core.Calls as calls
@@ -41,7 +41,7 @@ named_alone : (setting : Setting) (e : Event) (history : List Event) (d : ℕ) �
     → past_in (chronicle setting (e ∷ history)) d ≡ past_in (chronicle setting history) d
 named_alone setting e history d is named down = by e is named down
   where
-    made : (a b : Bool) → a ≡ true → of_some (if a || b then Some true else None) false (λ told. told) ≡ false → ⊥
+    made : (a b : Bool) → a ≡ true → map_or (if a || b then Some true else None) false (λ told. told) ≡ false → ⊥
     made true b same none = cc
     made false b same none = cc
 
@@ -60,13 +60,13 @@ named_alone setting e history d is named down = by e is named down
         → past_in (chronicle setting (f ∷ history)) d ≡ past_in (chronicle setting history) d
     by (event.Start r m c clock eps) is' same none = absurd (never (nat_eq m d) same none)
       where
-        never : (b : Bool) → b ≡ true → of_some (if b || false then Some true else None) (is_up (seen_of (chronicle setting history)) d) (λ told. told) ≡ false
+        never : (b : Bool) → b ≡ true → map_or (if b || false then Some true else None) (is_up (seen_of (chronicle setting history)) d) (λ told. told) ≡ false
             → ⊥
         never true same' none' = cc
         never false same' none' = cc
     by (event.Join r m c clock eps) is' same none = absurd (never (nat_eq m d) same none)
       where
-        never : (b : Bool) → b ≡ true → of_some (if b then Some true else None) (is_up (seen_of (chronicle setting history)) d) (λ told. told) ≡ false → ⊥
+        never : (b : Bool) → b ≡ true → map_or (if b then Some true else None) (is_up (seen_of (chronicle setting history)) d) (λ told. told) ≡ false → ⊥
         never true same' none' = cc
         never false same' none' = cc
     by (event.Tick r m c) is' same none = absurd (called (event.Tick r m c) m is' refl refl same none)

@@ -6,7 +6,7 @@
 use Rattle.std.specs.Prelude.{◌≡◌, ℕ, ◌+◌, ◌*◌, ◌≤◌, Bool, true, false, ◌&&◌, ◌||◌, not, List, ◌∷◌, length, nat_eq, nat_lt, Option, Some, None, is_some, option_map, refl, ◌⊎◌, if◌then◌else◌}
 use Rattle.std.proofs.Common.{arith, ◌∙◌, ap, sym, subst, inl, inr}
 use Rattle.std.proofs.lemmas.Bool.{and_parts, and_from, eqb-true, eq-eqb, false_from_ne_true, lt-ltb, or_cases}
-use Rattle.sd_checker.specs.Num.Lists.{of_some, same_number}
+use Rattle.sd_checker.specs.Num.Lists.{map_or, same_number}
 use Rattle.sd_checker.specs.Topo.declared.Thing.TheVariants as thing
 use Rattle.sd_checker.specs.Plan.declared.Duty.{Duty}
 use Rattle.sd_checker.specs.Plan.declared.Edge.{Edge}
@@ -29,7 +29,7 @@ use Rattle.sd_proof_safety.specs.invariant.Eras.{era, plan_now, failed_now, is_o
 use Rattle.sd_proof_safety.specs.invariant.Clauses.{member_enters, member_entered, staged_root, commit_at, committer_is_root, committer_acts}
 use Rattle.sd_proof_safety.specs.invariant.Invariant.{Core, IsCommitted}
 use Rattle.sd_proof_safety.specs.invariant.Silences.{EntersSoon}
-use Rattle.sd_proof_safety.specs.invariant.Coming.{Comes, AtNext}
+use Rattle.sd_proof_safety.specs.invariant.Coming.{IsNextEvent, AtNext}
 use Rattle.sd_proof_safety.specs.invariant.Kept.{Keeps}
 use Rattle.sd_proof_safety.proofs.invariant.Empty.{core_before}
 use Rattle.sd_proof_safety.proofs.invariant.Known.{old_is_up}
@@ -89,7 +89,7 @@ entry_of : (steps : List Step) (d c n : ℕ) (duty : Duty) (edge : Edge) → tra
 entry_of steps d c n duty edge what = go (flight_numbered steps n) (past_in steps d) refl refl what
   where
     go : (o : Option Flight) (p : Option Past) → flight_numbered steps n ≡ o → past_in steps d ≡ p
-        → of_some o calls.Nothing (λ f. of_some p calls.Nothing (λ past. transition_of past (calls.Receive f.link f.message c))) ≡ calls.Entered duty edge
+        → map_or o calls.Nothing (λ f. map_or p calls.Nothing (λ past. transition_of past (calls.Receive f.link f.message c))) ≡ calls.Entered duty edge
         → IsEntry steps d c n duty edge
     go None p is there did = cc
     go (Some f) None is there did = cc
@@ -106,7 +106,7 @@ acts_none_by true acts is none = cc
 acts_none_by false true is none = cc
 acts_none_by false false is none = refl
 
-module _ {setting : Setting} (enters : AtNext EntersSoon setting) (r d c n : ℕ) (history : List Event) (comes : Comes setting history (event.Recv r d c n))
+module _ {setting : Setting} (enters : AtNext EntersSoon setting) (r d c n : ℕ) (history : List Event) (comes : IsNextEvent setting history (event.Recv r d c n))
     (duty : Duty) (edge : Edge) (entry : IsEntry (chronicle setting history) d c n duty edge) where
   abbrev e : Event
   e = event.Recv r d c n
@@ -147,12 +147,12 @@ module _ {setting : Setting} (enters : AtNext EntersSoon setting) (r d c n : ℕ
 
   -- it follows the staged plan now
   epoch_now_is : epoch_now (after entry.past (calls.Receive entry.flight.link entry.flight.message c)) ≡ era (chronicle setting history) + 1
-  epoch_now_is = ap (λ o. of_some (of_some (option_map Some o) (duty_now entry.past) (λ told. told)) 0 (λ (u : Duty). u.epoch)) taken ∙ ahead.number
+  epoch_now_is = ap (λ o. map_or (map_or (option_map Some o) (duty_now entry.past) (λ told. told)) 0 (λ (u : Duty). u.epoch)) taken ∙ ahead.number
 
   live_now : live_past (chronicle setting (event.Recv r d c n ∷ history)) d ≡ Some (after entry.past (calls.Receive entry.flight.link entry.flight.message c))
   live_now =
       ap (λ b. if b then past_in two d else None) up
-      ∙ ap (λ o. past_after (of_some o Passes (λ g. Calls d (calls.Receive g.link g.message c))) d (past_in one d)) entry.known
+      ∙ ap (λ o. past_after (map_or o Passes (λ g. Calls d (calls.Receive g.link g.message c))) d (past_in one d)) entry.known
       ∙ ap (λ b. if b then option_map (λ p. after p call) (past_in one d) else past_in one d) (eq-eqb d d refl)
       ∙ ap (option_map (λ p. after p call)) entry.there
 
@@ -225,8 +225,8 @@ module _ {setting : Setting} (enters : AtNext EntersSoon setting) (r d c n : ℕ
 
   idle_here : acts_in (chronicle setting (event.Recv r d c n ∷ history)) d ≡ false
   idle_here =
-      ap (λ (o : Option Answers). of_some o false (λ a. a.acts)) (live_is setting (e ∷ history) d)
-      ∙ ap (λ (o : Option Past). of_some (option_map answers_by o) false (λ a. a.acts)) live_now
+      ap (λ (o : Option Answers). map_or o false (λ a. a.acts)) (live_is setting (e ∷ history) d)
+      ∙ ap (λ (o : Option Past). map_or (option_map answers_by o) false (λ a. a.acts)) live_now
       ∙ (after_entering entry.past call duty edge entry.did).acts_not
 
   turns : Turns (chronicle setting history) (chronicle setting (event.Recv r d c n ∷ history)) d
@@ -266,7 +266,7 @@ module _ {setting : Setting} (enters : AtNext EntersSoon setting) (r d c n : ℕ
       && nat_lt (commit_at one + rounds_gap setting.net + depth setting.net * delay setting.net) r) (is_new one x) (enters history e comes x)
       (sym
       (ap (λ h. h && will_belong setting two x && nat_lt (commit_at two + rounds_gap setting.net + depth setting.net * delay setting.net) r) alike.commit_is
-      ∙ ap (λ (o : Option Plan). has_commit (seen_of one) && (nat_lt x (length setting.net.devices) && of_some o false (λ p. is_member p x))
+      ∙ ap (λ (o : Option Plan). has_commit (seen_of one) && (nat_lt x (length setting.net.devices) && map_or o false (λ p. is_member p x))
       && nat_lt (commit_at two + rounds_gap setting.net + depth setting.net * delay setting.net) r) same_plan
       ∙ ap (λ k. has_commit (seen_of one) && will_belong setting one x && nat_lt (k + rounds_gap setting.net + depth setting.net * delay setting.net) r)
       (commit_at_kept setting one s plain.stays refl refl)) ∙ all)))

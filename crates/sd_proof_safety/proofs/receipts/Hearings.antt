@@ -4,7 +4,7 @@
 use Rattle.std.specs.Prelude.{◌≡◌, ℕ, ◌<◌, ◌≤◌, Bool, true, false, List, [], ◌∷◌, Option, Some, None, is_some, option_map, refl, ◌⊎◌, if◌then◌else◌}
 use Rattle.std.proofs.Common.{arith, ◌∙◌, ap, sym, inl, inr}
 use Rattle.std.proofs.lemmas.Bool.{or_left, or_right, or_from, eq-eqb}
-use Rattle.sd_checker.specs.Num.Lists.{of_some}
+use Rattle.sd_checker.specs.Num.Lists.{map_or}
 use Rattle.sd_checker.specs.Plan.declared.Duty.{Duty}
 use Rattle.sd_checker.specs.Plan.declared.Edge.{Edge}
 use Rattle.sd_history.specs.Msg.declared.Message.{Message}
@@ -21,11 +21,10 @@ use Rattle.sd_history.proofs.Given.{some_is}
 use Rattle.sd_proof_safety.specs.invariant.Eras.{era, did_by, does, hears, heard_at}
 use Rattle.sd_proof_safety.proofs.invariant.Sides.{not_both}
 use Rattle.sd_proof_safety.proofs.timers.Transitions.{by_case}
-use Rattle.sd_proof_safety.proofs.timers.Pasts.{stays_acting}
+use Rattle.sd_proof_safety.proofs.timers.Pasts.{stays_acting, was_false}
 use Rattle.sd_proof_safety.proofs.waits.Epochs.{era_rises}
 use Rattle.sd_proof_safety.specs.messages.Moments.{Tail, whole, behind, Moment, when, IsIn}
 use Rattle.sd_proof_safety.proofs.messages.Sending.{passes_on}
-use Rattle.sd_proof_safety.proofs.receipts.Stood.{unless}
 use Rattle.sd_proof_safety.proofs.receipts.Alive.{Went, made, called, alone, went, made_epoch}
 
 -- the device accepted a message of this plan at a moment, and heard nothing later
@@ -179,12 +178,12 @@ module _ (setting : Setting) (e : Event) (history : List Event) (d n : ℕ) wher
               time =
                   ap (λ b. if b then reference_of e else heard_at (chronicle setting history) d)
                   (or_right (makes d e) (does hears (chronicle setting history) (next_step setting (chronicle setting history) e) d)
-                  (ap (λ (o : Option Did). of_some o false hears) did_is ∙ ap (λ (o : Option Edge). is_some o) over));
+                  (ap (λ (o : Option Did). map_or o false hears) did_is ∙ ap (λ (o : Option Edge). is_some o) over));
             }
 
     deaf_here : accepted_over (transition_of past call) ≡ None
         → does hears (chronicle setting history) (next_step setting (chronicle setting history) e) d ≡ false
-    deaf_here none = ap (λ (o : Option Did). of_some o false hears) did_is ∙ ap (λ (o : Option Edge). is_some o) none
+    deaf_here none = ap (λ (o : Option Did). map_or o false hears) did_is ∙ ap (λ (o : Option Edge). is_some o) none
 
 pub last_heard : (setting : Setting) (history : List Event) → IsHistory setting history → (d : ℕ) (past : Past)
     → past_in (chronicle setting history) d ≡ Some past → (n : ℕ) → epoch_now past ≡ n → 1 ≤ n → is_acting past ≡ false
@@ -205,10 +204,10 @@ last_heard setting (e ∷ history) is d past there n number one idle =
         inl (heard_here setting e history d n p call acted there' edge over (sym (ap epoch_now same) ∙ number) (accepts_receipt p call edge over))
     by_call none p call acted there' same None deaf rest =
         let takes : taken_up (transition_of p call) ≡ None = takes_none p call deaf (sym (ap is_acting same) ∙ idle) in
-        let number' : epoch_now p ≡ n = sym (ap (λ o. of_some (of_some (option_map Some o) (duty_now p) (λ told. told)) 0 (λ (u : Duty). u.epoch)) takes)
+        let number' : epoch_now p ≡ n = sym (ap (λ o. map_or (map_or (option_map Some o) (duty_now p) (λ told. told)) 0 (λ (u : Duty). u.epoch)) takes)
         ∙ sym (ap epoch_now same) ∙ number in
         let idle' : is_acting p ≡ false =
-        unless (is_acting p) (is_acting (after p call)) (stays_acting p call (transition_of p call) takes) (sym (ap is_acting same) ∙ idle) in
+        was_false (is_acting p) (is_acting (after p call)) (stays_acting p call (transition_of p call) takes) (sym (ap is_acting same) ∙ idle) in
         later_on setting e history d n (heard_same setting e history d n none (deaf_here setting e history d n p call acted there' deaf))
         (rest p there' n number' one idle')
 
@@ -219,7 +218,7 @@ last_heard setting (e ∷ history) is d past there n number one idle =
     by_went none (called p call acted there' now) rest =
         by_call none p call acted there' (some_is (sym there ∙ now)) (accepted_over (transition_of p call)) refl rest
     by_went none (alone same did) rest =
-        later_on setting e history d n (heard_same setting e history d n none (ap (λ (o : Option Did). of_some o false hears) did))
+        later_on setting e history d n (heard_same setting e history d n none (ap (λ (o : Option Did). map_or o false hears) did))
         (rest past (sym same ∙ there) n number one idle)
 
     by_made : (b : Bool) → makes d e ≡ b

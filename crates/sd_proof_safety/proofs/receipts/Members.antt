@@ -2,7 +2,7 @@
 use Rattle.std.specs.Prelude.{◌≡◌, ℕ, ◌+◌, Bool, true, false, List, [], ◌∷◌, Option, Some, None, option_map, refl, ◌⊎◌, if◌then◌else◌}
 use Rattle.std.specs.List.{list_any}
 use Rattle.std.proofs.Common.{arith, ◌∙◌, ap, sym, inl, inr}
-use Rattle.sd_checker.specs.Num.Lists.{of_some}
+use Rattle.sd_checker.specs.Num.Lists.{map_or}
 use Rattle.sd_checker.specs.Topo.declared.Thing.TheVariants as thing
 use Rattle.sd_checker.specs.Plan.declared.Duty.{Duty}
 use Rattle.sd_checker.specs.Plan.declared.Plan.{Plan}
@@ -51,7 +51,7 @@ module _ (setting : Setting) (e : Event) (history : List Event) (fair : IsFair s
 
   -- so no window closed or opened with the event
   no_commit : (c st : Bool) (w : Option (List Seen)) (y : Seen)
-      → of_some (if c then None else if st then Some [] else option_map (λ v. y ∷ v) w) false (list_any (λ z. is_commit z.event)) ≡ true
+      → map_or (if c then None else if st then Some [] else option_map (λ v. y ∷ v) w) false (list_any (λ z. is_commit z.event)) ≡ true
       → (c ≡ false) × (st ≡ false)
   no_commit true st w y has = cc
   no_commit false true w y has = cc
@@ -61,7 +61,7 @@ module _ (setting : Setting) (e : Event) (history : List Event) (fair : IsFair s
   goes_on = no_commit s.seen.closed (is_stage e) (window (seen_of (chronicle setting history))) s.seen commit
 
   same_plan : is_staged_member setting (seen_of (chronicle setting (e ∷ history))) x ≡ is_staged_member setting (seen_of (chronicle setting history)) x
-  same_plan = ap (λ (o : Option Plan). of_some o false (λ p. is_member p x)) (staged_kept setting (chronicle setting history) s goes_on.0 goes_on.1)
+  same_plan = ap (λ (o : Option Plan). map_or o false (λ p. is_member p x)) (staged_kept setting (chronicle setting history) s goes_on.0 goes_on.1)
 
   number : epoch_now own.past ≡ era (chronicle setting history) + 1
   number = own.epoch ∙ ap (λ n. n + 1) (era_kept s (chronicle setting history) goes_on.0)
@@ -74,7 +74,7 @@ module _ (setting : Setting) (e : Event) (history : List Event) (fair : IsFair s
     by_call : is_up (seen_of (chronicle setting history)) x ≡ true → (p : Past) (call : Call) → past_in (chronicle setting history) x ≡ Some p
         → own.past ≡ after p call → (t : Option Duty) → taken_up (transition_of p call) ≡ t → Member (e ∷ history)
     by_call up p call there is None none =
-        was_new up p there (sym (ap (λ o. of_some (of_some (option_map Some o) (duty_now p) (λ told. told)) 0 (λ (v : Duty). v.epoch)) none)
+        was_new up p there (sym (ap (λ o. map_or (map_or (option_map Some o) (duty_now p) (λ told. told)) 0 (λ (v : Duty). v.epoch)) none)
         ∙ sym (ap epoch_now is) ∙ number)
     by_call up p call there is (Some u) takes =
         let ahead : IsAhead setting (chronicle setting history) x p u =

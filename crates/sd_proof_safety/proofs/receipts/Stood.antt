@@ -4,15 +4,16 @@
 -- was not
 -- yet in force, and then who was of it was new and on its primary (C9 d).
 use Rattle.std.specs.Prelude.{◌≡◌, ℕ, ◌+◌, ◌<◌, ◌≤◌, Bool, true, false, ◌&&◌, ◌||◌, not, List, [], ◌∷◌, count_by, map, nat_eq, Option, Some, None, is_some, option_map, refl, ◌⊎◌, if◌then◌else◌}
-use Rattle.std.proofs.Common.{arith, ◌∙◌, ap, sym, subst, inl, inr}
+use Rattle.std.proofs.Common.{arith, ◌∙◌, ap, sym, subst}
 use Rattle.std.proofs.lemmas.Bool.{and_parts, and_from, eqb-true, eq-eqb, false_from_ne_true}
-use Rattle.sd_checker.specs.Num.Lists.{of_some, same_number, has}
+use Rattle.sd_checker.specs.Num.Lists.{map_or, same_number, has}
 use Rattle.sd_checker.specs.Topo.declared.Thing.TheVariants as thing
 use Rattle.sd_checker.specs.Plan.declared.Duty.{Duty}
 use Rattle.sd_checker.specs.Plan.declared.Plan.{Plan}
 use Rattle.sd_checker.specs.Plan.Plans.{is_member, is_root, is_backup_root}
 use Rattle.sd_checker.specs.Topo.Network.{rates_of}
 use Rattle.sd_checker.specs.Plan.Walks.{walk}
+use Rattle.sd_checker.proofs.Num.Shared.{unequal_swap}
 use Rattle.sd_history.specs.Core.Calls as calls
 use Rattle.sd_history.specs.Core.Calls.{Call, Past}
 use Rattle.sd_history.specs.Core.Words.{after, transition_of, taken_up, duty_now, epoch_now, has_moved, is_acting}
@@ -24,9 +25,9 @@ use Rattle.sd_history.specs.Chronicle.{answers_by, new_past, past_in, chronicle,
 use Rattle.sd_history.proofs.Given.{takes_given}
 use Rattle.sd_history.proofs.Known.{up_case}
 use Rattle.sd_proof_safety.specs.invariant.Eras.{era, plan_now, is_old, is_new, is_ordinary, live_past, moved, on_primary}
-use Rattle.sd_proof_safety.specs.invariant.Clauses.{is_beginning, above_backup_root, backup_root_stays, staged_root, new_is_linked}
+use Rattle.sd_proof_safety.specs.invariant.Clauses.{is_beginning, above_backup_root, backup_root_stays, staged_root}
 use Rattle.sd_proof_safety.specs.invariant.Invariant.{Core, Invariant, AtEach}
-use Rattle.sd_proof_safety.specs.invariant.Coming.{IsFair, IsClean, Comes}
+use Rattle.sd_proof_safety.specs.invariant.Coming.{IsFair, IsClean, IsNextEvent}
 use Rattle.sd_proof_safety.proofs.invariant.Empty.{core_empty}
 use Rattle.sd_proof_safety.proofs.invariant.Closings.{start_closes_none}
 use Rattle.sd_proof_safety.proofs.invariant.Known.{old_is_up}
@@ -34,8 +35,7 @@ use Rattle.sd_proof_safety.proofs.invariant.Parents.{live_is}
 use Rattle.sd_proof_safety.proofs.invariant.Prefix.{clean_before}
 use Rattle.sd_proof_safety.proofs.invariant.Sides.{implied, not_both}
 use Rattle.sd_proof_safety.proofs.invariant.Staying.{old_is_member}
-use Rattle.sd_proof_safety.proofs.invariant.Facts.{turned}
-use Rattle.sd_proof_safety.proofs.timers.Pasts.{stays_moved, stays_acting}
+use Rattle.sd_proof_safety.proofs.timers.Pasts.{stays_moved, stays_acting, was_false}
 use Rattle.sd_proof_safety.proofs.waits.Beginning.{still}
 use Rattle.sd_proof_safety.proofs.waits.Epochs.{era_rises}
 use Rattle.sd_proof_safety.specs.messages.Moments.{Tail, whole, behind}
@@ -60,10 +60,6 @@ put_so true acts m a = cc
 put_so false true m a = cc
 put_so false false m a = refl
 
-pub unless : (b c : Bool) → (b ≡ true → c ≡ true) → c ≡ false → b ≡ false
-unless true c more none = let is = more refl in cc
-unless false c more none = refl
-
 -- a call that takes up no duty leaves the plan, and who has not moved and does not act after it had not moved and did not act
 record Kept (past : Past) (call : Call) : Type 0 where
   epoch : epoch_now (after past call) ≡ epoch_now past
@@ -73,13 +69,13 @@ record Kept (past : Past) (call : Call) : Type 0 where
 kept_by : (past : Past) (call : Call) → taken_up (transition_of past call) ≡ None → Kept past call
 kept_by past call none =
     record {
-      epoch = ap (λ o. of_some (of_some (option_map Some o) (duty_now past) (λ told. told)) 0 (λ (u : Duty). u.epoch)) none;
-      unmoved = unless (has_moved past) (has_moved (after past call)) (stays_moved past call (transition_of past call) none);
-      idle = unless (is_acting past) (is_acting (after past call)) (stays_acting past call (transition_of past call) none);
+      epoch = ap (λ o. map_or (map_or (option_map Some o) (duty_now past) (λ told. told)) 0 (λ (u : Duty). u.epoch)) none;
+      unmoved = was_false (has_moved past) (has_moved (after past call)) (stays_moved past call (transition_of past call) none);
+      idle = was_false (is_acting past) (is_acting (after past call)) (stays_acting past call (transition_of past call) none);
     }
 
 pub taken_epoch : (past : Past) (call : Call) (u : Duty) → taken_up (transition_of past call) ≡ Some u → epoch_now (after past call) ≡ u.epoch
-taken_epoch past call u takes = ap (λ o. of_some (of_some (option_map Some o) (duty_now past) (λ told. told)) 0 (λ (v : Duty). v.epoch)) takes
+taken_epoch past call u takes = ap (λ o. map_or (map_or (option_map Some o) (duty_now past) (λ told. told)) 0 (λ (v : Duty). v.epoch)) takes
 
 -- a device that is up, with its past
 record IsThere (steps : List Step) (d : ℕ) : Type 0 where
@@ -93,11 +89,11 @@ module _ (setting : Setting) (history : List Event) (d : ℕ) (past : Past) (up 
   live = ap (λ b. if b then past_in (chronicle setting history) d else None) up ∙ there
 
   pub moved_is : moved (chronicle setting history) d ≡ has_moved past
-  moved_is = ap (λ (o : Option Past). of_some o false has_moved) live
+  moved_is = ap (λ (o : Option Past). map_or o false has_moved) live
 
   pub acts_is : acts_in (chronicle setting history) d ≡ is_acting past
-  acts_is = ap (λ (o : Option Answers). of_some o false (λ a. a.acts)) (live_is setting history d)
-      ∙ ap (λ (o : Option Past). of_some (option_map answers_by o) false (λ a. a.acts)) live
+  acts_is = ap (λ (o : Option Answers). map_or o false (λ a. a.acts)) (live_is setting history d)
+      ∙ ap (λ (o : Option Past). map_or (option_map answers_by o) false (λ a. a.acts)) live
 
   pub epoch_is : epoch_in (chronicle setting history) d ≡ Some (epoch_now past)
   epoch_is = ap (λ (o : Option Answers). option_map (λ a. a.epoch) o) (live_is setting history d)
@@ -105,7 +101,7 @@ module _ (setting : Setting) (history : List Event) (d : ℕ) (past : Past) (up 
 
   pub primary_is : on_primary (chronicle setting history) d ≡ (not (has_moved past) && not (is_acting past))
   primary_is =
-      ap (λ (o : Option Past). is_some o && not (of_some o false has_moved) && not (acts_in (chronicle setting history) d)) live
+      ap (λ (o : Option Past). is_some o && not (map_or o false has_moved) && not (acts_in (chronicle setting history) d)) live
       ∙ ap (λ b. (true && not (has_moved past)) && not b) acts_is
 
 up_has_past : (setting : Setting) (history : List Event) (d n : ℕ) → is_up (seen_of (chronicle setting history)) d ≡ true
@@ -154,7 +150,7 @@ record IsBack (setting : Setting) (b n : ℕ) (then_ : List Event) : Type 0 wher
 
 module _ (setting : Setting) (fair : IsFair setting) (b n : ℕ) (positive : 1 ≤ n) where
   module _ (e : Event) (history : List Event) (clean : IsClean setting (e ∷ history)) (each : AtEach (Invariant setting) (chronicle setting history)) where
-    comes : Comes setting history e
+    comes : IsNextEvent setting history e
     comes = record { fair = fair; clean = clean; before = each }
 
     closed_back : (next_step setting (chronicle setting history) e).seen.closed ≡ true → era (chronicle setting (e ∷ history)) ≡ n
@@ -225,7 +221,7 @@ module _ (setting : Setting) (fair : IsFair setting) (b n : ℕ) (positive : 1 �
                 (sym (taken_epoch then_past call u takes) ∙ sym (ap epoch_now is) ∙ epoch_here))
 
       some_same : {p q : Past} → Some p ≡ Some q → p ≡ q
-      some_same {p = p} same = ap (λ o. of_some o p (λ x. x)) same
+      some_same {p = p} same = ap (λ o. map_or o p (λ x. x)) same
 
       by_went : IsUnmade → (now_past : Past) → past_in (chronicle setting (e ∷ history)) b ≡ Some now_past → Went setting e history b
           → Stays setting b n history
@@ -257,7 +253,7 @@ module _ (setting : Setting) (fair : IsFair setting) (b n : ℕ) (positive : 1 �
         started : (d : ℕ) → d ≡ b → (r c clock eps : ℕ) → event.Start r d c clock eps ≡ e → era (chronicle setting (event.Start r d c clock eps ∷ history)) ≡ n
             → BackThen setting b n history
         started d here r c clock eps same number' =
-            let at : Comes setting history (event.Start r d c clock eps) = subst (Comes setting history) (sym same) comes in
+            let at : IsNextEvent setting history (event.Start r d c clock eps) = subst (IsNextEvent setting history) (sym same) comes in
             let begins : is_beginning setting (chronicle setting (event.Start r d c clock eps ∷ history)) ≡ true =
             subst (λ steps. is_beginning setting steps ≡ true) (sym (now_is setting r d c clock eps history at))
             (starts_by setting r d c clock eps history at) in
@@ -286,7 +282,7 @@ module _ (setting : Setting) (fair : IsFair setting) (b n : ℕ) (positive : 1 �
         blank : epoch_in (chronicle setting (event.Join r m c clock eps ∷ history)) b ≡ Some 0
         blank =
             epoch_is setting (event.Join r m c clock eps ∷ history) b (new_past (calls.Joined (rates_of setting.net m) c clock eps))
-            (ap (λ x. of_some (if x then Some true else None) (is_up (seen_of (chronicle setting history)) b) (λ told. told)) (eq-eqb m b here))
+            (ap (λ x. map_or (if x then Some true else None) (is_up (seen_of (chronicle setting history)) b) (λ told. told)) (eq-eqb m b here))
             (ap (λ x. if x then Some (new_past (calls.Joined (rates_of setting.net m) c clock eps)) else past_in (chronicle setting history) b)
             (eq-eqb m b here))
     started_so _ is makes_ old number = cc
@@ -389,15 +385,15 @@ next_stood setting then_ fair clean core y past up there n own less low = by (ha
         ∙ eq-eqb (epoch_now past) (era (chronicle setting then_) + 1) number in
         let opened = commit_is_open (seen_of (chronicle setting then_)) commit in
         let root : staged_root setting (chronicle setting then_) ≡ (plan_numbered setting n).root =
-        ap (λ o. of_some o 0 (λ (p : Plan). p.root)) (staged_some setting (chronicle setting then_) opened)
+        ap (λ o. map_or o 0 (λ (p : Plan). p.root)) (staged_some setting (chronicle setting then_) opened)
         ∙ ap (λ k. (plan_numbered setting k).root) (sym number ∙ own) in
-        let apart : nat_eq y (staged_root setting (chronicle setting then_)) ≡ false = ap (nat_eq y) root ∙ turned (plan_numbered setting n).root y low in
+        let apart : nat_eq y (staged_root setting (chronicle setting then_)) ≡ false = ap (nat_eq y) root ∙ unequal_swap (plan_numbered setting n).root y low in
         let linked =
         implied (is_new (chronicle setting then_) y && not (nat_eq y (staged_root setting (chronicle setting then_)))) _ (core.committed.linked y)
         (and_from (is_new (chronicle setting then_) y) (not (nat_eq y (staged_root setting (chronicle setting then_)))) new (ap not apart)) in
         let primary =
         (and_parts (on_primary (chronicle setting then_) y) _
-        (and_parts (on_primary (chronicle setting then_) y && of_some (parent_in (chronicle setting then_) y) false (is_new (chronicle setting then_))) _
+        (and_parts (on_primary (chronicle setting then_) y && map_or (parent_in (chronicle setting then_) y) false (is_new (chronicle setting then_))) _
         linked).0).0 in
         stands_by true (has_moved past) (is_acting past) (sym (primary_is setting then_ y past up there) ∙ primary)
 
@@ -457,7 +453,7 @@ module _ (setting : Setting) (history : List Event) (fair : IsFair setting) (cle
     made_if_up (s ∷ seen) is = go (makes y s.event) (fails (thing.Device y) s.event) (made_if_up seen) is
       where
         go : (m f : Bool) → (is_up seen y ≡ true → was_made seen y ≡ true)
-            → of_some (if m then Some true else if f then Some false else None) (is_up seen y) (λ told. told) ≡ true → (m || was_made seen y) ≡ true
+            → map_or (if m then Some true else if f then Some false else None) (is_up seen y) (λ told. told) ≡ true → (m || was_made seen y) ≡ true
         go true f rest is' = refl
         go false true rest is' = cc
         go false false rest is' = rest is'

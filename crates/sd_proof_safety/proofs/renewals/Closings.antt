@@ -6,14 +6,15 @@
 use Rattle.std.specs.Prelude.{◌≡◌, ℕ, ◌+◌, ◌*◌, ◌<◌, ◌≤◌, Bool, true, false, ◌&&◌, ◌||◌, not, List, [], ◌∷◌, length, map, max, nat_eq, nat_lt, Option, Some, None, is_some, option_map, refl, if◌then◌else◌}
 use Rattle.std.specs.List.{list_any}
 use Rattle.std.proofs.Common.{arith, ◌∙◌, ap, sym, subst}
-use Rattle.std.proofs.lemmas.Bool.{and_parts, and_from, or_left, or_right, eqb-true, eq-eqb, false_from_ne_true, lt-ltb, le-leb}
-use Rattle.sd_checker.specs.Num.Lists.{of_some, same_number, has}
+use Rattle.std.proofs.lemmas.Bool.{and_parts, and_from, or_left, or_right, eqb-true, eq-eqb, false_from_ne_true, lt-ltb, le-leb, not-true}
+use Rattle.sd_checker.specs.Num.Lists.{map_or, same_number, has}
 use Rattle.sd_checker.specs.Topo.Network.{greatest_delay}
 use Rattle.sd_checker.specs.Topo.declared.Thing.TheVariants as thing
 use Rattle.sd_checker.specs.Plan.declared.Hop as declared
 use Rattle.sd_checker.specs.Plan.declared.Plan.{Plan}
 use Rattle.sd_checker.specs.Plan.Plans.{is_member, is_present, is_root}
 use Rattle.sd_checker.specs.Plan.Walks.{hops, walk}
+use Rattle.sd_checker.proofs.Num.Shared.{unequal_swap}
 use Rattle.sd_history.specs.Core.Calls as calls
 use Rattle.sd_history.specs.Core.Calls.{Past}
 use Rattle.sd_history.specs.Core.Words.{epoch_now, has_moved, is_acting}
@@ -29,11 +30,11 @@ use Rattle.sd_proof_safety.specs.invariant.Eras.{era, plan_now, failed_now, devi
 use Rattle.sd_proof_safety.specs.invariant.Clauses.{just_closed, is_beginning, was_touched, member_is_up, member_follows, returned_is_joined, outsider_is_past, counted_is_current, blank_is_idle, link_is_sound, above_backup_root, backup_root_stays, shadow_is_short}
 use Rattle.sd_proof_safety.specs.invariant.Invariant.{Core, IsClosed, IsUncommitted}
 use Rattle.sd_proof_safety.specs.invariant.Silences.{AreSilent}
-use Rattle.sd_proof_safety.specs.invariant.Coming.{Comes, IsClean}
+use Rattle.sd_proof_safety.specs.invariant.Coming.{IsNextEvent, IsClean}
 use Rattle.sd_proof_safety.specs.invariant.Kept.{KeepsSeal}
 use Rattle.sd_proof_safety.proofs.invariant.Empty.{core_before}
-use Rattle.sd_proof_safety.proofs.invariant.Facts.{IsSound, sound_now, turned}
-use Rattle.sd_proof_safety.proofs.invariant.Opening.{none_failed, gives, false_from_not, roles_begin, backups_begin, move_begins, takeover_begins, path_begins}
+use Rattle.sd_proof_safety.proofs.invariant.Facts.{IsSound, sound_now}
+use Rattle.sd_proof_safety.proofs.invariant.Opening.{none_failed, gives, roles_begin, backups_begin, move_begins, takeover_begins, path_begins}
 use Rattle.sd_proof_safety.proofs.invariant.Prefix.{clean_before}
 use Rattle.sd_proof_safety.proofs.invariant.Sides.{implied, not_both}
 use Rattle.sd_proof_safety.proofs.waits.Beginning.{quiet, still}
@@ -42,7 +43,7 @@ use Rattle.sd_proof_safety.specs.messages.Traces.{Traced}
 use Rattle.sd_proof_safety.proofs.messages.Tails.{tail_trans, tail_chronicle, history_chronicle}
 use Rattle.sd_proof_safety.proofs.messages.Tracing.{accepted_traced}
 use Rattle.sd_history.proofs.Parts.{premises_of}
-use Rattle.sd_proof_safety.proofs.silences.Phases.{era_grows, chronicles}
+use Rattle.sd_proof_safety.proofs.silences.Phases.{era_grows}
 use Rattle.sd_proof_safety.specs.windows.Standing.{HasEntered}
 use Rattle.sd_proof_safety.proofs.windows.NoneBeforeCommit.{uncommitted}
 use Rattle.sd_proof_safety.proofs.windows.Senders.{NewPast, new_past_of}
@@ -62,10 +63,11 @@ use Rattle.sd_proof_safety.proofs.receipts.Stood.{history_of, clean_of, each_of,
 use Rattle.sd_proof_safety.proofs.receipts.Members.{new_is_member}
 use Rattle.sd_proof_safety.proofs.receipts.Hearings.{IsHeard, heard_in_plan}
 use Rattle.sd_proof_safety.proofs.renewals.LeavesOut.{joined_is_staged}
+use Rattle.sd_proof_safety.proofs.behind.Failing.{chronicle_tail}
 
 -- The path of the next backup root, while its plan is staged (C6)
 
-module _ {setting : Setting} (history : List Event) (e : Event) (comes : Comes setting history e)
+module _ {setting : Setting} (history : List Event) (e : Event) (comes : IsNextEvent setting history e)
     (commit : has_commit (seen_of (chronicle setting history)) ≡ true) where
   abbrev steps : List Step
   steps = chronicle setting history
@@ -90,7 +92,7 @@ module _ {setting : Setting} (history : List Event) (e : Event) (comes : Comes s
       let back : Tail was.then_ history = tail_trans was.tail of.tail in
       next_stood setting was.then_ comes.fair (clean_of setting was.then_ history back clean)
       (core_of setting was.then_ (each_of setting was.then_ history back comes.before)) y past was.up was.there n own
-      (less (era (chronicle setting was.then_)) (era steps) (era_grows (chronicle setting was.then_) steps (chronicles setting was.then_ history back))) low
+      (less (era (chronicle setting was.then_)) (era steps) (era_grows (chronicle setting was.then_) steps (chronicle_tail setting was.then_ history back))) low
     where
       less : (a b : ℕ) → a ≤ b → a < b + 1
       less a b le = omega (arith, le)
@@ -157,7 +159,7 @@ no_return : (m u b : Bool) → (not (m && false && u) || b) ≡ true
 no_return true u b = refl
 no_return false u b = refl
 
-past_by : (u o n b : Bool) → u ≡ true → o ≡ false → n ≡ false → b ≡ false → (u && not (o || n || b)) ≡ true
+pub past_by : (u o n b : Bool) → u ≡ true → o ≡ false → n ≡ false → b ≡ false → (u && not (o || n || b)) ≡ true
 past_by true true n b up old new blank = cc
 past_by true false true b up old new blank = cc
 past_by true false false true up old new blank = cc
@@ -174,7 +176,7 @@ made_if_up [] d is = cc
 made_if_up (s ∷ seen) d is = go (makes d s.event) (fails (thing.Device d) s.event) (made_if_up seen d) is
   where
     go : (m f : Bool) → (is_up seen d ≡ true → was_made seen d ≡ true)
-        → of_some (if m then Some true else if f then Some false else None) (is_up seen d) (λ told. told) ≡ true → (m || was_made seen d) ≡ true
+        → map_or (if m then Some true else if f then Some false else None) (is_up seen d) (λ told. told) ≡ true → (m || was_made seen d) ≡ true
     go true f rest is' = refl
     go false true rest is' = cc
     go false false rest is' = rest is'
@@ -198,7 +200,7 @@ blank_by false failed true false false false true one two three u b o n none = c
 blank_by false failed true false false false false one two three u b o n none = cc
 blank_by false failed false joined_ old new blank one two three u b o n none = cc
 
-module _ {setting : Setting} (silent : AreSilent setting) (r d : ℕ) (history : List Event) (comes : Comes setting history (event.Seal r d))
+module _ {setting : Setting} (silent : AreSilent setting) (r d : ℕ) (history : List Event) (comes : IsNextEvent setting history (event.Seal r d))
     (closed : just_closed (chronicle setting (event.Seal r d ∷ history)) ≡ true) where
   abbrev e : Event
   e = event.Seal r d
@@ -245,10 +247,10 @@ module _ {setting : Setting} (silent : AreSilent setting) (r d : ℕ) (history :
   shut = ap (λ b. if b then None else option_map (λ w. (next_step setting one e).seen ∷ w) (window (seen_of one))) closed
 
   no_commit : has_commit (seen_of (chronicle setting (event.Seal r d ∷ history))) ≡ false
-  no_commit = ap (λ (w : Option (List Seen)). of_some w false (list_any (λ x. is_commit x.event))) shut
+  no_commit = ap (λ (w : Option (List Seen)). map_or w false (list_any (λ x. is_commit x.event))) shut
 
   no_join : (x : ℕ) → joined_in_window (seen_of (chronicle setting (event.Seal r d ∷ history))) x ≡ false
-  no_join x = ap (λ (w : Option (List Seen)). of_some w false (list_any (λ y. same_number (joined y.event) x))) shut
+  no_join x = ap (λ (w : Option (List Seen)). map_or w false (list_any (λ y. same_number (joined y.event) x))) shut
 
   -- devices are as they were, but in a new era
   same : (x : ℕ) → IsAlikeAt (chronicle setting history) (chronicle setting (event.Seal r d ∷ history)) x
@@ -297,7 +299,7 @@ module _ {setting : Setting} (silent : AreSilent setting) (r d : ℕ) (history :
       → is_member (plan_now setting (chronicle setting (event.Seal r d ∷ history))) x ≡ true
   staged_to_now x member =
       ap (λ p. is_member p x) plan
-      ∙ sym (ap (λ (o : Option Plan). of_some o false (λ p. is_member p x)) (staged_some setting one (commit_is_open (seen_of one) commit))) ∙ member
+      ∙ sym (ap (λ (o : Option Plan). map_or o false (λ p. is_member p x)) (staged_some setting one (commit_is_open (seen_of one) commit))) ∙ member
 
   -- C0
   touched : (x : ℕ) → was_touched setting (chronicle setting (event.Seal r d ∷ history)) x ≡ true
@@ -373,7 +375,7 @@ module _ {setting : Setting} (silent : AreSilent setting) (r d : ℕ) (history :
       (λ both.
       let parts = and_parts (is_up (seen_of two) x) (not (is_member (plan_now setting two) x)) both in
       or_left (is_past two x) (joined_in_window (seen_of two) x && (is_blank two x || is_new two x))
-      (past_now x parts.0 (false_from_not (is_member (plan_now setting two) x) parts.1)))
+      (past_now x parts.0 (not-true (is_member (plan_now setting two) x) parts.1)))
 
   current : (x : ℕ) → counted_is_current setting (chronicle setting (event.Seal r d ∷ history)) x ≡ true
   current x =
@@ -414,11 +416,11 @@ module _ {setting : Setting} (silent : AreSilent setting) (r d : ℕ) (history :
       let c = and_parts (backup_root_stays setting two) (has (above_backup_root setting two) x) b.0 in
       let old : is_old two B ≡ true = (and_parts (is_old two B) (on_primary two B) c.0).0 in
       let under : is_root (plan_numbered setting (era one + 1)) x ≡ false =
-      sym (ap (λ p. is_root p x) plan) ∙ false_from_not (is_root (plan_now setting two) x) b.1 in
+      sym (ap (λ p. is_root p x) plan) ∙ not-true (is_root (plan_now setting two) x) b.1 in
       let among : has (map (λ (h : declared.Hop). h.parent) (walk setting.net (plan_numbered setting (era one + 1)) B)) x ≡ true =
       sym (ap (λ p. has (map (λ (h : declared.Hop). h.parent) (walk setting.net p B)) x) plan) ∙ c.1 in
       let apart : is_root (plan_numbered setting (era one + 1)) B ≡ false =
-      sym (ap (λ p. is_root p B) plan) ∙ turned B (plan_now setting two).root sound.apart in
+      sym (ap (λ p. is_root p B) plan) ∙ unequal_swap B (plan_now setting two).root sound.apart in
       le-leb (heard_at two B) (heard_at two x + max (depth setting.net * delay setting.net) (tick_gap setting.net))
       (wider (heard_at two B) (heard_at one B) (heard_at one x) (heard_at two x) (depth setting.net * delay setting.net) (tick_gap setting.net)
       (heard_sealed setting history r d B) (heard_sealed setting history r d x)
@@ -429,7 +431,7 @@ module _ {setting : Setting} (silent : AreSilent setting) (r d : ℕ) (history :
 
   pub closing_keeps : Core setting (chronicle setting (event.Seal r d ∷ history))
   closing_keeps =
-      let apart : is_root (plan_now setting two) B ≡ false = turned B (plan_now setting two).root sound.apart in
+      let apart : is_root (plan_now setting two) B ≡ false = unequal_swap B (plan_now setting two).root sound.apart in
       record {
         calm = record {
           quiet = quiet setting (e ∷ history) comes.fair comes.clean;

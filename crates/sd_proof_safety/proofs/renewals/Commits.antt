@@ -12,7 +12,7 @@ use Rattle.sd_history.specs.Steps.{Step, seen_of, epoch_in}
 use Rattle.sd_history.specs.Chronicle.{chronicle}
 use Rattle.sd_proof_safety.specs.invariant.Eras.{era, is_old, is_blank}
 use Rattle.sd_proof_safety.specs.invariant.Invariant.{Core, IsCommitted}
-use Rattle.sd_proof_safety.specs.invariant.Coming.{Comes}
+use Rattle.sd_proof_safety.specs.invariant.Coming.{IsNextEvent}
 use Rattle.sd_proof_safety.specs.invariant.Kept.{Keeps}
 use Rattle.sd_proof_safety.proofs.invariant.Empty.{core_before}
 use Rattle.sd_proof_safety.specs.windows.Standing.{HasStanding}
@@ -30,7 +30,7 @@ use Rattle.sd_proof_safety.proofs.frame.Idles.{step_at}
 use Rattle.sd_proof_safety.proofs.receipts.Entries.{next_is_not_this, next_is_not_none}
 use Rattle.sd_proof_safety.proofs.renewals.LeavesOut.{standing, commit_leaves_out}
 
-module _ {setting : Setting} (r d c : ℕ) (history : List Event) (comes : Comes setting history (event.Commit r d c)) where
+module _ {setting : Setting} (r d c : ℕ) (history : List Event) (comes : IsNextEvent setting history (event.Commit r d c)) where
   abbrev e : Event
   e = event.Commit r d c
 

@@ -1,7 +1,7 @@
 -- A give keeps the core: the device is given a duty, and nothing else changes.
 use Rattle.std.specs.Prelude.{◌≡◌, ℕ, List, ◌∷◌, ◌++◌, refl}
 use Rattle.std.proofs.Common.{◌∙◌, ap}
-use Rattle.sd_checker.specs.Num.Lists.{of_some}
+use Rattle.sd_checker.specs.Num.Lists.{map_or}
 use Rattle.sd_checker.specs.Plan.declared.Plan.{Plan}
 use Rattle.sd_checker.specs.Plan.declared.Duty.{Duty}
 use Rattle.sd_checker.specs.Plan.Duties.{duty_of}
@@ -13,7 +13,7 @@ use Rattle.sd_history.specs.Steps.{Calls, Passes, Step, seen_of, act_by, flights
 use Rattle.sd_history.specs.Chronicle.{chronicle}
 use Rattle.sd_proof_safety.specs.invariant.Invariant.{Core}
 use Rattle.sd_proof_safety.specs.invariant.Silences.{EntersSoon}
-use Rattle.sd_proof_safety.specs.invariant.Coming.{Comes, AtNext}
+use Rattle.sd_proof_safety.specs.invariant.Coming.{IsNextEvent, AtNext}
 use Rattle.sd_proof_safety.specs.invariant.Kept.{Keeps}
 use Rattle.sd_proof_safety.proofs.invariant.Empty.{core_before}
 use Rattle.sd_proof_safety.proofs.invariant.Closings.{give_closes_none}
@@ -26,7 +26,7 @@ use Rattle.sd_proof_safety.proofs.frame.Lasting.{core_lasts, shadow_same, messag
 use Rattle.sd_proof_safety.proofs.frame.Idles.{step_at, heard_called, sends_none}
 use Rattle.sd_proof_safety.proofs.renewals.Preparing.{IsPreparing, preparing, nobody_enters}
 
-module _ {setting : Setting} (enters : AtNext EntersSoon setting) (r d : ℕ) (history : List Event) (comes : Comes setting history (event.Give r d)) where
+module _ {setting : Setting} (enters : AtNext EntersSoon setting) (r d : ℕ) (history : List Event) (comes : IsNextEvent setting history (event.Give r d)) where
   abbrev e : Event
   e = event.Give r d
 
@@ -47,7 +47,7 @@ module _ {setting : Setting} (enters : AtNext EntersSoon setting) (r d : ℕ) (h
 
   named : act_by setting (chronicle setting history) (event.Give r d)
       ≡ Calls d (calls.Give (duty_of setting.net (staged_plan setting (chronicle setting history)) (staged_epoch (seen_of (chronicle setting history))) d))
-  named = ap (λ o. of_some o Passes (λ (plan : Plan). Calls d (calls.Give (duty_of setting.net plan (staged_epoch (seen_of one)) d))))
+  named = ap (λ o. map_or o Passes (λ (plan : Plan). Calls d (calls.Give (duty_of setting.net plan (staged_epoch (seen_of one)) d))))
       (staged_some setting one window.opened)
 
   plain : IsPlain (step_at setting history (event.Give r d))

@@ -5,7 +5,7 @@ use Rattle.std.specs.Prelude.{◌≡◌, ℕ, ◌+◌, ◌<◌, Bool, true, fals
 use Rattle.std.specs.List.{list_any}
 use Rattle.std.proofs.Common.{arith, ◌∙◌, ap, sym, subst, inl, inr}
 use Rattle.std.proofs.lemmas.Bool.{and_parts, and_from, or_left, or_right, eq-eqb, eqb-true, false_from_ne_true, lt-ltb}
-use Rattle.sd_checker.specs.Num.Lists.{of_some, same_number}
+use Rattle.sd_checker.specs.Num.Lists.{map_or, same_number}
 use Rattle.sd_checker.specs.Topo.Network.{rates_of}
 use Rattle.sd_checker.specs.Topo.declared.Thing.TheVariants as thing
 use Rattle.sd_checker.specs.Plan.declared.Plan.{Plan}
@@ -26,7 +26,7 @@ use Rattle.sd_history.proofs.Known.{named_is_known}
 use Rattle.sd_proof_safety.specs.invariant.Eras.{era, plan_now, device_failed_now, failed_now, is_among, live_past, is_old, is_new, is_blank, is_past, moved, belongs, root_failed, root_lives}
 use Rattle.sd_proof_safety.specs.invariant.Clauses.{is_beginning, member_is_up, member_follows, returned_is_joined, outsider_is_past, counted_is_current, blank_is_idle, backup_root_acts}
 use Rattle.sd_proof_safety.specs.invariant.Invariant.{Core}
-use Rattle.sd_proof_safety.specs.invariant.Coming.{Comes}
+use Rattle.sd_proof_safety.specs.invariant.Coming.{IsNextEvent}
 use Rattle.sd_proof_safety.specs.invariant.Kept.{Keeps}
 use Rattle.sd_proof_safety.proofs.invariant.Empty.{core_before, asks_nothing}
 use Rattle.sd_proof_safety.proofs.invariant.Facts.{IsSound, sound_now}
@@ -68,7 +68,7 @@ blank_not_past true false true b blank = refl
 blank_not_past true false false true blank = refl
 blank_not_past true false false false blank = cc
 
-module _ {setting : Setting} (r d c clock eps : ℕ) (history : List Event) (comes : Comes setting history (event.Join r d c clock eps)) where
+module _ {setting : Setting} (r d c clock eps : ℕ) (history : List Event) (comes : IsNextEvent setting history (event.Join r d c clock eps)) where
   abbrev e : Event
   e = event.Join r d c clock eps
 
@@ -149,7 +149,7 @@ module _ {setting : Setting} (r d c clock eps : ℕ) (history : List Event) (com
   here = eq-eqb d d refl
 
   up_now : is_up (seen_of (chronicle setting (event.Join r d c clock eps ∷ history))) d ≡ true
-  up_now = ap (λ b. of_some (if b then Some true else None) (is_up (seen_of one) d) (λ told. told)) here
+  up_now = ap (λ b. map_or (if b then Some true else None) (is_up (seen_of one) d) (λ told. told)) here
 
   live_now : live_past (chronicle setting (event.Join r d c clock eps ∷ history)) d ≡ Some (new_past (calls.Joined (rates_of setting.net d) c clock eps))
   live_now = ap (λ b. if b then past_in two d else None) up_now ∙ ap (λ b. if b then Some (new_past making) else past_in one d) here
@@ -177,7 +177,7 @@ module _ {setting : Setting} (r d c clock eps : ℕ) (history : List Event) (com
   blank_now = ap (λ o. same_number o 0) epoch_now
 
   acts_now : acts_in (chronicle setting (event.Join r d c clock eps ∷ history)) d ≡ false
-  acts_now = ap (λ (o : Option Answers). of_some o false (λ a. a.acts)) answers_now
+  acts_now = ap (λ (o : Option Answers). map_or o false (λ a. a.acts)) answers_now
 
   parent_now : parent_in (chronicle setting (event.Join r d c clock eps ∷ history)) d ≡ None
   parent_now = ap (λ (o : Option Answers). option_and_then (λ a. a.parent) o) answers_now
@@ -223,7 +223,7 @@ module _ {setting : Setting} (r d c clock eps : ℕ) (history : List Event) (com
         old = old_now;
         new = new_now;
         acts = acts_now;
-        moved = ap (λ (o : Option Past). of_some o false has_moved) live_now;
+        moved = ap (λ (o : Option Past). map_or o false has_moved) live_now;
         touched = ap (λ b. not (b || was_made (seen_of one) d) && not (has_ever_failed (seen_of one) d)) here;
         up = or_right _ (is_up (seen_of two) d) up_now;
         follows = follows_by (is_member (plan_now setting two) d) (device_failed_now two d) (is_up (seen_of two) d) (is_old two d || is_new two d) failed_since;

@@ -3,42 +3,43 @@
 -- and has still time to start. For where nothing of its cut path failed, that joins it to the root or the backup root; the backup root is joined to a root that
 -- lives, by its path
 -- or where that is hit by its fallback; and renewal asks that nobody is left out who is joined to the staged root.
-use Rattle.std.specs.Prelude.{◌≡◌, ℕ, zero, suc, ◌+◌, ◌<◌, ◌≤◌, Bool, true, false, ◌&&◌, ◌||◌, not, List, [], ◌∷◌, length, map, nat_eq, nat_lt, Option, Some, None, option_map, refl, ◌⊎◌, if◌then◌else◌}
+use Rattle.std.specs.Prelude.{◌≡◌, ℕ, zero, suc, ◌+◌, ◌<◌, ◌≤◌, Bool, true, false, ◌&&◌, ◌||◌, not, List, [], ◌∷◌, length, nat_eq, nat_lt, Option, Some, None, option_map, refl, ◌⊎◌, if◌then◌else◌}
 use Rattle.std.specs.List.{list_any, list_all}
-use Rattle.std.proofs.Common.{arith, IfSome, ◌∙◌, ap, sym, subst, inl, inr}
+use Rattle.std.proofs.Common.{IfSome, ◌∙◌, ap, sym, subst, inl, inr}
 use Rattle.std.proofs.lemmas.Bool.{and_parts, and_from, or_left, or_right, or_parts, or_from, eqb-true, eq-eqb, false_from_ne_true, lt-ltb, ltb-true, not-true, not-false, or_cases}
-use Rattle.sd_checker.specs.Num.Lists.{of_some, same_number, has}
+use Rattle.sd_checker.specs.Num.Lists.{map_or, same_number, has}
 use Rattle.sd_checker.specs.Topo.Network.{Network, joins, device_numbers}
 use Rattle.sd_checker.specs.Topo.Joined.{Joined, here, over, joined_within}
 use Rattle.sd_checker.specs.Topo.declared.Thing.{Thing}
 use Rattle.sd_checker.specs.Topo.declared.Thing.TheVariants as thing
-use Rattle.sd_checker.specs.Domain.Domains.{holds, holds_device, holds_link}
+use Rattle.sd_checker.specs.Domain.Domains.{holds_device, holds_link}
 use Rattle.sd_checker.specs.Plan.declared.Hop.{Hop}
 use Rattle.sd_checker.specs.Plan.declared.Plan.{Plan}
 use Rattle.sd_checker.specs.Plan.Plans.{is_member, is_present, is_root, is_backup_root, primary_of, backup_of, IsHop}
-use Rattle.sd_checker.specs.Plan.Walks.{hops, walk, path, epath, things_of, devices_of, links_of, end_of, ends_walks}
-use Rattle.sd_checker.specs.Plan.Structure.{hop_is_right, hops_are_right}
+use Rattle.sd_checker.specs.Plan.Walks.{hops, walk, path, things_of, devices_of, end_of, ends_walks}
+use Rattle.sd_checker.specs.Plan.Structure.{hop_is_right}
 use Rattle.sd_checker.proofs.Plan.Rules.{keeps_rules, hops_within}
 use Rattle.sd_checker.specs.CheckRoot.Roots.{fallback_devices, fallback_links}
 use Rattle.sd_checker.specs.Verdicts.{IsAccepted}
+use Rattle.sd_checker.proofs.CheckReach.Shared.{joined_on, end_ends}
 use Rattle.sd_history.specs.Sched.declared.Event.{Event}
 use Rattle.sd_history.specs.Sched.declared.Event.TheVariants as event
 use Rattle.sd_history.specs.Sched.Events.{joined, is_stage}
-use Rattle.sd_history.specs.World.{Setting, Seen, is_up, was_made, has_ever_failed, is_untouched, link_has_failed, has_commit, window, window_is_open, in_window, is_staged_member, joined_in_window, plan_numbered, staged}
+use Rattle.sd_history.specs.World.{Setting, Seen, is_up, was_made, has_ever_failed, is_untouched, link_has_failed, has_commit, window, is_staged_member, joined_in_window, plan_numbered}
 use Rattle.sd_history.specs.Steps.{Step, seen_of}
 use Rattle.sd_history.specs.Chronicle.{chronicle, next_step, IsHistory}
-use Rattle.sd_history.specs.Premises.{leaves_out_cleanly}
-use Rattle.sd_history.specs.Refusals.{causes, not_member}
-use Rattle.sd_history.proofs.Among.{Among, first, later, all_pass, passes}
+use Rattle.sd_history.specs.Refusals.{causes}
+use Rattle.sd_history.proofs.Among.{first, later, all_pass, passes}
 use Rattle.sd_history.proofs.Contained.{none_holds}
 use Rattle.sd_history.proofs.Known.{up_is_known}
+use Rattle.sd_history.proofs.Shared.{among_below}
 use Rattle.sd_proof_safety.specs.invariant.Eras.{era, plan_now, failed_now, device_failed_now, link_failed_now, is_among, touches, belongs, is_ordinary, hit, path_hit, root_failed}
-use Rattle.sd_proof_safety.specs.invariant.Clauses.{is_beginning, someone_untouched, begins_with, left_out_is_hit, member_is_up}
+use Rattle.sd_proof_safety.specs.invariant.Clauses.{is_beginning, begins_with, left_out_is_hit}
 use Rattle.sd_proof_safety.specs.invariant.Invariant.{Core, leaves_out_rightly}
-use Rattle.sd_proof_safety.specs.invariant.Coming.{Comes}
+use Rattle.sd_proof_safety.specs.invariant.Coming.{IsNextEvent}
 use Rattle.sd_proof_safety.proofs.invariant.Prefix.{any_passing}
 use Rattle.sd_proof_safety.proofs.invariant.Sides.{implied, not_both}
-use Rattle.sd_proof_safety.proofs.invariant.Opening.{gives, false_from_not}
+use Rattle.sd_proof_safety.proofs.invariant.Opening.{gives}
 use Rattle.sd_proof_safety.proofs.invariant.Domains.{Holding, held, touched_is_hit}
 use Rattle.sd_proof_safety.proofs.invariant.Fallback.{IsOff, off_fallback, known as known_thing, failed_are_known}
 use Rattle.sd_proof_safety.proofs.invariant.Following.{held_now}
@@ -51,18 +52,17 @@ use Rattle.sd_proof_safety.proofs.windows.Acting.{ActsOld, who_acts}
 use Rattle.sd_proof_safety.proofs.windows.Committing.{AtCommit, commit_asks, staged_plan, staged_some, staged_too, open_}
 use Rattle.sd_proof_safety.proofs.frame.PlainSteps.{era_kept, failed_kept, staged_kept}
 use Rattle.sd_proof_safety.proofs.frame.Words as words
-use Rattle.sd_proof_safety.proofs.messages.Ends.{among_below}
 use Rattle.sd_proof_safety.proofs.frame.Timely.{failed_ever, first_era, up_if_made, member_up_now}
-use Rattle.sd_proof_safety.proofs.renewals.Ways.{joined_on, joined_so}
+use Rattle.sd_proof_safety.proofs.renewals.Ways.{joined_so}
 
 -- Who joined in the open window is of the staged plan
 
-joined_before : (s : Seen) (x : ℕ) (w : Option (List Seen)) → of_some (option_map (λ v. s ∷ v) w) false (list_any (λ y. same_number (joined y.event) x)) ≡ true
-    → (same_number (joined s.event) x ≡ true) ⊎ (of_some w false (list_any (λ y. same_number (joined y.event) x)) ≡ true)
+joined_before : (s : Seen) (x : ℕ) (w : Option (List Seen)) → map_or (option_map (λ v. s ∷ v) w) false (list_any (λ y. same_number (joined y.event) x)) ≡ true
+    → (same_number (joined s.event) x ≡ true) ⊎ (map_or w false (list_any (λ y. same_number (joined y.event) x)) ≡ true)
 joined_before s x None is = cc
 joined_before s x (Some v) is = or_cases (same_number (joined s.event) x) (list_any (λ y. same_number (joined y.event) x) v) is
 
-joined_member : (o : Option ℕ) (x : ℕ) (member : ℕ → Bool) → same_number o x ≡ true → of_some o false (λ d. not (member d)) ≡ false → member x ≡ true
+joined_member : (o : Option ℕ) (x : ℕ) (member : ℕ → Bool) → same_number o x ≡ true → map_or o false (λ d. not (member d)) ≡ false → member x ≡ true
 joined_member None x member is refused = cc
 joined_member (Some d) x member is refused = subst (λ z. member z ≡ true) (eqb-true d x is) (not-false (member d) refused)
 
@@ -74,56 +74,27 @@ joined_is_staged setting (e ∷ history) is x joined_ = by s.seen.closed refl (i
     s : Step
     s = next_step setting (chronicle setting history) e
 
-    refused : of_some (joined e) false (λ d. not (is_staged_member setting (seen_of (chronicle setting history)) d)) ≡ false
+    refused : map_or (joined e) false (λ d. not (is_staged_member setting (seen_of (chronicle setting history)) d)) ≡ false
     refused =
-        (or_parts _ (of_some (joined e) false (λ d. not (is_staged_member setting (seen_of (chronicle setting history)) d)))
+        (or_parts _ (map_or (joined e) false (λ d. not (is_staged_member setting (seen_of (chronicle setting history)) d)))
         (none_holds (causes setting (chronicle setting history) e) _ is.1
         (later (later (later (later (later (later (later (later (later (later (later (later (later (later (later first))))))))))))))))).1
 
     by : (c : Bool) → (next_step setting (chronicle setting history) e).seen.closed ≡ c → (st : Bool) → is_stage e ≡ st
-        → of_some (if c then None else if st then Some [] else option_map (λ w. (next_step setting (chronicle setting history) e).seen ∷ w)
+        → map_or (if c then None else if st then Some [] else option_map (λ w. (next_step setting (chronicle setting history) e).seen ∷ w)
         (window (seen_of (chronicle setting history)))) false (list_any (λ y. same_number (joined y.event) x)) ≡ true
         → (joined_in_window (seen_of (chronicle setting history)) x ≡ true → is_staged_member setting (seen_of (chronicle setting history)) x ≡ true)
         → is_staged_member setting (seen_of (chronicle setting (e ∷ history))) x ≡ true
     by true closed st stage is' rest = cc
     by false shut true stage is' rest = cc
     by false shut false unstaged is' rest =
-        ap (λ (o : Option Plan). of_some o false (λ p. is_member p x)) (staged_kept setting (chronicle setting history) s shut unstaged)
+        ap (λ (o : Option Plan). map_or o false (λ p. is_member p x)) (staged_kept setting (chronicle setting history) s shut unstaged)
         ∙ (elim (joined_before s.seen x (window (seen_of (chronicle setting history))) is') [
           | inl now ↦ joined_member (joined e) x (is_staged_member setting (seen_of (chronicle setting history))) now refused
           | inr before ↦ rest before
         ])
 
 -- Where a walk ends
-
--- a walk cut at root and backup root ends there, where the whole one ends at the root
-cut_ends : (plan : Plan) (n y : ℕ) → is_root plan (end_of y (hops (is_root plan) plan n y)) ≡ true
-    → ends_walks plan (end_of y (hops (ends_walks plan) plan n y)) ≡ true
-cut_ends plan zero y ends = or_left (is_root plan y) (is_backup_root plan y) ends
-cut_ends plan (suc n) y ends = by (primary_of plan y) ends (cut_ends plan n)
-  where
-    on : (hop : Hop) (r b : Bool) → is_root plan hop.parent ≡ r → is_backup_root plan hop.parent ≡ b
-        → is_root plan (end_of hop.parent (elim r as (λ (k : Bool). List Hop) [ true ↦ [] | false ↦ hops (is_root plan) plan n hop.parent ])) ≡ true
-        → (is_root plan (end_of hop.parent (hops (is_root plan) plan n hop.parent)) ≡ true
-        → ends_walks plan (end_of hop.parent (hops (ends_walks plan) plan n hop.parent)) ≡ true)
-        → ends_walks plan (end_of hop.parent (elim (r || b) as (λ (k : Bool). List Hop) [ true ↦ [] | false ↦ hops (ends_walks plan) plan n hop.parent ]))
-        ≡ true
-    on hop true b root backup ends' rest = or_left (is_root plan hop.parent) (is_backup_root plan hop.parent) root
-    on hop false true root backup ends' rest = or_right (is_root plan hop.parent) (is_backup_root plan hop.parent) backup
-    on hop false false root backup ends' rest = rest ends'
-
-    by : (o : Option Hop)
-        → is_root plan
-        (end_of y (elim o as
-        (λ (k : Option Hop). List Hop)
-        [ None ↦ [] | Some hop ↦ hop ∷ (elim (is_root plan hop.parent) [ true ↦ [] | false ↦ hops (is_root plan) plan n hop.parent ]) ])) ≡ true
-        → ((z : ℕ) → is_root plan (end_of z (hops (is_root plan) plan n z)) ≡ true → ends_walks plan (end_of z (hops (ends_walks plan) plan n z)) ≡ true)
-        → ends_walks plan
-        (end_of y (elim o as
-        (λ (k : Option Hop). List Hop)
-        [ None ↦ [] | Some hop ↦ hop ∷ (elim (ends_walks plan hop.parent) [ true ↦ [] | false ↦ hops (ends_walks plan) plan n hop.parent ]) ])) ≡ true
-    by None ends' rest = or_left (is_root plan y) (is_backup_root plan y) ends'
-    by (Some hop) ends' rest = on hop (is_root plan hop.parent) (is_backup_root plan hop.parent) refl refl ends' (rest hop.parent)
 
 -- each hop of it is the primary one of its device
 hops_primary : (ends : ℕ → Bool) (plan : Plan) (n y : ℕ) → Walks plan (λ z hop. primary_of plan z ≡ Some hop) y (hops ends plan n y)
@@ -150,7 +121,7 @@ end_is_among hop (next ∷ hs) failed sound =
     (or_parts (is_among failed (thing.Device hop.parent)) (touches failed (things_of (next ∷ hs)))
     (or_parts (is_among failed (thing.Link hop.link)) _ sound).1).1
 
-module _ {setting : Setting} (r d c : ℕ) (history : List Event) (comes : Comes setting history (event.Commit r d c)) where
+module _ {setting : Setting} (r d c : ℕ) (history : List Event) (comes : IsNextEvent setting history (event.Commit r d c)) where
   abbrev e : Event
   e = event.Commit r d c
 
@@ -332,7 +303,7 @@ module _ {setting : Setting} (r d c : ℕ) (history : List Event) (comes : Comes
         → is_backup_root (plan_now setting (chronicle setting history)) x ≡ false → hit setting (chronicle setting history) x ≡ false → Reached x
     unhit_reaches x known member other apart unhit =
         by (hops (ends_walks plan) plan net.params.depth x) (hops_primary (ends_walks plan) plan net.params.depth x)
-        (cut_ends plan net.params.depth x (sym (ap (λ b. is_root plan (end_of x (if b then [] else hops (is_root plan) plan net.params.depth x))) other)
+        (end_ends plan net.params.depth x (sym (ap (λ b. is_root plan (end_of x (if b then [] else hops (is_root plan) plan net.params.depth x))) other)
         ∙ implied (is_member plan x) _ (sound.rules.reaches x known) member))
         (sym (ap (λ b. touches failed (things_of (if b then [] else hops (ends_walks plan) plan net.params.depth x))) other) ∙ unhit)
       where
@@ -440,7 +411,7 @@ module _ {setting : Setting} (r d c : ℕ) (history : List Event) (comes : Comes
           (and_from (is_member plan x) (device_failed_now one x) member was) up) in
           let joined_ : joined_in_window (seen_of one) x ≡ true = (and_parts (joined_in_window (seen_of one) x) _ back).0 in
           not_both (is_member (staged_plan setting one) x)
-          (sym (ap (λ (o : Option Plan). of_some o false (λ p. is_member p x)) (staged_some setting one asks.opened))
+          (sym (ap (λ (o : Option Plan). map_or o false (λ p. is_member p x)) (staged_some setting one asks.opened))
           ∙ joined_is_staged setting history comes.clean.is.0 x joined_) out
 
       not_root : is_root (plan_now setting (chronicle setting history)) x ≡ false
@@ -499,9 +470,9 @@ module _ {setting : Setting} (r d c : ℕ) (history : List Event) (comes : Comes
         let second = and_parts (has_commit (seen_of two) && is_up (seen_of two) x) (is_member (plan_now setting two) x) first_.0 in
         let up : is_up (seen_of one) x ≡ true = (and_parts (has_commit (seen_of two)) (is_up (seen_of two) x) second.0).1 in
         let out : is_member (staged_plan setting one) x ≡ false =
-        sym (ap (λ (o : Option Plan). of_some o false (λ p. is_member p x))
+        sym (ap (λ (o : Option Plan). map_or o false (λ p. is_member p x))
         (staged_kept setting one (next_step setting one e) shut refl ∙ staged_some setting one asks.opened))
-        ∙ false_from_not (is_staged_member setting (seen_of two) x) first_.1 in
+        ∙ not-true (is_staged_member setting (seen_of two) x) first_.1 in
         ap (λ b. b && is_ordinary (plan_now setting two) x) (words.hit_same setting one two eras failures x)
         ∙ ap (λ p. hit setting one x && is_ordinary p x) same ∙ left_out_so x up (sym (ap (λ p. is_member p x) same) ∙ second.1) out)
 

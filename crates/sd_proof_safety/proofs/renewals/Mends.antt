@@ -1,7 +1,7 @@
 -- A mend keeps the core: no device changes, and one thing fewer is failed.
 use Rattle.std.specs.Prelude.{◌≡◌, ℕ, Bool, true, false, ◌||◌, List, [], ◌∷◌, ◌++◌, nat_eq, Some, None, is_some, refl, if◌then◌else◌}
 use Rattle.std.proofs.Common.{◌∙◌, ap}
-use Rattle.sd_checker.specs.Num.Lists.{of_some}
+use Rattle.sd_checker.specs.Num.Lists.{map_or}
 use Rattle.sd_history.specs.Sched.declared.Event.{Event}
 use Rattle.sd_history.specs.Sched.declared.Event.TheVariants as event
 use Rattle.sd_history.specs.Sched.Events.{reference_of, given, joined, is_stage, is_commit}
@@ -11,7 +11,7 @@ use Rattle.sd_history.specs.Steps.{Step, seen_of, flights}
 use Rattle.sd_history.specs.Chronicle.{chronicle}
 use Rattle.sd_proof_safety.specs.invariant.Invariant.{Core}
 use Rattle.sd_proof_safety.specs.invariant.Silences.{EntersSoon}
-use Rattle.sd_proof_safety.specs.invariant.Coming.{Comes, AtNext}
+use Rattle.sd_proof_safety.specs.invariant.Coming.{IsNextEvent, AtNext}
 use Rattle.sd_proof_safety.specs.invariant.Kept.{Keeps}
 use Rattle.sd_proof_safety.proofs.invariant.Empty.{core_before}
 use Rattle.sd_proof_safety.proofs.invariant.Closings.{mended_device_closes_none, mended_link_closes_none}
@@ -24,7 +24,7 @@ use Rattle.sd_proof_safety.proofs.frame.Idles.{step_at}
 use Rattle.sd_proof_safety.proofs.renewals.Preparing.{IsPreparing, preparing, nobody_enters}
 
 -- an event that does nothing to any device, closes nothing and leaves no more links failed
-module _ {setting : Setting} (enters : AtNext EntersSoon setting) (history : List Event) (e : Event) (comes : Comes setting history e)
+module _ {setting : Setting} (enters : AtNext EntersSoon setting) (history : List Event) (e : Event) (comes : IsNextEvent setting history e)
     (prepares : (is_some (given e) || is_some (joined e) || is_some (mended e) || is_commit e) ≡ true) (stays : (step_at setting history e).seen.closed ≡ false)
     (unstaged : is_stage e ≡ false) (uncommitted : is_commit e ≡ false) (unjoined : joined e ≡ None) (unfailed : failure_of e ≡ None)
     (alone : (x : ℕ) → IsElsewhere (step_at setting history e) x) (sent : (step_at setting history e).sent ≡ [])
@@ -64,7 +64,7 @@ module _ {setting : Setting} (enters : AtNext EntersSoon setting) (history : Lis
       (λ x. shadow_same setting one two alike each (λ y. heard_alone one s y (alone y)) x ∙ core.causes.shadow x)
       (messages_same setting one two alike (ap (λ fs. fs ++ flights one) sent) ∙ core.uncommitted.messages) stays
 
-mended_or_not : (b was : Bool) → of_some (if b then Some false else None) was (λ told. told) ≡ true → was ≡ true
+mended_or_not : (b was : Bool) → map_or (if b then Some false else None) was (λ told. told) ≡ true → was ≡ true
 mended_or_not true was failed = cc
 mended_or_not false was failed = failed
 

@@ -20,17 +20,17 @@ pub record IsPreparing (steps : List Step) : Type 0 where
   pub opened : window_is_open (seen_of steps) ≡ true
   pub uncommitted : has_commit (seen_of steps) ≡ false
 
-both : (opened commit : Bool) → (not opened || commit) ≡ false → (opened ≡ true) × (commit ≡ false)
-both true false is = (refl, refl)
-both true true is = cc
-both false commit is = cc
+opened_uncommitted : (opened commit : Bool) → (not opened || commit) ≡ false → (opened ≡ true) × (commit ≡ false)
+opened_uncommitted true false is = (refl, refl)
+opened_uncommitted true true is = cc
+opened_uncommitted false commit is = cc
 
 pub preparing : (setting : Setting) (e : Event) (history : List Event) → IsHistory setting (e ∷ history)
     → (is_some (given e) || is_some (joined e) || is_some (mended e) || is_commit e) ≡ true
     → IsPreparing (chronicle setting history)
 preparing setting e history is prepares =
     let seen = seen_of (chronicle setting history) in
-    let parts = both (window_is_open seen) (has_commit seen) (sym (ap (λ b. b && past_preparing seen) prepares) ∙ (orderly setting e history is).prepares) in
+    let parts = opened_uncommitted (window_is_open seen) (has_commit seen) (sym (ap (λ b. b && past_preparing seen) prepares) ∙ (orderly setting e history is).prepares) in
     record { opened = parts.0; uncommitted = parts.1 }
 
 pub nobody_enters : (setting : Setting) (steps : List Step) → has_commit (seen_of steps) ≡ false → (d : ℕ) → member_enters setting steps d ≡ true

@@ -10,7 +10,7 @@ use Rattle.sd_history.specs.Chronicle.{chronicle}
 use Rattle.sd_proof_safety.specs.invariant.Clauses.{just_closed}
 use Rattle.sd_proof_safety.specs.invariant.Invariant.{Core}
 use Rattle.sd_proof_safety.specs.invariant.Silences.{EntersSoon}
-use Rattle.sd_proof_safety.specs.invariant.Coming.{Comes, AtNext}
+use Rattle.sd_proof_safety.specs.invariant.Coming.{IsNextEvent, AtNext}
 use Rattle.sd_proof_safety.specs.invariant.Kept.{KeepsSeal}
 use Rattle.sd_proof_safety.proofs.invariant.Empty.{core_before}
 use Rattle.sd_proof_safety.specs.frame.Frames.{IsPlain, IsAlike, IsAlikeAt}
@@ -21,7 +21,7 @@ use Rattle.sd_proof_safety.proofs.frame.QuietCalls.{alike_called, given_called, 
 use Rattle.sd_proof_safety.proofs.frame.Lasting.{core_lasts, shadow_same, messages_same}
 use Rattle.sd_proof_safety.proofs.frame.Idles.{step_at, heard_called, sends_none}
 
-module _ {setting : Setting} (enters : AtNext EntersSoon setting) (r d : ℕ) (history : List Event) (comes : Comes setting history (event.Seal r d))
+module _ {setting : Setting} (enters : AtNext EntersSoon setting) (r d : ℕ) (history : List Event) (comes : IsNextEvent setting history (event.Seal r d))
     (stays : just_closed (chronicle setting (event.Seal r d ∷ history)) ≡ false) where
   abbrev e : Event
   e = event.Seal r d

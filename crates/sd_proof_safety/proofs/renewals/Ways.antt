@@ -1,27 +1,23 @@
 -- Devices that are joined are so by as many links as there are devices at most: a way that comes back to a device can be cut there, and numbers below a bound
 -- of which none
 -- comes twice are as many at most.
-use Rattle.std.specs.Prelude.{◌≡◌, ℕ, zero, suc, ◌+◌, ◌<◌, ◌≤◌, Bool, true, false, ◌&&◌, ◌||◌, List, [], ◌∷◌, length, cond, nat_eq, refl, ◌⊎◌}
-use Rattle.std.specs.List.{list_any, AllByRecursion, IsDistinct}
-use Rattle.std.proofs.Common.{arith, ◌∙◌, ap, sym, subst, inl, inr}
-use Rattle.std.proofs.lemmas.Bool.{and_parts, and_from, or_left, or_right, or_cases, or_parts, eqb-true, eq-eqb}
+use Rattle.std.specs.Prelude.{◌≡◌, ℕ, zero, suc, ◌+◌, ◌<◌, ◌≤◌, Bool, true, false, ◌&&◌, ◌||◌, List, [], ◌∷◌, length, nat_eq, refl, ◌⊎◌}
+use Rattle.std.specs.List.{list_any, IsDistinct}
+use Rattle.std.proofs.Common.{arith, ◌∙◌, sym, subst, inl, inr}
+use Rattle.std.proofs.lemmas.Bool.{and_from, or_left, or_right, or_cases, eqb-true, eq-eqb}
 use Rattle.sd_checker.specs.Num.Lists.{has}
 use Rattle.sd_checker.specs.Topo.Network.{Network, joins, device_numbers, link_numbers}
 use Rattle.sd_checker.specs.Topo.Joined.{Joined, here, over, joined_within}
 use Rattle.std.proofs.lemmas.Map.Steps.{length-le_from_distinct_below}
+use Rattle.sd_checker.proofs.Num.Shared.{differs}
+use Rattle.sd_history.proofs.Shared.{among_below}
 use Rattle.sd_proof_safety.proofs.invariant.Prefix.{any_passing}
-use Rattle.sd_proof_safety.proofs.invariant.Sides.{not_both}
-use Rattle.sd_proof_safety.proofs.messages.Ends.{among_below}
 
 -- Numbers of which none comes twice
 
 abbrev AreDistinct : List ℕ → Type 0
 AreDistinct [] = Unit {0}
 AreDistinct (x ∷ xs) = (has xs x ≡ false) × AreDistinct xs
-
-differs : (x : ℕ) (xs : List ℕ) → has xs x ≡ false → AllByRecursion (λ y. nat_eq x y ≡ false) xs
-differs x [] none = tt
-differs x (y ∷ ys) none = let parts = or_parts (nat_eq x y) (has ys x) none in (parts.0, differs x ys parts.1)
 
 as_distinct : (xs : List ℕ) → AreDistinct xs → IsDistinct nat_eq xs
 unfolding IsDistinct
@@ -30,12 +26,6 @@ as_distinct (x ∷ xs) all = (differs x xs all.0, as_distinct xs all.1)
 
 as_many : (xs : List ℕ) (n : ℕ) → AreDistinct xs → ((x : ℕ) → has xs x ≡ true → x < n) → length xs ≤ n
 as_many xs n all within = length-le_from_distinct_below xs n (as_distinct xs all) within
-
--- joined ways in a row
-pub joined_on : {net : Network} {may_pass may_cross : ℕ → Bool} {d e x : ℕ} → Joined net may_pass may_cross d e → Joined net may_pass may_cross e x
-    → Joined net may_pass may_cross d x
-joined_on here rest = rest
-joined_on (over l within crosses joined passes more) rest = over l within crosses joined passes (joined_on more rest)
 
 module _ (net : Network) (may_pass may_cross : ℕ → Bool) (known : (e : ℕ) → may_pass e ≡ true → e < length net.devices) where
   abbrev has_link : ℕ → ℕ → Bool

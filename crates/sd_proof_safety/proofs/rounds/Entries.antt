@@ -4,7 +4,7 @@ use Rattle.std.specs.Prelude.{◌≡◌, ℕ, ◌+◌, ◌<◌, ◌≤◌, true,
 use Rattle.std.proofs.Common.{arith, sym, ◌∙◌, ap, subst}
 use Rattle.std.proofs.lemmas.Bool.{and_parts, and_from, eqb-true, false_from_ne_true}
 use Rattle.std.proofs.Math.Nat.{le_antisymm}
-use Rattle.sd_checker.specs.Num.Lists.{of_some}
+use Rattle.sd_checker.specs.Num.Lists.{map_or}
 use Rattle.sd_checker.specs.Topo.Network.{least_low}
 use Rattle.sd_history.specs.Msg.declared.Message.{Message}
 use Rattle.sd_history.specs.Core.Calls.{Past}
@@ -146,7 +146,7 @@ module _ (setting : Setting) (x : Event) (h : List Event) (e : Event) (s0 a : �
           let linked =
           implied (is_new older y && not (nat_eq y (staged_root setting older))) _ (inv.core.committed.linked y)
           (and_from (is_new older y) (not (nat_eq y (staged_root setting older))) new (ap not apart)) in
-          let primary = (and_parts (on_primary older y) _ (and_parts (on_primary older y && of_some (parent_in older y) false (is_new older)) _ linked).0).0 in
+          let primary = (and_parts (on_primary older y) _ (and_parts (on_primary older y && map_or (parent_in older y) false (is_new older)) _ linked).0).0 in
           let idle : is_acting own.past ≡ false = sym (acts_is setting (k.x ∷ k.h) y own.past own.up own.there)
           ∙ idle_by (is_some (live_past older y)) (moved older y) (acts_in older y) primary in
           let heard : IsHeard setting (k.x ∷ k.h) y (era older + 1) =

@@ -37,7 +37,7 @@ use Rattle.sd_proof_safety.specs.silences.Feeds.{IsSource}
 use Rattle.sd_proof_safety.proofs.silences.Phases.{Following, following}
 use Rattle.sd_proof_safety.proofs.silences.Rounds.{unbroken}
 use Rattle.sd_proof_safety.proofs.silences.NoMaking.{remakes_is, not_made}
-use Rattle.sd_proof_safety.proofs.silences.Spacing.{timed_to, emissions_are_apart}
+use Rattle.sd_proof_safety.proofs.silences.Spacing.{emissions_are_apart}
 use Rattle.sd_proof_safety.proofs.silences.FirstEra.{emitter_up}
 use Rattle.sd_proof_safety.proofs.silences.SoundWays.{top_of}
 use Rattle.sd_proof_safety.proofs.silences.RootIsSource.{entered_still, emission_keeps}
@@ -48,6 +48,7 @@ use Rattle.sd_proof_safety.proofs.terms.Actors.{IsActor, one_actor, actor_is_cur
 use Rattle.sd_proof_safety.proofs.terms.Terms.{IsTermed, termed}
 use Rattle.sd_proof_safety.specs.rounds.Spans.{IsSpan}
 use Rattle.sd_proof_safety.proofs.rounds.Places.{InEra}
+use Rattle.sd_proof_safety.proofs.timers.Emissions.{timed_tail}
 
 -- before the event of a moment it acts, sent at most P ago, and is of the era's plan, or after a commit of the staged one
 pub record LeadsAt (setting : Setting) (steps : List Step) (a : ℕ) (q : Moment) : Type 0 where
@@ -113,7 +114,7 @@ module _ (setting : Setting) (x : Event) (h : List Event) (e : Event) (s0 a : �
     where
       remakes_not : (q : Moment) → IsIn q (chronicle setting (x ∷ h)) → makes a q.step.seen.event ≡ false → remakes a q.step.act ≡ false
       remakes_not q here none =
-          let t : AreTimed setting (upto q) = timed_to setting (upto q) steps here (steps_timed setting x h e l.span.comes) in
+          let t : AreTimed setting (upto q) = timed_tail setting (upto q) steps here (steps_timed setting x h e l.span.comes) in
           remakes_is a q.step.act ∙ sym (t.1.fits.makes_it a) ∙ none
 
   pub spacing : AreApart setting (chronicle setting (x ∷ h))
@@ -148,7 +149,7 @@ module _ (setting : Setting) (x : Event) (h : List Event) (e : Event) (s0 a : �
                 up =
                     subst (λ older. is_up (seen_of older) y ≡ true) (sym is_)
                     (emitter_up setting p y m (tail_chronicle setting here all_chronicle.0)
-                    (timed_to setting (upto p) steps here (steps_timed setting x h e l.span.comes)) emits);
+                    (timed_tail setting (upto p) steps here (steps_timed setting x h e l.span.comes)) emits);
                 there = subst (λ older. past_in older y ≡ Some (after s.past s.call)) (sym is_) (past_after_call p y s.call s.past s.act s.there);
                 acts = emission_acts s.past s.call emits.emission;
               };

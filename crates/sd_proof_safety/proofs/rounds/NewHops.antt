@@ -17,7 +17,7 @@ use Rattle.sd_history.specs.Steps.{Step, seen_of}
 use Rattle.sd_history.specs.Chronicle.{chronicle}
 use Rattle.sd_history.proofs.Among.{Among}
 use Rattle.sd_proof_safety.specs.invariant.Eras.{era}
-use Rattle.sd_proof_safety.specs.invariant.Coming.{Comes}
+use Rattle.sd_proof_safety.specs.invariant.Coming.{IsNextEvent}
 use Rattle.sd_proof_safety.proofs.invariant.Sides.{implied, not_both}
 use Rattle.sd_proof_safety.specs.messages.Moments.{Tail, whole, behind, IsChronicle, Moment, upto, IsIn}
 use Rattle.sd_proof_safety.proofs.messages.Tails.{tail_chronicle, history_chronicle, rest_of}
@@ -44,7 +44,7 @@ open_ways setting top plan epoch start limit source d [] rest over base = base
 open_ways setting top plan epoch start limit source d (hop ∷ hs) rest (walks one more) base =
     open_ways setting top plan epoch start limit source hop.parent hs (end_at d hop ∷ rest) more (one, base)
 
-module _ (setting : Setting) (history : List Event) (e : Event) (comes : Comes setting history e) (first : Moment)
+module _ (setting : Setting) (history : List Event) (e : Event) (comes : IsNextEvent setting history e) (first : Moment)
     (here : IsIn first (chronicle setting history)) (same : era first.earlier ≡ era (chronicle setting history))
     (commit : has_commit (seen_of first.earlier) ≡ true) where
   abbrev steps : List Step

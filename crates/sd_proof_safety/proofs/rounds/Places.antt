@@ -9,7 +9,7 @@ use Rattle.sd_history.specs.World.{Setting, is_up, has_commit, link_has_failed}
 use Rattle.sd_history.specs.Steps.{Step, seen_of}
 use Rattle.sd_history.specs.Chronicle.{past_in, chronicle}
 use Rattle.sd_proof_safety.specs.invariant.Eras.{era, beginning}
-use Rattle.sd_proof_safety.specs.invariant.Coming.{Comes}
+use Rattle.sd_proof_safety.specs.invariant.Coming.{IsNextEvent}
 use Rattle.sd_proof_safety.proofs.invariant.Sides.{not_both}
 use Rattle.sd_proof_safety.specs.messages.Moments.{Tail, Moment, when, IsIn}
 use Rattle.sd_proof_safety.specs.messages.Rounds.{IsReady}
@@ -26,7 +26,7 @@ pub record InEra (setting : Setting) (steps : List Step) (q : Moment) : Type 0 w
   pub h : List Event
   pub e : Event
   pub is : q ≡ top_of setting (x ∷ h) e
-  pub comes : Comes setting (x ∷ h) e
+  pub comes : IsNextEvent setting (x ∷ h) e
   pub late : Early setting x h e comes → ⊥
   pub same : era (chronicle setting (x ∷ h)) ≡ era steps
   pub part : Tail (chronicle setting (x ∷ h)) steps
@@ -36,7 +36,7 @@ pub record InWindow (setting : Setting) (steps : List Step) (q : Moment) : Type 
   pub h : List Event
   pub e : Event
   pub is : q ≡ top_of setting h e
-  pub comes : Comes setting h e
+  pub comes : IsNextEvent setting h e
   pub commit : has_commit (seen_of (chronicle setting h)) ≡ true
   pub same : era (chronicle setting h) + 1 ≡ era steps
 
@@ -72,7 +72,7 @@ module _ (setting : Setting) (x : Event) (h : List Event) (e : Event) (s0 : ℕ)
       st : Stage setting q
       st = stage setting span.comes.fair q (x ∷ h) e span.comes.clean span.comes.before here
 
-      by : (hs : List Event) (f : Event) → q ≡ top_of setting hs f → Comes setting hs f → InEra setting (chronicle setting (x ∷ h)) q
+      by : (hs : List Event) (f : Event) → q ≡ top_of setting hs f → IsNextEvent setting hs f → InEra setting (chronicle setting (x ∷ h)) q
       by [] f is comes =
           absurd (not_both (nat_eq (era steps) 1) (subst (λ n. nat_eq n 1 ≡ true) (sym (ap (λ (p : Moment). era p.earlier) is) ∙ same) refl) later)
       by (y ∷ hs) f is comes =

@@ -2,7 +2,7 @@
 use Rattle.std.specs.Prelude.{◌≡◌, ℕ, ◌<◌, Bool, true, false, ◌||◌, List, [], ◌∷◌, nat_eq, Option, Some, None, is_some, option_map, refl, if◌then◌else◌}
 use Rattle.std.proofs.Common.{◌∙◌, ap, subst}
 use Rattle.std.proofs.lemmas.Bool.{or_left, or_right, eqb-true, eq-eqb}
-use Rattle.sd_checker.specs.Num.Lists.{of_some}
+use Rattle.sd_checker.specs.Num.Lists.{map_or}
 use Rattle.sd_history.specs.Msg.declared.Message.{Message}
 use Rattle.sd_history.specs.Core.Calls.{Call, Receive, Transition, Entered, Committed, Recommitted, Accepted, Moved, TookOver, Emitted, Nothing, Past}
 use Rattle.sd_history.specs.Core.Words.{transition_of, accepted_over}
@@ -12,9 +12,8 @@ use Rattle.sd_history.specs.World.{Setting, makes}
 use Rattle.sd_history.specs.Steps.{Act, Makes, Calls, Asks, Passes, Step, seen_of}
 use Rattle.sd_history.specs.Chronicle.{past_in, chronicle, next_step}
 use Rattle.sd_proof_safety.specs.invariant.Eras as eras
-use Rattle.sd_proof_safety.specs.invariant.Eras.{does, hears, latest_such, heard_at, heard_since_made, has_emission, emission_by, begins_round, beginning, all_started}
+use Rattle.sd_proof_safety.specs.invariant.Eras.{does, hears, latest_such, heard_at, heard_since_made, has_emission, emission_by, begins_round, all_started}
 use Rattle.sd_proof_safety.specs.invariant.Coming.{IsFair, IsClean}
-use Rattle.sd_proof_safety.proofs.invariant.Domains.{some_of}
 use Rattle.sd_proof_safety.proofs.invariant.Prefix.{clean_before}
 use Rattle.sd_proof_safety.specs.messages.Moments.{whole, behind, Moment, when, IsIn, Emits, is_emission}
 use Rattle.sd_proof_safety.specs.messages.Traces.{Traced}
@@ -22,6 +21,7 @@ use Rattle.sd_proof_safety.proofs.messages.Tails.{history_chronicle}
 use Rattle.sd_proof_safety.proofs.messages.Tracing.{accepted_traced}
 use Rattle.sd_proof_safety.proofs.messages.Latest.{trace_first, trace_emits}
 use Rattle.sd_history.proofs.Parts.{premises_of}
+use Rattle.sd_history.proofs.Known.{has_some}
 use Rattle.sd_proof_safety.proofs.timers.Transitions.{by_case}
 use Rattle.sd_proof_safety.proofs.waits.LeastWaits.{timely_of}
 use Rattle.sd_proof_safety.proofs.waits.Beginning.{emitted_late}
@@ -40,9 +40,9 @@ emits_there : (p : Moment) (x : ℕ) (m : Message) → Emits p x m → emission_
 emits_there p x m emits =
     let s = emits.sends in
     ap (emission_by p.earlier) s.act
-    ∙ ap (λ b. of_some (if b then option_map (λ past. record { call = s.call; transition = transition_of past s.call }) (past_in p.earlier x) else None) false
+    ∙ ap (λ b. map_or (if b then option_map (λ past. record { call = s.call; transition = transition_of past s.call }) (past_in p.earlier x) else None) false
     begins_round) (eq-eqb x x refl)
-    ∙ ap (λ o. of_some (option_map (λ past. record { call = s.call; transition = transition_of past s.call }) o) false begins_round) s.there
+    ∙ ap (λ o. map_or (option_map (λ past. record { call = s.call; transition = transition_of past s.call }) o) false begins_round) s.there
     ∙ begins_by s.call (transition_of s.past s.call) emits.emission
 
 pub has_emitted : (p : Moment) (x : ℕ) (m : Message) (steps : List Step) → IsIn p steps → Emits p x m → has_emission steps ≡ true
@@ -94,7 +94,7 @@ module _ (setting : Setting) (fair : IsFair setting) where
           let r = receives past call is in
           let over : is_some (accepted_over (transition_of past (Receive r.0 r.1 r.2))) ≡ true =
           subst (λ k. is_some (accepted_over (transition_of past k)) ≡ true) r.3 is in
-          let edge = some_of (accepted_over (transition_of past (Receive r.0 r.1 r.2))) over in
+          let edge = has_some (accepted_over (transition_of past (Receive r.0 r.1 r.2))) over in
           let q : Moment = record { step = next_step setting (chronicle setting history) e; earlier = chronicle setting history } in
           let t : Traced setting r.1.stamp r.1.epoch q d =
           accepted_traced setting (chronicle setting (e ∷ history)) (history_chronicle setting (e ∷ history) clean.is)
@@ -105,11 +105,11 @@ module _ (setting : Setting) (fair : IsFair setting) where
           (trace_first setting r.1.stamp r.1.epoch t.first t.source t.hops q d t.trace) source.1
 
       by_act : (act : Act) → (next_step setting (chronicle setting history) e).act ≡ act
-          → of_some (eras.did_by (chronicle setting history) act d) false hears ≡ true → has_emission (chronicle setting (e ∷ history)) ≡ true
+          → map_or (eras.did_by (chronicle setting history) act d) false hears ≡ true → has_emission (chronicle setting (e ∷ history)) ≡ true
       by_act (Calls z call) act is = go (nat_eq z d) refl (past_in (chronicle setting history) d) refl is
         where
           go : (b : Bool) → nat_eq z d ≡ b → (o : Option Past) → past_in (chronicle setting history) d ≡ o
-              → of_some (if b then option_map (λ past. record { call = call; transition = transition_of past call }) o else None) false hears ≡ true
+              → map_or (if b then option_map (λ past. record { call = call; transition = transition_of past call }) o else None) false hears ≡ true
               → has_emission (chronicle setting (e ∷ history)) ≡ true
           go true same (Some past) there h' = by_call call past (act ∙ ap (λ n. Calls n call) (eqb-true z d same)) there h'
           go true same None there h' = cc

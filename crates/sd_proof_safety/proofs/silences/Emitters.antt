@@ -24,10 +24,11 @@ use Rattle.sd_proof_safety.specs.silences.Phases.{IsPhase}
 use Rattle.sd_proof_safety.proofs.waits.Standing.{times, sound, steps_timed}
 use Rattle.sd_proof_safety.proofs.silences.Phases.{Following, following, Known, known}
 use Rattle.sd_proof_safety.proofs.silences.Rounds.{unbroken}
-use Rattle.sd_proof_safety.proofs.silences.Spacing.{timed_to, emissions_are_apart}
+use Rattle.sd_proof_safety.proofs.silences.Spacing.{emissions_are_apart}
 use Rattle.sd_proof_safety.proofs.silences.FirstEra.{emitter_up, number_is, root_acts}
 use Rattle.sd_proof_safety.proofs.silences.SoundWays.{top_of}
 use Rattle.sd_proof_safety.proofs.silences.RootIsSource.{root_source}
+use Rattle.sd_proof_safety.proofs.timers.Emissions.{timed_tail}
 
 module _ (setting : Setting) (x : Event) (h : List Event) (e : Event) (s0 : ℕ) (phase : IsPhase setting (x ∷ h) e s0)
     (kept : root_failed setting (chronicle setting (x ∷ h)) ≡ false) where
@@ -50,7 +51,7 @@ module _ (setting : Setting) (x : Event) (h : List Event) (e : Event) (s0 : ℕ)
       let s = emits.sends in
       let up : is_up (seen_of (upto p)) y ≡ true =
       emitter_up setting p y m (tail_chronicle setting here chronicle_.0)
-      (timed_to setting (upto p) steps' here (steps_timed setting x h e phase.comes)) emits in
+      (timed_tail setting (upto p) steps' here (steps_timed setting x h e phase.comes)) emits in
       let past : past_in (upto p) y ≡ Some (after s.past s.call) = past_after_call p y s.call s.past s.act s.there in
       by_state f.moment k (after s.past s.call) (sym (sends_own s.past s.call m s.effect).1 ∙ own) (emission_acts s.past s.call emits.emission)
       (subst (λ l. is_up (seen_of l) y ≡ true) there up) (subst (λ l. past_in l y ≡ Some (after s.past s.call)) there past)

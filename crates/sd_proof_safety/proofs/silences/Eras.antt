@@ -7,7 +7,7 @@ use Rattle.sd_history.specs.World.{Setting, has_commit, latest_reference}
 use Rattle.sd_history.specs.Steps.{Step, seen_of}
 use Rattle.sd_history.specs.Chronicle.{chronicle}
 use Rattle.sd_proof_safety.specs.invariant.Eras.{era, all_started}
-use Rattle.sd_proof_safety.specs.invariant.Coming.{Comes}
+use Rattle.sd_proof_safety.specs.invariant.Coming.{IsNextEvent}
 use Rattle.sd_proof_safety.proofs.invariant.Sides.{not_both}
 use Rattle.sd_proof_safety.specs.messages.Moments.{Tail, whole, behind, IsChronicle, Moment, when, IsIn}
 use Rattle.sd_proof_safety.proofs.messages.Tails.{Order, before as comes_before, same as are_same, after as comes_after, ordered, tail_length, rest_of, tail_chronicle, history_chronicle, before_is_earlier}
@@ -27,7 +27,7 @@ same_era older _ (behind {x = s} {xs = earlier} t) open_ =
     none : (n : ℕ) → 0 + n ≡ n
     none n = omega arith
 
-pub later_phase : (setting : Setting) (x : Event) (h : List Event) (e : Event) → Comes setting (x ∷ h) e → (s0 : ℕ)
+pub later_phase : (setting : Setting) (x : Event) (h : List Event) (e : Event) → IsNextEvent setting (x ∷ h) e → (s0 : ℕ)
     → all_started setting (chronicle setting (x ∷ h)) ≤ s0 → has_commit (seen_of (chronicle setting (x ∷ h))) ≡ false
     → ((r : Moment) → IsIn r (chronicle setting (x ∷ h)) → s0 < when r → r.step.seen.closed ≡ false) → IsPhase setting (x ∷ h) e s0
 later_phase setting x h e comes s0 started calm open_ =

@@ -24,6 +24,7 @@ use Rattle.sd_history.specs.World.{Setting, is_thing, link_has_failed, plan_numb
 use Rattle.sd_history.specs.Steps.{Step, seen_of, acts_in, epoch_in}
 use Rattle.sd_history.specs.Chronicle.{past_in, chronicle}
 use Rattle.sd_history.proofs.Among.{first}
+use Rattle.sd_history.proofs.Given.{some_is}
 use Rattle.sd_proof_safety.specs.invariant.Bounds.{depth, delay, rounds_gap, tick_gap}
 use Rattle.sd_proof_safety.specs.invariant.Eras.{era, plan_now, all_started, beginning, heard_at, moved_at, is_among, touches, failed_now, device_failed_now, link_failed_now, is_old, moved, on_backup, root_failed}
 use Rattle.sd_proof_safety.specs.invariant.Invariant.{Invariant}
@@ -32,7 +33,6 @@ use Rattle.sd_proof_safety.proofs.invariant.Sides.{implied, not_both}
 use Rattle.sd_proof_safety.specs.messages.Moments.{behind, Moment, upto, when, IsIn}
 use Rattle.sd_proof_safety.specs.messages.Rounds.{IsReady}
 use Rattle.sd_proof_safety.proofs.messages.Ends.{backup_follows}
-use Rattle.sd_proof_safety.proofs.timers.Marks.{some_is}
 use Rattle.sd_proof_safety.proofs.waits.Waits.{Stands, old_stands}
 use Rattle.sd_proof_safety.proofs.waits.LookingBack.{Was, was_on_backup, two_parts}
 use Rattle.sd_proof_safety.specs.silences.Feeds.{IsSound as IsSoundHop, AreSound}
@@ -45,13 +45,13 @@ use Rattle.sd_proof_safety.proofs.silences.Links.{alone}
 use Rattle.sd_proof_safety.proofs.invariant.Facts.{IsSound}
 use Rattle.sd_proof_safety.proofs.waits.Standing.{now, clean, sound, steps_timed, heard_late}
 use Rattle.sd_proof_safety.proofs.silences.Phases.{fewer, Known, known}
-use Rattle.sd_proof_safety.proofs.silences.Spacing.{tail_is}
 use Rattle.sd_proof_safety.proofs.silences.SoundWays.{top_of, map_walks, lasts, sound_hop}
 use Rattle.sd_proof_safety.proofs.silences.PathHearsInPhase.{root_feeds, not_failed}
 use Rattle.sd_proof_safety.proofs.silences.BeforeStart.{emission_late}
 use Rattle.sd_proof_safety.proofs.silences.FirstEra.{first_phase, first_led}
 use Rattle.sd_proof_safety.proofs.silences.PathHears.{not_failed_root}
 use Rattle.sd_proof_safety.proofs.silences.FallbackWay.{falls, the_hop, things_fine, on_fallback, link_of_fallback, ready_back, fallback_hop}
+use Rattle.sd_proof_safety.proofs.feeds.Feeds.{heard_of, moved_of}
 
 module _ (setting : Setting) (x : Event) (h : List Event) (e : Event) (s0 : ℕ) (phase : IsPhase setting (x ∷ h) e s0)
     (kept : root_failed setting (chronicle setting (x ∷ h)) ≡ false) (led : IsLed setting (chronicle setting (x ∷ h)) s0)
@@ -118,7 +118,7 @@ module _ (setting : Setting) (x : Event) (h : List Event) (e : Event) (s0 : ℕ)
 
     was : (q : Moment) → IsIn q (chronicle setting (x ∷ h)) → s0 < when q → Was setting q.earlier (chronicle setting (x ∷ h)) b on_backup
     was q here late =
-        was_on_backup setting (x ∷ h) q.step q.earlier b (tail_is (upto q) steps here) (steps_timed setting x h e phase.comes) (omega (arith, heard, late))
+        was_on_backup setting (x ∷ h) q.step q.earlier b here (steps_timed setting x h e phase.comes) (omega (arith, heard, late))
         (omega (arith, put, late)) on
 
     ready_at : (q : Moment) (k : Known setting (chronicle setting (x ∷ h)) q) → Was setting q.earlier (chronicle setting (x ∷ h)) b on_backup → (past : Past)
@@ -203,12 +203,6 @@ module _ (setting : Setting) (x : Event) (h : List Event) (e : Event) (s0 : ℕ)
 
 rest_sum : (r h m r0 q p a b : ℕ) → r ≤ max (max h m) (r0 + q) + a + b → r0 ≤ h → q + 1 ≤ p → r - max h m ≤ a + p + b
 rest_sum r h m r0 q p a b by began gap = omega (arith, by, began, gap)
-
-heard_of : (h m s : ℕ) → h ≤ max (max h m) s
-heard_of h m s = omega arith
-
-moved_of : (h m s : ℕ) → m ≤ max (max h m) s
-moved_of h m s = omega arith
 
 started_of : (h m s : ℕ) → s ≤ max (max h m) s
 started_of h m s = omega arith

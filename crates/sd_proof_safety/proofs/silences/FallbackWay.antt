@@ -4,7 +4,7 @@ use Rattle.std.specs.Prelude.{◌≡◌, ℕ, ◌<◌, Bool, true, false, ◌&&�
 use Rattle.std.specs.Option.{option_or}
 use Rattle.std.proofs.Common.{sym, ◌∙◌, ap, subst}
 use Rattle.std.proofs.lemmas.Bool.{and_parts, or_from, or_left, or_right, eqb-true, eq-eqb, not-false}
-use Rattle.sd_checker.specs.Num.Lists.{of_some, has}
+use Rattle.sd_checker.specs.Num.Lists.{map_or, has}
 use Rattle.sd_checker.specs.Topo.Network.{Network, device_numbers, joins}
 use Rattle.sd_checker.specs.Topo.declared.Thing.{Thing}
 use Rattle.sd_checker.specs.Topo.declared.Thing.TheVariants as thing
@@ -17,12 +17,12 @@ use Rattle.sd_checker.specs.Plan.Walks.{walk, things_of, devices_of, links_of}
 use Rattle.sd_checker.specs.Plan.Structure.{structure_breach, roots_breach, first_failing, row_is_right, hops_are_right, hop_is_right, links_differ, reaches_root, falls_back}
 use Rattle.sd_checker.proofs.Plan.Numbered.{both_none, none_found}
 use Rattle.sd_checker.specs.CheckRoot.Roots.{fallback_devices, fallback_links}
+use Rattle.sd_checker.proofs.Plan.Rules.{none_mapped}
 use Rattle.sd_proof_safety.specs.invariant.Eras.{is_among, touches}
 use Rattle.sd_history.specs.Core.Calls.{Past}
 use Rattle.sd_history.specs.Core.Words.{duty_now, has_moved, is_acting, backup_now, primary_now}
 use Rattle.sd_proof_safety.specs.messages.Rounds.{IsReady, follows_parent}
 use Rattle.sd_proof_safety.proofs.invariant.Sides.{implied, not_both}
-use Rattle.sd_proof_safety.proofs.invariant.Fallback.{none_mapped}
 
 -- the backup root has a backup
 
@@ -52,7 +52,7 @@ falls net plan structured within =
     (none_mapped (λ x. (6, x)) (find (λ x. not (falls_back plan x)) (device_numbers net)) five.1) within) in
     implied (is_backup_root plan plan.backup_root) (has_backup plan plan.backup_root) six (eq-eqb plan.backup_root plan.backup_root refl)
 
-pub the_hop : (o : Option Hop) → of_some o false (λ hop. true) ≡ true → (hop : Hop) × (o ≡ Some hop)
+pub the_hop : (o : Option Hop) → map_or o false (λ hop. true) ≡ true → (hop : Hop) × (o ≡ Some hop)
 the_hop None h = cc
 the_hop (Some hop) h = (hop, refl)
 
@@ -70,7 +70,7 @@ module _ (failed : List Thing) where
       (things_fine hs (λ d is. devices d (or_right (nat_eq d hop.parent) (has (map (λ (z : Hop). z.parent) hs) d) is))
       (λ l is. links l (or_right (nat_eq l hop.link) (has (links_of hs) l) is))))
 
-has_filtered : (p : ℕ → Bool) (xs : List ℕ) (d : ℕ) → has xs d ≡ true → p d ≡ true → has (filter p xs) d ≡ true
+pub has_filtered : (p : ℕ → Bool) (xs : List ℕ) (d : ℕ) → has xs d ≡ true → p d ≡ true → has (filter p xs) d ≡ true
 has_filtered p [] d is holds = is
 has_filtered p (y ∷ ys) d is holds = go (nat_eq d y) refl (p y) refl is (has_filtered p ys d)
   where
@@ -85,20 +85,20 @@ has_filtered p (y ∷ ys) d is holds = go (nat_eq d y) refl (p y) refl is (has_f
 pub on_fallback : (net : Network) (plan : Plan) (hop : Hop) (d : ℕ) → backup_of plan plan.backup_root ≡ Some hop
     → has (devices_of hop.parent (walk net plan hop.parent)) d ≡ true → is_root plan d ≡ false → has (fallback_devices net plan) d ≡ true
 on_fallback net plan hop d is on other =
-    subst (λ o. has (of_some o [] (λ (z : Hop). filter (λ x. not (is_root plan x)) (devices_of z.parent (walk net plan z.parent)))) d ≡ true) (sym is)
+    subst (λ o. has (map_or o [] (λ (z : Hop). filter (λ x. not (is_root plan x)) (devices_of z.parent (walk net plan z.parent)))) d ≡ true) (sym is)
     (has_filtered (λ x. not (is_root plan x)) (devices_of hop.parent (walk net plan hop.parent)) d on (ap not other))
 
 pub link_of_fallback : (net : Network) (plan : Plan) (hop : Hop) (l : ℕ) → backup_of plan plan.backup_root ≡ Some hop
     → has (hop.link ∷ links_of (walk net plan hop.parent)) l ≡ true → has (fallback_links net plan) l ≡ true
-link_of_fallback net plan hop l is on = subst (λ o. has (of_some o [] (λ (z : Hop). z.link ∷ links_of (walk net plan z.parent))) l ≡ true) (sym is) on
+link_of_fallback net plan hop l is on = subst (λ o. has (map_or o [] (λ (z : Hop). z.link ∷ links_of (walk net plan z.parent))) l ≡ true) (sym is) on
 
 pub ready_back : (net : Network) (plan : Plan) (epoch y : ℕ) (hop : Hop) (past : Past) → duty_now past ≡ Some (duty_of net plan epoch y) → has_moved past ≡ true
     → is_acting past ≡ false → backup_of plan y ≡ Some hop → IsReady past epoch hop.link
 ready_back net plan epoch y hop past duty put still backup =
-    follows_parent (edge_of net y hop) (ap (λ (o : Option Duty). of_some o 0 (λ u. u.epoch)) duty)
+    follows_parent (edge_of net y hop) (ap (λ (o : Option Duty). map_or o 0 (λ u. u.epoch)) duty)
     (ap (λ b. if b then None else if has_moved past then backup_now past else primary_now past) still
     ∙ ap (λ b. if b then backup_now past else primary_now past) put
-    ∙ ap (λ (o : Option Duty). of_some o None (λ u. u.backup)) duty
+    ∙ ap (λ (o : Option Duty). map_or o None (λ u. u.backup)) duty
     ∙ ap (option_map (edge_of net y)) backup) refl
 
 -- the hop over which it falls back

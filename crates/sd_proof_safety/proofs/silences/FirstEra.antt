@@ -4,7 +4,7 @@ use Rattle.std.specs.Prelude.{◌≡◌, ℕ, ◌+◌, ◌<◌, ◌≤◌, Bool,
 use Rattle.std.specs.List.{list_any}
 use Rattle.std.proofs.Common.{arith, sym, ◌∙◌, ap, subst, inl, inr}
 use Rattle.std.proofs.lemmas.Bool.{and_from, or_parts, eqb-true, eq-eqb, cases_lt, not-true, false_from_ne_true, true_from_ne_false}
-use Rattle.sd_checker.specs.Num.Lists.{of_some, same_number}
+use Rattle.sd_checker.specs.Num.Lists.{map_or, same_number}
 use Rattle.sd_checker.specs.Topo.declared.Thing.TheVariants as thing
 use Rattle.sd_checker.specs.Plan.declared.Duty.{Duty}
 use Rattle.sd_checker.specs.Plan.declared.Plan.{Plan}
@@ -25,14 +25,14 @@ use Rattle.sd_history.proofs.Given.{some_is}
 use Rattle.sd_proof_safety.specs.invariant.Eras.{era, plan_now, is_old, is_new, is_ordinary, root_failed, all_started}
 use Rattle.sd_proof_safety.specs.invariant.Clauses.{backup_root_acts}
 use Rattle.sd_proof_safety.specs.invariant.Invariant.{Invariant}
-use Rattle.sd_proof_safety.specs.invariant.Coming.{Comes}
+use Rattle.sd_proof_safety.specs.invariant.Coming.{IsNextEvent}
 use Rattle.sd_proof_safety.proofs.invariant.Sides.{implied, not_both}
 use Rattle.sd_proof_safety.proofs.invariant.Staying.{old_is_member}
 use Rattle.sd_proof_safety.specs.messages.Moments.{Tail, whole, behind, IsChronicle, Moment, upto, when, IsIn, Emits}
 use Rattle.sd_proof_safety.specs.messages.Rounds.{IsUnbroken, AreApart}
 use Rattle.sd_proof_safety.proofs.messages.Tails.{Order, before as comes_before, same as are_same, after as comes_after, ordered, tail_chronicle, history_chronicle, before_is_earlier}
 use Rattle.sd_proof_safety.proofs.messages.Flowing.{tail_rest}
-use Rattle.sd_proof_safety.proofs.messages.Opening.{sending_fails_not}
+use Rattle.sd_proof_safety.proofs.messages.Opening.{sending_fails_not, up_stays_by}
 use Rattle.sd_proof_safety.proofs.messages.Terms.{stamp_is, stamp_here}
 use Rattle.sd_proof_safety.proofs.messages.Overlap.{IsApart, apart_by_rule}
 use Rattle.sd_proof_safety.proofs.messages.Consecutive.{emission_acts, past_after_call, rounds_apart}
@@ -44,11 +44,12 @@ use Rattle.sd_proof_safety.specs.silences.Phases.{IsPhase, IsLed}
 use Rattle.sd_proof_safety.proofs.waits.Standing.{now, times, sound, steps_timed}
 use Rattle.sd_proof_safety.proofs.silences.Phases.{era_grows, open_at, Following, following, Known, known}
 use Rattle.sd_proof_safety.proofs.silences.Rounds.{unbroken}
-use Rattle.sd_proof_safety.proofs.silences.Spacing.{timed_to, emission_counts, emissions_are_apart}
+use Rattle.sd_proof_safety.proofs.silences.Spacing.{emission_counts, emissions_are_apart}
 use Rattle.sd_proof_safety.proofs.silences.SoundWays.{top_of, kept_then}
 use Rattle.sd_proof_safety.proofs.silences.States.{none_new}
 use Rattle.sd_proof_safety.proofs.silences.RootIsSource.{root_source}
 use Rattle.sd_proof_safety.proofs.waits.Epochs.{duty_numbered}
+use Rattle.sd_proof_safety.proofs.timers.Emissions.{timed_tail}
 
 -- A commit stays in its window.
 
@@ -60,8 +61,8 @@ stage_not setting steps e none =
     (or_parts (is_stage e && window_is_open (seen_of steps)) _ (or_parts _ _ (or_parts _ _ seen).0).0).0
 
 commit_by : (s : Seen) (seen : List Seen) (c g : Bool) (w : Option (List Seen)) → c ≡ false → (g && is_some w) ≡ false
-    → of_some w false (list_any (λ x. is_commit x.event)) ≡ true
-    → of_some (if c then None else if g then Some [] else option_map (λ v. s ∷ v) w) false (list_any (λ x. is_commit x.event)) ≡ true
+    → map_or w false (list_any (λ x. is_commit x.event)) ≡ true
+    → map_or (if c then None else if g then Some [] else option_map (λ v. s ∷ v) w) false (list_any (λ x. is_commit x.event)) ≡ true
 commit_by s seen c g None open_ stage h = cc
 commit_by s seen true g (Some v) open_ stage h = cc
 commit_by s seen false true (Some v) open_ stage h = cc
@@ -87,11 +88,6 @@ tick_is : (d : ℕ) (e : Event) → same_number (ticked e) d ≡ true → (c : �
 tick_is d (event.Tick r k c) h = (c, ap (λ z. event.Tick r z c) (eqb-true k d h))
 tick_is d _ h = cc
 
-pub up_after_by : (m f up : Bool) → f ≡ false → up ≡ true → of_some (if m then Some true else if f then Some false else None) up (λ told. told) ≡ true
-up_after_by true f up none is = refl
-up_after_by false false up none is = is
-up_after_by false true up none is = cc
-
 pub emitter_up : (setting : Setting) (p : Moment) (y : ℕ) (m : Message) → IsChronicle setting (upto p) → AreTimed setting (upto p) → Emits p y m
     → is_up (seen_of (upto p)) y ≡ true
 emitter_up setting p y m is timed_ emits =
@@ -104,16 +100,16 @@ emitter_up setting p y m is timed_ emits =
     (λ down. not_both (not (is_up (seen_of p.earlier) y)) (ap not down)
     (subst (λ e. not_started (seen_of p.earlier) e ≡ false) tick.1
     (none_holds (causes setting p.earlier p.step.seen.event) _ is.2 (later (later (later (later (later (later (later (later (later first)))))))))))) in
-    up_after_by (makes y p.step.seen.event) (fails (thing.Device y) p.step.seen.event) (is_up (seen_of p.earlier) y)
+    up_stays_by (makes y p.step.seen.event) (fails (thing.Device y) p.step.seen.event) (is_up (seen_of p.earlier) y)
     (sending_fails_not setting p y m (thing.Device y) is s) up
 
 pub number_is : (o : Option ℕ) (n k : ℕ) → o ≡ Some n → n ≡ k → same_number o k ≡ true
 number_is o n k is same = ap (λ z. same_number z k) is ∙ eq-eqb n k same
 
-one_by : (n : ℕ) → n + 1 ≤ 1 → n + 1 ≡ 1
+pub one_by : (n : ℕ) → n + 1 ≤ 1 → n + 1 ≡ 1
 one_by n le = omega (arith, le)
 
-module _ (setting : Setting) (x : Event) (h : List Event) (e : Event) (comes : Comes setting (x ∷ h) e) (s0 : ℕ)
+module _ (setting : Setting) (x : Event) (h : List Event) (e : Event) (comes : IsNextEvent setting (x ∷ h) e) (s0 : ℕ)
     (started : all_started setting (chronicle setting (x ∷ h)) ≤ s0) (first_era : era (chronicle setting (x ∷ h)) ≡ 1)
     (calm : has_commit (seen_of (chronicle setting (x ∷ h))) ≡ false) where
   abbrev steps : List Step
@@ -198,7 +194,7 @@ module _ (setting : Setting) (x : Event) (h : List Event) (e : Event) (s0 : ℕ)
       let s = emits.sends in
       let up : is_up (seen_of (upto p)) y ≡ true =
       emitter_up setting p y m (tail_chronicle setting here chronicle_.0)
-      (timed_to setting (upto p) steps' here (steps_timed setting x h e phase.comes)) emits in
+      (timed_tail setting (upto p) steps' here (steps_timed setting x h e phase.comes)) emits in
       let past : past_in (upto p) y ≡ Some (after s.past s.call) = past_after_call p y s.call s.past s.act s.there in
       by_state f.moment k (after s.past s.call) (emission_acts s.past s.call emits.emission) (subst (λ l. is_up (seen_of l) y ≡ true) there up)
       (subst (λ l. past_in l y ≡ Some (after s.past s.call)) there past)
@@ -225,7 +221,7 @@ module _ (setting : Setting) (x : Event) (h : List Event) (e : Event) (s0 : ℕ)
           let duty = acting_has_duty older y past there acting in
           let numbered = duty_numbered setting (k.x ∷ k.h) y past there duty.0 duty.1 in
           by_number q k duty.0.epoch (l.acts_is ∙ ap is_acting same ∙ acting)
-          (l.epoch_is ∙ ap (λ z. Some (epoch_now z)) same ∙ ap (λ (o : Option Duty). Some (of_some o 0 (λ u. u.epoch))) duty.1)
+          (l.epoch_is ∙ ap (λ z. Some (epoch_now z)) same ∙ ap (λ (o : Option Duty). Some (map_or o 0 (λ u. u.epoch))) duty.1)
           numbered.0 numbered.1 (cases_lt duty.0.epoch (era older + 1))
 
   spacing : AreApart setting (chronicle setting (x ∷ h))

@@ -14,10 +14,9 @@ use Rattle.sd_history.proofs.Among.{passes}
 use Rattle.sd_proof_safety.specs.invariant.Bounds.{depth, delay, rounds_gap, tick_gap}
 use Rattle.sd_proof_safety.specs.invariant.Eras.{plan_now, beginning, heard_at}
 use Rattle.sd_proof_safety.specs.invariant.Silences.{WholePathHears}
-use Rattle.sd_proof_safety.specs.invariant.Coming.{Comes}
+use Rattle.sd_proof_safety.specs.invariant.Coming.{IsNextEvent}
 use Rattle.sd_proof_safety.proofs.invariant.Sides.{implied}
 use Rattle.sd_proof_safety.proofs.invariant.Staying.{old_is_member}
-use Rattle.sd_proof_safety.proofs.timers.Deadlines.{among_below}
 use Rattle.sd_history.proofs.Known.{up_is_known}
 use Rattle.sd_proof_safety.proofs.timers.Periods.{tick_within}
 use Rattle.sd_proof_safety.proofs.waits.Waits.{Stands, old_stands}
@@ -27,8 +26,9 @@ use Rattle.sd_proof_safety.proofs.silences.PathHearsAtEvents.{lately_by, whole_p
 use Rattle.sd_proof_safety.proofs.invariant.Timed.{least_below_greatest}
 use Rattle.sd_proof_safety.proofs.messages.Overlap.{IsApart, apart_by_rule}
 use Rattle.sd_checker.specs.Topo.Network.{least_low, greatest_up, greatest_delay}
+use Rattle.sd_history.proofs.Shared.{among_below}
 
-pub next_event : (setting : Setting) (x : Event) (h : List Event) (e : Event) → Comes setting (x ∷ h) e → (d : ℕ)
+pub next_event : (setting : Setting) (x : Event) (h : List Event) (e : Event) → IsNextEvent setting (x ∷ h) e → (d : ℕ)
     → is_up (seen_of (chronicle setting (x ∷ h))) d ≡ true → is_member (plan_now setting (chronicle setting (x ∷ h))) d ≡ true
     → reference_of e ≤ latest_reference (seen_of (chronicle setting (x ∷ h))) + tick_gap setting.net
 next_event setting x h e comes d up member =
@@ -46,14 +46,14 @@ next_event setting x h e comes d up member =
     let last = tick_within setting steps (steps_timed setting x h e comes) d in
     omega (arith, ticked, last)
 
-more : (r l h q a : ℕ) → r ≤ l + q → l - h ≤ a → r - h ≤ a + q
-more r l h q a gap by = omega (arith, gap, by)
+difference_grows : (r l h q a : ℕ) → r ≤ l + q → l - h ≤ a → r - h ≤ a + q
+difference_grows r l h q a gap by = omega (arith, gap, by)
 
 -- by the later of h and r0 + Q, with a gap more
-always_sum : (r l h r0 q u p a b lo : ℕ) → r ≤ l + q → l ≤ max h (r0 + q) + a + b → r0 ≤ h → p ≡ u + q → lo ≤ u → q < lo → r - h ≤ a + p + b
+pub always_sum : (r l h r0 q u p a b lo : ℕ) → r ≤ l + q → l ≤ max h (r0 + q) + a + b → r0 ≤ h → p ≡ u + q → lo ≤ u → q < lo → r - h ≤ a + p + b
 always_sum r l h r0 q u p a b lo gap by began is least less = omega (arith, gap, by, began, is, least, less)
 
-apart_low : (a q lo : ℕ) → a + q < lo → q < lo
+pub apart_low : (a q lo : ℕ) → a + q < lo → q < lo
 apart_low a q lo less = omega (arith, less)
 
 pub whole_path_always : (setting : Setting) → WholePathAlways setting
@@ -72,7 +72,7 @@ whole_path_always setting (x ∷ h) e comes first_era calm d lives old primary p
           (greatest_up net net.params.period) (round_gap net) (rounds_gap net) (depth net * delay net) (least_low net net.params.period)
           gap by.0 by.1 refl (least_below_greatest net net.params.period)
           (apart_low (2 * (net.params.depth + 1) * greatest_delay net) net.params.tick (least_low net net.params.period) rule),
-      λ heard. more (reference_of e) (latest_reference (seen_of steps)) (heard_at steps d) (tick_gap net) (rounds_gap net + depth net * delay net) gap
+      λ heard. difference_grows (reference_of e) (latest_reference (seen_of steps)) (heard_at steps d) (tick_gap net) (rounds_gap net + depth net * delay net) gap
           (both.1 heard),
     )
 

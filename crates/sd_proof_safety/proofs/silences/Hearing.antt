@@ -2,7 +2,7 @@
 use Rattle.std.specs.Prelude.{◌≡◌, ℕ, ◌+◌, ◌*◌, ◌<◌, ◌≤◌, Bool, true, false, ◌||◌, List, length, None, is_some, option_map, ◌⊎◌, refl, if◌then◌else◌}
 use Rattle.std.proofs.Common.{arith, ◌∙◌, ap, inl, inr}
 use Rattle.std.proofs.lemmas.Bool.{cases_lt, eq-eqb}
-use Rattle.sd_checker.specs.Num.Lists.{of_some}
+use Rattle.sd_checker.specs.Num.Lists.{map_or}
 use Rattle.sd_checker.specs.Topo.Network.{greatest_delay}
 use Rattle.sd_checker.specs.Plan.declared.End.{End}
 use Rattle.sd_history.specs.Msg.declared.Stamp.{Stamp}
@@ -24,11 +24,11 @@ use Rattle.sd_proof_safety.proofs.silences.Feeding.{feeding}
 
 does_hear : (stamp : Stamp) (epoch : ℕ) (q : Moment) (d link : ℕ) → Hears stamp epoch q d link → does hears q.earlier q.step d ≡ true
 does_hear stamp epoch q d link h =
-    ap (λ act. of_some (eras.did_by q.earlier act d) false hears) h.act
-    ∙ ap (λ b. of_some
+    ap (λ act. map_or (eras.did_by q.earlier act d) false hears) h.act
+    ∙ ap (λ b. map_or
     (if b then option_map (λ past. record { call = Receive link h.message h.counter; transition = transition_of past (Receive link h.message h.counter) })
     (past_in q.earlier d) else None) false hears) (eq-eqb d d refl)
-    ∙ ap (λ o. of_some
+    ∙ ap (λ o. map_or
     (option_map (λ past. record { call = Receive link h.message h.counter; transition = transition_of past (Receive link h.message h.counter) }) o) false
     hears) h.takes.there
     ∙ ap is_some h.takes.over

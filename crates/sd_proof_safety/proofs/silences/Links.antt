@@ -3,7 +3,7 @@ use Rattle.std.specs.Prelude.{◌≡◌, ℕ, ◌<◌, true, ◌&&◌, length, n
 use Rattle.std.proofs.Common.{sym, ◌∙◌, subst, inl, inr}
 use Rattle.std.proofs.lemmas.Bool.{and_parts, or_cases, eqb-true}
 use Rattle.std.proofs.lemmas.Option.{slice_get_within}
-use Rattle.sd_checker.specs.Num.Lists.{of_some}
+use Rattle.sd_checker.specs.Num.Lists.{map_or}
 use Rattle.sd_checker.specs.Topo.Network.{Network, joins, link_of}
 use Rattle.sd_checker.specs.Plan.declared.Hop.{Hop}
 use Rattle.sd_checker.specs.Plan.declared.Plan.{Plan}
@@ -14,14 +14,14 @@ use Rattle.sd_checker.proofs.Plan.Rules.{KeepsRules, both_led}
 
 -- who has a hop is a device of the network
 row_within : (plan : Plan) (c : ℕ) (o : Option (Option PlanRow)) → slice_get plan.rows c ≡ o → (f : PlanRow → Option Hop) (d l : ℕ)
-    → leads_to d l (of_some (of_some o None (λ row. row)) None f) ≡ true → c < length plan.rows
+    → leads_to d l (map_or (map_or o None (λ row. row)) None f) ≡ true → c < length plan.rows
 row_within plan c None at f d l leads = cc
 row_within plan c (Some row) at f d l leads = slice_get_within plan.rows c row at
 
 leads_within : (plan : Plan) (c x l : ℕ) → follows_over plan x l c ≡ true → c < length plan.rows
 leads_within plan c x l follows = go (or_cases (leads_to x l (primary_of plan c)) (leads_to x l (backup_of plan c)) follows)
   where
-    as_primary : (o : Option (Option PlanRow)) → slice_get plan.rows c ≡ o → leads_to x l (option_map (λ row. row.primary) (of_some o None (λ row. row))) ≡ true
+    as_primary : (o : Option (Option PlanRow)) → slice_get plan.rows c ≡ o → leads_to x l (option_map (λ row. row.primary) (map_or o None (λ row. row))) ≡ true
         → c < length plan.rows
     as_primary None at leads = cc
     as_primary (Some row) at leads = slice_get_within plan.rows c row at

@@ -3,7 +3,7 @@
 use Rattle.std.specs.Prelude.{◌≡◌, ℕ, ◌<◌, ◌≤◌, Bool, true, false, ◌&&◌, ◌||◌, List, [], ◌∷◌, nat_eq, nat_lt, Option, Some, None, refl, if◌then◌else◌}
 use Rattle.std.proofs.Common.{arith, sym, ◌∙◌, ap, subst}
 use Rattle.std.proofs.lemmas.Bool.{and_parts, and_from, or_left, or_right, eqb-true, eq-eqb, ltb-true, lt-ltb}
-use Rattle.sd_checker.specs.Num.Lists.{of_some}
+use Rattle.sd_checker.specs.Num.Lists.{map_or}
 use Rattle.sd_history.specs.Msg.declared.Message.{Message}
 use Rattle.sd_history.specs.Msg.declared.Stamp.{Stamp}
 use Rattle.sd_history.specs.Core.declared.Effect.TheVariants.{Send}
@@ -18,7 +18,7 @@ use Rattle.sd_proof_safety.proofs.timers.Transitions.{by_case}
 
 -- the act makes the device emit
 abbrev pub emits_here : ℕ → List Step → Act → Bool
-emits_here x earlier (Calls e call) = nat_eq e x && of_some (past_in earlier x) false (λ past. is_emission (transition_of past call))
+emits_here x earlier (Calls e call) = nat_eq e x && map_or (past_in earlier x) false (λ past. is_emission (transition_of past call))
 emits_here x earlier (Makes e making) = false
 emits_here x earlier (Asks e counter) = false
 emits_here x earlier Passes = false
@@ -98,7 +98,7 @@ pub emission_of : (p : Moment) (x : ℕ) → emits_here x p.earlier p.step.act �
 emission_of p x here = by_act p.step.act refl here
   where
     by_past : (e : ℕ) (call : Call) (o : Option Past) → p.step.act ≡ Calls x call → past_in p.earlier x ≡ o
-        → of_some o false (λ past. is_emission (transition_of past call)) ≡ true → Emission p x
+        → map_or o false (λ past. is_emission (transition_of past call)) ≡ true → Emission p x
     by_past e call None act there is = cc
     by_past e call (Some past) act there is =
         let sent = emission_sends past call is in
@@ -106,7 +106,7 @@ emission_of p x here = by_act p.step.act refl here
 
     by_act : (act : Act) → p.step.act ≡ act → emits_here x p.earlier act ≡ true → Emission p x
     by_act (Calls e call) act is =
-        let parts = and_parts (nat_eq e x) (of_some (past_in p.earlier x) false (λ past. is_emission (transition_of past call))) is in
+        let parts = and_parts (nat_eq e x) (map_or (past_in p.earlier x) false (λ past. is_emission (transition_of past call))) is in
         by_past e call (past_in p.earlier x) (act ∙ ap (λ z. Calls z call) (eqb-true e x parts.0)) refl parts.1
     by_act (Makes e making) act is = cc
     by_act (Asks e counter) act is = cc
@@ -116,8 +116,8 @@ pub here_of : (p : Moment) (x : ℕ) (m : Message) → Emits p x m → emits_her
 here_of p x m emits =
     let s = emits.sends in
     ap (emits_here x p.earlier) s.act
-    ∙ ap (λ b. b && of_some (past_in p.earlier x) false (λ past. is_emission (transition_of past s.call))) (eq-eqb x x refl)
-    ∙ ap (λ o. of_some o false (λ past. is_emission (transition_of past s.call))) s.there
+    ∙ ap (λ b. b && map_or (past_in p.earlier x) false (λ past. is_emission (transition_of past s.call))) (eq-eqb x x refl)
+    ∙ ap (λ o. map_or o false (λ past. is_emission (transition_of past s.call))) s.there
     ∙ emits.emission
 
 round_counts : (call : Call) (transition : Transition) (before : Stamp) → is_emission transition ≡ true

@@ -2,7 +2,7 @@
 use Rattle.std.specs.Prelude.{◌≡◌, ℕ, Bool, true, false, ◌&&◌, ◌||◌, List, [], ◌∷◌, nat_eq, Option, Some, None, refl, if◌then◌else◌}
 use Rattle.std.proofs.Common.{subst}
 use Rattle.std.proofs.lemmas.Bool.{and_from, or_left, or_parts, or_from, eqb-true, false_from_ne_true}
-use Rattle.sd_checker.specs.Num.Lists.{of_some, same_number}
+use Rattle.sd_checker.specs.Num.Lists.{map_or, same_number}
 use Rattle.sd_checker.specs.Topo.declared.Thing.TheVariants as thing
 use Rattle.sd_checker.specs.Plan.Plans.{is_member}
 use Rattle.sd_history.specs.Sched.declared.Event.{Event}
@@ -20,14 +20,14 @@ pub up_made : (seen : List Seen) (d : ℕ) → is_up seen d ≡ true → was_mad
 up_made [] d up = cc
 up_made (s ∷ seen) d up = go (makes d s.event) (fails (thing.Device d) s.event) up (up_made seen d)
   where
-    go : (m f : Bool) → of_some (if m then Some true else if f then Some false else None) (is_up seen d) (λ told. told) ≡ true
+    go : (m f : Bool) → map_or (if m then Some true else if f then Some false else None) (is_up seen d) (λ told. told) ≡ true
         → (is_up seen d ≡ true → was_made seen d ≡ true) → (m || was_made seen d) ≡ true
     go true f up' rest = refl
     go false true up' rest = cc
     go false false up' rest = rest up'
 
 -- the option is the number
-named_by : (o : Option ℕ) (d : ℕ) (P : ℕ → Bool) → of_some o false P ≡ false → P d ≡ true → same_number o d ≡ false
+named_by : (o : Option ℕ) (d : ℕ) (P : ℕ → Bool) → map_or o false P ≡ false → P d ≡ true → same_number o d ≡ false
 named_by None d P none is = refl
 named_by (Some e) d P none is = false_from_ne_true (nat_eq e d) (λ same. not_both (P d) is (subst (λ z. P z ≡ false) (eqb-true e d same) none))
 
@@ -36,7 +36,7 @@ pub not_made : (setting : Setting) (steps : List Step) (e : Event) (d : ℕ) →
 not_made setting steps e d none up member =
     let once : started_twice setting (seen_of steps) e ≡ false =
     none_holds (causes setting steps e) _ none (later (later (later (later (later (later (later (later (later (later first)))))))))) in
-    let parts = or_parts (of_some (started e) false (was_made (seen_of steps))) _ once in
+    let parts = or_parts (map_or (started e) false (was_made (seen_of steps))) _ once in
     or_from (same_number (started e) d) (same_number (joined e) d)
     (named_by (started e) d (was_made (seen_of steps)) parts.0 (up_made (seen_of steps) d up))
     (named_by (joined e) d (λ z. is_up (seen_of steps) z && (is_member (in_force setting (seen_of steps)) z || joined_in_window (seen_of steps) z)) parts.1

@@ -16,12 +16,11 @@ use Rattle.sd_history.specs.Chronicle.{chronicle, next_step}
 use Rattle.sd_proof_safety.specs.invariant.Bounds.{depth, delay, rounds_gap, tick_gap}
 use Rattle.sd_proof_safety.specs.invariant.Eras.{root_lives, era, plan_now, all_started, beginning, is_among, touches, failed_now, does, hears, latest_such, heard_at, is_old, on_primary, path_hit, root_failed}
 use Rattle.sd_proof_safety.specs.invariant.Invariant.{Invariant}
-use Rattle.sd_proof_safety.specs.invariant.Coming.{Comes}
+use Rattle.sd_proof_safety.specs.invariant.Coming.{IsNextEvent}
 use Rattle.sd_proof_safety.proofs.invariant.Prefix.{clean_before}
 use Rattle.sd_proof_safety.proofs.invariant.Sides.{not_both}
 use Rattle.sd_proof_safety.proofs.invariant.Staying.{old_is_member}
 use Rattle.sd_proof_safety.specs.messages.Moments.{whole, behind, when, Emits}
-use Rattle.sd_proof_safety.specs.timers.Since.{whole as whole_tail}
 use Rattle.sd_proof_safety.proofs.waits.Waits.{Stands, old_stands}
 use Rattle.sd_proof_safety.proofs.waits.LookingBack.{Was, was_on_primary}
 use Rattle.sd_proof_safety.specs.silences.Phases.{IsPhase, IsLed}
@@ -54,7 +53,7 @@ module _ (setting : Setting) (z : Event) (h : List Event) (x e : Event) (s0 : �
   grows : era (chronicle setting (x ∷ z ∷ h)) ≤ era (chronicle setting (z ∷ h))
   grows = let same = same_era in omega (arith, same)
 
-  comes_x : Comes setting (z ∷ h) x
+  comes_x : IsNextEvent setting (z ∷ h) x
   comes_x = record { fair = phase.comes.fair; clean = clean_before setting e (x ∷ z ∷ h) phase.comes.clean; before = phase.comes.before.0 }
 
   phase_x : IsPhase setting (z ∷ h) x s0
@@ -93,7 +92,7 @@ module _ (setting : Setting) (z : Event) (h : List Event) (x e : Event) (s0 : �
       → heard_at (chronicle setting (x ∷ z ∷ h)) d ≤ s0 → reference_of x ≤ s0 + rounds_gap setting.net + depth setting.net * delay setting.net
   lately d old primary path_ heard =
       let w : Was setting older steps d on_primary =
-      was_on_primary setting (x ∷ z ∷ h) (next_step setting older x) older d whole_tail (steps_timed setting x (z ∷ h) e phase.comes)
+      was_on_primary setting (x ∷ z ∷ h) (next_step setting older x) older d whole (steps_timed setting x (z ∷ h) e phase.comes)
       (omega (arith, heard, late)) primary in
       let s : Stands setting steps d = old_stands setting (x ∷ z ∷ h) d old in
       let inv : Invariant setting steps = now setting x (z ∷ h) e phase.comes in
@@ -122,7 +121,7 @@ within : (r h s a b : ℕ) → r ≤ h → r ≤ max h s + a + b
 within r h s a b le = omega (arith, le)
 
 -- by the later of h and r0 + Q
-pub lately_by : (setting : Setting) (history : List Event) (e : Event) → Comes setting history e → era (chronicle setting history) ≡ 1
+pub lately_by : (setting : Setting) (history : List Event) (e : Event) → IsNextEvent setting history e → era (chronicle setting history) ≡ 1
     → has_commit (seen_of (chronicle setting history)) ≡ false
     → (d : ℕ) → root_lives setting (chronicle setting history) ≡ true → is_old (chronicle setting history) d ≡ true
     → on_primary (chronicle setting history) d ≡ true → path_hit setting (chronicle setting history) d ≡ false

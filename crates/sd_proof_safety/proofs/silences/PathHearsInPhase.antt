@@ -12,6 +12,7 @@ use Rattle.sd_checker.specs.Plan.declared.Hop.{Hop}
 use Rattle.sd_checker.specs.Plan.declared.Plan.{Plan}
 use Rattle.sd_checker.specs.Plan.Plans.{is_member, is_root}
 use Rattle.sd_checker.specs.Plan.Walks.{walk, path, end_of}
+use Rattle.sd_checker.proofs.Num.Shared.{same_number-some}
 use Rattle.sd_history.specs.Sched.declared.Event.{Event}
 use Rattle.sd_history.specs.Sched.Events.{reference_of}
 use Rattle.sd_history.specs.Things.{failure_of}
@@ -21,13 +22,13 @@ use Rattle.sd_history.specs.Chronicle.{past_in, chronicle}
 use Rattle.sd_proof_safety.specs.invariant.Bounds.{depth, delay, rounds_gap}
 use Rattle.sd_proof_safety.specs.invariant.Eras.{era, plan_now, is_among, touches, failed_now, device_failed_now, is_old, is_new, is_blank, live_past, moved, on_primary, path_hit, root_failed, root_lives, heard_at}
 use Rattle.sd_proof_safety.specs.invariant.Invariant.{Invariant}
-use Rattle.sd_proof_safety.proofs.invariant.Sides.{implied, not_both, same_is_some}
+use Rattle.sd_proof_safety.proofs.invariant.Sides.{implied, not_both}
 use Rattle.sd_proof_safety.proofs.invariant.Staying.{old_is_member}
 use Rattle.sd_proof_safety.proofs.messages.Overlap.{apart_by_rule}
 use Rattle.sd_history.proofs.Parts.{AllHold, premises_of}
 use Rattle.sd_proof_safety.specs.messages.Moments.{behind}
 use Rattle.sd_history.proofs.Known.{up_is_known}
-use Rattle.sd_proof_safety.proofs.timers.Marks.{some_is}
+use Rattle.sd_history.proofs.Given.{some_is}
 use Rattle.sd_proof_safety.proofs.timers.Histories.{before}
 use Rattle.sd_proof_safety.specs.silences.Feeds.{Feeds, AreSound}
 use Rattle.sd_proof_safety.specs.silences.Phases.{IsPhase, IsLed}
@@ -42,7 +43,7 @@ use Rattle.sd_proof_safety.proofs.silences.RootIsSource.{root_source, root_epoch
 
 -- an old device is neither new nor blank
 two_epochs : (o : Option ℕ) (a b : ℕ) → same_number o a ≡ true → same_number o b ≡ true → a ≡ b
-two_epochs o a b one two = some_is (sym (same_is_some o a one) ∙ same_is_some o b two)
+two_epochs o a b one two = some_is (sym (same_number-some o a one) ∙ same_number-some o b two)
 
 old_alone : (steps : List Step) (d : ℕ) → is_old steps d ≡ true → (is_blank steps d || is_new steps d) ≡ true → ⊥
 old_alone steps d old other = go (or_cases (is_blank steps d) (is_new steps d) other)

@@ -5,7 +5,7 @@ use Rattle.std.specs.List.{list_any, cons_option}
 use Rattle.std.proofs.Common.{arith, sym, ◌∙◌, ap, subst}
 use Rattle.std.proofs.lemmas.Bool.{or_parts, or_from, or_left, or_right, false_from_ne_true}
 use Rattle.std.proofs.lemmas.List.Sums.{sum_by-cons}
-use Rattle.sd_checker.specs.Num.Lists.{of_some}
+use Rattle.sd_checker.specs.Num.Lists.{map_or}
 use Rattle.sd_checker.specs.Topo.Network.{Network}
 use Rattle.sd_checker.specs.Topo.declared.Thing.{Thing}
 use Rattle.sd_checker.specs.Topo.declared.Thing.TheVariants as thing
@@ -21,10 +21,9 @@ use Rattle.sd_history.specs.Steps.{Step, seen_of}
 use Rattle.sd_history.specs.Chronicle.{chronicle, next_step}
 use Rattle.sd_proof_safety.specs.invariant.Eras.{era, plan_now, is_among, failed_now, beginning}
 use Rattle.sd_proof_safety.specs.invariant.Invariant.{Invariant, AtEach}
-use Rattle.sd_proof_safety.specs.invariant.Coming.{IsFair, IsClean, Comes}
+use Rattle.sd_proof_safety.specs.invariant.Coming.{IsFair, IsClean, IsNextEvent}
 use Rattle.sd_proof_safety.proofs.invariant.Prefix.{clean_before}
 use Rattle.sd_proof_safety.proofs.invariant.Sides.{not_both}
-use Rattle.sd_proof_safety.specs.timers.Since.{IsTail, whole as whole_tail, beyond}
 use Rattle.sd_proof_safety.specs.messages.Moments.{Tail, whole, behind, Moment, upto, when, IsIn}
 use Rattle.sd_proof_safety.proofs.messages.Flowing.{tail_rest}
 use Rattle.sd_proof_safety.specs.silences.Phases.{IsPhase}
@@ -56,7 +55,7 @@ pub open_at : (s : Step) (steps : List Step) → era (s ∷ steps) ≤ era steps
 open_at s steps le = open_by s.seen.closed (era steps) (subst (λ n. n ≤ era steps) (era_after s steps) le)
 
 among_more : (x : Thing) (o : Option Thing) (rest : List Thing)
-    → (is_among rest x ≡ true → is_among (cons_option o rest) x ≡ true) × (of_some o false (same_thing x) ≡ true → is_among (cons_option o rest) x ≡ true)
+    → (is_among rest x ≡ true → is_among (cons_option o rest) x ≡ true) × (map_or o false (same_thing x) ≡ true → is_among (cons_option o rest) x ≡ true)
 among_more x None rest = (λ h. h, λ h. cc)
 among_more x (Some y) rest = (λ h. or_right (same_thing x y) (is_among rest x) h, λ h. or_left (same_thing x y) (is_among rest x) h)
 
@@ -117,15 +116,6 @@ clear_then setting older steps y hop t same clear =
 
 -- Tails
 
--- the two words for what is left of a list
-pub as_tail : {A : Type 0} {xs ys : List A} → IsTail xs ys → Tail xs ys
-as_tail whole_tail = whole
-as_tail (beyond rest) = behind (as_tail rest)
-
-pub chronicles : (setting : Setting) (older history : List Event) → Tail older history → Tail (chronicle setting older) (chronicle setting history)
-chronicles setting older _ whole = whole
-chronicles setting older _ (behind {xs = later} t) = behind (chronicles setting older later t)
-
 -- Stages
 
 -- the moment is an event that comes with the invariant before it
@@ -134,7 +124,7 @@ pub record Stage (setting : Setting) (r0 : ℕ) (q : Moment) : Type 0 where
   pub h : List Event
   pub e : Event
   pub is : q ≡ record { step = next_step setting (chronicle setting (x ∷ h)) e; earlier = chronicle setting (x ∷ h) }
-  pub comes : Comes setting (x ∷ h) e
+  pub comes : IsNextEvent setting (x ∷ h) e
   pub begins : beginning (seen_of (chronicle setting (x ∷ h))) ≡ r0
 
 pub stage : (setting : Setting) → IsFair setting → (q : Moment) (history : List Event) (e : Event) → IsClean setting (e ∷ history)
@@ -166,7 +156,7 @@ pub record Known (setting : Setting) (steps : List Step) (q : Moment) : Type 0 w
   pub h : List Event
   pub e : Event
   pub is : q ≡ record { step = next_step setting (chronicle setting (x ∷ h)) e; earlier = chronicle setting (x ∷ h) }
-  pub comes : Comes setting (x ∷ h) e
+  pub comes : IsNextEvent setting (x ∷ h) e
   pub late : Early setting x h e comes → ⊥
   pub same : era (chronicle setting (x ∷ h)) ≡ era steps
   pub calm : has_commit (seen_of (chronicle setting (x ∷ h))) ≡ false

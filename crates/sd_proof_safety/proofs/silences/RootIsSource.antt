@@ -2,7 +2,7 @@
 use Rattle.std.specs.Prelude.{◌≡◌, ℕ, ◌+◌, ◌<◌, ◌≤◌, true, false, List, ◌∷◌, Option, Some, refl}
 use Rattle.std.proofs.Common.{arith, sym, ◌∙◌, ap, subst}
 use Rattle.std.proofs.lemmas.Bool.{false_from_ne_true}
-use Rattle.sd_checker.specs.Num.Lists.{of_some}
+use Rattle.sd_checker.specs.Num.Lists.{map_or}
 use Rattle.sd_checker.specs.Plan.declared.Duty.{Duty}
 use Rattle.sd_history.specs.Msg.declared.Message.{Message}
 use Rattle.sd_checker.specs.CheckRoot.Timing.{round_gap}
@@ -20,25 +20,25 @@ use Rattle.sd_proof_safety.specs.messages.Moments.{Tail, whole, behind, IsChroni
 use Rattle.sd_proof_safety.specs.messages.Stamping.{EntersNot, enters, remakes}
 use Rattle.sd_proof_safety.proofs.messages.Tails.{tail_chronicle, history_chronicle, before_is_earlier}
 use Rattle.sd_proof_safety.proofs.messages.Sending.{sends_own}
-use Rattle.sd_proof_safety.proofs.messages.Acting.{with_transition}
 use Rattle.sd_proof_safety.proofs.messages.Consecutive.{past_after_call}
 use Rattle.sd_history.proofs.Parts.{premises_of}
+use Rattle.sd_history.proofs.Core.Reached.{added}
 use Rattle.sd_proof_safety.specs.timers.Times.{AreTimed}
 use Rattle.sd_proof_safety.proofs.waits.Waits.{Stands, old_stands}
 use Rattle.sd_proof_safety.specs.silences.Feeds.{IsSource}
 use Rattle.sd_proof_safety.specs.silences.Phases.{IsPhase}
 use Rattle.sd_proof_safety.proofs.silences.NoMaking.{not_made, remakes_is}
-use Rattle.sd_proof_safety.proofs.silences.Spacing.{timed_to}
 use Rattle.sd_proof_safety.proofs.waits.Standing.{steps_timed}
 use Rattle.sd_proof_safety.proofs.silences.States.{root_up, root_acts_, root_member, root_old, root_soon}
 use Rattle.sd_proof_safety.proofs.silences.Phases.{Following, following, Known, known}
 use Rattle.sd_proof_safety.proofs.silences.SoundWays.{top_of, kept_then}
+use Rattle.sd_proof_safety.proofs.timers.Emissions.{timed_tail}
 
 -- who enters does not act
 pub entered_still : (past : Past) (call : Call) → enters (transition_of past call) ≡ true → is_acting (after past call) ≡ false
 entered_still past call is = go (transition_of past call) is
   where
-    go : (transition : Transition) → enters transition ≡ true → is_acting (with_transition past call transition) ≡ false
+    go : (transition : Transition) → enters transition ≡ true → is_acting (added past call transition) ≡ false
     go (Entered duty edge) h = refl
     go (Committed duty) h = cc
     go (Recommitted duty) h = cc
@@ -52,7 +52,7 @@ entered_still past call is = go (transition_of past call) is
 pub emission_keeps : (past : Past) (call : Call) → is_emission (transition_of past call) ≡ true → epoch_now (after past call) ≡ epoch_now past
 emission_keeps past call is = go (transition_of past call) is
   where
-    go : (transition : Transition) → is_emission transition ≡ true → epoch_now (with_transition past call transition) ≡ epoch_now past
+    go : (transition : Transition) → is_emission transition ≡ true → epoch_now (added past call transition) ≡ epoch_now past
     go Emitted h = refl
     go TookOver h = refl
     go (Entered duty edge) h = cc
@@ -108,7 +108,7 @@ module _ (setting : Setting) (x : Event) (h : List Event) (e : Event) (s0 : ℕ)
         there = subst (λ (p : Moment). past_in p.earlier root ≡ Some s.past) (sym k.is)
             (subst (λ z. past_in (chronicle setting (k.x ∷ k.h)) z ≡ Some s.past) (root_same q k) s.there);
         acts = sym s.acts_is ∙ root_acts_ setting k.x k.h k.e k.comes k.late k.calm there;
-        epoch = ap (λ (o : Option Duty). of_some o 0 (λ u. u.epoch)) s.duty ∙ k.same;
+        epoch = ap (λ (o : Option Duty). map_or o 0 (λ u. u.epoch)) s.duty ∙ k.same;
       }
 
   at_moment : (q : Moment) → IsIn q (chronicle setting (e ∷ x ∷ h)) → s0 < when q → Known setting (chronicle setting (x ∷ h)) q
@@ -147,7 +147,7 @@ module _ (setting : Setting) (x : Event) (h : List Event) (e : Event) (s0 : ℕ)
     where
       remakes_not : (q : Moment) → IsIn q (chronicle setting (x ∷ h)) → makes root q.step.seen.event ≡ false → remakes root q.step.act ≡ false
       remakes_not q here none =
-          let t : AreTimed setting (upto q) = timed_to setting (upto q) steps here (steps_timed setting x h e phase.comes) in
+          let t : AreTimed setting (upto q) = timed_tail setting (upto q) steps here (steps_timed setting x h e phase.comes) in
           remakes_is root q.step.act ∙ sym (t.1.fits.makes_it root) ∙ none
 
   -- what it emits is of the era's plan

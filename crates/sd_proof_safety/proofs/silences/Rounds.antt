@@ -2,7 +2,7 @@
 use Rattle.std.specs.Prelude.{◌≡◌, ℕ, zero, suc, ◌+◌, ◌*◌, ◌<◌, ◌≤◌, true, false, ◌&&◌, Some, refl}
 use Rattle.std.proofs.Common.{arith, sym, ◌∙◌, ap, subst}
 use Rattle.std.proofs.lemmas.Bool.{eq-eqb, false_from_ne_true}
-use Rattle.sd_checker.specs.Num.Lists.{of_some}
+use Rattle.sd_checker.specs.Num.Lists.{map_or}
 use Rattle.sd_history.specs.Msg.declared.Message.{Message}
 use Rattle.sd_history.specs.Msg.declared.Stamp.{Stamp}
 use Rattle.sd_history.specs.Msg.Stamps.{stamp}
@@ -45,8 +45,8 @@ module _ (setting : Setting) (top : Moment) (x s0 : ℕ) (src : IsSource setting
       here : is_emission (transition_of past call) ≡ true → emits_here x r.earlier r.step.act ≡ true
       here is =
           ap (emits_here x r.earlier) act
-          ∙ ap (λ b. b && of_some (past_in r.earlier x) false (λ past. is_emission (transition_of past call))) (eq-eqb x x refl)
-          ∙ ap (λ o. of_some o false (λ past. is_emission (transition_of past call))) past_is
+          ∙ ap (λ b. b && map_or (past_in r.earlier x) false (λ past. is_emission (transition_of past call))) (eq-eqb x x refl)
+          ∙ ap (λ o. map_or o false (λ past. is_emission (transition_of past call))) past_is
           ∙ is
 
       by_emission : Emission r x → emits_here x r.earlier r.step.act ≡ true → ⊥

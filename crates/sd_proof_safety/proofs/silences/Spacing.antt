@@ -4,6 +4,7 @@ use Rattle.std.proofs.Common.{arith, sym, ◌∙◌, ap, subst}
 use Rattle.std.proofs.lemmas.Bool.{eq-eqb}
 use Rattle.sd_checker.specs.Num.Numbers.{low}
 use Rattle.sd_checker.specs.Topo.Network.{rates_of, least_low}
+use Rattle.sd_checker.proofs.Num.Shared.{same_number-some}
 use Rattle.sd_history.specs.Core.Calls.{Call, Tick, Transition, Entered, Committed, Recommitted, Accepted, Moved, TookOver, Emitted, Nothing, Past}
 use Rattle.sd_history.specs.Core.Words.{transition_of, after, is_acting, emits}
 use Rattle.sd_history.specs.Sched.declared.Event.{Event}
@@ -20,24 +21,15 @@ use Rattle.sd_proof_safety.proofs.messages.Acting.{acts_on}
 use Rattle.sd_proof_safety.proofs.messages.Origins.{Since, past_goes}
 use Rattle.sd_proof_safety.proofs.messages.Consecutive.{emission_acts, past_after_call}
 use Rattle.sd_proof_safety.specs.timers.Times.{AreTimed, counter_at, did_by}
-use Rattle.sd_proof_safety.specs.timers.Since.{IsTail, whole as whole_tail, beyond, IsMarked}
+use Rattle.sd_proof_safety.specs.timers.Since.{IsMarked}
 use Rattle.sd_proof_safety.proofs.timers.Transitions.{by_case}
 use Rattle.sd_proof_safety.proofs.timers.NotEarly.{IsTick}
-use Rattle.sd_proof_safety.proofs.timers.Emissions.{emissions_apart}
+use Rattle.sd_proof_safety.proofs.timers.Emissions.{emissions_apart, timed_tail}
 use Rattle.sd_proof_safety.proofs.timers.Pasts.{acting_has_duty, takeover_from_backup}
 use Rattle.sd_proof_safety.proofs.timers.Turns.{IsEmission, is_emission as emission_is, IsTakeover, is_takeover}
 use Rattle.sd_proof_safety.proofs.timers.NetworkBounds.{least_is_low, rate_is_low}
 use Rattle.sd_history.proofs.Known.{named_is_known}
 use Rattle.sd_proof_safety.proofs.timers.Histories.{Timely, timed}
-use Rattle.sd_proof_safety.proofs.timers.Readings.{named}
-
-pub timed_to : (setting : Setting) (older steps : List Step) → Tail older steps → AreTimed setting steps → AreTimed setting older
-timed_to setting older _ whole is = is
-timed_to setting older _ (behind t) is = timed_to setting older _ t is.0
-
-pub tail_is : (older steps : List Step) → Tail older steps → IsTail older steps
-tail_is older _ whole = whole_tail
-tail_is older _ (behind t) = beyond (tail_is older _ t)
 
 -- an emission of a device that acts is none by a takeover
 emits_by : (past : Past) (call : Call) → is_acting past ≡ true → is_emission (transition_of past call) ≡ true → transition_of past call ≡ Emitted
@@ -79,7 +71,7 @@ emissions_are_apart setting history t p q p_in q_in before d m n first second li
     let one = first.sends in
     let two = second.sends in
     let chronicle_ : IsChronicle setting (upto q) = tail_chronicle setting q_in (history_chronicle setting history t.is) in
-    let all : AreTimed setting (upto q) = timed_to setting (upto q) (chronicle setting history) q_in (timed setting history t) in
+    let all : AreTimed setting (upto q) = timed_tail setting (upto q) (chronicle setting history) q_in (timed setting history t) in
     let since : Since EntersNot (after one.past one.call) (past_in q.earlier d) =
     past_goes EntersNot (upto p) q.earlier d (after one.past one.call) before (past_after_call p d one.call one.past one.act one.there) life in
     let acts : is_acting two.past ≡ true =
@@ -91,14 +83,14 @@ emissions_are_apart setting history t p q p_in q_in before d m n first second li
     let reads : counter_at q.step.act d ≡ Some e.counter =
     ap (λ act. counter_at act d) (two.act ∙ ap (Calls d) e.tick) ∙ ap (λ b. if b then Some e.counter else None) (eq-eqb d d refl) in
     let known : d < length setting.net.devices =
-    named_is_known setting q.earlier q.step.seen.event d chronicle_.2 (named (device_of q.step.seen.event) d (all.1.fits.named d e.counter reads)) in
+    named_is_known setting q.earlier q.step.seen.event d chronicle_.2 (same_number-some (device_of q.step.seen.event) d (all.1.fits.named d e.counter reads)) in
     let duty = acting_has_duty q.earlier d two.past two.there acts in
     let counts = emission_counts one.past one.call first.emission in
     let marked : IsMarked emits p.step p.earlier d =
     record { call = one.call; past = one.past; counter = counts.0; act = one.act; there = one.there; told = counts.1 } in
     let far : low (rates_of setting.net d) setting.net.params.period ≤ when q - when p =
     emissions_apart setting q.step q.earlier d e.counter two.past (rate_is_low setting.net d t.network) tick duty.0 duty.1 e.emits p.step p.earlier
-    (tail_is (upto p) q.earlier before) marked in
+    before marked in
     let least : least_low setting.net setting.net.params.period ≤ low (rates_of setting.net d) setting.net.params.period =
     least_is_low setting.net d setting.net.params.period known in
     let order : when p ≤ when q = before_is_earlier setting p q chronicle_ before in

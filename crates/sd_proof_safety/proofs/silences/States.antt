@@ -4,7 +4,7 @@
 use Rattle.std.specs.Prelude.{◌≡◌, ℕ, ◌+◌, ◌≤◌, Bool, true, false, ◌&&◌, ◌||◌, not, List, ◌∷◌, Option, Some, None, option_map, refl, if◌then◌else◌}
 use Rattle.std.proofs.Common.{arith, sym, ◌∙◌, ap, subst}
 use Rattle.std.proofs.lemmas.Bool.{and_parts, and_from, not-true, eqb-true, false_from_ne_true}
-use Rattle.sd_checker.specs.Num.Lists.{of_some}
+use Rattle.sd_checker.specs.Num.Lists.{map_or}
 use Rattle.sd_checker.specs.Topo.Network.{Network}
 use Rattle.sd_checker.specs.Plan.declared.Hop.{Hop}
 use Rattle.sd_checker.specs.Plan.declared.Plan.{Plan}
@@ -12,6 +12,7 @@ use Rattle.sd_checker.specs.Plan.declared.Duty.{Duty}
 use Rattle.sd_checker.specs.Plan.Plans.{is_member, is_present, is_root, is_backup_root, primary_of}
 use Rattle.sd_checker.specs.Plan.Duties.{duty_of, edge_of}
 use Rattle.sd_checker.specs.CheckRoot.Timing.{round_gap}
+use Rattle.sd_checker.proofs.Num.Shared.{same_number-some}
 use Rattle.sd_history.specs.Core.Calls.{Past}
 use Rattle.sd_history.specs.Core.Words.{is_acting, has_moved, duty_now, backup_now, primary_now}
 use Rattle.sd_history.specs.Sched.declared.Event.{Event}
@@ -19,13 +20,13 @@ use Rattle.sd_history.specs.Sched.Events.{reference_of}
 use Rattle.sd_history.specs.World.{Setting, is_up, has_commit, link_has_failed}
 use Rattle.sd_history.specs.Steps.{Step, seen_of, acts_in, epoch_in}
 use Rattle.sd_history.specs.Chronicle.{past_in, chronicle}
+use Rattle.sd_history.proofs.Given.{some_is}
 use Rattle.sd_proof_safety.specs.invariant.Eras.{era, plan_now, failed_now, device_failed_now, link_failed_now, is_old, is_new, moved, is_ordinary, hit, hit_otherwise, path_hit, root_failed, root_lives, sent_at}
 use Rattle.sd_proof_safety.specs.invariant.Clauses.{backup_root_acts}
 use Rattle.sd_proof_safety.specs.invariant.Invariant.{Invariant}
-use Rattle.sd_proof_safety.specs.invariant.Coming.{Comes}
-use Rattle.sd_proof_safety.proofs.invariant.Sides.{implied, not_both, same_is_some}
+use Rattle.sd_proof_safety.specs.invariant.Coming.{IsNextEvent}
+use Rattle.sd_proof_safety.proofs.invariant.Sides.{implied, not_both}
 use Rattle.sd_proof_safety.specs.messages.Rounds.{IsReady, follows_parent}
-use Rattle.sd_proof_safety.proofs.timers.Marks.{some_is}
 use Rattle.sd_proof_safety.proofs.waits.Waits.{Stands, old_stands, root_sends}
 use Rattle.sd_proof_safety.proofs.silences.Paths.{IsClear, path_misses_cut}
 use Rattle.sd_proof_safety.proofs.waits.Standing.{now, times, sound, Early, is_up_then, lives}
@@ -33,21 +34,21 @@ use Rattle.sd_proof_safety.proofs.waits.Standing.{now, times, sound, Early, is_u
 pub ready_of : (net : Network) (plan : Plan) (epoch y : ℕ) (hop : Hop) (past : Past) → duty_now past ≡ Some (duty_of net plan epoch y) → has_moved past ≡ false
     → is_acting past ≡ false → primary_of plan y ≡ Some hop → IsReady past epoch hop.link
 ready_of net plan epoch y hop past duty unmoved still primary =
-    follows_parent (edge_of net y hop) (ap (λ (o : Option Duty). of_some o 0 (λ u. u.epoch)) duty)
+    follows_parent (edge_of net y hop) (ap (λ (o : Option Duty). map_or o 0 (λ u. u.epoch)) duty)
     (ap (λ b. if b then None else if has_moved past then backup_now past else primary_now past) still
     ∙ ap (λ b. if b then backup_now past else primary_now past) unmoved
-    ∙ ap (λ (o : Option Duty). of_some o None (λ u. u.primary)) duty
+    ∙ ap (λ (o : Option Duty). map_or o None (λ u. u.primary)) duty
     ∙ ap (option_map (edge_of net y)) primary) refl
 
 -- no device is old and new
 pub not_old_and_new : (steps : List Step) (d : ℕ) → is_old steps d ≡ true → is_new steps d ≡ true → ⊥
 not_old_and_new steps d old new =
-    apart (era steps) (some_is (sym (same_is_some (epoch_in steps d) (era steps) old) ∙ same_is_some (epoch_in steps d) (era steps + 1) new))
+    apart (era steps) (some_is (sym (same_number-some (epoch_in steps d) (era steps) old) ∙ same_number-some (epoch_in steps d) (era steps + 1) new))
   where
     apart : (n : ℕ) → n ≡ n + 1 → ⊥
     apart n same = omega (arith, same)
 
-module _ (setting : Setting) (x : Event) (h : List Event) (e : Event) (comes : Comes setting (x ∷ h) e) where
+module _ (setting : Setting) (x : Event) (h : List Event) (e : Event) (comes : IsNextEvent setting (x ∷ h) e) where
   abbrev steps : List Step
   steps = chronicle setting (x ∷ h)
 

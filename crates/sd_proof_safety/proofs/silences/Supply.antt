@@ -3,7 +3,7 @@
 use Rattle.std.specs.Prelude.{◌≡◌, ℕ, zero, suc, ◌+◌, ◌*◌, ◌<◌, ◌≤◌, Bool, true, false, ◌&&◌, ◌||◌, List, [], ◌∷◌, nat_eq, Option, Some, None, is_some, option_map, ◌⊎◌, refl, if◌then◌else◌}
 use Rattle.std.proofs.Common.{arith, sym, ◌∙◌, ap, subst, inl, inr}
 use Rattle.std.proofs.lemmas.Bool.{cases_lt, eqb-true}
-use Rattle.sd_checker.specs.Num.Lists.{of_some}
+use Rattle.sd_checker.specs.Num.Lists.{map_or}
 use Rattle.sd_checker.specs.Plan.declared.Duty.{Duty}
 use Rattle.sd_checker.specs.CheckRoot.Timing.{round_gap}
 use Rattle.sd_history.specs.Core.Calls.{Call, Commit, Transition, Committed, Past}
@@ -80,7 +80,7 @@ module _ (setting : Setting) (top : Moment) (x s0 : ℕ) (src : IsSource setting
   earlier_is = src.chronicle_.0
 
   sends_here : (st : Step) (earlier : List Step) → Tail (st ∷ earlier) top.earlier → (act : Act) → st.act ≡ act
-      → of_some (eras.did_by earlier act x) false sends ≡ true → emits_here x earlier act ≡ true
+      → map_or (eras.did_by earlier act x) false sends ≡ true → emits_here x earlier act ≡ true
   sends_here st earlier t (Calls e call) act h = go (nat_eq e x) refl (past_in earlier x) refl h
     where
       by_kind : (past : Past) → nat_eq e x ≡ true → past_in earlier x ≡ Some past
@@ -92,8 +92,8 @@ module _ (setting : Setting) (top : Moment) (x s0 : ℕ) (src : IsSource setting
           (act ∙ ap (λ z. Calls z call) (eqb-true e x same) ∙ ap (Calls x) commit) there (ap (transition_of past) (sym commit) ∙ transition))
 
       go : (b : Bool) → nat_eq e x ≡ b → (o : Option Past) → past_in earlier x ≡ o
-          → of_some (if b then option_map (λ past. record { call = call; transition = transition_of past call }) o else None) false sends ≡ true
-          → (b && of_some o false (λ past. is_emission (transition_of past call))) ≡ true
+          → map_or (if b then option_map (λ past. record { call = call; transition = transition_of past call }) o else None) false sends ≡ true
+          → (b && map_or o false (λ past. is_emission (transition_of past call))) ≡ true
       go true same (Some past) there h = by_kind past same there (emits_or_commits past call h)
       go true same None there h = cc
       go false same o there h = cc

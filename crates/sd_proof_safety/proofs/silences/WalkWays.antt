@@ -7,6 +7,7 @@ use Rattle.sd_checker.specs.Plan.declared.Plan.{Plan}
 use Rattle.sd_checker.specs.Plan.declared.End.{End}
 use Rattle.sd_checker.specs.Plan.Plans.{is_root, primary_of}
 use Rattle.sd_checker.specs.Plan.Walks.{hops, walk, end_of}
+use Rattle.sd_checker.proofs.Plan.Forest.{most_hops}
 use Rattle.sd_history.specs.World.{Setting}
 use Rattle.sd_history.proofs.Among.{Among, first, later}
 use Rattle.sd_proof_safety.specs.messages.Moments.{Moment}
@@ -52,26 +53,12 @@ begins d hop hs = way_keeps hop.parent hs (end_at d hop ∷ []) (end_at d hop) f
 
 -- walks along primary hops
 
-hops_length : (ends : ℕ → Bool) (plan : Plan) (n d : ℕ) → length (hops ends plan n d) ≤ n
-hops_length ends plan zero d = omega arith
-hops_length ends plan (suc n) d = go (primary_of plan d) (hops_length ends plan n)
-  where
-    by_end : (hop : Hop) (b : Bool) → length (hops ends plan n hop.parent) ≤ n
-        → length {A = Hop} (hop ∷ (elim b [ true ↦ [] | false ↦ hops ends plan n hop.parent ])) ≤ suc n
-    by_end hop true le = omega arith
-    by_end hop false le = omega (arith, le)
-
-    go : (o : Option Hop) → ((y : ℕ) → length (hops ends plan n y) ≤ n)
-        → length {A = Hop} (elim o [ None ↦ [] | Some hop ↦ hop ∷ (elim (ends hop.parent) [ true ↦ [] | false ↦ hops ends plan n hop.parent ]) ]) ≤ suc n
-    go None le = omega arith
-    go (Some hop) le = by_end hop (ends hop.parent) (le hop.parent)
-
 pub walk_length : (net : Network) (plan : Plan) (d : ℕ) → length (walk net plan d) ≤ net.params.depth
 walk_length net plan d = go (is_root plan d)
   where
     go : (b : Bool) → length {A = Hop} (if b then [] else hops (is_root plan) plan net.params.depth d) ≤ net.params.depth
     go true = omega arith
-    go false = hops_length (is_root plan) plan net.params.depth d
+    go false = most_hops (is_root plan) plan net.params.depth d
 
 -- each hop of a walk is the primary one of its device, which is no root
 abbrev pub IsPrimary : Plan → ℕ → Hop → Type 0

@@ -16,7 +16,7 @@ use Rattle.sd_history.specs.Chronicle.{chronicle, next_step}
 use Rattle.sd_proof_safety.specs.invariant.Bounds.{depth, delay, rounds_gap, tick_gap}
 use Rattle.sd_proof_safety.specs.invariant.Eras.{era, plan_now, all_started, beginning, heard_at, moved_at, is_among, failed_now, device_failed_now, link_failed_now, is_old, moved, on_backup, root_failed}
 use Rattle.sd_proof_safety.specs.invariant.Invariant.{Invariant}
-use Rattle.sd_proof_safety.specs.invariant.Coming.{Comes, AtNext}
+use Rattle.sd_proof_safety.specs.invariant.Coming.{IsNextEvent, AtNext}
 use Rattle.sd_proof_safety.specs.invariant.Silences.{FallbackHears}
 use Rattle.sd_proof_safety.proofs.invariant.Sides.{implied}
 use Rattle.sd_proof_safety.proofs.invariant.Timed.{least_below_greatest}
@@ -24,14 +24,15 @@ use Rattle.sd_proof_safety.proofs.messages.Overlap.{IsApart, apart_by_rule}
 use Rattle.sd_proof_safety.proofs.waits.Waits.{Stands, old_stands}
 use Rattle.sd_proof_safety.proofs.waits.LookingBack.{Was, two_parts}
 use Rattle.sd_proof_safety.proofs.waits.Standing.{now, sound, heard_late}
-use Rattle.sd_proof_safety.proofs.silences.Gaps.{next_event}
+use Rattle.sd_proof_safety.proofs.silences.Gaps.{next_event, always_sum, apart_low}
 use Rattle.sd_proof_safety.specs.rounds.Spans.{in_era, IsSpan}
 use Rattle.sd_proof_safety.proofs.spans.SilenceStarts.{comes_before, heard_then, moved_then, old_then, new_then, was_backup, no_closing, backup_within}
 use Rattle.sd_proof_safety.proofs.spans.PathHears.{IsSpared, spared}
-use Rattle.sd_proof_safety.proofs.spans.PathHearsAtEvents.{same_era, more_then, spares_now, kept_before, within, always_sum, apart_low}
+use Rattle.sd_proof_safety.proofs.spans.PathHearsAtEvents.{same_era, more_then, spares_now, kept_before, within}
 use Rattle.sd_proof_safety.proofs.spans.FallbackHears.{fallback_silent}
+use Rattle.sd_proof_safety.proofs.feeds.Feeds.{heard_of, moved_of}
 
-module _ (setting : Setting) (x : Event) (h : List Event) (e : Event) (comes : Comes setting (x ∷ h) e) (s0 : ℕ)
+module _ (setting : Setting) (x : Event) (h : List Event) (e : Event) (comes : IsNextEvent setting (x ∷ h) e) (s0 : ℕ)
     (started : all_started setting (chronicle setting (x ∷ h)) ≤ s0) (kept : root_failed setting (chronicle setting (x ∷ h)) ≡ false)
     (old : is_old (chronicle setting (x ∷ h)) (plan_now setting (chronicle setting (x ∷ h))).backup_root ≡ true)
     (on : on_backup (chronicle setting (x ∷ h)) (plan_now setting (chronicle setting (x ∷ h))).backup_root ≡ true)
@@ -88,7 +89,7 @@ module _ (setting : Setting) (x : Event) (h : List Event) (e : Event) (comes : C
     old_x : is_old (chronicle setting h) b ≡ true
     old_x = old_then setting x h e comes b was.epoch open_ old
 
-rests_open : (setting : Setting) (x : Event) (h : List Event) (e : Event) (comes : Comes setting (x ∷ h) e) (s0 b : ℕ)
+rests_open : (setting : Setting) (x : Event) (h : List Event) (e : Event) (comes : IsNextEvent setting (x ∷ h) e) (s0 b : ℕ)
     → all_started setting (chronicle setting (x ∷ h)) ≤ s0 → root_failed setting (chronicle setting (x ∷ h)) ≡ false → s0 < reference_of x
     → (next_step setting (chronicle setting h) x).seen.closed ≡ false → b ≡ (plan_now setting (chronicle setting h)).backup_root
     → is_old (chronicle setting h) b ≡ true → on_backup (chronicle setting h) b ≡ true → heard_at (chronicle setting h) b ≤ s0
@@ -103,7 +104,7 @@ rests_open setting x (y ∷ hs) e comes s0 b started kept late open_ is old on h
     let older : List Step = chronicle setting (y ∷ hs) in
     let steps : List Step = chronicle setting (x ∷ y ∷ hs) in
     let b' : ℕ = (plan_now setting older).backup_root in
-    let before_ : Comes setting (y ∷ hs) x = comes_before setting x (y ∷ hs) e comes in
+    let before_ : IsNextEvent setting (y ∷ hs) x = comes_before setting x (y ∷ hs) e comes in
     let old' : is_old older b' ≡ true = subst (λ z. is_old older z ≡ true) is old in
     let on' : on_backup older b' ≡ true = subst (λ z. on_backup older z ≡ true) is on in
     let heard' : heard_at older b' ≤ s0 = subst (λ z. heard_at older z ≤ s0) is heard in
@@ -121,7 +122,7 @@ rests_open setting x (y ∷ hs) e comes s0 b started kept late open_ is old on h
     (subst (λ z. is_among (failed_now steps) (thing.Device z) ≡ false) is self) old' on' heard' put'
 
 -- up to the event before
-rests_lately : (setting : Setting) (x : Event) (h : List Event) (e : Event) (comes : Comes setting (x ∷ h) e) (s0 : ℕ)
+rests_lately : (setting : Setting) (x : Event) (h : List Event) (e : Event) (comes : IsNextEvent setting (x ∷ h) e) (s0 : ℕ)
     → all_started setting (chronicle setting (x ∷ h)) ≤ s0 → root_failed setting (chronicle setting (x ∷ h)) ≡ false
     → is_old (chronicle setting (x ∷ h)) (plan_now setting (chronicle setting (x ∷ h))).backup_root ≡ true
     → on_backup (chronicle setting (x ∷ h)) (plan_now setting (chronicle setting (x ∷ h))).backup_root ≡ true
@@ -151,13 +152,7 @@ rests_lately setting x h e comes s0 started kept old on heard put = go (cases_lt
     go (inr le) = within (reference_of x) s0 (rounds_gap setting.net) ((depth setting.net + 1) * delay setting.net) le
     go (inl late) = by_closed late (next_step setting (chronicle setting h) x).seen.closed refl (was_backup setting x h e comes b s0 late heard put on)
 
-heard_of : (h m s : ℕ) → h ≤ max (max h m) s
-heard_of h m s = omega arith
-
-moved_of : (h m s : ℕ) → m ≤ max (max h m) s
-moved_of h m s = omega arith
-
-first_of : (r h m : ℕ) → r ≤ h → r ≤ max h m
+pub first_of : (r h m : ℕ) → r ≤ h → r ≤ max h m
 first_of r h m le = omega (arith, le)
 
 -- 15

@@ -20,6 +20,7 @@ use Rattle.sd_history.specs.Sched.Events.{reference_of}
 use Rattle.sd_history.specs.World.{Setting, fails, is_up, link_has_failed, plan_numbered}
 use Rattle.sd_history.specs.Steps.{Step, seen_of, acts_in}
 use Rattle.sd_history.specs.Chronicle.{past_in, chronicle}
+use Rattle.sd_history.proofs.Given.{some_is}
 use Rattle.sd_proof_safety.specs.invariant.Eras.{era, plan_now, all_started, is_among, touches, failed_now, link_failed_now, is_old, moved, on_backup, root_failed}
 use Rattle.sd_proof_safety.specs.invariant.Invariant.{Invariant}
 use Rattle.sd_proof_safety.proofs.invariant.Facts.{IsSound}
@@ -27,7 +28,6 @@ use Rattle.sd_proof_safety.proofs.invariant.Sides.{implied, not_both}
 use Rattle.sd_proof_safety.specs.messages.Moments.{behind, Moment, when, IsIn}
 use Rattle.sd_proof_safety.specs.messages.Rounds.{IsReady}
 use Rattle.sd_proof_safety.proofs.messages.Ends.{backup_follows}
-use Rattle.sd_proof_safety.proofs.timers.Marks.{some_is}
 use Rattle.sd_proof_safety.proofs.waits.Waits.{Stands, old_stands}
 use Rattle.sd_proof_safety.proofs.waits.LookingBack.{two_parts}
 use Rattle.sd_proof_safety.proofs.waits.Standing.{now, sound}

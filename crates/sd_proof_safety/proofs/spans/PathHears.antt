@@ -11,21 +11,22 @@ use Rattle.sd_checker.specs.Plan.declared.Plan.{Plan}
 use Rattle.sd_checker.specs.Plan.declared.End.{End}
 use Rattle.sd_checker.specs.Plan.Plans.{is_member, is_root}
 use Rattle.sd_checker.specs.Plan.Walks.{walk, path, end_of}
+use Rattle.sd_checker.proofs.Num.Shared.{same_number-some}
 use Rattle.sd_history.specs.Sched.declared.Event.{Event}
 use Rattle.sd_history.specs.Sched.Events.{reference_of}
 use Rattle.sd_history.specs.World.{Setting, Seen, fails, is_up, joined_in_window, epoch_in_force}
 use Rattle.sd_history.specs.Steps.{Step, seen_of, acts_in, epoch_in}
 use Rattle.sd_history.specs.Chronicle.{chronicle}
 use Rattle.sd_history.proofs.Known.{up_is_known}
+use Rattle.sd_history.proofs.Given.{some_is}
 use Rattle.sd_proof_safety.specs.invariant.Bounds.{depth, delay, rounds_gap}
 use Rattle.sd_proof_safety.specs.invariant.Eras.{era, plan_now, all_started, is_among, touches, failed_now, device_failed_now, heard_at, is_old, is_new, is_blank, is_ordinary, live_past, moved, on_primary, hit, root_failed, root_lives}
 use Rattle.sd_proof_safety.specs.invariant.Invariant.{Invariant}
-use Rattle.sd_proof_safety.specs.invariant.Coming.{Comes}
+use Rattle.sd_proof_safety.specs.invariant.Coming.{IsNextEvent}
 use Rattle.sd_proof_safety.proofs.invariant.Facts.{IsSound}
-use Rattle.sd_proof_safety.proofs.invariant.Sides.{implied, not_both, same_is_some}
+use Rattle.sd_proof_safety.proofs.invariant.Sides.{implied, not_both}
 use Rattle.sd_proof_safety.proofs.invariant.Staying.{old_is_member}
 use Rattle.sd_proof_safety.specs.messages.Moments.{Moment, when}
-use Rattle.sd_proof_safety.proofs.timers.Marks.{some_is}
 use Rattle.sd_proof_safety.proofs.waits.Waits.{Stands, old_stands}
 use Rattle.sd_proof_safety.proofs.waits.Standing.{now, sound, Early, lives}
 use Rattle.sd_proof_safety.proofs.silences.States.{not_old_and_new}
@@ -64,7 +65,7 @@ not_old_and_blank : (steps : List Step) (d : ℕ) → is_old steps d ≡ true �
 not_old_and_blank steps d old blank = two_numbers (epoch_in steps d) (era steps) old blank (positive (seen_of steps))
   where
     two_numbers : (o : Option ℕ) (n : ℕ) → same_number o n ≡ true → same_number o 0 ≡ true → 1 ≤ n → ⊥
-    two_numbers o n one two le = let same : n ≡ 0 = some_is (sym (same_is_some o n one) ∙ same_is_some o 0 two) in omega (arith, same, le)
+    two_numbers o n one two le = let same : n ≡ 0 = some_is (sym (same_number-some o n one) ∙ same_number-some o 0 two) in omega (arith, same, le)
 
     positive : (seen : List Seen) → 1 ≤ epoch_in_force seen
     positive seen = omega arith
@@ -75,7 +76,8 @@ pub record IsSpared (setting : Setting) (steps : List Step) (d : ℕ) : Type 0 w
   pub member : is_member (plan_now setting steps) d ≡ true
   pub self : device_failed_now steps d ≡ false
 
-pub spared : (setting : Setting) (x : Event) (h : List Event) (e : Event) → Comes setting (x ∷ h) e → (d : ℕ) → is_old (chronicle setting (x ∷ h)) d ≡ true
+pub spared : (setting : Setting) (x : Event) (h : List Event) (e : Event) → IsNextEvent setting (x ∷ h) e → (d : ℕ)
+    → is_old (chronicle setting (x ∷ h)) d ≡ true
     → IsSpared setting (chronicle setting (x ∷ h)) d
 spared setting x h e comes d old =
     let steps : List Step = chronicle setting (x ∷ h) in

@@ -15,7 +15,7 @@ use Rattle.sd_history.specs.Steps.{Step, seen_of}
 use Rattle.sd_history.specs.Chronicle.{chronicle, next_step}
 use Rattle.sd_proof_safety.specs.invariant.Bounds.{depth, delay, rounds_gap, tick_gap}
 use Rattle.sd_proof_safety.specs.invariant.Eras.{era, plan_now, all_started, beginning, is_among, touches, failed_now, heard_at, is_old, on_primary, path_hit, root_failed}
-use Rattle.sd_proof_safety.specs.invariant.Coming.{Comes, AtNext}
+use Rattle.sd_proof_safety.specs.invariant.Coming.{IsNextEvent, AtNext}
 use Rattle.sd_proof_safety.specs.invariant.Silences.{WholePathHears}
 use Rattle.sd_proof_safety.proofs.invariant.Sides.{not_both}
 use Rattle.sd_proof_safety.proofs.invariant.Timed.{least_below_greatest}
@@ -26,7 +26,7 @@ use Rattle.sd_proof_safety.proofs.waits.LookingBack.{Was}
 use Rattle.sd_proof_safety.proofs.waits.Standing.{clean, sound, heard_late}
 use Rattle.sd_proof_safety.proofs.silences.Phases.{fails_among, fewer}
 use Rattle.sd_proof_safety.proofs.silences.BeforeStart.{heard_after}
-use Rattle.sd_proof_safety.proofs.silences.Gaps.{next_event}
+use Rattle.sd_proof_safety.proofs.silences.Gaps.{next_event, always_sum, apart_low}
 use Rattle.sd_proof_safety.proofs.windows.Eras as eras
 use Rattle.sd_proof_safety.proofs.entering.Hears.{hears_soon}
 use Rattle.sd_proof_safety.specs.rounds.Spans.{IsSpan}
@@ -62,13 +62,6 @@ module _ (setting : Setting) (x : Event) (h : List Event) (open_ : (next_step se
       more_then (thing.Device (plan_now setting older).root)
       (subst (λ n. is_among (failed_now steps) (thing.Device (plan_numbered setting n).root) ≡ false) same_era kept)
 
--- sums: by the later of h and r0 + Q, with a gap more
-pub always_sum : (r l h r0 q u p a b lo : ℕ) → r ≤ l + q → l ≤ max h (r0 + q) + a + b → r0 ≤ h → p ≡ u + q → lo ≤ u → q < lo → r - h ≤ a + p + b
-always_sum r l h r0 q u p a b lo gap by began is least less = omega (arith, gap, by, began, is, least, less)
-
-pub apart_low : (a q lo : ℕ) → a + q < lo → q < lo
-apart_low a q lo less = omega (arith, less)
-
 pub within : (r s a b : ℕ) → r ≤ s → r ≤ s + a + b
 within r s a b le = omega (arith, le)
 
@@ -76,7 +69,7 @@ by_silence : (r g s a b : ℕ) → r - g ≤ a + b → g ≤ s → r ≤ s + a +
 by_silence r g s a b silent le = omega (arith, silent, le)
 
 -- up to an event that closed no window
-lately_open : (setting : Setting) (x : Event) (h : List Event) (e : Event) → Comes setting (x ∷ h) e → (s0 d : ℕ)
+lately_open : (setting : Setting) (x : Event) (h : List Event) (e : Event) → IsNextEvent setting (x ∷ h) e → (s0 d : ℕ)
     → all_started setting (chronicle setting (x ∷ h)) ≤ s0 → root_failed setting (chronicle setting (x ∷ h)) ≡ false
     → is_old (chronicle setting (x ∷ h)) d ≡ true → path_hit setting (chronicle setting (x ∷ h)) d ≡ false → s0 < reference_of x
     → (next_step setting (chronicle setting h) x).seen.closed ≡ false
@@ -85,7 +78,7 @@ lately_open : (setting : Setting) (x : Event) (h : List Event) (e : Event) → C
 lately_open setting x [] e comes s0 d started kept old path_ late open_ old' on' heard' = cc
 lately_open setting x (y ∷ hs) e comes s0 d started kept old path_ late open_ old' on' heard' =
     let steps : List Step = chronicle setting (x ∷ y ∷ hs) in
-    let before_ : Comes setting (y ∷ hs) x = comes_before setting x (y ∷ hs) e comes in
+    let before_ : IsNextEvent setting (y ∷ hs) x = comes_before setting x (y ∷ hs) e comes in
     let span : IsSpan setting y hs x s0 =
     record { comes = before_; started = λ first. started; within = primary_within setting (y ∷ hs) x before_ d s0 old' on' heard' } in
     path_silent setting y hs x s0 span (kept_before setting x (y ∷ hs) open_ kept) (omega (arith, started, late)) (failed_now steps)
@@ -94,7 +87,7 @@ lately_open setting x (y ∷ hs) e comes s0 d started kept old path_ late open_ 
     (subst (λ n. touches (failed_now steps) (path setting.net (plan_numbered setting n) d) ≡ false) (same_era setting x (y ∷ hs) open_) path_) heard'
 
 -- up to the event before
-pub lately : (setting : Setting) (x : Event) (h : List Event) (e : Event) → Comes setting (x ∷ h) e → (s0 d : ℕ)
+pub lately : (setting : Setting) (x : Event) (h : List Event) (e : Event) → IsNextEvent setting (x ∷ h) e → (s0 d : ℕ)
     → all_started setting (chronicle setting (x ∷ h)) ≤ s0 → root_failed setting (chronicle setting (x ∷ h)) ≡ false
     → is_old (chronicle setting (x ∷ h)) d ≡ true → on_primary (chronicle setting (x ∷ h)) d ≡ true → path_hit setting (chronicle setting (x ∷ h)) d ≡ false
     → heard_at (chronicle setting (x ∷ h)) d ≤ s0

@@ -4,7 +4,7 @@ use Rattle.std.specs.Prelude.{◌≡◌, ℕ, ◌+◌, ◌<◌, ◌≤◌, Bool,
 use Rattle.std.proofs.Common.{arith, sym, ◌∙◌, ap, subst}
 use Rattle.std.proofs.lemmas.Bool.{and_parts, and_from, eqb-true, false_from_ne_true}
 use Rattle.std.proofs.Math.Nat.{lt_of_lt_of_le}
-use Rattle.sd_checker.specs.Num.Lists.{of_some, same_number}
+use Rattle.sd_checker.specs.Num.Lists.{map_or, same_number}
 use Rattle.sd_history.specs.Sched.declared.Event.{Event}
 use Rattle.sd_history.specs.Sched.Events.{reference_of}
 use Rattle.sd_history.specs.World.{Setting, makes, is_up, has_commit, staged_epoch}
@@ -13,12 +13,11 @@ use Rattle.sd_history.specs.Chronicle.{chronicle, next_step}
 use Rattle.sd_proof_safety.specs.invariant.Eras.{era, does, hears, moves, latest_such, heard_at, moved_at, is_old, is_new, live_past, moved, on_primary, on_backup}
 use Rattle.sd_proof_safety.specs.invariant.Clauses.{staged_root, commit_at}
 use Rattle.sd_proof_safety.specs.invariant.Invariant.{Core}
-use Rattle.sd_proof_safety.specs.invariant.Coming.{IsClean, Comes}
+use Rattle.sd_proof_safety.specs.invariant.Coming.{IsClean, IsNextEvent}
 use Rattle.sd_proof_safety.proofs.invariant.Prefix.{clean_before}
 use Rattle.sd_proof_safety.proofs.invariant.Sides.{implied, not_both}
 use Rattle.sd_proof_safety.specs.messages.Moments.{whole, behind, Moment, when, IsIn}
 use Rattle.sd_proof_safety.proofs.messages.Tails.{history_chronicle, no_later}
-use Rattle.sd_proof_safety.specs.timers.Since.{whole as whole_tail}
 use Rattle.sd_proof_safety.proofs.waits.Standing.{steps_timed}
 use Rattle.sd_proof_safety.proofs.waits.LookingBack.{Was, was_on_primary, was_on_backup, two_parts}
 use Rattle.sd_proof_safety.proofs.windows.Eras as eras
@@ -30,6 +29,7 @@ use Rattle.sd_proof_safety.proofs.terms.Actors.{IsActor, committed_actor, actor_
 use Rattle.sd_proof_safety.proofs.entering.AfterCommit.{IsSince, since}
 use Rattle.sd_proof_safety.proofs.entering.Hears.{idle_by, heard_late}
 use Rattle.sd_proof_safety.specs.rounds.Spans.{IsWithin, in_era, in_window}
+use Rattle.sd_proof_safety.proofs.behind.Moved.{unmoved}
 
 -- what came before an event is what it was, where it is not later than the reference
 pub kept_by : (s0 r : ℕ) (m y : Bool) (before : ℕ) → s0 < r → (if m || y then r else before) ≤ s0 → before ≤ s0
@@ -37,13 +37,8 @@ kept_by s0 r true y before late le = absurd (omega (arith, le, late))
 kept_by s0 r false true before late le = absurd (omega (arith, le, late))
 kept_by s0 r false false before late le = le
 
-pub unmoved_by : (some moved_ acts : Bool) → (some && not moved_ && not acts) ≡ true → moved_ ≡ false
-unmoved_by true false acts on = refl
-unmoved_by true true acts on = cc
-unmoved_by false moved_ acts on = cc
-
-module _ (setting : Setting) (x : Event) (h : List Event) (e : Event) (comes : Comes setting (x ∷ h) e) where
-  pub comes_before : Comes setting h x
+module _ (setting : Setting) (x : Event) (h : List Event) (e : Event) (comes : IsNextEvent setting (x ∷ h) e) where
+  pub comes_before : IsNextEvent setting h x
   comes_before = record { fair = comes.fair; clean = clean_before setting e (x ∷ h) comes.clean; before = comes.before.0 }
 
   abbrev older : List Step
@@ -87,12 +82,12 @@ module _ (setting : Setting) (x : Event) (h : List Event) (e : Event) (comes : C
 
   pub was_primary : (d s0 : ℕ) → s0 < reference_of x → heard_at (chronicle setting (x ∷ h)) d ≤ s0 → on_primary (chronicle setting (x ∷ h)) d ≡ true
       → Was setting (chronicle setting h) (chronicle setting (x ∷ h)) d on_primary
-  was_primary d s0 late heard on = was_on_primary setting (x ∷ h) s older d whole_tail (steps_timed setting x h e comes) (omega (arith, heard, late)) on
+  was_primary d s0 late heard on = was_on_primary setting (x ∷ h) s older d whole (steps_timed setting x h e comes) (omega (arith, heard, late)) on
 
   pub was_backup : (d s0 : ℕ) → s0 < reference_of x → heard_at (chronicle setting (x ∷ h)) d ≤ s0 → moved_at (chronicle setting (x ∷ h)) d ≤ s0
       → on_backup (chronicle setting (x ∷ h)) d ≡ true → Was setting (chronicle setting h) (chronicle setting (x ∷ h)) d on_backup
   was_backup d s0 late heard put on =
-      was_on_backup setting (x ∷ h) s older d whole_tail (steps_timed setting x h e comes) (omega (arith, heard, late)) (omega (arith, put, late)) on
+      was_on_backup setting (x ∷ h) s older d whole (steps_timed setting x h e comes) (omega (arith, heard, late)) (omega (arith, put, late)) on
 
   -- the closing, where the device was new
   pub closing_within : (d s0 : ℕ) → (q : Moment) → IsIn q (chronicle setting (x ∷ h)) → s0 < when q → heard_at (chronicle setting h) d ≤ s0
@@ -114,7 +109,8 @@ pub idle_of : (steps : List Step) (d : ℕ) → on_primary steps d ≡ true → 
 idle_of steps d on = idle_by (is_some (live_past steps d)) (moved steps d) (acts_in steps d) on
 
 -- on its primary
-pub primary_within : (setting : Setting) (history : List Event) (e : Event) → Comes setting history e → (d s0 : ℕ) → is_old (chronicle setting history) d ≡ true
+pub primary_within : (setting : Setting) (history : List Event) (e : Event) → IsNextEvent setting history e → (d s0 : ℕ)
+    → is_old (chronicle setting history) d ≡ true
     → on_primary (chronicle setting history) d ≡ true
     → heard_at (chronicle setting history) d ≤ s0 → (q : Moment) → IsIn q (chronicle setting (e ∷ history)) → s0 < when q
     → IsWithin (chronicle setting history) q
@@ -139,7 +135,7 @@ primary_within setting (x ∷ h) e comes d s0 old on heard q (behind t) late =
         (rest (old_then setting x h e comes d w.epoch open_ old))
 
 -- a device that is on its backup was so in the era alone: a new one is on its primary
-pub no_closing : (setting : Setting) (x : Event) (h : List Event) (e : Event) → Comes setting (x ∷ h) e → (d : ℕ) → is_new (chronicle setting h) d ≡ true
+pub no_closing : (setting : Setting) (x : Event) (h : List Event) (e : Event) → IsNextEvent setting (x ∷ h) e → (d : ℕ) → is_new (chronicle setting h) d ≡ true
     → on_backup (chronicle setting h) d ≡ true → ⊥
 no_closing setting x h e comes d new on =
     let steps : List Step = chronicle setting h in
@@ -149,10 +145,11 @@ no_closing setting x h e comes d new on =
     let linked =
     implied (is_new steps d && not (nat_eq d (staged_root setting steps))) _ (core.committed.linked d)
     (and_from (is_new steps d) (not (nat_eq d (staged_root setting steps))) new (ap not other)) in
-    let primary = (and_parts (on_primary steps d) _ (and_parts (on_primary steps d && of_some (parent_in steps d) false (is_new steps)) _ linked).0).0 in
-    not_both (moved steps d) parts.0 (unmoved_by (is_some (live_past steps d)) (moved steps d) (acts_in steps d) primary)
+    let primary = (and_parts (on_primary steps d) _ (and_parts (on_primary steps d && map_or (parent_in steps d) false (is_new steps)) _ linked).0).0 in
+    not_both (moved steps d) parts.0 (unmoved (is_some (live_past steps d)) (moved steps d) (acts_in steps d) primary)
 
-pub backup_within : (setting : Setting) (history : List Event) (e : Event) → Comes setting history e → (d s0 : ℕ) → is_old (chronicle setting history) d ≡ true
+pub backup_within : (setting : Setting) (history : List Event) (e : Event) → IsNextEvent setting history e → (d s0 : ℕ)
+    → is_old (chronicle setting history) d ≡ true
     → on_backup (chronicle setting history) d ≡ true
     → heard_at (chronicle setting history) d ≤ s0 → moved_at (chronicle setting history) d ≤ s0 → (q : Moment) → IsIn q (chronicle setting (e ∷ history))
     → s0 < when q

@@ -13,18 +13,18 @@ use Rattle.sd_history.specs.Steps.{Step, seen_of}
 use Rattle.sd_history.specs.Chronicle.{chronicle, next_step}
 use Rattle.sd_history.proofs.Among.{passes}
 use Rattle.sd_history.proofs.Known.{up_is_known}
+use Rattle.sd_history.proofs.flights.Places.{among_below as among_less}
+use Rattle.sd_history.proofs.Shared.{among_below}
 use Rattle.sd_proof_safety.specs.invariant.Eras.{plan_now, all_started, is_ordinary, hit}
 use Rattle.sd_proof_safety.specs.invariant.Clauses.{is_beginning, left_out_is_hit, someone_untouched, begins_with}
 use Rattle.sd_proof_safety.specs.invariant.Invariant.{Invariant}
-use Rattle.sd_proof_safety.specs.invariant.Coming.{Comes}
+use Rattle.sd_proof_safety.specs.invariant.Coming.{IsNextEvent}
 use Rattle.sd_proof_safety.proofs.invariant.Sides.{implied}
-use Rattle.sd_proof_safety.proofs.messages.Ends.{among_below}
-use Rattle.sd_proof_safety.proofs.messages.Spoils.{Passing, any_passing}
 use Rattle.sd_proof_safety.proofs.waits.LeastWaits.{starts_in_time}
 use Rattle.sd_proof_safety.proofs.waits.Standing.{now, times}
 use Rattle.sd_proof_safety.proofs.windows.Committing.{staged_plan}
-use Rattle.sd_proof_safety.proofs.frame.LeftOut.{among_less}
 use Rattle.sd_proof_safety.proofs.entering.States as states
+use Rattle.sd_proof_safety.proofs.invariant.Prefix.{Passing, some_passing}
 
 -- who is not left out is in
 in_by : (hc up m sm bad : Bool) → (not (hc && up && m && not sm) || bad) ≡ true → hc ≡ true → up ≡ true → m ≡ true → bad ≡ false → sm ≡ true
@@ -35,7 +35,7 @@ in_by true true false sm bad clause a b c d = cc
 in_by true false m sm bad clause a b c d = cc
 in_by false up m sm bad clause a b c d = cc
 
-module _ (setting : Setting) (x : Event) (h : List Event) (e : Event) (comes : Comes setting (x ∷ h) e)
+module _ (setting : Setting) (x : Event) (h : List Event) (e : Event) (comes : IsNextEvent setting (x ∷ h) e)
     (late : all_started setting (chronicle setting (x ∷ h)) < reference_of e) where
   abbrev steps : List Step
   steps = chronicle setting (x ∷ h)
@@ -74,5 +74,5 @@ module _ (setting : Setting) (x : Event) (h : List Event) (e : Event) (comes : C
           (passes (left_out_is_hit setting steps) (among_below (length setting.net.devices) d known) all) commit up member spared
       by (inr some) =
           let p : Passing (begins_with setting steps) (device_numbers setting.net) =
-          any_passing (begins_with setting steps) (device_numbers setting.net) some in
-          absurd (none_begins p.element (among_less (length setting.net.devices) p.element p.among) p.passes)
+          some_passing (begins_with setting steps) (device_numbers setting.net) some in
+          absurd (none_begins p.one (among_less (length setting.net.devices) p.one p.there) p.passed)

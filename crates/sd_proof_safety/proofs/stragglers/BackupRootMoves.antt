@@ -4,7 +4,7 @@
 use Rattle.std.specs.Prelude.{◌≡◌, ℕ, ◌+◌, ◌*◌, ◌-◌, ◌<◌, ◌≤◌, Bool, true, false, ◌&&◌, not, List, [], ◌∷◌, max, nat_eq, Option, Some, refl, if◌then◌else◌}
 use Rattle.std.proofs.Common.{arith, ap}
 use Rattle.std.proofs.lemmas.Bool.{and_parts, eq-eqb, not-true, false_from_ne_true}
-use Rattle.sd_checker.specs.Num.Lists.{of_some}
+use Rattle.sd_checker.specs.Num.Lists.{map_or}
 use Rattle.sd_checker.specs.Topo.declared.Thing.TheVariants as thing
 use Rattle.sd_checker.specs.Plan.declared.Plan.{Plan}
 use Rattle.sd_checker.specs.Plan.Plans.{is_member, is_root, is_backup_root}
@@ -18,7 +18,7 @@ use Rattle.sd_history.specs.Chronicle.{chronicle, next_step}
 use Rattle.sd_proof_safety.specs.invariant.Bounds.{losses, depth, delay, tick_gap, first_low, first_up, second_low, second_up, wait_low, IsTimedBy}
 use Rattle.sd_proof_safety.specs.invariant.Eras.{era, plan_now, first_failure, beginning, all_started, late, heard_at, is_old, is_ordinary, moved, on_primary, hit, path_hit, root_failed}
 use Rattle.sd_proof_safety.specs.invariant.Silences.{root_failed_at}
-use Rattle.sd_proof_safety.specs.invariant.Coming.{Comes}
+use Rattle.sd_proof_safety.specs.invariant.Coming.{IsNextEvent}
 use Rattle.sd_proof_safety.proofs.invariant.Facts.{IsSound}
 use Rattle.sd_proof_safety.proofs.invariant.Sides.{not_both}
 use Rattle.sd_proof_safety.specs.messages.Moments.{when}
@@ -56,7 +56,7 @@ late_at_most true r c = omega arith
 late_at_most false r c = omega arith
 
 -- The move, with the event x
-module _ (setting : Setting) (x : Event) (y : Event) (ys : List Event) (e : Event) (comes : Comes setting (x ∷ y ∷ ys) e)
+module _ (setting : Setting) (x : Event) (y : Event) (ys : List Event) (e : Event) (comes : IsNextEvent setting (x ∷ y ∷ ys) e)
     (open_ : (next_step setting (chronicle setting (y ∷ ys)) x).seen.closed ≡ false)
     (old : is_old (chronicle setting (y ∷ ys)) (plan_now setting (chronicle setting (y ∷ ys))).backup_root ≡ true)
     (on : on_primary (chronicle setting (y ∷ ys)) (plan_now setting (chronicle setting (y ∷ ys))).backup_root ≡ true)
@@ -78,7 +78,7 @@ module _ (setting : Setting) (x : Event) (y : Event) (ys : List Event) (e : Even
   abbrev f1 : ℕ
   f1 = first_up setting.net (plan_now setting (chronicle setting (y ∷ ys)))
 
-  before_ : Comes setting (y ∷ ys) x
+  before_ : IsNextEvent setting (y ∷ ys) x
   before_ = comes_before setting x (y ∷ ys) e comes
 
   fine : IsSound setting.net (plan_now setting (chronicle setting (y ∷ ys)))
@@ -141,7 +141,7 @@ module _ (setting : Setting) (x : Event) (y : Event) (ys : List Event) (e : Even
       → root_failed_at setting (chronicle setting (y ∷ ys)) + (depth setting.net + 1) * delay setting.net ≤ reference_of x
   root_before by failed =
       let r = some_failed (thing.Device plan.root ∷ []) (seen_of older) (thing.Device plan.root) at_first failed in
-      let at : root_failed_at setting older ≡ late setting older r.0 = ap (λ (o : Option ℕ). late setting older (of_some o 0 (λ q. q))) r.1 in
+      let at : root_failed_at setting older ≡ late setting older r.0 = ap (λ (o : Option ℕ). late setting older (map_or o 0 (λ q. q))) r.1 in
       let most : late setting older r.0 ≤ max r.0 (all_started setting older) = late_at_most (nat_eq (era older) 1) r.0 (all_started setting older) in
       let sum : max r.0 (all_started setting older) + (depth setting.net + 1) * delay setting.net ≤ reference_of x =
       root_sum (losses setting.net) (depth setting.net) (delay setting.net) (round_gap setting.net) (tick_gap setting.net) _ _ _ _ _ timed_ (reference_of x)

@@ -13,7 +13,7 @@ use Rattle.sd_history.specs.Chronicle.{chronicle}
 use Rattle.sd_history.proofs.Known.{up_is_known}
 use Rattle.sd_proof_safety.specs.invariant.Bounds.{depth, delay, tick_gap, rounds_gap, first_up}
 use Rattle.sd_proof_safety.specs.invariant.Eras.{plan_now, beginning, all_started, failed_now, heard_at, is_old, is_ordinary, on_primary}
-use Rattle.sd_proof_safety.specs.invariant.Coming.{Comes, AtNext}
+use Rattle.sd_proof_safety.specs.invariant.Coming.{IsNextEvent, AtNext}
 use Rattle.sd_proof_safety.specs.messages.Moments.{when}
 use Rattle.sd_proof_safety.proofs.waits.Waits.{Stands, old_stands}
 use Rattle.sd_proof_safety.proofs.waits.Standing.{sound, heard_late}
@@ -23,8 +23,9 @@ use Rattle.sd_proof_safety.specs.behind.Feeding.{path_failed_at, StandsBehind, M
 use Rattle.sd_proof_safety.proofs.spans.PathHears.{IsSpared, spared}
 use Rattle.sd_checker.proofs.Plan.CutOff.{cut_off}
 use Rattle.sd_proof_safety.proofs.feeds.Cuts.{CutWalk, cut_walk_of}
-use Rattle.sd_proof_safety.proofs.stragglers.Stragglers.{IsFed, Hearing, early, straggler, fed, hearing}
+use Rattle.sd_proof_safety.proofs.stragglers.Stragglers.{IsFed, Hearing, early, straggler, fed, hearing, weaker}
 use Rattle.sd_proof_safety.proofs.stragglers.PathWays.{cut_lasting, comes_down}
+use Rattle.sd_proof_safety.proofs.feeds.Feeds.{heard_of, moved_of}
 
 -- sums: the event r, what the device heard hd, the receipt m, the first event r0 and the failure g
 early_sum : (r r0 q hd g a : ℕ) → r ≤ r0 + q → r0 ≤ hd → r ≤ max hd g + a + q
@@ -33,19 +34,10 @@ early_sum r r0 q hd g a le began = omega (arith, le, began)
 fed_sum : (r hd m r0 q g a c : ℕ) → r ≤ max (max hd m) (r0 + q) + a + c → m ≤ g → r0 ≤ hd → r ≤ max hd g + (a + c) + q
 fed_sum r hd m r0 q g a c le soon began = omega (arith, le, soon, began)
 
-receipt_of : (hd m s : ℕ) → m ≤ max (max hd m) s
-receipt_of hd m s = omega arith
-
-heard_of : (hd m s : ℕ) → hd ≤ max (max hd m) s
-heard_of hd m s = omega arith
-
-weaker : (hb g k f q : ℕ) → hb ≤ g + k → hb ≤ g + k + f + q
-weaker hb g k f q le = omega (arith, le)
-
 shorter : (a w n : ℕ) → a + 1 ≤ w → w ≤ n → a ≤ n
 shorter a w n one two = omega (arith, one, two)
 
-module _ (setting : Setting) (x : Event) (h : List Event) (e : Event) (comes : Comes setting (x ∷ h) e)
+module _ (setting : Setting) (x : Event) (h : List Event) (e : Event) (comes : IsNextEvent setting (x ∷ h) e)
     (old : is_old (chronicle setting (x ∷ h)) (plan_now setting (chronicle setting (x ∷ h))).backup_root ≡ true)
     (on : on_primary (chronicle setting (x ∷ h)) (plan_now setting (chronicle setting (x ∷ h))).backup_root ≡ true)
     (f : IsFed setting (chronicle setting (x ∷ h))) (d : ℕ) (st : StandsBehind setting (chronicle setting (x ∷ h)) d) where
@@ -95,12 +87,12 @@ module _ (setting : Setting) (x : Event) (h : List Event) (e : Event) (comes : C
   by_age (inl late) =
       fed_sum (reference_of e) (heard_at steps d) (when f.moment) (beginning (seen_of steps)) (tick_gap setting.net) soon (rounds_gap setting.net)
       (2 * depth setting.net * delay setting.net)
-      (comes_down setting x h e comes old on f s0 (receipt_of (heard_at steps d) (when f.moment) (all_started setting steps))
+      (comes_down setting x h e comes old on f s0 (moved_of (heard_at steps d) (when f.moment) (all_started setting steps))
       (le-max_right (max (heard_at steps d) (when f.moment)) (all_started setting steps)) late d st.old st.primary
       (ap (λ c. c && is_ordinary (plan_now setting steps) d) st.missed) (heard_of (heard_at steps d) (when f.moment) (all_started setting steps))
       (cut_off (plan_now setting steps) (walk setting.net (plan_now setting steps) d))
       (map_walks (plan_now setting steps) _ _
-      (λ y hop clear. cut_lasting setting x h e comes old on f s0 (receipt_of (heard_at steps d) (when f.moment) (all_started setting steps))
+      (λ y hop clear. cut_lasting setting x h e comes old on f s0 (moved_of (heard_at steps d) (when f.moment) (all_started setting steps))
       (le-max_right (max (heard_at steps d) (when f.moment)) (all_started setting steps)) late y hop clear)
       (cut_off (plan_now setting steps) (walk setting.net (plan_now setting steps) d)) d cut.clear) cut.ends
       (shorter (length (cut_off (plan_now setting steps) (walk setting.net (plan_now setting steps) d))) (length (walk setting.net (plan_now setting steps) d))

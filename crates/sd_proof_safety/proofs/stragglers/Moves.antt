@@ -4,7 +4,7 @@
 use Rattle.std.specs.Prelude.{◌≡◌, ℕ, ◌+◌, ◌*◌, ◌-◌, ◌≤◌, Bool, true, false, ◌&&◌, List, [], ◌∷◌, nat_eq, Option, Some, None, refl, ◌⊎◌}
 use Rattle.std.proofs.Common.{arith, ◌∙◌, ap, sym, subst, inl, inr}
 use Rattle.std.proofs.lemmas.Bool.{and_from}
-use Rattle.sd_checker.specs.Num.Lists.{of_some}
+use Rattle.sd_checker.specs.Num.Lists.{map_or}
 use Rattle.sd_checker.specs.Topo.declared.Thing.{Thing}
 use Rattle.sd_checker.specs.Topo.declared.Thing.TheVariants as thing
 use Rattle.sd_checker.specs.Plan.Walks.{path}
@@ -16,7 +16,7 @@ use Rattle.sd_history.specs.Chronicle.{chronicle, next_step}
 use Rattle.sd_proof_safety.specs.invariant.Bounds.{depth, delay, tick_gap, first_up}
 use Rattle.sd_proof_safety.specs.invariant.Eras.{era, plan_now, failed_now, is_among, touches, first_failure, all_started, late, heard_at, moved_at, is_old, moved, on_primary, path_hit, root_failed}
 use Rattle.sd_proof_safety.specs.invariant.Silences.{root_failed_at}
-use Rattle.sd_proof_safety.specs.invariant.Coming.{Comes, AtNext}
+use Rattle.sd_proof_safety.specs.invariant.Coming.{IsNextEvent, AtNext}
 use Rattle.sd_proof_safety.proofs.invariant.Prefix.{clean_before}
 use Rattle.sd_proof_safety.proofs.invariant.Sides.{implied}
 use Rattle.sd_proof_safety.specs.messages.Moments.{whole, behind}
@@ -53,7 +53,7 @@ pub data Moving (setting : Setting) (steps : List Step) : Type 0 where
       → Moving setting steps
 
 -- the event closed nothing: what was said of the move before is said of it after, in the same era
-module _ (setting : Setting) (x : Event) (y : Event) (ys : List Event) (e : Event) (comes : Comes setting (x ∷ y ∷ ys) e)
+module _ (setting : Setting) (x : Event) (y : Event) (ys : List Event) (e : Event) (comes : IsNextEvent setting (x ∷ y ∷ ys) e)
     (open_ : (next_step setting (chronicle setting (y ∷ ys)) x).seen.closed ≡ false) where
   abbrev older : List Step
   older = chronicle setting (y ∷ ys)
@@ -189,7 +189,7 @@ module _ (setting : Setting) (x : Event) (y : Event) (ys : List Event) (e : Even
     by_first None was =
         let r = hit_first things (seen_of steps) broken_now in
         let now_ : reference_of x ≡ r.0 = first_is_now things (next_step setting older x).seen (seen_of older) r.0 open_ was r.1 in
-        let value : first_at things (seen_of steps) ≡ r.0 = ap (λ o. of_some o 0 (λ reference. reference)) r.1 in
+        let value : first_at things (seen_of steps) ≡ r.0 = ap (λ o. map_or o 0 (λ reference. reference)) r.1 in
         let since : first_at things (seen_of steps) ≤ path_failed_at setting steps =
         late_since (nat_eq (era steps) 1) (first_at things (seen_of steps)) (all_started setting steps) in
         first_wait (now_sum (moved_at steps b) (path_failed_at setting steps) (depth setting.net * delay setting.net)
@@ -207,7 +207,7 @@ Moves setting history =
     → moved (chronicle setting history) (plan_now setting (chronicle setting history)).backup_root ≡ true → Moving setting (chronicle setting history)
 
 -- with the first event nothing moves
-first_event : (setting : Setting) (x e : Event) → Comes setting (x ∷ []) e
+first_event : (setting : Setting) (x e : Event) → IsNextEvent setting (x ∷ []) e
     → moved (chronicle setting (x ∷ [])) (plan_now setting (chronicle setting (x ∷ []))).backup_root ≡ true → ⊥
 first_event setting x e comes put =
     by (step_back setting x [] (plan_now setting (chronicle setting (x ∷ []))).backup_root (steps_timed setting x [] e comes) put)
@@ -222,13 +222,13 @@ first_event setting x e comes put =
     by (kept moved_ epoch at) = nothing (plan_now setting (chronicle setting (x ∷ []))).backup_root moved_
     by (goes on epoch at) = nowhere (plan_now setting (chronicle setting (x ∷ []))).backup_root on
 
-moving : (setting : Setting) (history : List Event) (e : Event) → Comes setting history e → Moves setting history
+moving : (setting : Setting) (history : List Event) (e : Event) → IsNextEvent setting history e → Moves setting history
 moving setting [] e comes old put = cc
 moving setting (x ∷ []) e comes old put = absurd (first_event setting x e comes put)
 moving setting (x ∷ y ∷ ys) e comes old put =
     by_closed (λ before_ old' put'. moving setting (y ∷ ys) x before_ old' put') (next_step setting (chronicle setting (y ∷ ys)) x).seen.closed refl
   where
-    by_step : (Comes setting (y ∷ ys) x → Moves setting (y ∷ ys)) → (next_step setting (chronicle setting (y ∷ ys)) x).seen.closed ≡ false
+    by_step : (IsNextEvent setting (y ∷ ys) x → Moves setting (y ∷ ys)) → (next_step setting (chronicle setting (y ∷ ys)) x).seen.closed ≡ false
         → WasMoved setting x (y ∷ ys) (plan_now setting (chronicle setting (x ∷ y ∷ ys))).backup_root
         → Moving setting (chronicle setting (x ∷ y ∷ ys))
     by_step again open_ (kept was epoch at) =
@@ -243,7 +243,7 @@ moving setting (x ∷ y ∷ ys) e comes old put =
         let b : ℕ = (plan_now setting (chronicle setting (x ∷ y ∷ ys))).backup_root in
         goes_now setting x y ys e comes open_ (old_then setting x (y ∷ ys) e comes b epoch open_ old) on at old put
 
-    by_closed : (Comes setting (y ∷ ys) x → Moves setting (y ∷ ys)) → (c : Bool) → (next_step setting (chronicle setting (y ∷ ys)) x).seen.closed ≡ c
+    by_closed : (IsNextEvent setting (y ∷ ys) x → Moves setting (y ∷ ys)) → (c : Bool) → (next_step setting (chronicle setting (y ∷ ys)) x).seen.closed ≡ c
         → Moving setting (chronicle setting (x ∷ y ∷ ys))
     by_closed again true closed = absurd (none_closed setting x (y ∷ ys) e comes put closed)
     by_closed again false open_ =

@@ -5,7 +5,7 @@ use Rattle.std.proofs.lemmas.Bool.{eqb-true, eq-eqb}
 use Rattle.sd_checker.specs.Topo.Network.{greatest_delay}
 use Rattle.sd_checker.specs.Topo.declared.Thing.{Thing}
 use Rattle.sd_checker.specs.Topo.declared.Thing.TheVariants as thing
-use Rattle.sd_checker.specs.Num.Lists.{of_some}
+use Rattle.sd_checker.specs.Num.Lists.{map_or}
 use Rattle.sd_checker.specs.Plan.declared.Duty.{Duty}
 use Rattle.sd_checker.specs.Plan.declared.End.{End}
 use Rattle.sd_checker.specs.Plan.declared.Hop.{Hop}
@@ -25,7 +25,7 @@ use Rattle.sd_proof_safety.specs.invariant.Bounds.{depth, delay, rounds_gap}
 use Rattle.sd_proof_safety.specs.invariant.Eras.{era, plan_now, all_started, failed_now, is_among, heard_at, is_old, is_new, is_ordinary, on_primary, hit, root_failed}
 use Rattle.sd_proof_safety.proofs.invariant.Facts.{IsSound}
 use Rattle.sd_proof_safety.proofs.invariant.Sides.{implied, not_both}
-use Rattle.sd_proof_safety.specs.invariant.Coming.{Comes}
+use Rattle.sd_proof_safety.specs.invariant.Coming.{IsNextEvent}
 use Rattle.sd_proof_safety.specs.messages.Moments.{Moment, when, IsIn}
 use Rattle.sd_proof_safety.specs.messages.Rounds.{IsReady}
 use Rattle.sd_proof_safety.proofs.waits.Waits.{Stands, old_stands}
@@ -53,7 +53,7 @@ use Rattle.sd_proof_safety.proofs.feeds.Ready.{cut_lasting as lasting_cut}
 use Rattle.sd_proof_safety.proofs.stragglers.Stragglers.{is_broken, IsFed}
 use Rattle.sd_proof_safety.proofs.stragglers.PathWholeSince.{IsPathHop, other, unfailed, kept, mended_since, era_at, none_fails, link_at, span, on_path, stands_on, whole_walk}
 
-module _ (setting : Setting) (x : Event) (h : List Event) (e : Event) (comes : Comes setting (x ∷ h) e)
+module _ (setting : Setting) (x : Event) (h : List Event) (e : Event) (comes : IsNextEvent setting (x ∷ h) e)
     (old : is_old (chronicle setting (x ∷ h)) (plan_now setting (chronicle setting (x ∷ h))).backup_root ≡ true)
     (on : on_primary (chronicle setting (x ∷ h)) (plan_now setting (chronicle setting (x ∷ h))).backup_root ≡ true)
     (fed : IsFed setting (chronicle setting (x ∷ h))) (s0 : ℕ) (since : when fed.moment ≤ s0)
@@ -114,7 +114,7 @@ module _ (setting : Setting) (x : Event) (h : List Event) (e : Event) (comes : C
         let old_y : is_old older y ≡ true = old_unless_new setting k.x k.h k.e k.comes y member_then self_then path_up not_new in
         let s : Stands setting older y = old_stands setting (k.x ∷ k.h) y old_y in
         let put = stands_on setting x h e comes old on fed y p.on_it p.clear.other older k.part s.past s.there
-        (ap (λ (o : Option Duty). of_some o 0 (λ u. u.epoch)) s.duty ∙ k.same) in
+        (ap (λ (o : Option Duty). map_or o 0 (λ u. u.epoch)) s.duty ∙ k.same) in
         subst (λ z. IsReady z (era older) hop.link) (some_is (sym s.there ∙ there))
         (ready_of setting.net (plan_now setting older) (era older) y hop s.past s.duty put.0 put.1
         (subst (λ n. primary_of (plan_numbered setting n) y ≡ Some hop) (sym k.same) p.clear.primary))

@@ -22,7 +22,7 @@ use Rattle.sd_history.specs.World.{Setting, fails, is_thing, link_has_failed}
 use Rattle.sd_history.specs.Steps.{Step, seen_of}
 use Rattle.sd_history.specs.Chronicle.{past_in, chronicle}
 use Rattle.sd_proof_safety.specs.invariant.Eras.{era, plan_now, all_started, failed_now, is_among, device_failed_now, root_failed, is_old, on_primary}
-use Rattle.sd_proof_safety.specs.invariant.Coming.{IsClean, Comes}
+use Rattle.sd_proof_safety.specs.invariant.Coming.{IsClean, IsNextEvent}
 use Rattle.sd_proof_safety.proofs.invariant.CutPaths.{root_on_path}
 use Rattle.sd_proof_safety.proofs.invariant.Facts.{IsSound}
 use Rattle.sd_proof_safety.proofs.invariant.Prefix.{clean_before, any_passing}
@@ -64,7 +64,7 @@ path_hops net plan on_path bad (hop ∷ hs) y (walks one rest) on within self no
     (within hop.parent (or_left (nat_eq hop.parent hop.parent) (has (map (λ (k : Hop). k.parent) hs) hop.parent) (eq-eqb hop.parent hop.parent refl)))
     (λ z a. within z (or_right (nat_eq z hop.parent) (has (map (λ (k : Hop). k.parent) hs) z) a)) q.0 q.1)
 
-module _ (setting : Setting) (x : Event) (h : List Event) (e : Event) (comes : Comes setting (x ∷ h) e)
+module _ (setting : Setting) (x : Event) (h : List Event) (e : Event) (comes : IsNextEvent setting (x ∷ h) e)
     (old : is_old (chronicle setting (x ∷ h)) (plan_now setting (chronicle setting (x ∷ h))).backup_root ≡ true)
     (on : on_primary (chronicle setting (x ∷ h)) (plan_now setting (chronicle setting (x ∷ h))).backup_root ≡ true)
     (fed : IsFed setting (chronicle setting (x ∷ h))) where

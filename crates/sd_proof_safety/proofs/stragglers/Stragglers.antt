@@ -4,7 +4,7 @@ use Rattle.std.specs.Prelude.{◌≡◌, ℕ, zero, suc, ◌+◌, ◌*◌, ◌-�
 use Rattle.std.specs.List.{list_any}
 use Rattle.std.proofs.Common.{arith, ◌∙◌, ap, sym, subst, inl, inr}
 use Rattle.std.proofs.lemmas.Bool.{cases_lt}
-use Rattle.sd_checker.specs.Num.Lists.{of_some}
+use Rattle.sd_checker.specs.Num.Lists.{map_or}
 use Rattle.sd_checker.specs.Topo.declared.Thing.{Thing}
 use Rattle.sd_checker.specs.Topo.declared.Thing.TheVariants as thing
 use Rattle.sd_checker.specs.Plan.Walks.{path}
@@ -16,7 +16,7 @@ use Rattle.sd_history.specs.Steps.{Step, seen_of}
 use Rattle.sd_history.specs.Chronicle.{chronicle}
 use Rattle.sd_proof_safety.specs.invariant.Bounds.{depth, delay, tick_gap, first_up}
 use Rattle.sd_proof_safety.specs.invariant.Eras.{era, plan_now, failed_now, is_among, touches, device_failed_now, beginning, all_started, late, first_failure, heard_at, silent_for, is_old, on_primary, path_hit}
-use Rattle.sd_proof_safety.specs.invariant.Coming.{IsClean, Comes}
+use Rattle.sd_proof_safety.specs.invariant.Coming.{IsClean, IsNextEvent}
 use Rattle.sd_proof_safety.proofs.invariant.Prefix.{clean_before}
 use Rattle.sd_proof_safety.specs.messages.Moments.{Tail, whole, behind, IsChronicle, Moment, upto, when, IsIn, IsBefore}
 use Rattle.sd_proof_safety.specs.messages.Traces.{Trace}
@@ -26,11 +26,10 @@ use Rattle.sd_proof_safety.specs.timers.Times.{AreTimed}
 use Rattle.sd_proof_safety.proofs.waits.Standing.{steps_timed}
 use Rattle.sd_proof_safety.proofs.waits.Waits.{Stands, old_stands}
 use Rattle.sd_proof_safety.proofs.silences.Phases.{era_grows}
-use Rattle.sd_proof_safety.proofs.silences.Spacing.{timed_to}
 use Rattle.sd_proof_safety.proofs.silences.SoundWays.{top_of}
 use Rattle.sd_proof_safety.proofs.receipts.Hearings.{IsHeard, LastHeard, last_heard}
 use Rattle.sd_proof_safety.specs.behind.Feeding.{mended_now, path_failed_at}
-use Rattle.sd_proof_safety.proofs.behind.Failing.{FirstFailure, first_failing}
+use Rattle.sd_proof_safety.proofs.behind.Failing.{FirstFailure, first_failing, chronicle_tail}
 use Rattle.sd_proof_safety.proofs.behind.EventBack.{no_later}
 use Rattle.sd_proof_safety.proofs.behind.Moved.{silence_now}
 use Rattle.sd_proof_safety.proofs.behind.Sealing.{seals_soon}
@@ -42,6 +41,8 @@ use Rattle.sd_proof_safety.proofs.paths.Senders.{sender_unfailed}
 use Rattle.sd_proof_safety.proofs.paths.FirstMend.{mended_on, IsStill, still_on, whole_on, FirstMend, first_mend}
 use Rattle.sd_proof_safety.proofs.paths.Receipts.{StoodBefore, stood_before}
 use Rattle.sd_proof_safety.proofs.paths.NoSecondRound.{no_second}
+use Rattle.sd_proof_safety.proofs.timers.Emissions.{timed_tail}
+use Rattle.sd_proof_safety.proofs.terms.Terms.{era_least}
 
 -- what is broken before an event: a link that is failed, and a device that failed in the era
 abbrev pub is_broken : List Step → Thing → Bool
@@ -68,10 +69,6 @@ pub data Hearing (setting : Setting) (steps : List Step) : Type 0 where
       → r ≤ heard_at steps (plan_now setting steps).backup_root) → Hearing setting steps
   fed : IsFed setting steps → Hearing setting steps
 
-chronicle_tail : (setting : Setting) (older history : List Event) → Tail older history → Tail (chronicle setting older) (chronicle setting history)
-chronicle_tail setting older _ whole = whole
-chronicle_tail setting older _ (behind {xs = earlier} t) = behind (chronicle_tail setting older earlier t)
-
 -- the beginning stays
 begin_on : (s : Step) (older steps : List Step) → Tail (s ∷ older) steps → beginning (seen_of steps) ≡ beginning (seen_of (s ∷ older))
 begin_on s older _ whole = refl
@@ -95,12 +92,12 @@ module _ (setting : Setting) (s : Step) (older steps : List Step) (t : Tail (s �
   started_same = ap (λ r. r + tick_gap setting.net) (sym (begin_on s older steps t))
 
   abbrev counts : ℕ → Option ℕ → ℕ → ℕ
-  counts n o started = if nat_eq n 1 then max (of_some o 0 (λ reference. reference)) started else of_some o 0 (λ reference. reference)
+  counts n o started = if nat_eq n 1 then max (map_or o 0 (λ reference. reference)) started else map_or o 0 (λ reference. reference)
 
   -- of things of the plan of each number
   pub first_same : (things : ℕ → List Thing)
-      → late setting (s ∷ older) (of_some (first_failure (things (era (s ∷ older))) (seen_of (s ∷ older))) 0 (λ reference. reference))
-      ≡ late setting steps (of_some (first_failure (things (era steps)) (seen_of steps)) 0 (λ reference. reference))
+      → late setting (s ∷ older) (map_or (first_failure (things (era (s ∷ older))) (seen_of (s ∷ older))) 0 (λ reference. reference))
+      ≡ late setting steps (map_or (first_failure (things (era steps)) (seen_of steps)) 0 (λ reference. reference))
   first_same things =
       ap (λ n. counts n (first_failure (things n) (seen_of (s ∷ older))) (all_started setting (s ∷ older))) eras
       ∙ ap (λ o. counts (era steps) o (all_started setting (s ∷ older))) (sym (still.first (things (era steps))))
@@ -125,15 +122,12 @@ straggler_sum hd m r h1 g k f q one two three four = omega (arith, one, two, thr
 fed_sum : (m r h1 g k f q : ℕ) → m ≡ r → r - h1 ≤ f + q → h1 ≤ g + k + f + q → m ≤ g + k + 2 * (f + q)
 fed_sum m r h1 g k f q one two three = omega (arith, one, two, three)
 
-weaker : (h1 g k f q : ℕ) → h1 ≤ g + k → h1 ≤ g + k + f + q
+pub weaker : (h1 g k f q : ℕ) → h1 ≤ g + k → h1 ≤ g + k + f + q
 weaker h1 g k f q le = omega (arith, le)
-
-one_at_least : (l : List Step) → 1 ≤ era l
-one_at_least l = omega arith
 
 -- One state, with what is known of the state before the last receipt
 
-module _ (setting : Setting) (x : Event) (h : List Event) (e : Event) (comes : Comes setting (x ∷ h) e) (is : mended_now (chronicle setting (x ∷ h)) ≡ true)
+module _ (setting : Setting) (x : Event) (h : List Event) (e : Event) (comes : IsNextEvent setting (x ∷ h) e) (is : mended_now (chronicle setting (x ∷ h)) ≡ true)
     (broken : path_hit setting (chronicle setting (x ∷ h)) (plan_now setting (chronicle setting (x ∷ h))).backup_root ≡ true)
     (old : is_old (chronicle setting (x ∷ h)) (plan_now setting (chronicle setting (x ∷ h))).backup_root ≡ true)
     (on : on_primary (chronicle setting (x ∷ h)) (plan_now setting (chronicle setting (x ∷ h))).backup_root ≡ true) where
@@ -180,7 +174,7 @@ module _ (setting : Setting) (x : Event) (h : List Event) (e : Event) (comes : C
       let things : List Thing = thing.Device (plan_now setting steps).root ∷ [] in
       let f : FirstFailure setting things m.earlier r = first_failing setting things m.earlier r (sym (m.still.first things) ∙ first_) in
       let timed_ : AreTimed setting (chronicle setting m.earlier) =
-      timed_to setting (chronicle setting m.earlier) steps (rest_of g_in) (steps_timed setting x h e comes) in
+      timed_tail setting (chronicle setting m.earlier) steps (rest_of g_in) (steps_timed setting x h e comes) in
       let le : reference_of f.event ≤ latest_reference (seen_of (chronicle setting m.earlier)) = no_later setting f.event f.earlier m.earlier f.tail timed_ in
       let goes : latest_reference (seen_of (chronicle setting m.earlier)) ≤ when g =
       step_time setting g.step (chronicle setting m.earlier) (tail_chronicle setting g_in all) in
@@ -289,7 +283,7 @@ module _ (setting : Setting) (x : Event) (h : List Event) (e : Event) (comes : C
         last_then =
             let stands : Stands setting older c = old_stands setting (s.y ∷ s.ys) c s.old_ in
             last_heard setting (s.y ∷ s.ys) clean_then.is c stands.past stands.there (era older)
-            (ap (λ (o : Option Duty). of_some o 0 (λ u. u.epoch)) stands.duty) (one_at_least older) (sym stands.acts_is ∙ idle_of older c s.on_)
+            (ap (λ (o : Option Duty). map_or o 0 (λ u. u.epoch)) stands.duty) (era_least older) (sym stands.acts_is ∙ idle_of older c s.on_)
 
         before_time : heard_at (chronicle setting (s.y ∷ s.ys)) c ≤ path_failed_at setting (chronicle setting (x ∷ h)) + depth setting.net * delay setting.net
         before_time = subst (λ r. heard_at older c ≤ r + depth setting.net * delay setting.net) broke (by_last last_then)
@@ -424,7 +418,7 @@ module _ (setting : Setting) (x : Event) (h : List Event) (e : Event) (comes : C
 
 abbrev Hears : Setting → Event → List Event → Event → Type 0
 Hears setting x h e =
-    Comes setting (x ∷ h) e → mended_now (chronicle setting (x ∷ h)) ≡ true
+    IsNextEvent setting (x ∷ h) e → mended_now (chronicle setting (x ∷ h)) ≡ true
     → path_hit setting (chronicle setting (x ∷ h)) (plan_now setting (chronicle setting (x ∷ h))).backup_root ≡ true
     → is_old (chronicle setting (x ∷ h)) (plan_now setting (chronicle setting (x ∷ h))).backup_root ≡ true
     → on_primary (chronicle setting (x ∷ h)) (plan_now setting (chronicle setting (x ∷ h))).backup_root ≡ true → Hearing setting (chronicle setting (x ∷ h))
@@ -436,7 +430,7 @@ below : (a c n : ℕ) → a < c → c ≤ suc n → a ≤ n
 below a c n one two = omega (arith, one, two)
 
 module _ (setting : Setting) (n : ℕ) (x : Event) (h : List Event) (e : Event) (short : length (chronicle setting (x ∷ h)) ≤ suc n) (again : Again setting n)
-    (comes : Comes setting (x ∷ h) e) (is : mended_now (chronicle setting (x ∷ h)) ≡ true)
+    (comes : IsNextEvent setting (x ∷ h) e) (is : mended_now (chronicle setting (x ∷ h)) ≡ true)
     (broken : path_hit setting (chronicle setting (x ∷ h)) (plan_now setting (chronicle setting (x ∷ h))).backup_root ≡ true)
     (old : is_old (chronicle setting (x ∷ h)) (plan_now setting (chronicle setting (x ∷ h))).backup_root ≡ true)
     (on : on_primary (chronicle setting (x ∷ h)) (plan_now setting (chronicle setting (x ∷ h))).backup_root ≡ true) where
@@ -471,8 +465,8 @@ module _ (setting : Setting) (n : ℕ) (x : Event) (h : List Event) (e : Event) 
       let stands : Stands setting (chronicle setting (x ∷ h)) b = old_stands setting (x ∷ h) b old in
       by_receipt
       (last_heard setting (x ∷ h) (clean setting x h e comes is broken old on).is b stands.past stands.there (era (chronicle setting (x ∷ h)))
-      (ap (λ (o : Option Duty). of_some o 0 (λ u. u.epoch)) stands.duty)
-      (one_at_least (chronicle setting (x ∷ h))) (sym stands.acts_is ∙ idle_of (chronicle setting (x ∷ h)) b on))
+      (ap (λ (o : Option Duty). map_or o 0 (λ u. u.epoch)) stands.duty)
+      (era_least (chronicle setting (x ∷ h))) (sym stands.acts_is ∙ idle_of (chronicle setting (x ∷ h)) b on))
 
 -- by going back from receipt to receipt
 hears_by : (setting : Setting) (n : ℕ) (x : Event) (h : List Event) (e : Event) → length (chronicle setting (x ∷ h)) ≤ n → Hears setting x h e

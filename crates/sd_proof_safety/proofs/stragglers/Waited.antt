@@ -1,10 +1,9 @@
 -- The backup root moves no sooner than Low of its first wait after it heard, at whichever event it does.
-use Rattle.std.specs.Prelude.{◌≡◌, ℕ, ◌-◌, ◌<◌, ◌≤◌, true, false, List, ◌∷◌, length, Some, is_some, refl}
+use Rattle.std.specs.Prelude.{◌≡◌, ℕ, ◌-◌, ◌<◌, ◌≤◌, true, false, List, ◌∷◌, length, Some, is_some}
 use Rattle.std.proofs.Common.{arith, ◌∙◌, ap, sym, subst}
 use Rattle.std.proofs.lemmas.Bool.{both_ways}
 use Rattle.sd_checker.specs.Num.Numbers.{low}
-use Rattle.sd_checker.specs.Topo.Network.{Network, rates_of, least_low}
-use Rattle.sd_checker.specs.Plan.declared.Plan.{Plan}
+use Rattle.sd_checker.specs.Topo.Network.{rates_of, least_low}
 use Rattle.sd_checker.specs.Plan.Duties.{duty_of}
 use Rattle.sd_checker.specs.Plan.Plans.{is_member, is_root, is_backup_root}
 use Rattle.sd_history.specs.Core.Calls.{Call}
@@ -17,27 +16,23 @@ use Rattle.sd_history.specs.Chronicle.{past_in, chronicle, next_step}
 use Rattle.sd_history.proofs.Given.{some_is}
 use Rattle.sd_proof_safety.specs.invariant.Bounds.{first_low}
 use Rattle.sd_proof_safety.specs.invariant.Eras.{era, plan_now, heard_at, is_old, moved, on_primary, live_past}
-use Rattle.sd_proof_safety.specs.invariant.Coming.{Comes}
+use Rattle.sd_proof_safety.specs.invariant.Coming.{IsNextEvent}
 use Rattle.sd_proof_safety.specs.timers.Times.{AreTimed, heard_in}
 use Rattle.sd_proof_safety.proofs.timers.NotEarly.{IsTick, move_waited, move_not_early}
 use Rattle.sd_proof_safety.proofs.timers.Turns.{IsMove, is_move, backup_by_move}
 use Rattle.sd_proof_safety.proofs.timers.NetworkBounds.{least_is_low, rate_is_low}
 use Rattle.sd_proof_safety.proofs.waits.SameReferences.{heard_is}
-use Rattle.sd_proof_safety.proofs.waits.Waits.{Stands, old_stands}
+use Rattle.sd_proof_safety.proofs.waits.Waits.{Stands, old_stands, backup_root_waits}
 use Rattle.sd_proof_safety.proofs.waits.Standing.{steps_timed}
 use Rattle.sd_proof_safety.proofs.silences.NoMaking.{not_made}
 use Rattle.sd_proof_safety.proofs.receipts.Alive.{Went, made, called, alone, went}
-use Rattle.sd_proof_safety.proofs.spans.SilenceStarts.{unmoved_by}
-
-first_wait : (net : Network) (plan : Plan) (epoch d : ℕ) → is_root plan d ≡ false → is_backup_root plan d ≡ true
-    → wait_to_move (duty_of net plan epoch d) ≡ Some plan.wait_first
-first_wait net plan epoch d root backup = rw (root, backup) refl
+use Rattle.sd_proof_safety.proofs.behind.Moved.{unmoved as unmoved_by}
 
 long_by : (a c r h : ℕ) → a ≤ c → c ≤ r - h → a ≤ r - h
 long_by a c r h one two = omega (arith, one, two)
 
 -- an old backup root on its primary, before the event x, with which it moves
-module _ (setting : Setting) (x : Event) (h : List Event) (e : Event) (comes : Comes setting (x ∷ h) e) (d : ℕ) (old : is_old (chronicle setting h) d ≡ true)
+module _ (setting : Setting) (x : Event) (h : List Event) (e : Event) (comes : IsNextEvent setting (x ∷ h) e) (d : ℕ) (old : is_old (chronicle setting h) d ≡ true)
     (on : on_primary (chronicle setting h) d ≡ true)
     (member : is_member (plan_now setting (chronicle setting h)) d ≡ true) (root : is_root (plan_now setting (chronicle setting h)) d ≡ false)
     (backup : is_backup_root (plan_now setting (chronicle setting h)) d ≡ true)
@@ -70,7 +65,7 @@ module _ (setting : Setting) (x : Event) (h : List Event) (e : Event) (comes : C
       let w = move_waited stands.past m.counter m.moves in
       let duty_is : w.0 ≡ duty_of setting.net (plan_now setting older) (era older) d = some_is (sym w.2.has ∙ stands.duty) in
       let wait_is : w.1 ≡ (plan_now setting older).wait_first =
-      some_is (sym w.2.waits ∙ ap wait_to_move duty_is ∙ first_wait setting.net (plan_now setting older) (era older) d root backup) in
+      some_is (sym w.2.waits ∙ ap wait_to_move duty_is ∙ backup_root_waits setting.net (plan_now setting older) (era older) d root backup) in
       let low_ : low (rates_of setting.net d) w.1 ≤ reference_of x - heard_in older d =
       move_not_early setting (next_step setting older x) older d m.counter stands.past (rate_is_low setting.net d comes.fair.network) tick w.0 w.1 w.2 in
       let least : least_low setting.net w.1 ≤ low (rates_of setting.net d) w.1 = least_is_low setting.net d w.1 known in

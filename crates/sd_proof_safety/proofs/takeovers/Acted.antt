@@ -2,7 +2,7 @@
 use Rattle.std.specs.Prelude.{◌≡◌, ℕ, Bool, true, false, ◌&&◌, List, ◌∷◌, Some, None, option_map, refl, if◌then◌else◌}
 use Rattle.std.proofs.Common.{◌∙◌, ap, sym}
 use Rattle.std.proofs.lemmas.Bool.{eq-eqb, both_ways}
-use Rattle.sd_checker.specs.Num.Lists.{of_some}
+use Rattle.sd_checker.specs.Num.Lists.{map_or}
 use Rattle.sd_history.specs.Core.Calls.{Call, Transition, Entered, Committed, Recommitted, Accepted, Moved, TookOver, Emitted, Nothing, Did, Past}
 use Rattle.sd_history.specs.Core.Words.{after, transition_of, has_moved, is_acting, is_takeover}
 use Rattle.sd_history.specs.Sched.declared.Event.{Event}
@@ -25,17 +25,17 @@ use Rattle.sd_proof_safety.specs.behind.Feeding.{takes_over}
 pub does_is : (test : Did → Bool) (older : List Step) (s : Step) (d : ℕ) (past : Past) (call : Call) → past_in older d ≡ Some past → s.act ≡ Calls d call
     → does test older s d ≡ test (record { call = call; transition = transition_of past call })
 does_is test older s d past call there act =
-    ap (λ a. of_some (eras.did_by older a d) false test) act
-    ∙ ap (λ c. of_some (if c then option_map (λ p. record { call = call; transition = transition_of p call }) (past_in older d) else None) false test)
+    ap (λ a. map_or (eras.did_by older a d) false test) act
+    ∙ ap (λ c. map_or (if c then option_map (λ p. record { call = call; transition = transition_of p call }) (past_in older d) else None) false test)
     (eq-eqb d d refl)
-    ∙ ap (λ o. of_some (option_map (λ p. record { call = call; transition = transition_of p call }) o) false test) there
+    ∙ ap (λ o. map_or (option_map (λ p. record { call = call; transition = transition_of p call }) o) false test) there
 
 -- and whether it emitted
 pub emits_is : (older : List Step) (s : Step) (d : ℕ) (past : Past) (call : Call) → past_in older d ≡ Some past → s.act ≡ Calls d call
     → emits_here d older s.act ≡ is_emission (transition_of past call)
 emits_is older s d past call there act =
-    ap (emits_here d older) act ∙ ap (λ c. c && of_some (past_in older d) false (λ p. is_emission (transition_of p call))) (eq-eqb d d refl)
-    ∙ ap (λ o. of_some o false (λ p. is_emission (transition_of p call))) there
+    ap (emits_here d older) act ∙ ap (λ c. c && map_or (past_in older d) false (λ p. is_emission (transition_of p call))) (eq-eqb d d refl)
+    ∙ ap (λ o. map_or o false (λ p. is_emission (transition_of p call))) there
 
 -- who acts does not take over
 acting_takes_not : (past : Past) (call : Call) → is_acting past ≡ true → is_takeover (transition_of past call) ≡ false
@@ -89,4 +89,4 @@ has_acted setting x h b past there none put acts = by (went setting x h b)
     by : Went setting x h b → HasActed (chronicle setting h) (next_step setting (chronicle setting h) x) b
     by (made makes_) = absurd (not_both (makes b x) makes_ none)
     by (called was call act there' now) = by_call was call act there' (some_is (sym there ∙ now)) (is_acting was) refl
-    by (alone same did) = acted past (sym same ∙ there) acts (ap (λ o. of_some o false takes_over) did)
+    by (alone same did) = acted past (sym same ∙ there) acts (ap (λ o. map_or o false takes_over) did)

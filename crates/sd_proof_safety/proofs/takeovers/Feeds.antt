@@ -14,7 +14,7 @@ use Rattle.sd_history.specs.Steps.{Step, acts_in}
 use Rattle.sd_history.specs.Chronicle.{chronicle, next_step}
 use Rattle.sd_proof_safety.specs.invariant.Bounds.{depth, delay, losses, rounds_gap, tick_gap}
 use Rattle.sd_proof_safety.specs.invariant.Eras.{era, plan_now, is_among, touches, failed_now, does, heard_at, is_old, is_behind, on_primary}
-use Rattle.sd_proof_safety.specs.invariant.Coming.{Comes, AtNext}
+use Rattle.sd_proof_safety.specs.invariant.Coming.{IsNextEvent, AtNext}
 use Rattle.sd_proof_safety.specs.messages.Moments.{whole, behind, IsBefore}
 use Rattle.sd_proof_safety.proofs.waits.LookingBack.{Was}
 use Rattle.sd_proof_safety.proofs.silences.Gaps.{next_event}
@@ -46,7 +46,7 @@ within_second : (r t u k a m : ℕ) → r ≤ u → r ≤ max (t + k + m) (u + a
 within_second r t u k a m le = omega (arith, le)
 
 -- of an event that comes while the backup root acts, and fails none of some things
-at_event : (setting : Setting) (y : Event) (hs : List Event) (x : Event) (comes : Comes setting (y ∷ hs) x) (b : ℕ)
+at_event : (setting : Setting) (y : Event) (hs : List Event) (x : Event) (comes : IsNextEvent setting (y ∷ hs) x) (b : ℕ)
     → b ≡ (plan_now setting (chronicle setting (y ∷ hs))).backup_root → is_old (chronicle setting (y ∷ hs)) b ≡ true
     → acts_in (chronicle setting (y ∷ hs)) b ≡ true → (failed : List Thing)
     → ((z : Thing) → is_among failed z ≡ false → is_among (failed_now (chronicle setting (y ∷ hs))) z ≡ false)
@@ -68,7 +68,7 @@ at_event setting y hs x comes b is old acts failed more spares d behind_ old_d s
         (comes_by setting y hs x comes old' acts' d (heard_after setting y hs x comes old' acts' failed more spares d behind_ old_d self missed))
 
 -- up to an event that closed no window
-open_before : (setting : Setting) (x : Event) (h : List Event) (e : Event) → Comes setting (x ∷ h) e
+open_before : (setting : Setting) (x : Event) (h : List Event) (e : Event) → IsNextEvent setting (x ∷ h) e
     → (next_step setting (chronicle setting h) x).seen.closed ≡ false → (b d : ℕ) → b ≡ (plan_now setting (chronicle setting h)).backup_root
     → is_old (chronicle setting h) b ≡ true
     → acts_in (chronicle setting h) b ≡ true → is_behind setting.net (plan_now setting (chronicle setting h)) d ≡ true → is_old (chronicle setting h) d ≡ true
@@ -80,7 +80,7 @@ open_before setting x (y ∷ hs) e comes open_ b d is old acts behind_ old_d sel
     at_event setting y hs x (comes_before setting x (y ∷ hs) e comes) b is old acts (failed_now (chronicle setting (x ∷ y ∷ hs)))
     (more_then setting x (y ∷ hs) open_) (spares_now setting x (y ∷ hs) open_) d behind_ old_d self missed
 
-module _ (setting : Setting) (x : Event) (h : List Event) (e : Event) (comes : Comes setting (x ∷ h) e)
+module _ (setting : Setting) (x : Event) (h : List Event) (e : Event) (comes : IsNextEvent setting (x ∷ h) e)
     (old : is_old (chronicle setting (x ∷ h)) (plan_now setting (chronicle setting (x ∷ h))).backup_root ≡ true)
     (acts : acts_in (chronicle setting (x ∷ h)) (plan_now setting (chronicle setting (x ∷ h))).backup_root ≡ true) (d : ℕ)
     (st : StandsBehind setting (chronicle setting (x ∷ h)) d) where

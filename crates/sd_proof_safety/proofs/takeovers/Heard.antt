@@ -23,7 +23,7 @@ use Rattle.sd_history.proofs.Known.{up_is_known}
 use Rattle.sd_history.proofs.Parts.{AllHold, premises_of}
 use Rattle.sd_proof_safety.specs.invariant.Bounds.{depth, delay}
 use Rattle.sd_proof_safety.specs.invariant.Eras.{era, plan_now, is_among, touches, failed_now, is_old, is_behind, hears, heard_at}
-use Rattle.sd_proof_safety.specs.invariant.Coming.{Comes}
+use Rattle.sd_proof_safety.specs.invariant.Coming.{IsNextEvent}
 use Rattle.sd_proof_safety.proofs.invariant.Sides.{not_both}
 use Rattle.sd_proof_safety.specs.messages.Moments.{behind, IsChronicle, Moment, upto, when, IsIn, Emits}
 use Rattle.sd_proof_safety.specs.messages.Rounds.{is_spoiled}
@@ -45,7 +45,7 @@ use Rattle.sd_proof_safety.proofs.takeovers.Places.{took, all_chronicle, stood}
 use Rattle.sd_proof_safety.proofs.takeovers.Source.{spacing, rule, terms, emits_in_era, newest}
 use Rattle.sd_proof_safety.proofs.takeovers.Open.{open_way}
 
-module _ (setting : Setting) (x : Event) (h : List Event) (e : Event) (comes : Comes setting (x ∷ h) e)
+module _ (setting : Setting) (x : Event) (h : List Event) (e : Event) (comes : IsNextEvent setting (x ∷ h) e)
     (old : is_old (chronicle setting (x ∷ h)) (plan_now setting (chronicle setting (x ∷ h))).backup_root ≡ true)
     (acts : acts_in (chronicle setting (x ∷ h)) (plan_now setting (chronicle setting (x ∷ h))).backup_root ≡ true) (failed : List Thing)
     (more : (y : Thing) → is_among failed y ≡ false → is_among (failed_now (chronicle setting (x ∷ h))) y ≡ false) (spares : (y : Thing)

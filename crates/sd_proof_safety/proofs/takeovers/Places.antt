@@ -10,7 +10,7 @@ use Rattle.sd_history.specs.Steps.{Step, seen_of, acts_in}
 use Rattle.sd_history.specs.Chronicle.{chronicle, next_step}
 use Rattle.sd_proof_safety.specs.invariant.Eras.{era, plan_now, all_started, is_old, moved}
 use Rattle.sd_proof_safety.specs.invariant.Clauses.{is_beginning}
-use Rattle.sd_proof_safety.specs.invariant.Coming.{IsClean, Comes}
+use Rattle.sd_proof_safety.specs.invariant.Coming.{IsClean, IsNextEvent}
 use Rattle.sd_proof_safety.proofs.invariant.Prefix.{clean_before}
 use Rattle.sd_proof_safety.proofs.invariant.Sides.{implied, not_both}
 use Rattle.sd_proof_safety.specs.messages.Moments.{Tail, whole, behind, IsChronicle, Moment, upto, when, IsIn, IsBefore}
@@ -27,7 +27,8 @@ use Rattle.sd_proof_safety.proofs.entering.Stages.{Stage, stage}
 use Rattle.sd_proof_safety.proofs.takeovers.Since.{StoodSo, HasTakenOver, has_moved_on, taken_over}
 
 -- who has moved did so when members could no longer start
-late_of : (setting : Setting) (x : Event) (h : List Event) (e : Event) (comes : Comes setting (x ∷ h) e) (b : ℕ) → moved (chronicle setting (x ∷ h)) b ≡ true
+late_of : (setting : Setting) (x : Event) (h : List Event) (e : Event) (comes : IsNextEvent setting (x ∷ h) e) (b : ℕ)
+    → moved (chronicle setting (x ∷ h)) b ≡ true
     → Early setting x h e comes → ⊥
 late_of setting x h e comes b put early =
     let steps : List Step = chronicle setting (x ∷ h) in
@@ -40,7 +41,7 @@ late_of setting x h e comes b put early =
     not_both (moved steps b) put
     (not-true (moved steps b) (implied (is_beginning setting steps) (not (moved steps b)) ((now setting x h e comes).core.calm.still b) begins))
 
-module _ (setting : Setting) (x : Event) (h : List Event) (e : Event) (comes : Comes setting (x ∷ h) e)
+module _ (setting : Setting) (x : Event) (h : List Event) (e : Event) (comes : IsNextEvent setting (x ∷ h) e)
     (old : is_old (chronicle setting (x ∷ h)) (plan_now setting (chronicle setting (x ∷ h))).backup_root ≡ true)
     (acts : acts_in (chronicle setting (x ∷ h)) (plan_now setting (chronicle setting (x ∷ h))).backup_root ≡ true) where
   abbrev steps : List Step
@@ -101,7 +102,7 @@ module _ (setting : Setting) (x : Event) (h : List Event) (e : Event) (comes : C
       nothing : is_old (chronicle setting []) b ≡ true → ⊥
       nothing old_ = cc
 
-      by : (hs : List Event) (f : Event) → q ≡ top_of setting hs f → Comes setting hs f → Known setting (chronicle setting (x ∷ h)) q
+      by : (hs : List Event) (f : Event) → q ≡ top_of setting hs f → IsNextEvent setting hs f → Known setting (chronicle setting (x ∷ h)) q
       by [] f is comes' = absurd (nothing (subst (λ (p : Moment). is_old p.earlier b ≡ true) is told.1))
       by (y ∷ hs) f is comes' =
           record {

@@ -17,7 +17,7 @@ use Rattle.sd_history.specs.Premises.{loss_holds}
 use Rattle.sd_history.proofs.Parts.{premises_of}
 use Rattle.sd_proof_safety.specs.invariant.Bounds.{depth, delay, losses, rounds_gap}
 use Rattle.sd_proof_safety.specs.invariant.Eras.{plan_now, is_old, heard_at}
-use Rattle.sd_proof_safety.specs.invariant.Coming.{Comes}
+use Rattle.sd_proof_safety.specs.invariant.Coming.{IsNextEvent}
 use Rattle.sd_proof_safety.proofs.invariant.Sides.{not_both}
 use Rattle.sd_proof_safety.specs.messages.Moments.{whole, behind, Moment, upto, when, IsIn, IsBefore, Emits}
 use Rattle.sd_proof_safety.specs.messages.Rounds.{is_spoiled, IsUnbroken, AreApart}
@@ -33,6 +33,7 @@ use Rattle.sd_proof_safety.proofs.silences.SoundWays.{top_of}
 use Rattle.sd_proof_safety.proofs.takeovers.Acted.{emits_is}
 use Rattle.sd_proof_safety.proofs.takeovers.Places.{took, after}
 use Rattle.sd_proof_safety.proofs.takeovers.Source.{source, spacing, rule, unbroken_since}
+use Rattle.sd_proof_safety.proofs.spans.FallbackRests.{first_of}
 
 -- sums
 less_of : (s i k p m w : ℕ) → i ≤ k → s + k * p + m < w → s + i * p + m < w
@@ -47,13 +48,10 @@ clean_as seen t term round one two clean =
 both_same : (t u : Stamp) → t ≡ u → (t.term ≡ u.term) × (t.round ≡ u.round)
 both_same t u same = (ap (λ (s : Stamp). s.term) same, ap (λ (s : Stamp). s.round) same)
 
-first_of : (r p q : ℕ) → r ≤ p → r ≤ max p q
-first_of r p q le = omega (arith, le)
-
 second_of : (r p q : ℕ) → r ≤ q → r ≤ max p q
 second_of r p q le = omega (arith, le)
 
-module _ (setting : Setting) (x : Event) (h : List Event) (e : Event) (comes : Comes setting (x ∷ h) e)
+module _ (setting : Setting) (x : Event) (h : List Event) (e : Event) (comes : IsNextEvent setting (x ∷ h) e)
     (old : is_old (chronicle setting (x ∷ h)) (plan_now setting (chronicle setting (x ∷ h))).backup_root ≡ true)
     (acts : acts_in (chronicle setting (x ∷ h)) (plan_now setting (chronicle setting (x ∷ h))).backup_root ≡ true) where
   abbrev steps : List Step

@@ -11,7 +11,7 @@ use Rattle.sd_history.specs.World.{Setting, makes, fails, is_up, plan_numbered}
 use Rattle.sd_history.specs.Steps.{Step, seen_of, acts_in, act_by}
 use Rattle.sd_history.specs.Chronicle.{past_in, chronicle, next_step}
 use Rattle.sd_proof_safety.specs.invariant.Eras.{era, plan_now, is_old, live_past, moved, does}
-use Rattle.sd_proof_safety.specs.invariant.Coming.{Comes}
+use Rattle.sd_proof_safety.specs.invariant.Coming.{IsNextEvent}
 use Rattle.sd_proof_safety.proofs.invariant.Sides.{not_both}
 use Rattle.sd_proof_safety.specs.messages.Moments.{whole, behind, Moment, upto, when, IsIn, IsBefore}
 use Rattle.sd_proof_safety.proofs.messages.Tails.{tail_length}
@@ -21,14 +21,15 @@ use Rattle.sd_proof_safety.proofs.waits.Waits.{Stands, old_stands}
 use Rattle.sd_proof_safety.proofs.silences.NextEmissions.{emits_here}
 use Rattle.sd_proof_safety.proofs.silences.SoundWays.{top_of}
 use Rattle.sd_proof_safety.specs.behind.Feeding.{takes_over, took_over_at}
-use Rattle.sd_proof_safety.proofs.behind.Moved.{made_not, up_before, StandsBy, stands_so}
+use Rattle.sd_proof_safety.proofs.behind.Moved.{made_not, StandsBy, stands_so, unmoved}
 use Rattle.sd_proof_safety.proofs.behind.EventBack.{WasMoved, kept, goes, step_back}
 use Rattle.sd_proof_safety.proofs.behind.BackupRootTookOver.{took_over_soon}
-use Rattle.sd_proof_safety.proofs.spans.SilenceStarts.{comes_before, old_then, unmoved_by, idle_of}
+use Rattle.sd_proof_safety.proofs.spans.SilenceStarts.{comes_before, old_then, idle_of}
 use Rattle.sd_proof_safety.proofs.spans.PathHearsAtEvents.{same_era}
 use Rattle.sd_proof_safety.proofs.fallbacks.NoMore.{hears_no_more}
 use Rattle.sd_proof_safety.proofs.feeds.Since.{none_closed}
 use Rattle.sd_proof_safety.proofs.takeovers.Acted.{HasActed, acted, took, has_acted}
+use Rattle.sd_proof_safety.proofs.moves.Ahead.{up_since}
 
 -- so it was before an event of the era
 abbrev pub StoodSo : List Step → Moment → ℕ → Type 0
@@ -44,7 +45,7 @@ pub record HasTakenOver (steps : List Step) (b : ℕ) : Type 0 where
   pub acted : (q : Moment) → IsIn q steps → IsBefore moment q → acts_in q.earlier b ≡ true
 
 -- an old backup root that acts has moved
-pub has_moved_on : (setting : Setting) (history : List Event) (e : Event) → Comes setting history e → (b : ℕ)
+pub has_moved_on : (setting : Setting) (history : List Event) (e : Event) → IsNextEvent setting history e → (b : ℕ)
     → b ≡ (plan_now setting (chronicle setting history)).backup_root → is_old (chronicle setting history) b ≡ true
     → acts_in (chronicle setting history) b ≡ true → moved (chronicle setting history) b ≡ true
 has_moved_on setting history e comes b is old acts =
@@ -102,7 +103,7 @@ abbrev Holds : Setting → List Event → ℕ → Type 0
 Holds setting h b = b ≡ (plan_now setting (chronicle setting h)).backup_root → is_old (chronicle setting h) b ≡ true → acts_in (chronicle setting h) b ≡ true
     → HasTakenOver (chronicle setting h) b
 
-pub taken_over : (setting : Setting) (history : List Event) (e : Event) → Comes setting history e → (b : ℕ)
+pub taken_over : (setting : Setting) (history : List Event) (e : Event) → IsNextEvent setting history e → (b : ℕ)
     → b ≡ (plan_now setting (chronicle setting history)).backup_root → is_old (chronicle setting history) b ≡ true
     → acts_in (chronicle setting history) b ≡ true → HasTakenOver (chronicle setting history) b
 taken_over setting [] e comes b is old acts = cc
@@ -127,7 +128,7 @@ taken_over setting (x ∷ h) e comes b is old acts =
 
     stands_then : (past : Past) → past_in (chronicle setting h) b ≡ Some past → StandsBy (chronicle setting h) b past
     stands_then past there =
-        stands_so setting h b past (up_before (makes b x) (fails (thing.Device b) x) (is_up (seen_of (chronicle setting h)) b) none s.live) there
+        stands_so setting h b past (up_since (makes b x) (fails (thing.Device b) x) (is_up (seen_of (chronicle setting h)) b) none s.live) there
 
     by_turn : Holds setting h b → (next_step setting (chronicle setting h) x).seen.closed ≡ false → WasMoved setting x h b
         → HasActed (chronicle setting h) (next_step setting (chronicle setting h) x) b → HasTakenOver (chronicle setting (x ∷ h)) b
@@ -136,7 +137,7 @@ taken_over setting (x ∷ h) e comes b is old acts =
     by_turn again open_ (goes primary epoch at) (took past there moved_ did emits) =
         absurd
         (not_both (moved (chronicle setting h) b) ((stands_then past there).moved_is ∙ moved_)
-        (unmoved_by (is_some (live_past (chronicle setting h) b)) (moved (chronicle setting h) b) (acts_in (chronicle setting h) b) primary))
+        (unmoved (is_some (live_past (chronicle setting h) b)) (moved (chronicle setting h) b) (acts_in (chronicle setting h) b) primary))
     by_turn again open_ (kept was epoch at) (acted past there acting did) =
         let same : era (chronicle setting (x ∷ h)) ≡ era (chronicle setting h) = same_era setting x h open_ in
         let old' : is_old (chronicle setting h) b ≡ true = old_then setting x h e comes b epoch open_ old in

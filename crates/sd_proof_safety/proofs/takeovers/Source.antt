@@ -3,7 +3,7 @@
 use Rattle.std.specs.Prelude.{◌≡◌, ℕ, ◌+◌, ◌-◌, ◌<◌, ◌≤◌, true, false, List, ◌∷◌, Option, Some}
 use Rattle.std.proofs.Common.{arith, ◌∙◌, ap, sym, subst}
 use Rattle.std.proofs.lemmas.Bool.{false_from_ne_true}
-use Rattle.sd_checker.specs.Num.Lists.{of_some}
+use Rattle.sd_checker.specs.Num.Lists.{map_or}
 use Rattle.sd_checker.specs.Plan.declared.Duty.{Duty}
 use Rattle.sd_history.specs.Msg.declared.Message.{Message}
 use Rattle.sd_checker.specs.CheckRoot.Timing.{round_gap}
@@ -17,7 +17,7 @@ use Rattle.sd_history.specs.Chronicle.{past_in, chronicle, next_step}
 use Rattle.sd_history.proofs.Given.{some_is}
 use Rattle.sd_history.proofs.Parts.{premises_of}
 use Rattle.sd_proof_safety.specs.invariant.Eras.{era, plan_now, is_old, sent_at}
-use Rattle.sd_proof_safety.specs.invariant.Coming.{Comes}
+use Rattle.sd_proof_safety.specs.invariant.Coming.{IsNextEvent}
 use Rattle.sd_proof_safety.proofs.invariant.Sides.{not_both}
 use Rattle.sd_proof_safety.specs.messages.Moments.{Tail, behind, Moment, upto, when, IsIn, IsBefore, Emits}
 use Rattle.sd_proof_safety.specs.messages.Rounds.{IsUnbroken, AreApart}
@@ -34,7 +34,7 @@ use Rattle.sd_proof_safety.proofs.waits.Waits.{Stands, old_stands, root_sends}
 use Rattle.sd_proof_safety.proofs.waits.Standing.{times, sound, steps_timed}
 use Rattle.sd_proof_safety.specs.silences.Feeds.{IsSource}
 use Rattle.sd_proof_safety.proofs.silences.NoMaking.{not_made, remakes_is}
-use Rattle.sd_proof_safety.proofs.silences.Spacing.{timed_to, emissions_are_apart}
+use Rattle.sd_proof_safety.proofs.silences.Spacing.{emissions_are_apart}
 use Rattle.sd_proof_safety.proofs.silences.RootIsSource.{entered_still, emission_keeps}
 use Rattle.sd_proof_safety.proofs.silences.Phases.{Following, following, Known}
 use Rattle.sd_proof_safety.proofs.silences.SoundWays.{top_of}
@@ -42,8 +42,9 @@ use Rattle.sd_proof_safety.proofs.terms.Actors.{IsActor}
 use Rattle.sd_proof_safety.proofs.terms.Terms.{IsTermed, termed}
 use Rattle.sd_proof_safety.proofs.spans.PathHears.{IsSpared, spared}
 use Rattle.sd_proof_safety.proofs.takeovers.Places.{took, all_chronicle, stood, acted_then, after, actor_now, clean_now, known_since}
+use Rattle.sd_proof_safety.proofs.timers.Emissions.{timed_tail}
 
-module _ (setting : Setting) (x : Event) (h : List Event) (e : Event) (comes : Comes setting (x ∷ h) e)
+module _ (setting : Setting) (x : Event) (h : List Event) (e : Event) (comes : IsNextEvent setting (x ∷ h) e)
     (old : is_old (chronicle setting (x ∷ h)) (plan_now setting (chronicle setting (x ∷ h))).backup_root ≡ true)
     (acts : acts_in (chronicle setting (x ∷ h)) (plan_now setting (chronicle setting (x ∷ h))).backup_root ≡ true) where
   abbrev steps : List Step
@@ -81,7 +82,7 @@ module _ (setting : Setting) (x : Event) (h : List Event) (e : Event) (comes : C
             past = s.past;
             there = subst (λ l. past_in l b ≡ Some s.past) (sym is) s.there;
             acts_is = subst (λ l. acts_in l b ≡ is_acting s.past) (sym is) s.acts_is;
-            epoch = ap (λ (o : Option Duty). of_some o 0 (λ u. u.epoch)) s.duty ∙ k.same;
+            epoch = ap (λ (o : Option Duty). map_or o 0 (λ u. u.epoch)) s.duty ∙ k.same;
             soon =
                 subst (λ (p : Moment). acts_in p.earlier b ≡ true → when p ≤ sent_at p.earlier b + round_gap setting.net) (sym k.is)
                 (λ acting. by_gap (reference_of k.e) (sent_at older b) (round_gap setting.net)
@@ -108,7 +109,7 @@ module _ (setting : Setting) (x : Event) (h : List Event) (e : Event) (comes : C
       × ((past : Past) (call : Call) → q.step.act ≡ Calls b call → past_in q.earlier b ≡ Some past → EntersNot past call)
   stays_at q here since =
       let r : PastAt q = past_at q (behind here) since in
-      let t : AreTimed setting (upto q) = timed_to setting (upto q) steps here (steps_timed setting x h e comes) in
+      let t : AreTimed setting (upto q) = timed_tail setting (upto q) steps here (steps_timed setting x h e comes) in
       (r.made_not, remakes_is b q.step.act ∙ sym (t.1.fits.makes_it b) ∙ r.made_not, enters_not q here since)
 
   -- nothing breaks its acting

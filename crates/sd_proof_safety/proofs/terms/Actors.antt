@@ -4,8 +4,8 @@
 use Rattle.std.specs.Prelude.{◌≡◌, ℕ, ◌+◌, ◌<◌, ◌≤◌, Bool, true, false, ◌&&◌, ◌||◌, not, List, [], ◌∷◌, length, nat_eq, nat_le, nat_lt, Option, Some, None, is_some, option_map, refl, ◌⊎◌, if◌then◌else◌}
 use Rattle.std.specs.List.{list_any, list_all}
 use Rattle.std.proofs.Common.{arith, ◌∙◌, ap, sym, subst, inl, inr}
-use Rattle.std.proofs.lemmas.Bool.{and_parts, and_from, or_left, or_right, or_cases, eqb-true, eq-eqb, false_from_ne_true, lt-ltb, leb-true}
-use Rattle.sd_checker.specs.Num.Lists.{of_some, same_number}
+use Rattle.std.proofs.lemmas.Bool.{and_parts, and_from, or_left, or_right, or_cases, eqb-true, eq-eqb, false_from_ne_true, lt-ltb, leb-true, not-true}
+use Rattle.sd_checker.specs.Num.Lists.{map_or, same_number}
 use Rattle.sd_checker.specs.Topo.Network.{device_numbers}
 use Rattle.sd_checker.specs.Topo.declared.Thing.TheVariants as thing
 use Rattle.sd_checker.specs.Plan.declared.Duty.{Duty}
@@ -20,51 +20,49 @@ use Rattle.sd_history.specs.Core.Calls.{Call, Transition, Past}
 use Rattle.sd_history.specs.Core.Words.{after, transition_of, taken_up, duty_now, epoch_now, is_acting, has_moved, is_backup_root_now}
 use Rattle.sd_history.specs.Sched.declared.Event.{Event}
 use Rattle.sd_history.specs.Sched.declared.Event.TheVariants as event
-use Rattle.sd_history.specs.Sched.Events.{is_seal, is_stage, is_commit}
-use Rattle.sd_history.specs.World.{Setting, makes, fails, is_up, has_commit, is_counted, joined_in_window, is_staged_member, staged_epoch, plan_numbered, latest_reference}
-use Rattle.sd_history.specs.Steps.{Answers, Step, seen_of, acts_in, parent_in, epoch_in, live_answers, has_settled}
-use Rattle.sd_history.specs.Chronicle.{answers_by, past_in, chronicle, next_step}
+use Rattle.sd_history.specs.World.{Setting, makes, fails, is_up, has_commit, is_counted, joined_in_window, is_staged_member, plan_numbered, latest_reference}
+use Rattle.sd_history.specs.Steps.{Step, seen_of, acts_in, parent_in, epoch_in, live_answers, has_settled}
+use Rattle.sd_history.specs.Chronicle.{past_in, chronicle, next_step}
 use Rattle.sd_history.proofs.Given.{some_is, takes_given}
 use Rattle.sd_history.proofs.Known.{up_case, up_is_known}
-use Rattle.sd_history.proofs.Among.{Among, passes}
+use Rattle.sd_history.proofs.Among.{passes}
 use Rattle.sd_history.proofs.Parts.{premises_of}
 use Rattle.sd_proof_safety.specs.invariant.Eras.{era, plan_now, is_old, is_new, is_blank, is_past, is_ordinary, belongs, on_primary, moved, hit, live_past, heard_at, root_failed, all_started}
-use Rattle.sd_proof_safety.specs.invariant.Clauses.{just_closed, is_beginning, begins_with, left_out_is_hit, staged_root, committer_acts}
+use Rattle.sd_proof_safety.specs.invariant.Clauses.{just_closed, is_beginning, begins_with, left_out_is_hit, staged_root}
 use Rattle.sd_proof_safety.specs.invariant.Invariant.{Core, Invariant, AtEach}
-use Rattle.sd_proof_safety.specs.invariant.Coming.{IsFair, IsClean, Comes}
-use Rattle.sd_proof_safety.proofs.invariant.Closings.{start_closes_none, stage_closes_none, join_closes_none, none_closes_uncommitted}
-use Rattle.sd_proof_safety.proofs.invariant.Facts.{IsSound, sound_now, turned}
-use Rattle.sd_proof_safety.proofs.invariant.Opening.{false_from_not}
-use Rattle.sd_proof_safety.proofs.invariant.Parents.{live_is, IsOld, old_is}
+use Rattle.sd_proof_safety.specs.invariant.Coming.{IsFair, IsClean}
+use Rattle.sd_proof_safety.proofs.invariant.Closings.{start_closes_none, join_closes_none, none_closes_uncommitted}
+use Rattle.sd_proof_safety.proofs.invariant.Facts.{IsSound, sound_now}
+use Rattle.sd_proof_safety.proofs.invariant.Parents.{IsOld, old_is}
 use Rattle.sd_proof_safety.proofs.invariant.Prefix.{Passing, some_passing, clean_before}
 use Rattle.sd_proof_safety.proofs.invariant.Sides.{implied, not_both}
 use Rattle.sd_proof_safety.proofs.invariant.Staying.{old_is_member}
-use Rattle.sd_proof_safety.proofs.timers.Pasts.{Takes, takeover_from_backup, stays_acting}
+use Rattle.sd_proof_safety.proofs.timers.Pasts.{takeover_from_backup}
 use Rattle.sd_proof_safety.proofs.timers.Turns.{BeganToAct, by_takeover, by_commit, began_to_act, IsTakeover, is_takeover}
 use Rattle.sd_checker.specs.CheckRoot.Timing.{silence}
+use Rattle.sd_checker.proofs.Num.Shared.{unequal_swap}
+use Rattle.sd_history.proofs.Shared.{among_below}
 use Rattle.sd_proof_safety.proofs.waits.Epochs.{duty_numbered}
 use Rattle.sd_proof_safety.specs.messages.Moments.{when}
-use Rattle.sd_proof_safety.proofs.messages.Ends.{among_below}
 use Rattle.sd_proof_safety.proofs.messages.Tails.{no_later, history_chronicle}
 use Rattle.sd_proof_safety.proofs.messages.Latest.{Emitted, traced_emission}
 use Rattle.sd_proof_safety.proofs.messages.Tracing.{accepted_traced}
 use Rattle.sd_proof_safety.proofs.silences.BeforeStart.{emission_late}
 use Rattle.sd_proof_safety.specs.windows.Standing.{HasStanding}
-use Rattle.sd_proof_safety.proofs.windows.Acting.{ActsOld, who_acts, acting_is_up, not_new, no_blank}
-use Rattle.sd_proof_safety.proofs.windows.Closing.{epoch_up, settled_epoch}
+use Rattle.sd_proof_safety.proofs.windows.Acting.{who_acts, not_new, no_blank}
+use Rattle.sd_proof_safety.proofs.windows.Closing.{settled_epoch}
 use Rattle.sd_proof_safety.proofs.windows.Committing.{staged_some}
 use Rattle.sd_proof_safety.proofs.windows.Closing.{commit_is_open}
 use Rattle.sd_proof_safety.proofs.windows.Eras.{era_kept, era_grows}
 use Rattle.sd_proof_safety.proofs.windows.Senders.{NewPast, new_past_of}
 use Rattle.sd_proof_safety.proofs.windows.Seals.{others_close_none}
-use Rattle.sd_proof_safety.proofs.windows.NoClosing.{commit_closes_none}
 use Rattle.sd_proof_safety.proofs.windows.Sealing.{epoch_sealed, acts_sealed}
 use Rattle.sd_proof_safety.proofs.moves.Ahead.{IsAhead, always_ahead}
 use Rattle.sd_proof_safety.proofs.receipts.Alive.{Went, made, called, alone, went, made_epoch}
-use Rattle.sd_proof_safety.proofs.receipts.Entries.{next_is_not_this}
 use Rattle.sd_proof_safety.proofs.receipts.Hearings.{IsHeard, heard_in_plan}
-use Rattle.sd_proof_safety.proofs.receipts.Members.{new_is_member}
 use Rattle.sd_proof_safety.proofs.receipts.Stood.{core_of, moved_is, epoch_is, acts_is}
+use Rattle.sd_proof_safety.proofs.windows.Leading.{stands_by}
+use Rattle.sd_proof_safety.proofs.renewals.Closings.{past_by}
 
 -- A past that neither acts nor is of a backup root goes on so, while it takes up nothing
 
@@ -72,16 +70,12 @@ pub record IsIdle (past : Past) : Type 0 where
   pub acts : is_acting past ≡ false
   pub role : is_backup_root_now past ≡ false
 
-false_by : (b : Bool) → (b ≡ true → ⊥) → b ≡ false
-false_by true never = absurd (never refl)
-false_by false never = refl
-
 idle_after : (past : Past) (call : Call) → taken_up (transition_of past call) ≡ None → IsIdle past → IsIdle (after past call)
 idle_after past call none idle =
     record {
-      acts = false_by (is_acting (after past call)) (λ acts. began (transition_of past call) refl (began_to_act past call idle.acts acts));
+      acts = false_from_ne_true (is_acting (after past call)) (λ acts. began (transition_of past call) refl (began_to_act past call idle.acts acts));
       role =
-          ap (λ o. of_some (of_some (option_map Some o) (duty_now past) (λ told. told)) false
+          ap (λ o. map_or (map_or (option_map Some o) (duty_now past) (λ told. told)) false
           (λ (duty : Duty). elim duty.role as (λ (x : Role). Bool) [ role.BackupRoot ↦ true | _ ↦ false ])) none
           ∙ idle.role;
     }
@@ -99,16 +93,10 @@ idle_after past call none idle =
 ordinary_role : (net : Network) (plan : Plan) (epoch d : ℕ) (past : Past) → duty_now past ≡ Some (duty_of net plan epoch d) → is_root plan d ≡ false
     → is_backup_root plan d ≡ false → is_backup_root_now past ≡ false
 ordinary_role net plan epoch d past duty other apart =
-    ap (λ o. of_some o false (λ (u : Duty). elim u.role as (λ (x : Role). Bool) [ role.BackupRoot ↦ true | _ ↦ false ])) duty ∙ role_is
+    ap (λ o. map_or o false (λ (u : Duty). elim u.role as (λ (x : Role). Bool) [ role.BackupRoot ↦ true | _ ↦ false ])) duty ∙ role_is
   where
     role_is : elim (duty_of net plan epoch d).role as (λ (x : Role). Bool) [ role.BackupRoot ↦ true | _ ↦ false ] ≡ false
     role_is = rw (other, apart) refl
-
-ordinary_parts : (member root backup : Bool) → (member && not root && not backup) ≡ true → (root ≡ false) × (backup ≡ false)
-ordinary_parts true false false all = (refl, refl)
-ordinary_parts true false true all = cc
-ordinary_parts true true backup all = cc
-ordinary_parts false root backup all = cc
 
 past_parts : (u o n b : Bool) → (u && not (o || n || b)) ≡ true → (u ≡ true) × (o ≡ false) × (n ≡ false) × (b ≡ false)
 past_parts true false false false is = (refl, refl, refl, refl)
@@ -116,13 +104,6 @@ past_parts true true n b is = cc
 past_parts true false true b is = cc
 past_parts true false false true is = cc
 past_parts false o n b is = cc
-
-past_from : (u o n b : Bool) → u ≡ true → o ≡ false → n ≡ false → b ≡ false → (u && not (o || n || b)) ≡ true
-past_from true false false false up old new blank = refl
-past_from true true n b up old new blank = cc
-past_from true false true b up old new blank = cc
-past_from true false false true up old new blank = cc
-past_from false o n b up old new blank = cc
 
 -- an event that makes a device closes nothing
 makes_closes_none : (setting : Setting) (e : Event) (history : List Event) (x : ℕ) → IsClean setting (e ∷ history) → makes x e ≡ true
@@ -153,7 +134,7 @@ closing_is_late setting (event.Seal r d) history fair clean closed inv begins =
     let two : List Step = chronicle setting (event.Seal r d ∷ history) in
     let sound : IsSound setting.net (plan_now setting two) = sound_now setting (event.Seal r d ∷ history) fair clean.is in
     let b = (plan_now setting two).backup_root in
-    let other : is_root (plan_now setting two) b ≡ false = turned b (plan_now setting two).root sound.apart in
+    let other : is_root (plan_now setting two) b ≡ false = unequal_swap b (plan_now setting two).root sound.apart in
     let member : belongs setting.net (plan_now setting two) b ≡ true =
     and_from (nat_lt b (length setting.net.devices)) (is_member (plan_now setting two) b)
     (lt-ltb b (length setting.net.devices) sound.fits.backup_root) sound.backup_member in
@@ -262,7 +243,7 @@ module _ (setting : Setting) (e : Event) (history : List Event) (fair : IsFair s
 
     was_past : is_old (chronicle setting history) x ≡ false → is_past (chronicle setting history) x ≡ true
     was_past old =
-        past_from (is_up (seen_of one) x) (is_old one x) (is_new one x) (is_blank one x) up old (none_of (era one + 1) not_next) (none_of 0 not_blank)
+        past_by (is_up (seen_of one) x) (is_old one x) (is_new one x) (is_blank one x) up old (none_of (era one + 1) not_next) (none_of 0 not_blank)
 
     -- it was old, and is left out by the plan that a closing brought in
     module _ (closed : (next_step setting (chronicle setting history) e).seen.closed ≡ true) (old : is_old (chronicle setting history) x ≡ true) where
@@ -278,7 +259,7 @@ module _ (setting : Setting) (e : Event) (history : List Event) (fair : IsFair s
           (λ member.
           let now_member : is_member (plan_now setting two) x ≡ true =
           ap (λ q. is_member q x) plan_is
-          ∙ sym (ap (λ (o : Option Plan). of_some o false (λ q. is_member q x)) (staged_some setting one (commit_is_open (seen_of one) commit))) ∙ member in
+          ∙ sym (ap (λ (o : Option Plan). map_or o false (λ q. is_member q x)) (staged_some setting one (commit_is_open (seen_of one) commit))) ∙ member in
           let belongs_ : belongs setting.net (plan_now setting two) x ≡ true =
           and_from (nat_lt x (length setting.net.devices)) (is_member (plan_now setting two) x)
           (lt-ltb x (length setting.net.devices) (up_is_known setting (e ∷ history) clean.is x up_now)) now_member in
@@ -312,13 +293,13 @@ module _ (setting : Setting) (e : Event) (history : List Event) (fair : IsFair s
       was_ordinary : IsIdle p
       was_ordinary =
           let own : IsOld setting one x = old_is setting history x old in
-          let parts = ordinary_parts (is_member (plan_now setting one) x) (is_root (plan_now setting one) x)
+          let parts = stands_by (is_member (plan_now setting one) x) (is_root (plan_now setting one) x)
           (is_backup_root (plan_now setting one) x) ordinary in
           let same_past : own.past ≡ p = some_is (sym own.live ∙ ap (λ b. if b then past_in one x else None) up ∙ there) in
           record {
             acts =
                 sym (acts_is setting history x p up there)
-                ∙ false_from_not (acts_in one x)
+                ∙ not-true (acts_in one x)
                 (implied (is_old one x && is_ordinary (plan_now setting one) x) (not (acts_in one x)) (core.roles.ordinary x)
                 (and_from (is_old one x) (is_ordinary (plan_now setting one) x) old ordinary));
             role = ordinary_role setting.net (plan_now setting one) (era one) x p (sym (ap duty_now same_past) ∙ own.duty) parts.0 parts.1;
@@ -348,13 +329,13 @@ module _ (setting : Setting) (e : Event) (history : List Event) (fair : IsFair s
       by_call up p call there is None none =
           subst IsIdle (sym is)
           (idle_after p call none
-          (idle_then p up there (sym (ap (λ o. of_some (of_some (option_map Some o) (duty_now p) (λ told. told)) 0 (λ (v : Duty). v.epoch)) none)
+          (idle_then p up there (sym (ap (λ o. map_or (map_or (option_map Some o) (duty_now p) (λ told. told)) 0 (λ (v : Duty). v.epoch)) none)
           ∙ sym (ap epoch_now is))))
       by_call up p call there is (Some u) takes =
           let ahead : IsAhead setting one x p u =
           always_ahead setting history fair (clean_before setting e history clean) each.0 x p up there u (takes_given p call u takes) in
           absurd
-          (not_next (ap epoch_now is ∙ ap (λ o. of_some (of_some (option_map Some o) (duty_now p) (λ told. told)) 0 (λ (v : Duty). v.epoch)) takes
+          (not_next (ap epoch_now is ∙ ap (λ o. map_or (map_or (option_map Some o) (duty_now p) (λ told. told)) 0 (λ (v : Duty). v.epoch)) takes
           ∙ ahead.number))
 
       by_went : makes x e ≡ false → is_up (seen_of (chronicle setting history)) x ≡ true → Went setting e history x → IsIdle past
@@ -406,7 +387,7 @@ module _ (setting : Setting) (history : List Event) (fair : IsFair setting) (cle
           let blank : is_blank steps a ≡ false = no_blank (is_blank steps a) _ (acts_in steps a) (core_now.census.blanks a) (actor_acts a actor) in
           let idle : IsIdle actor.past =
           pasts_idle setting history fair clean each a actor.past actor.up
-          (past_from (is_up (seen_of steps) a) (is_old steps a) (is_new steps a) (is_blank steps a) actor.up old new blank) actor.there in
+          (past_by (is_up (seen_of steps) a) (is_old steps a) (is_new steps a) (is_blank steps a) actor.up old new blank) actor.there in
           absurd (not_both (is_acting actor.past) actor.acts idle.acts)
 
   -- it counts as live
@@ -544,11 +525,11 @@ module _ (setting : Setting) (history : List Event) (fair : IsFair setting) (cle
             implied (is_new steps x && not (nat_eq x (staged_root setting steps))) _ (core_now.committed.linked x)
             (and_from (is_new steps x) (not (nat_eq x (staged_root setting steps))) new (ap not apart)) in
             let primary =
-            (and_parts (on_primary steps x) _ (and_parts (on_primary steps x && of_some (parent_in steps x) false (is_new steps)) _ linked).0).0 in
+            (and_parts (on_primary steps x) _ (and_parts (on_primary steps x && map_or (parent_in steps x) false (is_new steps)) _ linked).0).0 in
             not_both (has_moved p) put (sym (moved_is setting history x p up there)
             ∙ unmoved_by (is_some (live_past steps x)) (moved steps x) (acts_in steps x) primary)
 
-    with_duty : (o : Option Duty) → of_some o false (λ (u : Duty). elim u.role as (λ (z : Role). Bool) [ role.BackupRoot ↦ true | _ ↦ false ]) ≡ true
+    with_duty : (o : Option Duty) → map_or o false (λ (u : Duty). elim u.role as (λ (z : Role). Bool) [ role.BackupRoot ↦ true | _ ↦ false ]) ≡ true
         → (u : Duty) × (o ≡ Some u)
     with_duty None is = cc
     with_duty (Some u) is = (u, refl)
@@ -564,9 +545,9 @@ module _ (setting : Setting) (history : List Event) (fair : IsFair setting) (cle
             let blank : is_blank steps x ≡ false =
             ap (λ o. same_number o 0) (epoch_is setting history x p up there)
             ∙ false_from_ne_true (nat_eq (epoch_now p) 0)
-            (λ is. zero_not (epoch_now p) has.0.epoch (ap (λ o. of_some o 0 (λ (u : Duty). u.epoch)) has.1) (eqb-true (epoch_now p) 0 is) least) in
+            (λ is. zero_not (epoch_now p) has.0.epoch (ap (λ o. map_or o 0 (λ (u : Duty). u.epoch)) has.1) (eqb-true (epoch_now p) 0 is) least) in
             let gone : is_past steps x ≡ true =
-            past_from (is_up (seen_of steps) x) (is_old steps x) (is_new steps x) (is_blank steps x) up none
+            past_by (is_up (seen_of steps) x) (is_old steps x) (is_new steps x) (is_blank steps x) up none
             (false_from_ne_true (is_new steps x) not_new_mover) blank in
             absurd (not_both (is_backup_root_now p) role_ (pasts_idle setting history fair clean each x p up gone there).role)
           where
@@ -587,5 +568,5 @@ module _ (setting : Setting) (history : List Event) (fair : IsFair setting) (cle
         let same_past : own.past ≡ p = some_is (sym own.live ∙ ap (λ b. if b then past_in steps x else None) up ∙ there) in
         let duty : duty_now p ≡ Some (duty_of setting.net (plan_now setting steps) (era steps) x) = sym (ap duty_now same_past) ∙ own.duty in
         let is = backup_by (is_root (plan_now setting steps) x) (is_backup_root (plan_now setting steps) x) refl refl
-        (sym (ap (λ o. of_some o false (λ (u : Duty). elim u.role as (λ (z : Role). Bool) [ role.BackupRoot ↦ true | _ ↦ false ])) duty) ∙ role_) in
+        (sym (ap (λ o. map_or o false (λ (u : Duty). elim u.role as (λ (z : Role). Bool) [ role.BackupRoot ↦ true | _ ↦ false ])) duty) ∙ role_) in
         sym (eqb-true (plan_now setting steps).backup_root x is)

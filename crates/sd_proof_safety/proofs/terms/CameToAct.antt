@@ -1,70 +1,42 @@
 -- How a device that acts after an event came to act: it was made, it acted before, or it took over.
-use Rattle.std.specs.Prelude.{◌≡◌, ℕ, zero, suc, ◌+◌, ◌<◌, ◌≤◌, Bool, true, false, ◌&&◌, ◌||◌, not, List, [], ◌∷◌, length, nat_eq, Option, Some, None, is_some, option_map, refl, ◌⊎◌, if◌then◌else◌}
-use Rattle.std.proofs.Common.{arith, ◌∙◌, ap, sym, subst, inl, inr}
-use Rattle.std.proofs.lemmas.Bool.{and_parts, and_from, cases_lt, eqb-true, eq-eqb, false_from_ne_true, leb-true}
-use Rattle.sd_checker.specs.Num.Lists.{of_some, same_number}
+use Rattle.std.specs.Prelude.{◌≡◌, ℕ, ◌+◌, ◌<◌, ◌≤◌, Bool, true, false, ◌&&◌, ◌||◌, List, [], ◌∷◌, Option, Some, None, option_map, refl, ◌⊎◌, if◌then◌else◌}
+use Rattle.std.proofs.Common.{◌∙◌, ap, sym, inl, inr}
+use Rattle.std.proofs.lemmas.Bool.{eqb-true, eq-eqb, false_from_ne_true}
+use Rattle.sd_checker.specs.Num.Lists.{map_or, same_number}
 use Rattle.sd_checker.specs.Topo.declared.Thing.TheVariants as thing
 use Rattle.sd_checker.specs.Plan.declared.Duty.{Duty}
-use Rattle.sd_checker.specs.Plan.declared.Edge.{Edge}
-use Rattle.sd_history.specs.Msg.declared.Stamp.{Stamp}
-use Rattle.sd_history.specs.Msg.declared.Message.{Message}
-use Rattle.sd_history.specs.Msg.Stamps.{stamp}
 use Rattle.sd_history.specs.Core.Calls as calls
-use Rattle.sd_history.specs.Core.Calls.{Call, Transition, Entered, Committed, Recommitted, Accepted, Moved, TookOver, Emitted as DidEmit, Nothing, Did, Past}
-use Rattle.sd_history.specs.Core.Words.{after, transition_of, taken_up, accepted_over, duty_now, epoch_now, is_acting, has_moved, is_backup_root_now, stamp_now}
+use Rattle.sd_history.specs.Core.Calls.{Call, Transition, Committed, Did, Past}
+use Rattle.sd_history.specs.Core.Words.{after, transition_of, taken_up, duty_now, epoch_now, is_acting, stamp_now}
 use Rattle.sd_history.specs.Sched.declared.Event.{Event}
 use Rattle.sd_history.specs.Sched.declared.Event.TheVariants as event
-use Rattle.sd_history.specs.World.{Setting, makes, fails, is_up, has_commit, latest_reference, staged_epoch}
-use Rattle.sd_history.specs.Steps.{Act, Makes, Calls, Asks, Passes, Step, seen_of, act_by, epoch_in}
-use Rattle.sd_checker.specs.Topo.Network.{rates_of}
-use Rattle.sd_history.specs.Chronicle.{new_past, past_in, chronicle, next_step}
-use Rattle.sd_history.specs.Premises.{delay_holds, renew_holds}
+use Rattle.sd_history.specs.World.{Setting, makes, fails, is_up, has_commit}
+use Rattle.sd_history.specs.Steps.{Calls, Step, seen_of, act_by}
+use Rattle.sd_history.specs.Chronicle.{past_in, chronicle, next_step}
 use Rattle.sd_history.proofs.Given.{some_is, takes_given}
 use Rattle.sd_history.proofs.Known.{up_case}
-use Rattle.sd_history.proofs.Parts.{AllHold, premises_of}
-use Rattle.sd_proof_safety.specs.invariant.Eras.{era, plan_now, is_old, is_new, all_started, did_by}
-use Rattle.sd_proof_safety.specs.invariant.Clauses.{is_beginning, staged_root}
-use Rattle.sd_proof_safety.specs.invariant.Invariant.{Core, Invariant, AtEach}
-use Rattle.sd_proof_safety.specs.invariant.Coming.{IsFair, IsClean, Comes}
-use Rattle.sd_proof_safety.proofs.invariant.Closings.{start_closes_none}
+use Rattle.sd_history.proofs.Parts.{premises_of}
+use Rattle.sd_history.proofs.Core.Reached.{added}
+use Rattle.sd_proof_safety.specs.invariant.Eras.{era, plan_now, is_old, is_new, did_by}
+use Rattle.sd_proof_safety.specs.invariant.Invariant.{Invariant, AtEach}
+use Rattle.sd_proof_safety.specs.invariant.Coming.{IsFair, IsClean}
 use Rattle.sd_proof_safety.proofs.invariant.Prefix.{clean_before}
-use Rattle.sd_proof_safety.proofs.invariant.Sides.{implied, not_both}
-use Rattle.sd_proof_safety.specs.timers.Times.{AreTimed}
-use Rattle.sd_proof_safety.proofs.timers.Histories.{timed}
+use Rattle.sd_proof_safety.proofs.invariant.Sides.{not_both}
 use Rattle.sd_proof_safety.proofs.timers.Transitions.{Cases, by_case}
-use Rattle.sd_proof_safety.proofs.timers.Pasts.{Takes, takeover_from_backup, acting_has_duty}
+use Rattle.sd_proof_safety.proofs.timers.Pasts.{takeover_from_backup}
 use Rattle.sd_proof_safety.proofs.timers.Turns.{BeganToAct, by_takeover, by_commit, began_to_act, IsTakeover, is_takeover}
-use Rattle.sd_proof_safety.proofs.waits.LeastWaits.{timely_of}
-use Rattle.sd_proof_safety.proofs.waits.Epochs.{era_rises, duty_numbered}
-use Rattle.sd_proof_safety.specs.messages.Moments.{Tail, whole, behind, IsChronicle, Moment, upto, when, IsIn, IsBefore, Sends, Emits}
-use Rattle.sd_proof_safety.specs.messages.Rounds.{IsOneLife, IsUnbroken}
-use Rattle.sd_proof_safety.specs.messages.Stamping.{EntersNot, enters, remakes, GoesOn, stays, calls as goes_on, IsUpTo, StampFrom, unset, sent, committed}
-use Rattle.sd_proof_safety.proofs.messages.Tails.{tail_trans, tail_length, tail_chronicle, history_chronicle, no_later}
-use Rattle.sd_proof_safety.proofs.messages.Acting.{Acting, acts_on, with_transition}
-use Rattle.sd_proof_safety.proofs.messages.Rising.{stamps_rise}
-use Rattle.sd_proof_safety.proofs.messages.Origins.{stamp_from}
-use Rattle.sd_proof_safety.proofs.messages.Latest.{Emitted, traced_emission, never_committed}
-use Rattle.sd_proof_safety.proofs.messages.Tracing.{accepted_traced, sends_traced}
-use Rattle.sd_proof_safety.proofs.messages.Sending.{sends_own, passes_on}
-use Rattle.sd_proof_safety.proofs.messages.Consecutive.{emission_acts, past_after_call}
-use Rattle.sd_proof_safety.proofs.messages.Receipts.{device_is, call_is}
-use Rattle.sd_proof_safety.proofs.silences.Phases.{era_grows as eras_grow}
-use Rattle.sd_proof_safety.proofs.silences.FirstEra.{emitter_up, commit_stays}
-use Rattle.sd_proof_safety.proofs.silences.BeforeStart.{emission_late}
+use Rattle.sd_proof_safety.proofs.waits.Epochs.{era_rises}
+use Rattle.sd_proof_safety.specs.messages.Moments.{whole, IsChronicle, Moment}
+use Rattle.sd_proof_safety.specs.messages.Stamping.{EntersNot, enters, stays, calls as goes_on, committed}
+use Rattle.sd_proof_safety.proofs.messages.Tails.{history_chronicle}
+use Rattle.sd_proof_safety.proofs.messages.Acting.{Acting, acts_on}
+use Rattle.sd_proof_safety.proofs.messages.Latest.{never_committed}
+use Rattle.sd_proof_safety.proofs.messages.Receipts.{call_is}
 use Rattle.sd_proof_safety.proofs.silences.RootIsSource.{entered_still}
-use Rattle.sd_proof_safety.specs.windows.Reaching.{reach, reach_of}
-use Rattle.sd_proof_safety.proofs.windows.Eras.{era_kept, era_grows, plan_kept}
-use Rattle.sd_proof_safety.proofs.windows.NoneBeforeCommit.{within}
-use Rattle.sd_proof_safety.proofs.windows.StaysNew.{reached}
-use Rattle.sd_proof_safety.proofs.windows.Committing.{ActingPast, acting_past, up_and_past}
-use Rattle.sd_proof_safety.proofs.windows.Given.{makes_named}
-use Rattle.sd_proof_safety.proofs.frame.Timely.{begins_before}
 use Rattle.sd_proof_safety.proofs.moves.Ahead.{IsAhead, always_ahead}
-use Rattle.sd_proof_safety.proofs.moves.Started.{now_is, starts_by}
-use Rattle.sd_proof_safety.proofs.receipts.Alive.{Went, made, called, alone, went, made_epoch}
-use Rattle.sd_proof_safety.proofs.receipts.Hearings.{IsReceipt, accepts_receipt, makes_or_calls}
-use Rattle.sd_proof_safety.proofs.receipts.Stood.{core_of, epoch_is}
-use Rattle.sd_proof_safety.proofs.terms.Actors.{IsActor, actor_is_current, one_actor, actor_is_new, committed_actor, mover_old, mover_backup}
+use Rattle.sd_proof_safety.proofs.receipts.Alive.{Went, made, called, alone, went}
+use Rattle.sd_proof_safety.proofs.receipts.Stood.{epoch_is}
+use Rattle.sd_proof_safety.proofs.terms.Actors.{IsActor, actor_is_new, mover_old, mover_backup}
 
 committed_cases : (past : Past) (u : Duty) → Cases past (λ call transition. transition ≡ Committed u → (c : ℕ) × (call ≡ calls.Commit c))
 committed_cases past u =
@@ -141,10 +113,10 @@ module _ (setting : Setting) (e : Event) (history : List Event) (fair : IsFair s
   old_number x p up there old = eqb-true (epoch_now p) (era one) (sym (ap (λ o. same_number o (era one)) (epoch_is setting history x p up there)) ∙ old)
 
   pub taken_number : (p : Past) (call : Call) (u : Duty) → taken_up (transition_of p call) ≡ Some u → epoch_now (after p call) ≡ u.epoch
-  taken_number p call u takes = ap (λ o. of_some (of_some (option_map Some o) (duty_now p) (λ told. told)) 0 (λ (v : Duty). v.epoch)) takes
+  taken_number p call u takes = ap (λ o. map_or (map_or (option_map Some o) (duty_now p) (λ told. told)) 0 (λ (v : Duty). v.epoch)) takes
 
   pub kept_number : (p : Past) (call : Call) → taken_up (transition_of p call) ≡ None → epoch_now (after p call) ≡ epoch_now p
-  kept_number p call none = ap (λ o. of_some (of_some (option_map Some o) (duty_now p) (λ told. told)) 0 (λ (v : Duty). v.epoch)) none
+  kept_number p call none = ap (λ o. map_or (map_or (option_map Some o) (duty_now p) (λ told. told)) 0 (λ (v : Duty). v.epoch)) none
 
   module _ (a : ℕ) (actor : IsActor setting (chronicle setting (e ∷ history)) a) where
     unbroken_by : (p : Past) (call : Call) → act_by setting (chronicle setting history) e ≡ Calls a call → past_in (chronicle setting history) a ≡ Some p
@@ -231,8 +203,8 @@ module _ (setting : Setting) (e : Event) (history : List Event) (fair : IsFair s
               there = there;
               idle = idle;
               none = none;
-              term = ap (λ z. (stamp_now z).term) now ∙ ap (λ transition. (stamp_now (with_transition p call transition)).term) is;
-              epoch = ap epoch_now now ∙ ap (λ transition. epoch_now (with_transition p call transition)) is;
+              term = ap (λ z. (stamp_now z).term) now ∙ ap (λ transition. (stamp_now (added p call transition)).term) is;
+              epoch = ap epoch_now now ∙ ap (λ transition. epoch_now (added p call transition)) is;
               old = mover_old setting history fair clean_then each.0 a p up there idle from.moved from.backup_root;
               backup = mover_backup setting history fair clean_then each.0 a p up there idle from.moved from.backup_root;
             })

@@ -4,7 +4,7 @@
 use Rattle.std.specs.Prelude.{◌≡◌, ℕ, suc, ◌+◌, ◌<◌, ◌≤◌, Bool, true, false, List, [], ◌∷◌, length, nat_eq, Some, None, refl, ◌⊎◌, if◌then◌else◌}
 use Rattle.std.proofs.Common.{arith, ◌∙◌, ap, sym, subst, inl, inr}
 use Rattle.std.proofs.lemmas.Bool.{and_parts, cases_lt, eqb-true, eq-eqb, leb-true}
-use Rattle.sd_checker.specs.Num.Lists.{of_some, same_number}
+use Rattle.sd_checker.specs.Num.Lists.{map_or, same_number}
 use Rattle.sd_checker.specs.Topo.declared.Thing.TheVariants as thing
 use Rattle.sd_checker.specs.Plan.declared.Duty.{Duty}
 use Rattle.sd_checker.specs.Plan.declared.Edge.{Edge}
@@ -24,10 +24,11 @@ use Rattle.sd_history.specs.Premises.{delay_holds, renew_holds}
 use Rattle.sd_history.proofs.Given.{some_is, takes_given}
 use Rattle.sd_history.proofs.Known.{up_case}
 use Rattle.sd_history.proofs.Parts.{premises_of}
+use Rattle.sd_history.proofs.Core.Reached.{added}
 use Rattle.sd_proof_safety.specs.invariant.Eras.{era, plan_now, is_old, is_new, all_started}
 use Rattle.sd_proof_safety.specs.invariant.Clauses.{is_beginning, staged_root}
 use Rattle.sd_proof_safety.specs.invariant.Invariant.{Invariant, AtEach}
-use Rattle.sd_proof_safety.specs.invariant.Coming.{IsFair, IsClean, Comes}
+use Rattle.sd_proof_safety.specs.invariant.Coming.{IsFair, IsClean, IsNextEvent}
 use Rattle.sd_proof_safety.proofs.invariant.Closings.{start_closes_none}
 use Rattle.sd_proof_safety.proofs.invariant.Prefix.{clean_before}
 use Rattle.sd_proof_safety.proofs.invariant.Sides.{not_both}
@@ -39,7 +40,7 @@ use Rattle.sd_proof_safety.specs.messages.Moments.{whole, behind, IsChronicle, M
 use Rattle.sd_proof_safety.specs.messages.Rounds.{IsOneLife}
 use Rattle.sd_proof_safety.specs.messages.Stamping.{EntersNot, enters, remakes, stays, calls as goes_on, IsUpTo, StampFrom, unset, sent, committed}
 use Rattle.sd_proof_safety.proofs.messages.Tails.{tail_length, history_chronicle, no_later}
-use Rattle.sd_proof_safety.proofs.messages.Acting.{acts_on, with_transition}
+use Rattle.sd_proof_safety.proofs.messages.Acting.{acts_on}
 use Rattle.sd_proof_safety.proofs.messages.Rising.{stamps_rise}
 use Rattle.sd_proof_safety.proofs.messages.Origins.{stamp_from}
 use Rattle.sd_proof_safety.proofs.messages.Latest.{Emitted, traced_emission, never_committed}
@@ -114,7 +115,7 @@ start_emits_none : (setting : Setting) (e : Event) (history : List Event) → Is
     → (epoch_now past ≡ 0 → ⊥) → (q : Moment) → IsIn q (chronicle setting history) → (y : ℕ) (n : Message) → Emits q y n → ⊥
 start_emits_none setting (event.Start r d c clock eps) history fair clean each x makes_ past there positive q inside y n emits =
     let e = event.Start r d c clock eps in
-    let comes : Comes setting history e = record { fair = fair; clean = clean; before = each } in
+    let comes : IsNextEvent setting history e = record { fair = fair; clean = clean; before = each } in
     let begins : is_beginning setting (chronicle setting (e ∷ history)) ≡ true =
     subst (λ steps. is_beginning setting steps ≡ true) (sym (now_is setting r d c clock eps history comes))
     (starts_by setting r d c clock eps history comes) in
@@ -181,7 +182,7 @@ emission_reaches setting (e ∷ history) fair clean q y n (behind t) emits =
 takes_none : (past : Past) (call : Call) → EntersNot past call → is_acting (after past call) ≡ false → taken_up (transition_of past call) ≡ None
 takes_none past call not_ idle = go (transition_of past call) not_ idle
   where
-    go : (transition : Transition) → enters transition ≡ false → is_acting (with_transition past call transition) ≡ false → taken_up transition ≡ None
+    go : (transition : Transition) → enters transition ≡ false → is_acting (added past call transition) ≡ false → taken_up transition ≡ None
     go (Entered duty edge) n i = cc
     go (Committed duty) n i = cc
     go (Recommitted duty) n i = cc
@@ -212,7 +213,7 @@ entry_of TookOver is = cc
 entry_of DidEmit is = cc
 entry_of Nothing is = cc
 
-era_least : (steps : List Step) → 1 ≤ era steps
+pub era_least : (steps : List Step) → 1 ≤ era steps
 era_least steps = omega arith
 
 reach_most : (c : Bool) (n : ℕ) → reach_of c n ≤ n + 1
@@ -288,7 +289,7 @@ module _ (setting : Setting) (e : Event) (history : List Event) (fair : IsFair s
   positive_of a actor zero_ =
       let duty = acting_has_duty two a actor.past actor.there actor.acts in
       let least = (duty_numbered setting (e ∷ history) a actor.past actor.there duty.0 duty.1).0 in
-      clash duty.0.epoch (sym (ap (λ o. of_some o 0 (λ (u : Duty). u.epoch)) duty.1) ∙ zero_) least
+      clash duty.0.epoch (sym (ap (λ o. map_or o 0 (λ (u : Duty). u.epoch)) duty.1) ∙ zero_) least
     where
       clash : (k : ℕ) → k ≡ 0 → 1 ≤ k → ⊥
       clash k same le = omega (arith, same, le)

@@ -2,7 +2,7 @@
 -- earlier. By induction on the steps.
 use Rattle.std.specs.Prelude.{◌≡◌, ℕ, ◌-◌, ◌≤◌, Bool, true, false, List, [], ◌∷◌, max, nat_eq, Option, Some, None, option_map, refl, if◌then◌else◌}
 use Rattle.std.proofs.Common.{arith}
-use Rattle.sd_checker.specs.Num.Lists.{of_some}
+use Rattle.sd_checker.specs.Num.Lists.{map_or}
 use Rattle.sd_checker.specs.Num.Numbers.{low}
 use Rattle.sd_checker.specs.Topo.Network.{rates_of}
 use Rattle.sd_checker.specs.Plan.declared.Duty.{Duty}
@@ -25,7 +25,7 @@ first_within setting s (x ∷ earlier) timed =
     let on : reference_of x.seen.event ≤ reference_of s.seen.event = timed.1.goes_on in
     omega (arith, rest, on)
 
-told_since : (o : Option ℕ) (a before r : ℕ) → a ≤ before → a ≤ r → a ≤ of_some o before (λ c. r)
+told_since : (o : Option ℕ) (a before r : ℕ) → a ≤ before → a ≤ r → a ≤ map_or o before (λ c. r)
 told_since None a before r x y = x
 told_since (Some c) a before r x y = y
 
@@ -39,7 +39,7 @@ since_act f (Makes m making) d a r before p each le past same = go (nat_eq m d) 
 since_act f (Calls m call) d a r before p each le past same = go (nat_eq m d) p each same
   where
     go : (b : Bool) (q : Option Past) → ((x : Past) → q ≡ Some x → a ≤ before) → (if b then option_map (λ x. after x call) q else q) ≡ Some past
-        → a ≤ (if b then of_some q before (λ y. of_some (f (did_by y call)) before (λ c. r)) else before)
+        → a ≤ (if b then map_or q before (λ y. map_or (f (did_by y call)) before (λ c. r)) else before)
     go true None each' h = cc
     go true (Some y) each' h = told_since (f (did_by y call)) a before r (each' y refl) le
     go false q each' h = each' past h

@@ -1,9 +1,9 @@
 -- Deadlines: at each event a device on its primary, the backup root on its backup and a device that acts have waited for no longer than Up of their
 -- wait or period and one tick gap. From what the latest tick says of the waits, by induction on the steps, and the tick premise at the event.
-use Rattle.std.specs.Prelude.{◌≡◌, ℕ, zero, suc, ◌+◌, ◌<◌, ◌≤◌, Bool, true, false, ◌&&◌, ◌||◌, not, List, [], ◌∷◌, ◌++◌, length, max, nat_eq, nat_le, Option, Some, None, option_map, refl, ◌⊎◌, if◌then◌else◌}
-use Rattle.std.proofs.Common.{arith, sym, ◌∙◌, ap, subst, inl, inr}
-use Rattle.std.proofs.lemmas.Bool.{and_parts, leb-true, eqb-true, cases_lt}
-use Rattle.sd_checker.specs.Num.Lists.{of_some, same_number, below}
+use Rattle.std.specs.Prelude.{◌≡◌, ℕ, ◌+◌, ◌<◌, ◌≤◌, Bool, true, false, ◌&&◌, ◌||◌, not, List, [], ◌∷◌, ◌++◌, length, max, nat_eq, nat_le, Option, Some, None, option_map, refl, ◌⊎◌, if◌then◌else◌}
+use Rattle.std.proofs.Common.{arith, sym, ◌∙◌, ap, subst}
+use Rattle.std.proofs.lemmas.Bool.{and_parts, leb-true, eqb-true}
+use Rattle.sd_checker.specs.Num.Lists.{map_or, same_number}
 use Rattle.sd_checker.specs.Num.Numbers.{up}
 use Rattle.sd_checker.specs.Num.declared.Rates.{Rates}
 use Rattle.sd_checker.specs.Topo.Network.{rates_of}
@@ -15,10 +15,11 @@ use Rattle.sd_history.specs.World.{Setting, Seen, makes, is_up, latest_reference
 use Rattle.sd_history.specs.Steps.{Act, Makes, Calls, Asks, Passes, Step, seen_of}
 use Rattle.sd_history.specs.Chronicle.{past_in, past_after, new_past}
 use Rattle.sd_history.specs.Premises.{latest_tick, is_current_member}
-use Rattle.sd_history.proofs.Among.{Among, first, later, passes}
+use Rattle.sd_history.proofs.Among.{passes}
+use Rattle.sd_history.proofs.Given.{some_is}
+use Rattle.sd_history.proofs.Shared.{among_below}
 use Rattle.sd_proof_safety.specs.timers.Times.{IsTimed, AreTimed, did_by, hears, moves, is_tick, ticks_device, makes_device, reference_after, seal_after, seal_with, heard_in, moved_in, sent_in, sealed_in}
 use Rattle.sd_proof_safety.specs.timers.Dues.{Times, Due, times_with, times_made, times_in, AtEvent}
-use Rattle.sd_proof_safety.proofs.timers.Marks.{some_is}
 use Rattle.sd_proof_safety.proofs.timers.NotEarly.{IsTick, tick_keeps, heard_is_reading, move_is_reading, sent_is_reading}
 use Rattle.sd_proof_safety.proofs.timers.Onward.{KeepsAll, due_made, due_after}
 use Rattle.sd_proof_safety.proofs.timers.Pasts.{acting_has_duty}
@@ -28,7 +29,7 @@ use Rattle.sd_proof_safety.proofs.timers.Periods.{periods_in, tick_within}
 abbrev after_times : ℕ → Act → ℕ → Option Past → Times → Times
 after_times r act d p t =
     record {
-      tick = of_some (if ticks_device act d || makes_device act d then Some r else None) t.tick (λ x. x);
+      tick = map_or (if ticks_device act d || makes_device act d then Some r else None) t.tick (λ x. x);
       heard = reference_after hears r act d p t.heard;
       moved = reference_after moves r act d p t.moved;
       sent = reference_after emits r act d p t.sent;
@@ -40,7 +41,7 @@ times_are : (setting : Setting) (s : Step) (earlier : List Step) (d : ℕ) → I
 times_are setting s earlier d timed =
     ap (λ b.
     record {
-      tick = of_some (if b then Some (reference_of s.seen.event) else None) (latest_tick (seen_of earlier) d) (λ x. x);
+      tick = map_or (if b then Some (reference_of s.seen.event) else None) (latest_tick (seen_of earlier) d) (λ x. x);
       heard = heard_in (s ∷ earlier) d;
       moved = moved_in (s ∷ earlier) d;
       sent = sent_in (s ∷ earlier) d;
@@ -50,7 +51,7 @@ times_are setting s earlier d timed =
     flags : (same_number (ticked s.seen.event) d || makes d s.seen.event) ≡ (ticks_device s.act d || makes_device s.act d)
     flags = rw (timed.fits.ticks_it d, timed.fits.makes_it d) refl
 
-tick_is : (b : Bool) (r x : ℕ) → (if b then r else x) ≡ of_some (if b || false then Some r else None) x (λ y. y)
+tick_is : (b : Bool) (r x : ℕ) → (if b then r else x) ≡ map_or (if b || false then Some r else None) x (λ y. y)
 tick_is true r x = refl
 tick_is false r x = refl
 
@@ -58,7 +59,7 @@ module _ (rates : Rates) (period : ℕ) (r d : ℕ) (t : Times) (p : Option Past
   made : (making : Making) (b : Bool) (past : Past) → (if b then Some (new_past making) else p) ≡ Some past
       → Due rates period past
       (record {
-        tick = of_some (if false || b then Some r else None) t.tick (λ x. x);
+        tick = map_or (if false || b then Some r else None) t.tick (λ x. x);
         heard = if b then r else t.heard;
         moved = if b then r else t.moved;
         sent = if b then r else t.sent;
@@ -71,30 +72,30 @@ module _ (rates : Rates) (period : ℕ) (r d : ℕ) (t : Times) (p : Option Past
       → (b ≡ true → (x : Past) → q ≡ Some x → Due rates period (after x call) (times_with r (did_by x call) t))
       → Due rates period past
       (record {
-        tick = of_some (if (b && is_tick call) || false then Some r else None) t.tick (λ x. x);
-        heard = if b then of_some q t.heard (λ x. of_some (hears (did_by x call)) t.heard (λ c. r)) else t.heard;
-        moved = if b then of_some q t.moved (λ x. of_some (moves (did_by x call)) t.moved (λ c. r)) else t.moved;
-        sent = if b then of_some q t.sent (λ x. of_some (emits (did_by x call)) t.sent (λ c. r)) else t.sent;
-        seal = if b then of_some q t.seal (λ x. seal_with r (did_by x call) t.seal) else t.seal;
+        tick = map_or (if (b && is_tick call) || false then Some r else None) t.tick (λ x. x);
+        heard = if b then map_or q t.heard (λ x. map_or (hears (did_by x call)) t.heard (λ c. r)) else t.heard;
+        moved = if b then map_or q t.moved (λ x. map_or (moves (did_by x call)) t.moved (λ c. r)) else t.moved;
+        sent = if b then map_or q t.sent (λ x. map_or (emits (did_by x call)) t.sent (λ c. r)) else t.sent;
+        seal = if b then map_or q t.seal (λ x. seal_with r (did_by x call) t.seal) else t.seal;
       })
   called call None true past is same next = cc
   called call (Some x) true past is same next =
       subst (λ y.
       Due rates period y
       (record {
-        tick = of_some (if is_tick call || false then Some r else None) t.tick (λ z. z);
-        heard = of_some (hears (did_by x call)) t.heard (λ c. r);
-        moved = of_some (moves (did_by x call)) t.moved (λ c. r);
-        sent = of_some (emits (did_by x call)) t.sent (λ c. r);
+        tick = map_or (if is_tick call || false then Some r else None) t.tick (λ z. z);
+        heard = map_or (hears (did_by x call)) t.heard (λ c. r);
+        moved = map_or (moves (did_by x call)) t.moved (λ c. r);
+        sent = map_or (emits (did_by x call)) t.sent (λ c. r);
         seal = seal_with r (did_by x call) t.seal;
       })) (some_is same)
       (subst (λ n.
       Due rates period (after x call)
       (record {
         tick = n;
-        heard = of_some (hears (did_by x call)) t.heard (λ c. r);
-        moved = of_some (moves (did_by x call)) t.moved (λ c. r);
-        sent = of_some (emits (did_by x call)) t.sent (λ c. r);
+        heard = map_or (hears (did_by x call)) t.heard (λ c. r);
+        moved = map_or (moves (did_by x call)) t.moved (λ c. r);
+        sent = map_or (emits (did_by x call)) t.sent (λ c. r);
         seal = seal_with r (did_by x call) t.seal;
       })) (tick_is (is_tick call) r t.tick) (next refl x refl))
   called call q false past is same next = old past (is ∙ same)
@@ -136,23 +137,6 @@ due_in setting (s ∷ earlier) timed d past is =
         }
 
 -- The tick premise at an event
-
-pub among_below : (n d : ℕ) → d < n → Among d (below n)
-among_below zero d lt = absurd (omega (arith, lt))
-among_below (suc n) d lt = by_order (among_below n d) (cases_lt d n)
-  where
-    at_end : {A : Type 0} {x : A} (xs ys : List A) → Among x xs → Among x (xs ++ ys)
-    at_end _ ys first = first
-    at_end (x ∷ xs) ys (later a) = later (at_end xs ys a)
-
-    last : {A : Type 0} (x : A) (xs : List A) → Among x (xs ++ x ∷ [])
-    last x [] = first
-    last x (y ∷ xs) = later (last x xs)
-
-    by_order : (d < n → Among d (below n)) → (d < n) ⊎ (n ≤ d) → Among d (below n ++ n ∷ [])
-    by_order before (inl less) = at_end (below n) (n ∷ []) (before less)
-    by_order before (inr le) = let is : n ≡ d = omega (arith, le, lt) in
-        subst (λ x. Among d (below n ++ x ∷ [])) (sym is) (subst (λ x. Among x (below n ++ x ∷ [])) is (last n (below n)))
 
 -- its latest tick, start or join is at most one gap ago
 pub ticked_lately : (setting : Setting) (s : Seen) (earlier : List Step) (d : ℕ) → AtEvent setting s earlier d

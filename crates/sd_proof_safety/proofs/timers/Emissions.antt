@@ -3,7 +3,7 @@
 use Rattle.std.specs.Prelude.{◌≡◌, ℕ, ◌-◌, ◌≤◌, Bool, true, false, List, ◌∷◌, nat_eq, Option, Some, None, refl, if◌then◌else◌}
 use Rattle.std.proofs.Common.{arith, ◌∙◌, ap, subst}
 use Rattle.std.proofs.lemmas.Bool.{eq-eqb}
-use Rattle.sd_checker.specs.Num.Lists.{of_some}
+use Rattle.sd_checker.specs.Num.Lists.{map_or}
 use Rattle.sd_checker.specs.Num.Numbers.{low}
 use Rattle.sd_checker.specs.Topo.Network.{rates_of}
 use Rattle.sd_checker.specs.Plan.declared.Duty.{Duty}
@@ -13,12 +13,13 @@ use Rattle.sd_history.specs.Sched.Events.{reference_of}
 use Rattle.sd_history.specs.World.{Setting, latest_reference}
 use Rattle.sd_history.specs.Steps.{Act, Makes, Calls, Asks, Passes, Step, seen_of}
 use Rattle.sd_history.specs.Chronicle.{past_in}
+use Rattle.sd_proof_safety.specs.messages.Moments.{Tail, whole, behind}
 use Rattle.sd_proof_safety.specs.timers.Times.{AreTimed, did_by, makes_device, reference_after, reference_by, sent_in}
-use Rattle.sd_proof_safety.specs.timers.Since.{IsTail, whole, beyond, IsMarked}
+use Rattle.sd_proof_safety.specs.timers.Since.{IsMarked}
 use Rattle.sd_proof_safety.proofs.timers.NotEarly.{IsTick, emission_not_early}
 use Rattle.sd_proof_safety.proofs.timers.Periods.{reference_within, periods_in}
 
-told_rises : (o : Option ℕ) (r before : ℕ) → before ≤ r → before ≤ of_some o before (λ c. r)
+told_rises : (o : Option ℕ) (r before : ℕ) → before ≤ r → before ≤ map_or o before (λ c. r)
 told_rises None r before le = omega arith
 told_rises (Some c) r before le = le
 
@@ -30,22 +31,22 @@ after_rises f (Makes m making) d r before p le = go (nat_eq m d)
     go false = omega arith
 after_rises f (Calls m call) d r before p le = go (nat_eq m d) p
   where
-    go : (x : Bool) (q : Option Past) → before ≤ (if x then of_some q before (λ y. of_some (f (did_by y call)) before (λ c. r)) else before)
+    go : (x : Bool) (q : Option Past) → before ≤ (if x then map_or q before (λ y. map_or (f (did_by y call)) before (λ c. r)) else before)
     go true None = omega arith
     go true (Some y) = told_rises (f (did_by y call)) r before le
     go false q = omega arith
 after_rises f (Asks m counter) d r before p le = omega arith
 after_rises f Passes d r before p le = omega arith
 
-timed_tail : (setting : Setting) (older steps : List Step) → IsTail older steps → AreTimed setting steps → AreTimed setting older
+pub timed_tail : (setting : Setting) (older steps : List Step) → Tail older steps → AreTimed setting steps → AreTimed setting older
 timed_tail setting older _ whole timed = timed
-timed_tail setting older _ (beyond tail) timed = timed_tail setting older _ tail timed.0
+timed_tail setting older _ (behind tail) timed = timed_tail setting older _ tail timed.0
 
 -- the references never fall along the steps
-pub reference_rises : (f : Did → Option ℕ) (setting : Setting) (older steps : List Step) (d : ℕ) → IsTail older steps → AreTimed setting steps
+pub reference_rises : (f : Did → Option ℕ) (setting : Setting) (older steps : List Step) (d : ℕ) → Tail older steps → AreTimed setting steps
     → reference_by f older d ≤ reference_by f steps d
 reference_rises f setting older _ d whole timed = omega arith
-reference_rises f setting older _ d (beyond {x = s} {xs = earlier} tail) timed =
+reference_rises f setting older _ d (behind {x = s} {xs = earlier} tail) timed =
     let rest : reference_by f older d ≤ reference_by f earlier d = reference_rises f setting older earlier d tail timed.0 in
     let within : reference_by f earlier d ≤ latest_reference (seen_of earlier) = reference_within f setting earlier timed.0 d in
     let one : reference_by f earlier d ≤ reference_by f (s ∷ earlier) d =
@@ -60,10 +61,10 @@ pub reference_at_mark : (f : Did → Option ℕ) (s : Step) (earlier : List Step
     → reference_by f (s ∷ earlier) d ≡ reference_of s.seen.event
 reference_at_mark f s earlier d m =
     ap (λ act. reference_after f (reference_of s.seen.event) act d (past_in earlier d) (reference_by f earlier d)) m.act
-    ∙ ap (λ b. if b then of_some (past_in earlier d) (reference_by f earlier d)
-    (λ y. of_some (f (did_by y m.call)) (reference_by f earlier d) (λ c. reference_of s.seen.event)) else reference_by f earlier d) (eq-eqb d d refl)
-    ∙ ap (λ p. of_some p (reference_by f earlier d) (λ y. of_some (f (did_by y m.call)) (reference_by f earlier d) (λ c. reference_of s.seen.event))) m.there
-    ∙ ap (λ o. of_some o (reference_by f earlier d) (λ c. reference_of s.seen.event)) m.told
+    ∙ ap (λ b. if b then map_or (past_in earlier d) (reference_by f earlier d)
+    (λ y. map_or (f (did_by y m.call)) (reference_by f earlier d) (λ c. reference_of s.seen.event)) else reference_by f earlier d) (eq-eqb d d refl)
+    ∙ ap (λ p. map_or p (reference_by f earlier d) (λ y. map_or (f (did_by y m.call)) (reference_by f earlier d) (λ c. reference_of s.seen.event))) m.there
+    ∙ ap (λ o. map_or o (reference_by f earlier d) (λ c. reference_of s.seen.event)) m.told
 
 -- and at a making too
 pub reference_at_making : (f : Did → Option ℕ) (s : Step) (earlier : List Step) (d : ℕ) → makes_device s.act d ≡ true
@@ -82,13 +83,13 @@ reference_at_making f s earlier d made = go s.act made
     go Passes h = cc
 
 -- no mark so far is later
-pub mark_before : (f : Did → Option ℕ) (setting : Setting) (s : Step) (older steps : List Step) (d : ℕ) → IsTail (s ∷ older) steps → AreTimed setting steps
+pub mark_before : (f : Did → Option ℕ) (setting : Setting) (s : Step) (older steps : List Step) (d : ℕ) → Tail (s ∷ older) steps → AreTimed setting steps
     → IsMarked f s older d
     → reference_of s.seen.event ≤ reference_by f steps d
 mark_before f setting s older steps d tail timed m =
     subst (λ r. r ≤ reference_by f steps d) (reference_at_mark f s older d m) (reference_rises f setting (s ∷ older) steps d tail timed)
 
-pub making_before : (f : Did → Option ℕ) (setting : Setting) (s : Step) (older steps : List Step) (d : ℕ) → IsTail (s ∷ older) steps → AreTimed setting steps
+pub making_before : (f : Did → Option ℕ) (setting : Setting) (s : Step) (older steps : List Step) (d : ℕ) → Tail (s ∷ older) steps → AreTimed setting steps
     → makes_device s.act d ≡ true
     → reference_of s.seen.event ≤ reference_by f steps d
 making_before f setting s older steps d tail timed made =
@@ -97,7 +98,7 @@ making_before f setting s older steps d tail timed made =
 -- an emission and each one before it (or where the device began to act) lie at least Low of the period apart
 pub emissions_apart : (setting : Setting) (s : Step) (earlier : List Step) (d c : ℕ) (past : Past) → (rates_of setting.net d).ppm ≤ 1000000
     → IsTick setting s earlier d c past
-    → (duty : Duty) → duty_now past ≡ Some duty → emits_at past c ≡ true → (first : Step) (older : List Step) → IsTail (first ∷ older) earlier
+    → (duty : Duty) → duty_now past ≡ Some duty → emits_at past c ≡ true → (first : Step) (older : List Step) → Tail (first ∷ older) earlier
     → IsMarked emits first older d
     → low (rates_of setting.net d) setting.net.params.period ≤ reference_of s.seen.event - reference_of first.seen.event
 emissions_apart setting s earlier d c past ppm tick duty has sends first older tail m =
@@ -112,7 +113,7 @@ recommit_tells : (past : Past) (c : ℕ) → is_acting past ≡ true → emits (
 recommit_tells past c acts = go (given_now past) (is_acting past) acts
   where
     go : (g : Option Duty) (a : Bool) → a ≡ true
-        → emits (record { call = Commit c; transition = of_some g Nothing (λ duty. if a then Recommitted duty else Committed duty) }) ≡ None
+        → emits (record { call = Commit c; transition = map_or g Nothing (λ duty. if a then Recommitted duty else Committed duty) }) ≡ None
     go None a h = refl
     go (Some duty) true h = refl
     go (Some duty) false h = cc
@@ -121,7 +122,7 @@ pub recommit_leaves : (s : Step) (earlier : List Step) (d c : ℕ) (past : Past)
     → is_acting past ≡ true → sent_in (s ∷ earlier) d ≡ sent_in earlier d
 recommit_leaves s earlier d c past act is acts =
     ap (λ a. reference_after emits (reference_of s.seen.event) a d (past_in earlier d) (sent_in earlier d)) act
-    ∙ ap (λ b. if b then of_some (past_in earlier d) (sent_in earlier d)
-    (λ y. of_some (emits (did_by y (Commit c))) (sent_in earlier d) (λ k. reference_of s.seen.event)) else sent_in earlier d) (eq-eqb d d refl)
-    ∙ ap (λ p. of_some p (sent_in earlier d) (λ y. of_some (emits (did_by y (Commit c))) (sent_in earlier d) (λ k. reference_of s.seen.event))) is
-    ∙ ap (λ o. of_some o (sent_in earlier d) (λ k. reference_of s.seen.event)) (recommit_tells past c acts)
+    ∙ ap (λ b. if b then map_or (past_in earlier d) (sent_in earlier d)
+    (λ y. map_or (emits (did_by y (Commit c))) (sent_in earlier d) (λ k. reference_of s.seen.event)) else sent_in earlier d) (eq-eqb d d refl)
+    ∙ ap (λ p. map_or p (sent_in earlier d) (λ y. map_or (emits (did_by y (Commit c))) (sent_in earlier d) (λ k. reference_of s.seen.event))) is
+    ∙ ap (λ o. map_or o (sent_in earlier d) (λ k. reference_of s.seen.event)) (recommit_tells past c acts)

@@ -2,10 +2,12 @@
 use Rattle.std.specs.Prelude.{◌≡◌, ℕ, Bool, true, false, ◌&&◌, ◌||◌, List, [], ◌∷◌, nat_eq, Option, Some, None, refl, if◌then◌else◌}
 use Rattle.std.proofs.Common.{ap, sym}
 use Rattle.std.proofs.lemmas.Bool.{and_parts}
-use Rattle.sd_checker.specs.Num.Lists.{of_some, same_number}
+use Rattle.sd_checker.specs.Num.Lists.{map_or, same_number}
 use Rattle.sd_checker.specs.Plan.declared.Plan.{Plan}
 use Rattle.sd_checker.specs.Plan.declared.Duty.{Duty}
 use Rattle.sd_checker.specs.Plan.Duties.{duty_of}
+use Rattle.sd_checker.proofs.Plan.Forest.{or_none}
+use Rattle.sd_checker.proofs.Num.Shared.{and_false, and_true}
 use Rattle.sd_history.specs.Msg.declared.Flight.{Flight}
 use Rattle.sd_history.specs.Core.Calls as calls
 use Rattle.sd_history.specs.Core.Words.{counter_of as counter_of_call}
@@ -19,18 +21,6 @@ use Rattle.sd_history.specs.Premises.{drift_holds, reads_honestly}
 use Rattle.sd_history.proofs.Contained.{time_goes_on}
 use Rattle.sd_proof_safety.specs.timers.Times.{Fits, AreTimed, is_tick, gives_duty}
 use Rattle.sd_history.proofs.Given.{some_is}
-
-or_false : (b : Bool) → (b || false) ≡ b
-or_false true = refl
-or_false false = refl
-
-and_true : (b : Bool) → (b && true) ≡ b
-and_true true = refl
-and_true false = refl
-
-and_false : (b : Bool) → (b && false) ≡ false
-and_false true = refl
-and_false false = refl
 
 guarded : (b : Bool) (c' : Option ℕ) (c : ℕ) → (if b then c' else None) ≡ Some c → b ≡ true
 guarded true c' c same = refl
@@ -56,19 +46,19 @@ calling e m call device counter quiet none still =
     }
 
 receiving : (setting : Setting) (r m c n : ℕ) (o : Option Flight)
-    → Fits (event.Recv r m c n) (of_some o Passes (λ f. Calls m (calls.Receive f.link f.message c)))
+    → Fits (event.Recv r m c n) (map_or o Passes (λ f. Calls m (calls.Receive f.link f.message c)))
 receiving setting r m c n None = passing (event.Recv r m c n) (λ d. refl) (λ d. refl)
 receiving setting r m c n (Some f) = calling (event.Recv r m c n) m (calls.Receive f.link f.message c) refl refl refl (λ d. refl) (λ d. refl)
 
 giving : (setting : Setting) (r m epoch : ℕ) (o : Option Plan)
-    → Fits (event.Give r m) (of_some o Passes (λ plan. Calls m (calls.Give (duty_of setting.net plan epoch m))))
+    → Fits (event.Give r m) (map_or o Passes (λ plan. Calls m (calls.Give (duty_of setting.net plan epoch m))))
 giving setting r m epoch None = passing (event.Give r m) (λ d. refl) (λ d. refl)
 giving setting r m epoch (Some plan) = calling (event.Give r m) m (calls.Give (duty_of setting.net plan epoch m)) refl refl refl (λ d. refl) (λ d. refl)
 
 pub act_fits : (setting : Setting) (steps : List Step) (e : Event) → Fits e (act_by setting steps e)
 act_fits setting steps (event.Start r m c clock eps) =
     record {
-      makes_it = λ d. or_false (nat_eq m d);
+      makes_it = λ d. or_none (nat_eq m d);
       ticks_it = λ d. refl;
       named = λ d x same. guarded (nat_eq m d) (Some c) x same;
       read = λ d x same. guarded_is (nat_eq m d) (Some c) x same;
@@ -109,13 +99,13 @@ own_period : (setting : Setting) (plan : Plan) (epoch d : ℕ) (duty : Duty) →
     → duty.period ≡ setting.net.params.period
 own_period setting plan epoch d duty same = sym (ap (λ (u : Duty). u.period) (some_is same))
 
-received_period : (setting : Setting) (m c : ℕ) (o : Option Flight) → OfPeriod setting (of_some o Passes (λ f. Calls m (calls.Receive f.link f.message c)))
+received_period : (setting : Setting) (m c : ℕ) (o : Option Flight) → OfPeriod setting (map_or o Passes (λ f. Calls m (calls.Receive f.link f.message c)))
 unfolding OfPeriod
 received_period setting m c None = λ duty same. cc
 received_period setting m c (Some f) = λ duty same. cc
 
 given_period : (setting : Setting) (m epoch : ℕ) (o : Option Plan)
-    → OfPeriod setting (of_some o Passes (λ plan. Calls m (calls.Give (duty_of setting.net plan epoch m))))
+    → OfPeriod setting (map_or o Passes (λ plan. Calls m (calls.Give (duty_of setting.net plan epoch m))))
 unfolding OfPeriod
 given_period setting m epoch None = λ duty same. cc
 given_period setting m epoch (Some plan) = λ duty same. own_period setting plan epoch m duty same

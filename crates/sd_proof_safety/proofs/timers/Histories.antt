@@ -17,9 +17,10 @@ use Rattle.sd_history.specs.World.{Setting, is_up, latest_reference}
 use Rattle.sd_history.specs.Steps.{Step, seen_of}
 use Rattle.sd_history.specs.Chronicle.{past_in, chronicle, next_step, IsHistory}
 use Rattle.sd_history.specs.Premises.{readings, drift_holds, tick_holds, is_current_member, all_hold}
+use Rattle.sd_proof_safety.specs.messages.Moments.{Tail}
 use Rattle.sd_proof_safety.specs.timers.Times.{AreTimed, stays_after, heard_in, moved_in, sent_in, sealed_in}
 use Rattle.sd_proof_safety.specs.timers.Dues.{AtEvent}
-use Rattle.sd_proof_safety.specs.timers.Since.{IsTail, IsMarked, TicksWithin}
+use Rattle.sd_proof_safety.specs.timers.Since.{IsMarked, TicksWithin}
 use Rattle.sd_proof_safety.proofs.timers.Readings.{Newer, low_between, high_between}
 use Rattle.sd_proof_safety.proofs.timers.NetworkBounds.{least_is_low, up_is_within, rate_is_low}
 use Rattle.sd_proof_safety.proofs.timers.Fitting.{history_is_timed}
@@ -29,8 +30,8 @@ use Rattle.sd_proof_safety.proofs.timers.TickSoon.{tick_soon}
 use Rattle.sd_proof_safety.proofs.timers.Emissions.{emissions_apart}
 use Rattle.sd_proof_safety.proofs.timers.Periods.{periods_in}
 use Rattle.sd_proof_safety.proofs.timers.Pasts.{acting_has_duty}
-use Rattle.sd_proof_safety.proofs.timers.Marks.{some_is}
 use Rattle.sd_history.proofs.Known.{up_is_known, named_is_known}
+use Rattle.sd_history.proofs.Given.{some_is}
 
 -- what the laws need of the premises
 pub record Timely (setting : Setting) (history : List Event) : Type 0 where
@@ -179,7 +180,7 @@ module _ (setting : Setting) (r d c : ℕ) (earlier : List Event) (past : Past) 
 
   -- an emission, and each one before it of the same device, lie at least Low of the period apart
   pub emission_waits : (duty : Duty) → duty_now past ≡ Some duty → emits_at past c ≡ true → (first : Step) (older : List Step)
-      → IsTail (first ∷ older) (chronicle setting earlier) → IsMarked emits first older d
+      → Tail (first ∷ older) (chronicle setting earlier) → IsMarked emits first older d
       → least_low setting.net setting.net.params.period ≤ r - reference_of first.seen.event
   emission_waits duty has sends first older tail marked =
       let low_ : low (rates_of setting.net d) setting.net.params.period ≤ r - reference_of first.seen.event =

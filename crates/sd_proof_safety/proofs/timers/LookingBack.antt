@@ -2,7 +2,7 @@
 -- moved. From Unmarked, by induction on the steps between.
 use Rattle.std.specs.Prelude.{◌≡◌, ℕ, ◌<◌, ◌≤◌, Bool, true, false, ◌&&◌, List, ◌∷◌, length, nat_eq, Option, Some, None, is_some, option_map, refl, ◌⊎◌, if◌then◌else◌}
 use Rattle.std.proofs.Common.{arith, sym, ◌∙◌, ap, subst, inl, inr}
-use Rattle.sd_checker.specs.Num.Lists.{of_some}
+use Rattle.sd_checker.specs.Num.Lists.{map_or}
 use Rattle.sd_history.specs.Core.Calls.{Call, Did, Past}
 use Rattle.sd_history.specs.Core.Words.{transition_of, after, taken_up, has_moved, is_acting}
 use Rattle.sd_history.proofs.Core.Reached.{added}
@@ -10,15 +10,16 @@ use Rattle.sd_history.specs.Sched.Events.{reference_of}
 use Rattle.sd_history.specs.World.{Setting}
 use Rattle.sd_history.specs.Steps.{Act, Makes, Calls, Asks, Passes, Step}
 use Rattle.sd_history.specs.Chronicle.{new_past, past_in, past_after}
+use Rattle.sd_history.proofs.Given.{some_is}
+use Rattle.sd_proof_safety.specs.messages.Moments.{Tail, whole, behind}
 use Rattle.sd_proof_safety.specs.timers.Times.{AreTimed, did_by, hears, moves, heard_in, moved_in}
-use Rattle.sd_proof_safety.specs.timers.Since.{IsTail, whole, beyond, marks_by, Unmarked, no_step, one_step}
-use Rattle.sd_proof_safety.proofs.timers.Marks.{some_is}
+use Rattle.sd_proof_safety.specs.timers.Since.{marks_by, Unmarked, no_step, one_step}
 use Rattle.sd_proof_safety.proofs.timers.Transitions.{Cases, by_case}
 use Rattle.sd_proof_safety.proofs.timers.Unmarked.{Same, same_since_heard, primary_since_heard, unmarked_since, before_act, takes_nothing}
 
-pub tail_is_short : {A : Type 0} (xs ys : List A) → IsTail xs ys → length xs ≤ length ys
+pub tail_is_short : {A : Type 0} (xs ys : List A) → Tail xs ys → length xs ≤ length ys
 tail_is_short xs _ whole = omega arith
-tail_is_short xs _ (beyond {x = y} {xs = ys} tail) = let rest : length xs ≤ length ys = tail_is_short xs ys tail in omega (arith, rest)
+tail_is_short xs _ (behind {x = y} {xs = ys} tail) = let rest : length xs ≤ length ys = tail_is_short xs ys tail in omega (arith, rest)
 
 uncons : (f : Did → Option ℕ) (d : ℕ) (older : List Step) (s : Step) (earlier : List Step) → Unmarked f d older (s ∷ earlier)
     → (length (s ∷ earlier) ≤ length older) ⊎ ((marks_by f s.act d (past_in earlier d) ≡ false) × Unmarked f d older earlier)
@@ -26,10 +27,10 @@ uncons f d older s earlier no_step = inl (omega arith)
 uncons f d older s earlier (one_step none rest) = inr (none, rest)
 
 -- unmarked since older: unmarked since each state between
-pub unmarked_between : (f : Did → Option ℕ) (d : ℕ) (older mid steps : List Step) → IsTail older mid → IsTail mid steps → Unmarked f d older steps
+pub unmarked_between : (f : Did → Option ℕ) (d : ℕ) (older mid steps : List Step) → Tail older mid → Tail mid steps → Unmarked f d older steps
     → Unmarked f d mid steps
 unmarked_between f d older mid _ low whole none = no_step
-unmarked_between f d older mid _ low (beyond {x = s} {xs = earlier} tail) none =
+unmarked_between f d older mid _ low (behind {x = s} {xs = earlier} tail) none =
     go (uncons f d older s earlier none) (unmarked_between f d older mid earlier low tail) (tail_is_short older mid low) (tail_is_short mid earlier tail)
   where
     go : (length (s ∷ earlier) ≤ length older) ⊎ ((marks_by f s.act d (past_in earlier d) ≡ false) × Unmarked f d older earlier)
@@ -68,8 +69,8 @@ put_act (Makes m making) d p past none unmoved same still old is =
     ap has_moved (sym (some_is (sym is ∙ sym (ap (λ b. if b then Some (new_past making) else p) none) ∙ same)))
 put_act (Calls m call) d p past none unmoved same still old is = go (nat_eq m d) p none unmoved same is
   where
-    go : (b : Bool) (q : Option Past) → (b && of_some q false (λ x. is_some (hears (did_by x call)))) ≡ false
-        → (b && of_some q false (λ x. is_some (moves (did_by x call)))) ≡ false
+    go : (b : Bool) (q : Option Past) → (b && map_or q false (λ x. is_some (hears (did_by x call)))) ≡ false
+        → (b && map_or q false (λ x. is_some (moves (did_by x call)))) ≡ false
         → (if b then option_map (λ x. after x call) q else q) ≡ Some past → q ≡ Some old → has_moved past ≡ has_moved old
     go true None h k same' is' = cc
     go true (Some x) h k same' is' =
@@ -80,11 +81,11 @@ put_act (Asks m counter) d p past none unmoved same still old is = ap has_moved 
 put_act Passes d p past none unmoved same still old is = ap has_moved (some_is (sym same ∙ is))
 
 -- since it neither heard nor moved, and while it does not act, a device stays where it is, on its primary or on its backup
-pub stays_where : (d : ℕ) (older steps : List Step) (past : Past) → IsTail older steps → Unmarked hears d older steps → Unmarked moves d older steps
+pub stays_where : (d : ℕ) (older steps : List Step) (past : Past) → Tail older steps → Unmarked hears d older steps → Unmarked moves d older steps
     → past_in steps d ≡ Some past → is_acting past ≡ false
     → (old : Past) → past_in older d ≡ Some old → has_moved past ≡ has_moved old
 stays_where d older _ past whole none unmoved is still old was = ap has_moved (some_is (sym is ∙ was))
-stays_where d older _ past (beyond {x = s} {xs = earlier} tail) none unmoved is still old was =
+stays_where d older _ past (behind {x = s} {xs = earlier} tail) none unmoved is still old was =
     go (uncons hears d older s earlier none) (uncons moves d older s earlier unmoved) (tail_is_short older earlier tail)
     (λ x heard moved here acts. stays_where d older earlier x tail heard moved here acts old was)
   where
@@ -101,12 +102,12 @@ stays_where d older _ past (beyond {x = s} {xs = earlier} tail) none unmoved is 
 
 -- The same by references: t is a step of the list, and older the state before it.
 
-module _ (setting : Setting) (t : Step) (older steps : List Step) (d : ℕ) (past : Past) (tail : IsTail (t ∷ older) steps) (timed : AreTimed setting steps)
+module _ (setting : Setting) (t : Step) (older steps : List Step) (d : ℕ) (past : Past) (tail : Tail (t ∷ older) steps) (timed : AreTimed setting steps)
     (is : past_in steps d ≡ Some past) (still : is_acting past ≡ false)
     (heard_before : heard_in steps d < reference_of t.seen.event) where
-  step_down : {A : Type 0} {x : A} {xs ys : List A} → IsTail (x ∷ xs) ys → IsTail xs ys
-  step_down whole = beyond whole
-  step_down (beyond rest) = beyond (step_down rest)
+  step_down : {A : Type 0} {x : A} {xs ys : List A} → Tail (x ∷ xs) ys → Tail xs ys
+  step_down whole = behind whole
+  step_down (behind rest) = behind (step_down rest)
 
   -- the past then, of the same entry and duty, and not acting
   pub same_then : Same d older steps past

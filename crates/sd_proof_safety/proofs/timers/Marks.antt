@@ -3,7 +3,7 @@
 use Rattle.std.specs.Prelude.{◌≡◌, ℕ, Bool, true, false, List, [], ◌∷◌, nat_eq, Option, Some, None, option_map, refl, if◌then◌else◌}
 use Rattle.std.proofs.Common.{◌∙◌, ap, subst}
 use Rattle.std.proofs.lemmas.Bool.{eqb-true}
-use Rattle.sd_checker.specs.Num.Lists.{of_some, same_number, latest}
+use Rattle.sd_checker.specs.Num.Lists.{map_or, same_number, find_map_or}
 use Rattle.sd_checker.specs.Topo.Network.{rates_of}
 use Rattle.sd_history.specs.Core.Calls.{Making, Call, Did, Past}
 use Rattle.sd_history.specs.Core.Words.{after, making_counter, counter_of as counter_of_call}
@@ -13,11 +13,9 @@ use Rattle.sd_history.specs.Steps.{Act, Makes, Calls, Asks, Passes, Step, seen_o
 use Rattle.sd_history.specs.Chronicle.{new_past, past_in, past_after}
 use Rattle.sd_history.specs.Premises.{readings}
 use Rattle.sd_history.proofs.Among.{Among, reading_here, readings_kept}
+use Rattle.sd_history.proofs.Given.{some_is}
 use Rattle.sd_proof_safety.specs.timers.Times.{Fits, IsTimed, AreTimed, did_by, reference_after, reference_by, makes_device, counter_at}
 use Rattle.sd_proof_safety.proofs.timers.Readings.{Keeps, honest_reading}
-
-pub some_is : {A : Type 0} {x y : A} → Some x ≡ Some y → x ≡ y
-some_is {x = x} same = ap (λ o. of_some o x (λ z. z)) same
 
 -- f tells the counters of calls alone
 abbrev pub TellsCounters : (Did → Option ℕ) → Type 0
@@ -25,7 +23,7 @@ TellsCounters f = (x : Did) (c : ℕ) → f x ≡ Some c → counter_of_call x.c
 
 -- the counter of the latest making or call of which f tells something
 abbrev pub counter_by : (Did → Option ℕ) → Past → ℕ
-counter_by f past = latest f past.did (making_counter past.making)
+counter_by f past = find_map_or f past.did (making_counter past.making)
 
 abbrev IsReading : Step → List Step → ℕ → ℕ → ℕ → Type 0
 IsReading s earlier d r c = Among {A = ℕ × ℕ} (r, c) (readings (s.seen ∷ seen_of earlier) d)
@@ -50,17 +48,17 @@ module _ (f : Did → Option ℕ) (tells : TellsCounters f) (s : Step) (earlier 
 
   told : (call : Call) (q : Past) (o : Option ℕ) → f (did_by q call) ≡ o → counter_at s.act d ≡ counter_of_call call → makes_device s.act d ≡ false
       → Among {A = ℕ × ℕ} (before, counter_by f q) (readings (seen_of earlier) d)
-      → IsReading s earlier d (of_some o before (λ c. reference_of s.seen.event)) (of_some o (counter_by f q) (λ c. c))
+      → IsReading s earlier d (map_or o before (λ c. reference_of s.seen.event)) (map_or o (counter_by f q) (λ c. c))
   told call q None is own none a = kept (counter_by f q) none a
   told call q (Some c) is own none a = here c (own ∙ tells (did_by q call) c is)
 
   called : (call : Call) (p : Option Past) (b : Bool) → (b ≡ true → counter_at s.act d ≡ counter_of_call call) → makes_device s.act d ≡ false → Before p
       → (past : Past) → (if b then option_map (λ q. after q call) p else p) ≡ Some past
-      → IsReading s earlier d (if b then of_some p before (λ q. of_some (f (did_by q call)) before (λ c. reference_of s.seen.event)) else before)
+      → IsReading s earlier d (if b then map_or p before (λ q. map_or (f (did_by q call)) before (λ c. reference_of s.seen.event)) else before)
       (counter_by f past)
   called call None true own none old past same = cc
   called call (Some q) true own none old past same =
-      subst (λ p. IsReading s earlier d (of_some (f (did_by q call)) before (λ c. reference_of s.seen.event)) (counter_by f p)) (some_is same)
+      subst (λ p. IsReading s earlier d (map_or (f (did_by q call)) before (λ c. reference_of s.seen.event)) (counter_by f p)) (some_is same)
       (told call q (f (did_by q call)) refl (own refl) none (old q refl))
   called call p false own none old past same = kept (counter_by f past) none (old past same)
 

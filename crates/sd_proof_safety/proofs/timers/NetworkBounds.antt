@@ -2,7 +2,7 @@
 -- devices. And no rate is above one whole.
 use Rattle.std.specs.Prelude.{◌≡◌, ℕ, zero, suc, ◌<◌, ◌≤◌, List, [], ◌∷◌, length, map, slice_get, Option, Some, None, refl}
 use Rattle.std.proofs.Common.{arith, sym, ap, subst}
-use Rattle.sd_checker.specs.Num.Lists.{of_some, at_place, least, greatest}
+use Rattle.sd_checker.specs.Num.Lists.{map_or, at_place, least, greatest}
 use Rattle.sd_checker.specs.Num.Numbers.{low, up}
 use Rattle.sd_checker.specs.Topo.Network.{Network, Device, rates_of, no_rates, least_low, greatest_up}
 use Rattle.sd_checker.specs.Topo.Limits.{IsNetwork}
@@ -27,7 +27,7 @@ there (x ∷ xs) zero lt = (x, refl)
 there (x ∷ xs) (suc i) lt = there xs i (omega (arith, lt))
 
 placed : {A B : Type 0} (xs : List A) (i : ℕ) (x : A) (default : B) (f : A → B) → slice_get xs i ≡ Some x → at_place xs i default f ≡ f x
-placed xs i x default f same = ap (λ o. of_some o default f) same
+placed xs i x default f same = ap (λ o. map_or o default f) same
 
 -- Low of the network is no more than that of the device
 pub least_is_low : (net : Network) (d x : ℕ) → d < length net.devices → least_low net x ≤ low (rates_of net d) x
@@ -47,6 +47,6 @@ up_is_within net d x lt =
 pub rate_is_low : (net : Network) (d : ℕ) → IsNetwork net → (rates_of net d).ppm ≤ 1000000
 rate_is_low net d is = by_place (slice_get net.devices d) refl
   where
-    by_place : (o : Option Device) → slice_get net.devices d ≡ o → (of_some o no_rates (λ y. y.rates)).ppm ≤ 1000000
+    by_place : (o : Option Device) → slice_get net.devices d ≡ o → (map_or o no_rates (λ y. y.rates)).ppm ≤ 1000000
     by_place None same = omega arith
     by_place (Some y) same = let within : y.rates.ppm ≤ 100000 = (is.each_device d y same).0 in omega (arith, within)

@@ -3,7 +3,7 @@
 use Rattle.std.specs.Prelude.{◌≡◌, ℕ, ◌-◌, ◌≤◌, Bool, true, false, ◌&&◌, not, List, max, nat_le, Option, Some, None, option_and_then, refl, if◌then◌else◌}
 use Rattle.std.proofs.Common.{arith, ◌∙◌, ap, subst}
 use Rattle.std.proofs.lemmas.Bool.{and_parts, leb-true, eq-eqb}
-use Rattle.sd_checker.specs.Num.Lists.{of_some}
+use Rattle.sd_checker.specs.Num.Lists.{map_or}
 use Rattle.sd_checker.specs.Num.Numbers.{low}
 use Rattle.sd_checker.specs.Topo.Network.{rates_of}
 use Rattle.sd_checker.specs.Plan.declared.Duty.{Duty}
@@ -90,7 +90,7 @@ pub record Waited (past : Past) (c : ℕ) (duty : Duty) (wait : ℕ) : Type 0 wh
   pub waits : wait_to_move duty ≡ Some wait
   pub long : wait ≤ c - heard past
 
-last_of_four : (a b c d : Bool) → (a && b && c && d) ≡ true → d ≡ true
+pub last_of_four : (a b c d : Bool) → (a && b && c && d) ≡ true → d ≡ true
 last_of_four true true true d h = h
 last_of_four true true false d h = cc
 last_of_four true false c d h = cc
@@ -101,20 +101,20 @@ pub move_waited : (past : Past) (c : ℕ) → moves_at past c ≡ true → (duty
 move_waited past c moves' =
     go (duty_now past) refl
     (last_of_four (may_move past) (not (has_moved past)) (is_sealed past)
-    (of_some (option_and_then wait_to_move (duty_now past)) false (λ wait. nat_le wait (c - heard past))) moves')
+    (map_or (option_and_then wait_to_move (duty_now past)) false (λ wait. nat_le wait (c - heard past))) moves')
   where
-    of_wait : (duty : Duty) (o : Option ℕ) → duty_now past ≡ Some duty → wait_to_move duty ≡ o → of_some o false (λ wait. nat_le wait (c - heard past)) ≡ true
+    of_wait : (duty : Duty) (o : Option ℕ) → duty_now past ≡ Some duty → wait_to_move duty ≡ o → map_or o false (λ wait. nat_le wait (c - heard past)) ≡ true
         → (duty : Duty) × (wait : ℕ) × Waited past c duty wait
     of_wait duty None has waits h = cc
     of_wait duty (Some wait) has waits h = (duty, wait, record { has = has; waits = waits; long = leb-true wait (c - heard past) h })
 
-    go : (u : Option Duty) → duty_now past ≡ u → of_some (option_and_then wait_to_move u) false (λ wait. nat_le wait (c - heard past)) ≡ true
+    go : (u : Option Duty) → duty_now past ≡ u → map_or (option_and_then wait_to_move u) false (λ wait. nat_le wait (c - heard past)) ≡ true
         → (duty : Duty) × (wait : ℕ) × Waited past c duty wait
     go None has h = cc
     go (Some duty) has h = of_wait duty (wait_to_move duty) has refl h
 
-of_duty : (u : Option Duty) (duty : Duty) (test : Duty → Bool) → u ≡ Some duty → of_some u false test ≡ true → test duty ≡ true
-of_duty u duty test has h = subst (λ o. of_some o false test ≡ true) has h
+of_duty : (u : Option Duty) (duty : Duty) (test : Duty → Bool) → u ≡ Some duty → map_or u false test ≡ true → test duty ≡ true
+of_duty u duty test has h = subst (λ o. map_or o false test ≡ true) has h
 
 takeover_waited : (past : Past) (c : ℕ) (duty : Duty) → duty_now past ≡ Some duty → takes_over_at past c ≡ true
     → duty.wait_second ≤ c - max (heard past) (moved_at past)
@@ -122,13 +122,13 @@ takeover_waited past c duty has takes =
     leb-true duty.wait_second (c - max (heard past) (moved_at past))
     (of_duty (duty_now past) duty (λ u. nat_le u.wait_second (c - max (heard past) (moved_at past))) has
     (last_of_four (is_backup_root_now past) (has_moved past) (not (is_acting past))
-    (of_some (duty_now past) false (λ u. nat_le u.wait_second (c - max (heard past) (moved_at past)))) takes))
+    (map_or (duty_now past) false (λ u. nat_le u.wait_second (c - max (heard past) (moved_at past)))) takes))
 
 emission_waited : (past : Past) (c : ℕ) (duty : Duty) → duty_now past ≡ Some duty → emits_at past c ≡ true → duty.period ≤ c - sent_at past
 emission_waited past c duty has sends =
     leb-true duty.period (c - sent_at past)
     (of_duty (duty_now past) duty (λ u. nat_le u.period (c - sent_at past)) has
-    ((and_parts (is_acting past) (of_some (duty_now past) false (λ u. nat_le u.period (c - sent_at past))) sends).1))
+    ((and_parts (is_acting past) (map_or (duty_now past) false (λ u. nat_le u.period (c - sent_at past))) sends).1))
 
 -- Not early
 

@@ -1,8 +1,9 @@
 -- One way, in a list of steps: since its entry a device has not gone from backup to primary, nor from acting to anything else. From Pasts, by induction
 -- on the steps since.
-use Rattle.std.specs.Prelude.{◌≡◌, ℕ, Bool, true, false, ◌&&◌, List, nat_eq, Option, Some, None, is_some, option_map, refl, if◌then◌else◌}
+use Rattle.std.specs.Prelude.{◌≡◌, ℕ, Bool, true, false, ◌&&◌, List, nat_eq, Option, Some, is_some, option_map, if◌then◌else◌}
 use Rattle.std.proofs.Common.{sym, ◌∙◌, ap, subst}
-use Rattle.sd_checker.specs.Num.Lists.{of_some}
+use Rattle.sd_checker.specs.Num.Lists.{map_or}
+use Rattle.sd_checker.proofs.Num.Shared.{none_if_not_some}
 use Rattle.sd_history.specs.Core.Calls.{Past}
 use Rattle.sd_history.specs.Core.Words.{transition_of, after, taken_up, has_moved, is_acting, duty_now}
 use Rattle.sd_history.specs.Steps.{Act, Makes, Calls, Asks, Passes, Step}
@@ -17,19 +18,15 @@ pub record Later (steps : List Step) (d : ℕ) (old : Past) : Type 0 where
   pub there : past_in steps d ≡ Some past
   pub inside : Inside old past
 
-is_none : {A : Type 0} (o : Option A) → is_some o ≡ false → o ≡ None
-is_none None h = refl
-is_none (Some x) h = cc
-
 by_act : (act : Act) (d : ℕ) (old past : Past) (p : Option Past) → p ≡ Some past → Inside old past → enters_by act d p ≡ false
     → (q : Past) × (past_after act d p ≡ Some q) × Inside old q
 by_act (Makes m making) d old past p is inside none = (past, ap (λ b. if b then Some (new_past making) else p) none ∙ is, inside)
 by_act (Calls m call) d old past p is inside none =
-    go (nat_eq m d) (subst (λ o. (nat_eq m d && of_some o false (λ q. is_some (taken_up (transition_of q call)))) ≡ false) is none)
+    go (nat_eq m d) (subst (λ o. (nat_eq m d && map_or o false (λ q. is_some (taken_up (transition_of q call)))) ≡ false) is none)
   where
     go : (b : Bool) → (b && is_some (taken_up (transition_of past call))) ≡ false
         → (q : Past) × ((if b then option_map (λ x. after x call) p else p) ≡ Some q) × Inside old q
-    go true none' = (after past call, ap (option_map (λ x. after x call)) is, onward call (is_none (taken_up (transition_of past call)) none') inside)
+    go true none' = (after past call, ap (option_map (λ x. after x call)) is, onward call (none_if_not_some (taken_up (transition_of past call)) none') inside)
     go false none' = (past, is, inside)
 by_act (Asks m counter) d old past p is inside none = (past, is, inside)
 by_act Passes d old past p is inside none = (past, is, inside)

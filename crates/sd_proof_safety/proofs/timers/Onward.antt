@@ -4,7 +4,7 @@ use Rattle.std.specs.Prelude.{◌≡◌, ℕ, ◌+◌, ◌-◌, ◌<◌, ◌≤�
 use Rattle.std.specs.List.{list_any}
 use Rattle.std.proofs.Common.{arith, sym, ◌∙◌, ap, subst, inl, inr}
 use Rattle.std.proofs.lemmas.Bool.{and_parts, leb-false, both_ways, cases_lt}
-use Rattle.sd_checker.specs.Num.Lists.{of_some}
+use Rattle.sd_checker.specs.Num.Lists.{map_or}
 use Rattle.sd_checker.specs.Num.Numbers.{up, keeps_rate}
 use Rattle.sd_checker.specs.Num.declared.Rates.{Rates}
 use Rattle.sd_checker.specs.Plan.declared.Duty.{Duty}
@@ -48,13 +48,13 @@ module _ (rates : Rates) (past : Past) (r : ℕ) (t : Times) (c : ℕ) (keeps : 
       → is_sealed past ≡ true → moves_at past c ≡ false
       → r ≤ max (t.heard + up rates wait) q
   not_silent duty wait q has waits still acts sealed stays =
-      let test : of_some (option_and_then wait_to_move (duty_now past)) false (λ w. nat_le w (c - heard past)) ≡ false =
+      let test : map_or (option_and_then wait_to_move (duty_now past)) false (λ w. nat_le w (c - heard past)) ≡ false =
       last_false (may_move past) (has_moved past) (is_sealed past)
-      (of_some (option_and_then wait_to_move (duty_now past)) false (λ w. nat_le w (c - heard past)))
+      (map_or (option_and_then wait_to_move (duty_now past)) false (λ w. nat_le w (c - heard past)))
       (others_may_move past duty has acts) still sealed stays in
       let wait_is : option_and_then wait_to_move (duty_now past) ≡ Some wait = ap (option_and_then wait_to_move) has ∙ waits in
       let short : c - heard past < wait =
-      leb-false wait (c - heard past) (subst (λ o. of_some o false (λ w. nat_le w (c - heard past)) ≡ false) wait_is test) in
+      leb-false wait (c - heard past) (subst (λ o. map_or o false (λ w. nat_le w (c - heard past)) ≡ false) wait_is test) in
       within r t.heard (up rates wait) q (timer_short rates wait (c - heard past) (r - t.heard) keeps.heard short)
     where
       within : (r h u q : ℕ) → r - h < u → r ≤ max (h + u) q
@@ -64,12 +64,12 @@ module _ (rates : Rates) (past : Past) (r : ℕ) (t : Times) (c : ℕ) (keeps : 
       → takes_over_at past c ≡ false
       → r ≤ max t.heard t.moved + up rates duty.wait_second
   not_rested duty has backup moved acts stays =
-      let test : of_some (duty_now past) false (λ u. nat_le u.wait_second (c - max (heard past) (moved_at past))) ≡ false =
+      let test : map_or (duty_now past) false (λ u. nat_le u.wait_second (c - max (heard past) (moved_at past))) ≡ false =
       last_false_of_takeover (is_backup_root_now past) (has_moved past) (is_acting past)
-      (of_some (duty_now past) false (λ u. nat_le u.wait_second (c - max (heard past) (moved_at past)))) backup moved acts stays in
+      (map_or (duty_now past) false (λ u. nat_le u.wait_second (c - max (heard past) (moved_at past)))) backup moved acts stays in
       let short : c - max (heard past) (moved_at past) < duty.wait_second =
       leb-false duty.wait_second (c - max (heard past) (moved_at past))
-      (subst (λ o. of_some o false (λ (u : Duty). nat_le u.wait_second (c - max (heard past) (moved_at past))) ≡ false) has test) in
+      (subst (λ o. map_or o false (λ (u : Duty). nat_le u.wait_second (c - max (heard past) (moved_at past))) ≡ false) has test) in
       by_order (cases_lt (heard past) (moved_at past)) short
     where
       first : (r h m u : ℕ) → r - h < u → r ≤ max h m + u
@@ -90,10 +90,10 @@ module _ (rates : Rates) (past : Past) (r : ℕ) (t : Times) (c : ℕ) (keeps : 
   not_due : (duty : Duty) (period : ℕ) → duty_now past ≡ Some duty → duty.period ≡ period → is_acting past ≡ true → emits_at past c ≡ false
       → r ≤ t.sent + up rates period
   not_due duty period has is acts stays =
-      let test : of_some (duty_now past) false (λ u. nat_le u.period (c - sent_at past)) ≡ false =
-      last_false_of_two (is_acting past) (of_some (duty_now past) false (λ u. nat_le u.period (c - sent_at past))) acts stays in
+      let test : map_or (duty_now past) false (λ u. nat_le u.period (c - sent_at past)) ≡ false =
+      last_false_of_two (is_acting past) (map_or (duty_now past) false (λ u. nat_le u.period (c - sent_at past))) acts stays in
       let short : c - sent_at past < duty.period =
-      leb-false duty.period (c - sent_at past) (subst (λ o. of_some o false (λ (u : Duty). nat_le u.period (c - sent_at past)) ≡ false) has test) in
+      leb-false duty.period (c - sent_at past) (subst (λ o. map_or o false (λ (u : Duty). nat_le u.period (c - sent_at past)) ≡ false) has test) in
       within r t.sent (up rates period) (timer_short rates period (c - sent_at past) (r - t.sent) keeps.sent (subst (λ p. c - sent_at past < p) is short))
     where
       within : (r h u : ℕ) → r - h < u → r ≤ h + u
@@ -133,7 +133,7 @@ module _ (rates : Rates) (period : ℕ) (past : Past) (r : ℕ) (t : Times) (due
 
   emitted : (c : ℕ) → emits_at past c ≡ true → After (Tick c) Emitted
   emitted c e keeps =
-      let acts' : is_acting past ≡ true = (and_parts (is_acting past) (of_some (duty_now past) false (λ duty. nat_le duty.period (c - sent_at past))) e).0 in
+      let acts' : is_acting past ≡ true = (and_parts (is_acting past) (map_or (duty_now past) false (λ duty. nat_le duty.period (c - sent_at past))) e).0 in
       record {
         primary = λ duty wait q has waits still acts seal. absurd (both_ways (is_acting past) acts acts');
         backup = λ duty has backup moved acts. absurd (both_ways (is_acting past) acts acts');
@@ -148,7 +148,7 @@ module _ (rates : Rates) (period : ℕ) (past : Past) (r : ℕ) (t : Times) (due
   took : (c : ℕ) → After (Tick c) TookOver
   took c keeps =
       let acts' : is_acting (added past (Tick c) TookOver) ≡ true =
-      or_true (of_some (later_entry past) (starts_as_root past.making) (λ entry. is_commit entry.transition)) (has_taken_over past) in
+      or_true (map_or (later_entry past) (starts_as_root past.making) (λ entry. is_commit entry.transition)) (has_taken_over past) in
       record {
         primary = λ duty wait q has waits still acts seal. absurd (both_ways (is_acting (added past (Tick c) TookOver)) acts acts');
         backup = λ duty has backup moved acts. absurd (both_ways (is_acting (added past (Tick c) TookOver)) acts acts');
@@ -239,7 +239,7 @@ module _ (rates : Rates) (period : ℕ) (past : Past) (r : ℕ) (t : Times) (due
       sealing : (o : Option ℕ) → t.seal ≡ o → (duty : Duty) (wait q : ℕ) → duty_now past ≡ Some duty → wait_to_move duty ≡ Some wait → has_moved past ≡ false
           → is_acting past ≡ false
           → (if is_some o then o else Some r) ≡ Some q → t.tick ≤ max (t.heard + up rates wait) q
-      sealing None is duty wait q has waits still acts seal = let at : r ≡ q = ap (λ o. of_some o r (λ z. z)) seal in omega (arith, at, before)
+      sealing None is duty wait q has waits still acts seal = let at : r ≡ q = ap (λ o. map_or o r (λ z. z)) seal in omega (arith, at, before)
       sealing (Some q') is duty wait q has waits still acts seal = due.primary duty wait q has waits still acts (is ∙ seal)
 
   nothing : (call : Call) → is_tick call ≡ false → After call Nothing

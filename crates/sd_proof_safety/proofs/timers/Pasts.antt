@@ -4,15 +4,14 @@ use Rattle.std.specs.Prelude.{◌≡◌, ℕ, ◌-◌, Bool, true, false, ◌&&�
 use Rattle.std.specs.List.{list_any, list_all}
 use Rattle.std.proofs.Common.{sym, ◌∙◌, ap, subst}
 use Rattle.std.proofs.lemmas.Bool.{and_parts, not-true, both_ways}
-use Rattle.sd_checker.specs.Num.Lists.{of_some, latest, leading}
+use Rattle.sd_checker.specs.Num.Lists.{map_or, find_map_or, leading}
 use Rattle.sd_checker.specs.Plan.declared.Duty.{Duty}
-use Rattle.sd_checker.specs.Plan.declared.Role.{Role}
 use Rattle.sd_checker.specs.Plan.declared.Role.TheVariants as role
 use Rattle.sd_history.specs.Core.Calls.{Making, Started, Joined, Call, Transition, Entered, Committed, Recommitted, Accepted, Moved, TookOver, Emitted, Nothing, Did, Past}
 use Rattle.sd_history.specs.Core.Living.{Life}
 use Rattle.sd_history.specs.Core.Words.{transition_of, after, taken_up, takes_up, later_entry, duty_now, is_sealed, has_moved, is_acting, is_move, is_commit, moved_at, may_move, wait_to_move, first_duty, starts_as_root, heard, takes_over_at, moves_at, is_backup_root_now, making_counter, counter_of}
 use Rattle.sd_history.specs.Core.Lives.{past_by, past_of}
-use Rattle.sd_history.proofs.Core.Reached.{Reached, reached, added, has_taken_over}
+use Rattle.sd_history.proofs.Core.Reached.{Reached, reached, added, has_taken_over, or-more}
 use Rattle.sd_history.specs.Steps.{Step}
 use Rattle.sd_history.specs.Lives.{life_in}
 use Rattle.sd_history.specs.Chronicle.{past_in}
@@ -20,6 +19,7 @@ use Rattle.sd_history.proofs.Bridges.{past_of_life}
 use Rattle.sd_proof_safety.specs.timers.Times.{moves}
 use Rattle.sd_proof_safety.proofs.timers.Transitions.{Cases, by_case}
 use Rattle.sd_history.proofs.Given.{some_is}
+use Rattle.sd_history.proofs.Core.Ticks.{same_duty, no_wait_as_root}
 
 -- what is true of the past of each life is true of each past in a list of steps
 pub of_life : (P : Past → Type 0) → ((making : Making) (calls : List Call) → P (past_by making calls)) → (steps : List Step) (d : ℕ) (past : Past)
@@ -43,11 +43,6 @@ stays_moved past call TookOver none moved = moved
 stays_moved past call Emitted none moved = moved
 stays_moved past call Nothing none moved = moved
 
-or-more : (a b c : Bool) → (a || c) ≡ true → (a || (b || c)) ≡ true
-or-more true b c h = refl
-or-more false true c h = refl
-or-more false false c h = h
-
 pub stays_acting : (past : Past) (call : Call) (transition : Transition) → taken_up transition ≡ None → is_acting past ≡ true
     → is_acting (added past call transition) ≡ true
 stays_acting past call (Entered duty edge) none acts = cc
@@ -56,7 +51,7 @@ stays_acting past call (Recommitted duty) none acts = cc
 stays_acting past call (Accepted edge) none acts = acts
 stays_acting past call Moved none acts = acts
 stays_acting past call TookOver none acts =
-    or-more (of_some (later_entry past) (starts_as_root past.making) (λ entry. is_commit entry.transition)) true (has_taken_over past) acts
+    or-more (map_or (later_entry past) (starts_as_root past.making) (λ entry. is_commit entry.transition)) true (has_taken_over past) acts
 stays_acting past call Emitted none acts = acts
 stays_acting past call Nothing none acts = acts
 
@@ -73,7 +68,7 @@ pub inside_acting : (old past : Past) → Inside old past → is_acting old ≡ 
 inside_acting old _ itself acts = acts
 inside_acting old _ (onward {past = past} call none rest) acts = stays_acting past call (transition_of past call) none (inside_acting old past rest acts)
 
-was_false : (a b : Bool) → (a ≡ true → b ≡ true) → b ≡ false → a ≡ false
+pub was_false : (a b : Bool) → (a ≡ true → b ≡ true) → b ≡ false → a ≡ false
 was_false true b goes off = sym (goes refl) ∙ off
 was_false false b goes off = refl
 
@@ -85,7 +80,7 @@ pub was_not_acting : (old past : Past) → Inside old past → is_acting past �
 was_not_acting old past inside still = was_false (is_acting old) (is_acting past) (inside_acting old past inside) still
 
 duty_kept : (past : Past) (call : Call) (transition : Transition) → taken_up transition ≡ None → duty_now (added past call transition) ≡ duty_now past
-duty_kept past call transition none = ap (λ o. of_some (option_map Some o) (duty_now past) (λ told. told)) none
+duty_kept past call transition none = ap (λ o. map_or (option_map Some o) (duty_now past) (λ told. told)) none
 
 -- the duty of an entry stays
 pub inside_duty : (old past : Past) → Inside old past → duty_now past ≡ duty_now old
@@ -109,56 +104,33 @@ pub record Takes (past : Past) : Type 0 where
 pub takeover_from_backup : (past : Past) (c : ℕ) → takes_over_at past c ≡ true → Takes past
 takeover_from_backup past c takes =
     let parts = first_two (is_backup_root_now past) (has_moved past) (not (is_acting past))
-    (of_some (duty_now past) false (λ duty. nat_le duty.wait_second (c - max (heard past) (moved_at past)))) takes in
+    (map_or (duty_now past) false (λ duty. nat_le duty.wait_second (c - max (heard past) (moved_at past)))) takes in
     record { backup_root = parts.0; moved = parts.1; acts_not = not-true (is_acting past) parts.2 }
-
--- without a later entry the duty is that of the making
-same_duty : (did : List Did) (start : Option Duty) → find takes_up did ≡ None → latest (λ x. option_map Some (taken_up x.transition)) did start ≡ start
-same_duty [] start none = refl
-same_duty (x ∷ earlier) start none = go (taken_up x.transition) (same_duty earlier start) none
-  where
-    go : (duty : Option Duty) → (find takes_up earlier ≡ None → latest (λ x. option_map Some (taken_up x.transition)) earlier start ≡ start)
-        → (if is_some duty then Some x else find takes_up earlier) ≡ None
-        → of_some (option_map Some duty) (latest (λ x. option_map Some (taken_up x.transition)) earlier start) (λ told. told) ≡ start
-    go (Some duty) rest none' = cc
-    go None rest none' = rest none'
 
 -- with one it is some duty
 some_duty : (did : List Did) (start : Option Duty) (entry : Did) → find takes_up did ≡ Some entry
-    → (duty : Duty) × (latest (λ x. option_map Some (taken_up x.transition)) did start ≡ Some duty)
+    → (duty : Duty) × (find_map_or (λ x. option_map Some (taken_up x.transition)) did start ≡ Some duty)
 some_duty [] start entry same = cc
 some_duty (x ∷ earlier) start entry same = go (taken_up x.transition) (some_duty earlier start entry) same
   where
     go : (duty : Option Duty)
-        → (find takes_up earlier ≡ Some entry → (duty : Duty) × (latest (λ x. option_map Some (taken_up x.transition)) earlier start ≡ Some duty))
+        → (find takes_up earlier ≡ Some entry → (duty : Duty) × (find_map_or (λ x. option_map Some (taken_up x.transition)) earlier start ≡ Some duty))
         → (if is_some duty then Some x else find takes_up earlier) ≡ Some entry
-        → (u : Duty) × (of_some (option_map Some duty) (latest (λ x. option_map Some (taken_up x.transition)) earlier start) (λ told. told) ≡ Some u)
+        → (u : Duty) × (map_or (option_map Some duty) (find_map_or (λ x. option_map Some (taken_up x.transition)) earlier start) (λ told. told) ≡ Some u)
     go (Some duty) rest same' = (duty, refl)
     go None rest same' = rest same'
-
-no_wait_as_root : (making : Making) → starts_as_root making ≡ true → option_and_then wait_to_move (first_duty making) ≡ None
-no_wait_as_root (Started duty counter clock eps) acts = go duty.role acts
-  where
-    go : (what : Role) → elim what as (λ (x : Role). Bool) [ role.Root ↦ true | _ ↦ false ] ≡ true
-        → elim what as
-        (λ (x : Role). Option ℕ)
-        [ role.Root ↦ None | role.BackupRoot ↦ Some duty.wait_first | role.Ordinary ↦ if is_some duty.backup then Some duty.wait else None ] ≡ None
-    go role.Root acts' = refl
-    go role.BackupRoot acts' = cc
-    go role.Ordinary acts' = cc
-no_wait_as_root (Joined rates counter clock eps) acts = cc
 
 root_has_duty : (making : Making) → starts_as_root making ≡ true → (duty : Duty) × (first_duty making ≡ Some duty)
 root_has_duty (Started duty counter clock eps) acts = (duty, refl)
 root_has_duty (Joined rates counter clock eps) acts = cc
 
 -- a device that acts since its entry does not wait to move
-entry_waits_not : (past : Past) → of_some (later_entry past) (starts_as_root past.making) (λ entry. is_commit entry.transition) ≡ true → may_move past ≡ true
+entry_waits_not : (past : Past) → map_or (later_entry past) (starts_as_root past.making) (λ entry. is_commit entry.transition) ≡ true → may_move past ≡ true
     → option_and_then wait_to_move (duty_now past) ≡ None
 entry_waits_not past acts lets = go (later_entry past) refl acts lets
   where
-    go : (entry : Option Did) → later_entry past ≡ entry → of_some entry (starts_as_root past.making) (λ x. is_commit x.transition) ≡ true
-        → of_some entry (is_some (first_duty past.making)) (λ x. not (is_commit x.transition)) ≡ true
+    go : (entry : Option Did) → later_entry past ≡ entry → map_or entry (starts_as_root past.making) (λ x. is_commit x.transition) ≡ true
+        → map_or entry (is_some (first_duty past.making)) (λ x. not (is_commit x.transition)) ≡ true
         → option_and_then wait_to_move (duty_now past) ≡ None
     go None is acts' lets' = ap (λ d. option_and_then wait_to_move d) (same_duty past.did (first_duty past.making) is) ∙ no_wait_as_root past.making acts'
     go (Some x) is acts' lets' = absurd (both_ways (is_commit x.transition) (not-true (is_commit x.transition) lets') acts')
@@ -171,20 +143,20 @@ pub record Goes (past : Past) : Type 0 where
 pub move_from_primary : (past : Past) (c : ℕ) → Reached past → moves_at past c ≡ true → Goes past
 move_from_primary past c reached goes =
     let parts = first_two (may_move past) (not (has_moved past)) (is_sealed past)
-    (of_some (option_and_then wait_to_move (duty_now past)) false (λ wait. nat_le wait (c - heard past))) goes in
+    (map_or (option_and_then wait_to_move (duty_now past)) false (λ wait. nat_le wait (c - heard past))) goes in
     let unmoved : has_moved past ≡ false = not-true (has_moved past) parts.1 in
     record {
       unmoved = unmoved;
       sealed = parts.2;
-      acts_not = acts_not (of_some (later_entry past) (starts_as_root past.making) (λ entry. is_commit entry.transition)) (has_taken_over past)
+      acts_not = acts_not (map_or (later_entry past) (starts_as_root past.making) (λ entry. is_commit entry.transition)) (has_taken_over past)
           (λ e. entry_waits_not past e parts.0) (λ e. both_ways (has_moved past) unmoved (reached.took_over e)) parts.3;
     }
   where
     acts_not : (a b : Bool) → (a ≡ true → option_and_then wait_to_move (duty_now past) ≡ None) → (b ≡ true → ⊥)
-        → of_some (option_and_then wait_to_move (duty_now past)) false (λ wait. nat_le wait (c - heard past)) ≡ true → (a || b) ≡ false
+        → map_or (option_and_then wait_to_move (duty_now past)) false (λ wait. nat_le wait (c - heard past)) ≡ true → (a || b) ≡ false
     acts_not true b never none waits =
-        let nothing : of_some (option_and_then wait_to_move (duty_now past)) false (λ wait. nat_le wait (c - heard past)) ≡ false =
-        ap (λ o. of_some o false (λ wait. nat_le wait (c - heard past))) (never refl) in
+        let nothing : map_or (option_and_then wait_to_move (duty_now past)) false (λ wait. nat_le wait (c - heard past)) ≡ false =
+        ap (λ o. map_or o false (λ wait. nat_le wait (c - heard past))) (never refl) in
         cc
     acts_not false true never none waits = absurd (none refl)
     acts_not false false never none waits = refl
@@ -198,8 +170,8 @@ others_may_move past duty has acts = go (later_entry past) refl acts
     commit_or false took a = refl
 
     go : (entry : Option Did) → later_entry past ≡ entry
-        → (of_some entry (starts_as_root past.making) (λ x. is_commit x.transition) || has_taken_over past) ≡ false
-        → of_some entry (is_some (first_duty past.making)) (λ x. not (is_commit x.transition)) ≡ true
+        → (map_or entry (starts_as_root past.making) (λ x. is_commit x.transition) || has_taken_over past) ≡ false
+        → map_or entry (is_some (first_duty past.making)) (λ x. not (is_commit x.transition)) ≡ true
     go None is acts' = ap is_some (sym (same_duty past.did (first_duty past.making) is) ∙ has)
     go (Some x) is acts' = commit_or (is_commit x.transition) (has_taken_over past) acts'
 
@@ -211,7 +183,7 @@ HasDuty past = is_acting past ≡ true → (duty : Duty) × (duty_now past ≡ S
 backup_root_has : (past : Past) → is_backup_root_now past ≡ true → (duty : Duty) × (duty_now past ≡ Some duty)
 backup_root_has past is = go (duty_now past) refl is
   where
-    go : (u : Option Duty) → duty_now past ≡ u → of_some u false (λ duty. elim duty.role [ role.BackupRoot ↦ true | _ ↦ false ]) ≡ true
+    go : (u : Option Duty) → duty_now past ≡ u → map_or u false (λ duty. elim duty.role [ role.BackupRoot ↦ true | _ ↦ false ]) ≡ true
         → (duty : Duty) × (duty_now past ≡ Some duty)
     go None has is' = cc
     go (Some duty) has is' = (duty, has)
@@ -284,7 +256,7 @@ counters making (call ∷ earlier) =
     (after_counts (past_by making earlier) (counters making earlier)) call
 
 latest_move : (did : List Did) (a b : ℕ) → list_all counted did ≡ true → list_any (λ x. is_move x.transition) (leading (λ x. not (takes_up x)) did) ≡ true
-    → latest moves did a ≡ latest moves did b
+    → find_map_or moves did a ≡ find_map_or moves did b
 unfolding counted
 latest_move [] a b all any = cc
 latest_move (x ∷ earlier) a b all any =
@@ -296,15 +268,15 @@ latest_move (x ∷ earlier) a b all any =
     by_entry false h = h
 
     by_move : (m : Bool) (o : Option ℕ) → (not m || is_some o) ≡ true
-        → (list_any (λ y. is_move y.transition) (leading (λ y. not (takes_up y)) earlier) ≡ true → latest moves earlier a ≡ latest moves earlier b)
+        → (list_any (λ y. is_move y.transition) (leading (λ y. not (takes_up y)) earlier) ≡ true → find_map_or moves earlier a ≡ find_map_or moves earlier b)
         → (m || list_any (λ y. is_move y.transition) (leading (λ y. not (takes_up y)) earlier)) ≡ true
-        → of_some (if m then o else None) (latest moves earlier a) (λ told. told) ≡ of_some (if m then o else None) (latest moves earlier b) (λ told. told)
+        → map_or (if m then o else None) (find_map_or moves earlier a) (λ told. told) ≡ map_or (if m then o else None) (find_map_or moves earlier b) (λ told. told)
     by_move true None c rest any' = cc
     by_move true (Some n) c rest any' = refl
     by_move false o c rest any' = rest any'
 
 -- a device that moved since its entry has a latest move, whatever stands for none
 pub moved_counter : (steps : List Step) (d : ℕ) (past : Past) → past_in steps d ≡ Some past → has_moved past ≡ true
-    → latest moves past.did (making_counter past.making) ≡ moved_at past
+    → find_map_or moves past.did (making_counter past.making) ≡ moved_at past
 unfolding HasCounters
 moved_counter steps d past is moved = latest_move past.did (making_counter past.making) 0 (of_life HasCounters counters steps d past is) moved

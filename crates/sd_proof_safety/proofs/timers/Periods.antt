@@ -2,7 +2,7 @@
 -- later than the latest event. By induction on the steps.
 use Rattle.std.specs.Prelude.{◌≡◌, ℕ, ◌≤◌, Bool, true, false, ◌||◌, List, [], ◌∷◌, nat_eq, Option, Some, None, option_map, refl, if◌then◌else◌}
 use Rattle.std.proofs.Common.{arith, ◌∙◌, subst}
-use Rattle.sd_checker.specs.Num.Lists.{of_some, same_number}
+use Rattle.sd_checker.specs.Num.Lists.{map_or, same_number}
 use Rattle.sd_checker.specs.Plan.declared.Duty.{Duty}
 use Rattle.sd_history.specs.Core.Calls.{Making, Call, Tick, Receive, Fix, Give, Commit, Seal, Did, Past}
 use Rattle.sd_history.specs.Core.Words.{after, first_duty, duty_given}
@@ -11,9 +11,8 @@ use Rattle.sd_history.specs.World.{Setting, makes, latest_reference}
 use Rattle.sd_history.specs.Steps.{Act, Makes, Calls, Asks, Passes, Step, seen_of}
 use Rattle.sd_history.specs.Chronicle.{past_in, past_after, new_past}
 use Rattle.sd_history.specs.Premises.{latest_tick}
-use Rattle.sd_history.proofs.Given.{HasDuties, GivesSuch, duties_after}
+use Rattle.sd_history.proofs.Given.{HasDuties, GivesSuch, duties_after, some_is}
 use Rattle.sd_proof_safety.specs.timers.Times.{AreTimed, gives_duty, did_by, reference_after, reference_by}
-use Rattle.sd_proof_safety.proofs.timers.Marks.{some_is}
 
 -- each duty that a step gives is such
 abbrev pub EachGives : (Duty → Type 0) → List Step → Type 0
@@ -67,7 +66,7 @@ periods_in setting steps timed d past is = duties_in (HasPeriod setting.net.para
 
 -- Nothing is later than the latest event.
 
-told_within : (o : Option ℕ) (r before l : ℕ) → before ≤ l → l ≤ r → of_some o before (λ c. r) ≤ r
+told_within : (o : Option ℕ) (r before l : ℕ) → before ≤ l → l ≤ r → map_or o before (λ c. r) ≤ r
 told_within None r before l a b = omega (arith, a, b)
 told_within (Some c) r before l a b = omega arith
 
@@ -79,7 +78,7 @@ after_within f (Makes m making) d r before l p a b = go (nat_eq m d)
     go false = omega (arith, a, b)
 after_within f (Calls m call) d r before l p a b = go (nat_eq m d) p
   where
-    go : (x : Bool) (q : Option Past) → (if x then of_some q before (λ y. of_some (f (did_by y call)) before (λ c. r)) else before) ≤ r
+    go : (x : Bool) (q : Option Past) → (if x then map_or q before (λ y. map_or (f (did_by y call)) before (λ c. r)) else before) ≤ r
     go true None = omega (arith, a, b)
     go true (Some y) = told_within (f (did_by y call)) r before l a b
     go false q = omega (arith, a, b)
@@ -99,6 +98,6 @@ tick_within setting (s ∷ earlier) timed d =
     go (same_number (ticked s.seen.event) d || makes d s.seen.event) (tick_within setting earlier timed.0 d) timed.1.goes_on
   where
     go : (b : Bool) → latest_tick (seen_of earlier) d ≤ latest_reference (seen_of earlier) → latest_reference (seen_of earlier) ≤ reference_of s.seen.event
-        → of_some (if b then Some (reference_of s.seen.event) else None) (latest_tick (seen_of earlier) d) (λ x. x) ≤ reference_of s.seen.event
+        → map_or (if b then Some (reference_of s.seen.event) else None) (latest_tick (seen_of earlier) d) (λ x. x) ≤ reference_of s.seen.event
     go true a b = omega arith
     go false a b = omega (arith, a, b)

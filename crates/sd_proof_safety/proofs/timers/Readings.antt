@@ -3,11 +3,12 @@
 use Rattle.std.specs.Prelude.{◌≡◌, ℕ, ◌-◌, ◌≤◌, Bool, true, false, ◌||◌, List, [], ◌∷◌, ◌++◌, Option, Some, None, option_map, option_to_list, refl, if◌then◌else◌}
 use Rattle.std.specs.List.{list_all}
 use Rattle.std.proofs.Common.{ap, subst}
-use Rattle.std.proofs.lemmas.Bool.{and_parts, eqb-true}
-use Rattle.sd_checker.specs.Num.Lists.{of_some, same_number}
+use Rattle.std.proofs.lemmas.Bool.{and_parts}
+use Rattle.sd_checker.specs.Num.Lists.{map_or, same_number}
 use Rattle.sd_checker.specs.Num.Numbers.{low, up, keeps_rate}
 use Rattle.sd_checker.specs.Num.declared.Rates.{Rates}
 use Rattle.sd_checker.specs.Topo.Network.{rates_of}
+use Rattle.sd_checker.proofs.Num.Shared.{same_number-some}
 use Rattle.sd_history.specs.Sched.Events.{reference_of, device_of, counter_of}
 use Rattle.sd_history.specs.World.{Setting, Seen, makes}
 use Rattle.sd_history.specs.Premises.{readings, reads_honestly, drift_holds}
@@ -28,15 +29,15 @@ number_is None d same = cc
 number_is (Some x) d same = (x, refl, same)
 
 some_number : {x y : ℕ} → Some x ≡ Some y → x ≡ y
-some_number {x = x} same = ap (λ o. of_some o x (λ z. z)) same
+some_number {x = x} same = ap (λ o. map_or o x (λ z. z)) same
 
 -- an honest event's reading keeps the rates with each reading before it
 pub honest_reading : (setting : Setting) (s : Seen) (earlier : List Seen) (d c : ℕ) (x : ℕ × ℕ) → reads_honestly setting s earlier ≡ true
     → device_of s.event ≡ Some d → counter_of s.event ≡ Some c → makes d s.event ≡ false
     → Among x (readings earlier d) → Keeps (rates_of setting.net d) (reference_of s.event, c) x
-honest_reading setting s earlier d c x honest named reads none a =
+honest_reading setting s earlier d c x honest same_number-some reads none a =
     passes (λ r. keeps_rate (rates_of setting.net d) (c - r.1) (reference_of s.event - r.0)) a
-    (by_device (device_of s.event) named (by_counter (counter_of s.event) reads) honest)
+    (by_device (device_of s.event) same_number-some (by_counter (counter_of s.event) reads) honest)
   where
     rest : ℕ → ℕ → Bool
     rest d c = makes d s.event || list_all (λ r. keeps_rate (rates_of setting.net d) (c - r.1) (reference_of s.event - r.0)) (readings earlier d)
@@ -46,7 +47,7 @@ honest_reading setting s earlier d c x honest named reads none a =
     not_made false all none' h = h
 
     by_counter : (o : Option ℕ) → o ≡ Some c
-        → of_some o true
+        → map_or o true
         (λ c'. makes d s.event || list_all (λ r. keeps_rate (rates_of setting.net d) (c' - r.1) (reference_of s.event - r.0)) (readings earlier d)) ≡ true
         → list_all (λ r. keeps_rate (rates_of setting.net d) (c - r.1) (reference_of s.event - r.0)) (readings earlier d) ≡ true
     by_counter None same h = cc
@@ -56,16 +57,16 @@ honest_reading setting s earlier d c x honest named reads none a =
         ≡ true) (some_number same) h)
 
     by_device : (o : Option ℕ) → o ≡ Some d
-        → (of_some (counter_of s.event) true (λ c'. makes d s.event
+        → (map_or (counter_of s.event) true (λ c'. makes d s.event
         || list_all (λ r. keeps_rate (rates_of setting.net d) (c' - r.1) (reference_of s.event - r.0)) (readings earlier d)) ≡ true
         → list_all (λ r. keeps_rate (rates_of setting.net d) (c - r.1) (reference_of s.event - r.0)) (readings earlier d) ≡ true)
-        → of_some o true (λ d'.
-        of_some (counter_of s.event) true (λ c'. makes d' s.event
+        → map_or o true (λ d'.
+        map_or (counter_of s.event) true (λ c'. makes d' s.event
         || list_all (λ r. keeps_rate (rates_of setting.net d') (c' - r.1) (reference_of s.event - r.0)) (readings earlier d'))) ≡ true
         → list_all (λ r. keeps_rate (rates_of setting.net d) (c - r.1) (reference_of s.event - r.0)) (readings earlier d) ≡ true
     by_device None same go h = cc
     by_device (Some d') same go h =
-        go (subst (λ n. of_some (counter_of s.event) true (λ c'. makes n s.event
+        go (subst (λ n. map_or (counter_of s.event) true (λ c'. makes n s.event
         || list_all (λ r. keeps_rate (rates_of setting.net n) (c' - r.1) (reference_of s.event - r.0)) (readings earlier n)) ≡ true)
         (some_number same) h)
 
@@ -88,10 +89,6 @@ newer_here rates r (Some c) old false head rest x y a = by_place x y r c (λ z b
     by_place x y r c head' (at_head b) = head' y b
     by_place x y r c head' (further b) = rest x y b
 
-pub named : (o : Option ℕ) (d : ℕ) → same_number o d ≡ true → o ≡ Some d
-named None d same = cc
-named (Some e) d same = ap Some (eqb-true e d same)
-
 -- two readings of one life keep the rates
 pub readings_keep : (setting : Setting) (seen : List Seen) (d : ℕ) → drift_holds setting seen ≡ true → (new old : ℕ × ℕ) → Newer new old (readings seen d)
     → Keeps (rates_of setting.net d) new old
@@ -109,7 +106,7 @@ readings_keep setting (s ∷ earlier) d honest new old a =
         else readings earlier d) → Keeps (rates_of setting.net d) new old
     by_name true same now before b =
         newer_here (rates_of setting.net d) (reference_of s.event) (counter_of s.event) (readings earlier d) (makes d s.event)
-        (λ c reads none x among. honest_reading setting s earlier d c x now (named (device_of s.event) d same) reads none among) before new old b
+        (λ c reads none x among. honest_reading setting s earlier d c x now (same_number-some (device_of s.event) d same) reads none among) before new old b
     by_name false same now before b = before new old b
 
 -- timer low: counters X apart or more, references Low(X) apart or more

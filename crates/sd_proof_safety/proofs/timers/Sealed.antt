@@ -3,24 +3,19 @@
 use Rattle.std.specs.Prelude.{◌≡◌, ℕ, ◌≤◌, Bool, true, false, ◌&&◌, List, [], ◌∷◌, nat_eq, Option, Some, None, is_some, option_map, refl, if◌then◌else◌}
 use Rattle.std.proofs.Common.{arith, sym, ◌∙◌, ap, subst}
 use Rattle.std.proofs.lemmas.Bool.{eq-eqb}
-use Rattle.sd_checker.specs.Num.Lists.{of_some}
+use Rattle.sd_checker.specs.Num.Lists.{map_or}
 use Rattle.sd_history.specs.Core.Calls.{Making, Call, Seal, Did, Past}
 use Rattle.sd_history.specs.Core.Words.{transition_of, after, taken_up, takes_up, later_entry, is_seal, is_sealed}
 use Rattle.sd_history.specs.Sched.Events.{reference_of}
 use Rattle.sd_history.specs.World.{Setting, latest_reference}
 use Rattle.sd_history.specs.Steps.{Act, Makes, Calls, Asks, Passes, Step, seen_of}
 use Rattle.sd_history.specs.Chronicle.{past_in, past_after, new_past}
+use Rattle.sd_history.proofs.Given.{some_is}
 use Rattle.sd_proof_safety.specs.timers.Times.{AreTimed, did_by, hears, seal_with, seal_after, reference_after, sealed_in, heard_in}
 use Rattle.sd_proof_safety.specs.timers.Since.{enters_by, SameEntry, at_once, goes_on}
-use Rattle.sd_proof_safety.proofs.timers.Marks.{some_is}
+use Rattle.sd_proof_safety.specs.moves.Wanted.{IsSealedBy}
 use Rattle.sd_proof_safety.proofs.timers.Periods.{reference_within}
 use Rattle.sd_proof_safety.proofs.timers.Deadlines.{due_in}
-
--- the device is sealed since some reference, and this is at most x
-pub record SealedBy (steps : List Step) (d x : ℕ) : Type 0 where
-  pub since : ℕ
-  pub seal : sealed_in steps d ≡ Some since
-  pub by : since ≤ x
 
 -- a seal is no later than the latest event
 with_within : (o : Option ℕ) (t b : Bool) (r l q : ℕ) → ((y : ℕ) → o ≡ Some y → y ≤ l) → l ≤ r
@@ -38,7 +33,7 @@ after_within (Makes m making) d r l q p o each le same = go (nat_eq m d) same
     go false h = let within : q ≤ l = each q h in omega (arith, within, le)
 after_within (Calls m call) d r l q p o each le same = go (nat_eq m d) p same
   where
-    go : (x : Bool) (y : Option Past) → (if x then of_some y o (λ z. seal_with r (did_by z call) o) else o) ≡ Some q → q ≤ r
+    go : (x : Bool) (y : Option Past) → (if x then map_or y o (λ z. seal_with r (did_by z call) o) else o) ≡ Some q → q ≤ r
     go true None h = let within : q ≤ l = each q h in omega (arith, within, le)
     go true (Some z) h = with_within o (takes_up (did_by z call)) (is_seal call) r l q each le h
     go false y h = let within : q ≤ l = each q h in omega (arith, within, le)
@@ -62,8 +57,8 @@ by_act : (act : Act) (d r q : ℕ) (p : Option Past) (o : Option ℕ) → enters
 by_act (Makes m making) d r q p o none same = ap (λ b. if b then Some r else o) none ∙ same
 by_act (Calls m call) d r q p o none same = go (nat_eq m d) p none
   where
-    go : (x : Bool) (y : Option Past) → (x && of_some y false (λ z. is_some (taken_up (transition_of z call)))) ≡ false
-        → (if x then of_some y o (λ z. seal_with r (did_by z call) o) else o) ≡ Some q
+    go : (x : Bool) (y : Option Past) → (x && map_or y false (λ z. is_some (taken_up (transition_of z call)))) ≡ false
+        → (if x then map_or y o (λ z. seal_with r (did_by z call) o) else o) ≡ Some q
     go true None h = same
     go true (Some z) h = kept (takes_up (did_by z call)) (is_seal call) o r q h same
     go false y h = same
@@ -77,10 +72,10 @@ seal_stays d q older _ (goes_on {s = s} {steps = steps} none since) same =
 
 -- a device that was sealed at this step, and kept its entry since, is sealed by it
 pub sealed_by_seal : (setting : Setting) (d : ℕ) (s : Step) (older steps : List Step) (old : Past) → AreTimed setting (s ∷ older) → s.act ≡ Calls d Seal
-    → past_in older d ≡ Some old → SameEntry d (s ∷ older) steps → SealedBy steps d (reference_of s.seen.event)
+    → past_in older d ≡ Some old → SameEntry d (s ∷ older) steps → IsSealedBy steps d (reference_of s.seen.event)
 sealed_by_seal setting d s older steps old timed act is since =
     let first = here (sealed_in older d) refl (seal_within setting older timed.0 d) timed.1.goes_on in
-    record { since = first.0; seal = seal_stays d first.0 (s ∷ older) steps since first.1; by = first.2 }
+    record { seal = first.0; sealed = seal_stays d first.0 (s ∷ older) steps since first.1; by = first.2 }
   where
     here : (o : Option ℕ) → sealed_in older d ≡ o → ((q : ℕ) → sealed_in older d ≡ Some q → q ≤ latest_reference (seen_of older))
         → latest_reference (seen_of older) ≤ reference_of s.seen.event
@@ -90,9 +85,9 @@ sealed_by_seal setting d s older steps old timed act is since =
         unfolded : (o : Option ℕ) → sealed_in older d ≡ o → sealed_in (s ∷ older) d ≡ (if is_some o then o else Some (reference_of s.seen.event))
         unfolded o same =
             ap (λ a. seal_after (reference_of s.seen.event) a d (past_in older d) (sealed_in older d)) act
-            ∙ ap (λ b. if b then of_some (past_in older d) (sealed_in older d)
+            ∙ ap (λ b. if b then map_or (past_in older d) (sealed_in older d)
             (λ z. seal_with (reference_of s.seen.event) (did_by z Seal) (sealed_in older d)) else sealed_in older d) (eq-eqb d d refl)
-            ∙ ap (λ p. of_some p (sealed_in older d) (λ z. seal_with (reference_of s.seen.event) (did_by z Seal) (sealed_in older d))) is
+            ∙ ap (λ p. map_or p (sealed_in older d) (λ z. seal_with (reference_of s.seen.event) (did_by z Seal) (sealed_in older d))) is
             ∙ ap (λ x. if is_some x then x else Some (reference_of s.seen.event)) same
 
         go : (o : Option ℕ) → sealed_in older d ≡ o → sealed_in (s ∷ older) d ≡ (if is_some o then o else Some (reference_of s.seen.event))
@@ -105,7 +100,7 @@ no_entry : (t : Bool) (x : Did) (o : Option Did) → (if t then Some x else o) �
 no_entry true x o same = cc
 no_entry false x o same = (refl, same)
 
-heard_later : (o : Option ℕ) (q h r : ℕ) → q ≤ h → h ≤ r → q ≤ of_some o h (λ c. r)
+heard_later : (o : Option ℕ) (q h r : ℕ) → q ≤ h → h ≤ r → q ≤ map_or o h (λ c. r)
 heard_later None q h r a b = a
 heard_later (Some c) q h r a b = omega (arith, a, b)
 
@@ -119,7 +114,7 @@ start_made making r h p o false each past same none = each past same none
 
 start_called : (call : Call) (r h : ℕ) (p : Option Past) (o : Option ℕ) (b : Bool) → ((x : Past) → p ≡ Some x → later_entry x ≡ None → Since o h) → h ≤ r
     → (past : Past) → (if b then option_map (λ x. after x call) p else p) ≡ Some past → later_entry past ≡ None
-    → Since (if b then of_some p o (λ z. seal_with r (did_by z call) o) else o) (if b then of_some p h (λ z. of_some (hears (did_by z call)) h (λ c. r)) else h)
+    → Since (if b then map_or p o (λ z. seal_with r (did_by z call) o) else o) (if b then map_or p h (λ z. map_or (hears (did_by z call)) h (λ c. r)) else h)
 start_called call r h None o true each le past same none = cc
 start_called call r h (Some x) o true each le past same none =
     let parts = no_entry (takes_up (did_by x call)) (did_by x call) (later_entry x) (subst (λ y. later_entry y ≡ None) (sym (some_is same)) none) in
@@ -149,9 +144,9 @@ started_since setting (s ∷ earlier) timed d past is none =
     before a b = omega (arith, a, b)
 
 pub sealed_from_start : (setting : Setting) (steps : List Step) → AreTimed setting steps → (d : ℕ) (past : Past) → past_in steps d ≡ Some past
-    → later_entry past ≡ None → SealedBy steps d (heard_in steps d)
+    → later_entry past ≡ None → IsSealedBy steps d (heard_in steps d)
 sealed_from_start setting steps timed d past is none = let since = started_since setting steps timed d past is none in
-    record { since = since.0; seal = since.1; by = since.2 }
+    record { seal = since.0; sealed = since.1; by = since.2 }
 
 -- a device is sealed where there is such a reference, and only there
 pub sealed_since : (setting : Setting) (steps : List Step) → AreTimed setting steps → (d : ℕ) (past : Past) → past_in steps d ≡ Some past

@@ -6,6 +6,7 @@ use Rattle.std.proofs.Math.Nat.{mul-le-mul_right, mul-le-mul_left}
 use Rattle.sd_checker.specs.Num.Numbers.{grow, low, up, keeps_rate}
 use Rattle.sd_checker.specs.Num.declared.Rates.{Rates}
 use Rattle.sd_checker.proofs.Num.Drift.{at_most_up, at_least_low}
+use Rattle.sd_checker.proofs.Num.Shared.{ceiling_rises}
 
 slower : (a b k : ℕ) → b ≤ 1000000 * k → (a + b + 999999) / 1000000 ≤ (a + 999999) / 1000000 + k
 slower a b k le = omega (arith, le)
@@ -18,9 +19,6 @@ grow_more : (ppm x k : ℕ) → ppm ≤ 1000000 → grow ppm (x + k) ≤ grow pp
 grow_more ppm x k le =
     let product : ppm * k ≤ 1000000 * k = mul-le-mul_right k le in
     rw (product_of_sum ppm x k) (slower (ppm * x) (ppm * k) k product)
-
-ceiling_rises : (a b : ℕ) → a ≤ b → (a + 999999) / 1000000 ≤ (b + 999999) / 1000000
-ceiling_rises a b le = omega (arith, le)
 
 pub grow_rises : (ppm x e : ℕ) → x ≤ e → grow ppm x ≤ grow ppm e
 grow_rises ppm x e le = ceiling_rises (ppm * x) (ppm * e) (mul-le-mul_left ppm le)

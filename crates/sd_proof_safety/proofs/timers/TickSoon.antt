@@ -3,13 +3,14 @@
 use Rattle.std.specs.Prelude.{◌≡◌, ℕ, ◌+◌, ◌<◌, ◌≤◌, Bool, true, false, ◌&&◌, ◌||◌, not, List, [], ◌∷◌, length, nat_le, Some, None, refl, ◌⊎◌, if◌then◌else◌}
 use Rattle.std.proofs.Common.{arith, inl, inr}
 use Rattle.std.proofs.lemmas.Bool.{and_parts, leb-true, cases_lt, both_ways}
-use Rattle.sd_checker.specs.Num.Lists.{of_some, same_number}
+use Rattle.sd_checker.specs.Num.Lists.{map_or, same_number}
 use Rattle.sd_history.specs.Sched.Events.{reference_of, ticked}
 use Rattle.sd_history.specs.World.{Setting, Seen, makes, is_up, latest_reference}
 use Rattle.sd_history.specs.Steps.{Step, seen_of}
 use Rattle.sd_history.specs.Premises.{latest_tick, ticks_in_time, tick_holds, is_current_member}
 use Rattle.sd_proof_safety.specs.timers.Times.{AreTimed, stays_after}
-use Rattle.sd_proof_safety.specs.timers.Since.{whole, beyond, TicksWithin}
+use Rattle.sd_proof_safety.specs.timers.Since.{TicksWithin}
+use Rattle.sd_proof_safety.specs.messages.Moments.{whole, behind}
 use Rattle.sd_proof_safety.proofs.timers.Deadlines.{ticked_lately}
 
 pub record Stays (setting : Setting) (s : Seen) (earlier : List Seen) (d : ℕ) : Type 0 where
@@ -31,7 +32,7 @@ stays_at setting s earlier d x lt h =
     go false false m k el eu em ek h' = cc
 
 further : (steps : List Step) (s : Step) (d x y z : ℕ) → y ≤ z → TicksWithin steps d x y → TicksWithin (s ∷ steps) d x z
-further steps s d x y z le t = record { tick = t.tick; older = t.older; tail = beyond t.tail; ticks = t.ticks; after = t.after; by = omega (arith, t.by, le) }
+further steps s d x y z le t = record { tick = t.tick; older = t.older; tail = behind t.tail; ticks = t.ticks; after = t.after; by = omega (arith, t.by, le) }
 
 -- a latest tick after x is a tick
 latest_is_tick : (setting : Setting) (steps : List Step) (d x : ℕ) → AreTimed setting steps → stays_after setting x d (seen_of steps) ≡ true
@@ -48,7 +49,7 @@ latest_is_tick setting (s ∷ earlier) d x timed stays lt =
         → latest_reference (seen_of earlier) ≤ reference_of s.seen.event
         → (nat_le (reference_of s.seen.event) x || (is_up (seen_of earlier) d && is_current_member setting (seen_of earlier) d && not (makes d s.seen.event)))
         ≡ true
-        → x < of_some (if t || m then Some (reference_of s.seen.event) else None) (latest_tick (seen_of earlier) d) (λ y. y)
+        → x < map_or (if t || m then Some (reference_of s.seen.event) else None) (latest_tick (seen_of earlier) d) (λ y. y)
         → TicksWithin (s ∷ earlier) d x (reference_of s.seen.event)
     by_flags true m et em before le now lt' = record { tick = s; older = earlier; tail = whole; ticks = et; after = lt'; by = omega arith }
     by_flags false true et em before le now lt' = absurd (both_ways (makes d s.seen.event) (stays_at setting s.seen (seen_of earlier) d x lt' now).not_made em)

@@ -1,7 +1,7 @@
 -- What a call can do, by its kind: a statement on each call with its transition is proved by nine cases.
 use Rattle.std.specs.Prelude.{◌≡◌, ℕ, Bool, true, false, Option, Some, None, is_some, refl, if◌then◌else◌}
 use Rattle.std.proofs.Common.{sym, subst}
-use Rattle.sd_checker.specs.Num.Lists.{of_some}
+use Rattle.sd_checker.specs.Num.Lists.{map_or}
 use Rattle.sd_checker.specs.Plan.declared.Duty.{Duty}
 use Rattle.sd_checker.specs.Plan.declared.Edge.{Edge}
 use Rattle.sd_history.specs.Msg.declared.Message.{Message}
@@ -40,7 +40,7 @@ receipt_case past P cases link message c None (Some edge) = cases.accepted link 
 receipt_case past P cases link message c None None = cases.nothing (Receive link message c) refl
 
 commit_case : (past : Past) (P : Call → Transition → Type 0) → Cases past P → (c : ℕ) (given : Option Duty) (a : Bool) → is_acting past ≡ a
-    → P (Commit c) (of_some given Nothing (λ duty. if a then Recommitted duty else Committed duty))
+    → P (Commit c) (map_or given Nothing (λ duty. if a then Recommitted duty else Committed duty))
 commit_case past P cases c None a ea = cases.nothing (Commit c) refl
 commit_case past P cases c (Some duty) true ea = cases.recommitted c duty ea
 commit_case past P cases c (Some duty) false ea = cases.committed c duty ea

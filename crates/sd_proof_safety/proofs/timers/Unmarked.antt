@@ -3,7 +3,7 @@
 use Rattle.std.specs.Prelude.{◌≡◌, ℕ, ◌<◌, ◌≤◌, Bool, true, false, ◌&&◌, List, [], ◌∷◌, nat_eq, Option, Some, None, is_some, option_map, refl, if◌then◌else◌}
 use Rattle.std.proofs.Common.{arith, sym, ◌∙◌, ap, subst}
 use Rattle.std.proofs.lemmas.Bool.{both_ways, false_from_ne_true}
-use Rattle.sd_checker.specs.Num.Lists.{of_some}
+use Rattle.sd_checker.specs.Num.Lists.{map_or}
 use Rattle.sd_history.specs.Core.Calls.{Call, Did, Past}
 use Rattle.sd_history.specs.Core.Words.{transition_of, after, taken_up, has_moved, is_acting, duty_now}
 use Rattle.sd_history.proofs.Core.Reached.{added}
@@ -11,9 +11,10 @@ use Rattle.sd_history.specs.Sched.Events.{reference_of}
 use Rattle.sd_history.specs.World.{Setting, latest_reference}
 use Rattle.sd_history.specs.Steps.{Act, Makes, Calls, Asks, Passes, Step, seen_of}
 use Rattle.sd_history.specs.Chronicle.{new_past, past_in, past_after}
+use Rattle.sd_history.proofs.Given.{some_is}
+use Rattle.sd_proof_safety.specs.messages.Moments.{Tail, whole, behind}
 use Rattle.sd_proof_safety.specs.timers.Times.{AreTimed, did_by, hears, reference_after, reference_by}
-use Rattle.sd_proof_safety.specs.timers.Since.{IsTail, whole, beyond, SameEntry, at_once, goes_on, enters_by, marks_by, Unmarked, no_step, one_step, LatestMark}
-use Rattle.sd_proof_safety.proofs.timers.Marks.{some_is}
+use Rattle.sd_proof_safety.specs.timers.Since.{SameEntry, at_once, goes_on, enters_by, marks_by, Unmarked, no_step, one_step, LatestMark}
 use Rattle.sd_proof_safety.proofs.timers.Transitions.{Cases, by_case}
 use Rattle.sd_proof_safety.proofs.timers.Pasts.{stays_acting}
 use Rattle.sd_proof_safety.proofs.timers.OneWay.{was_on_primary, same_duty_since}
@@ -21,11 +22,11 @@ use Rattle.sd_proof_safety.proofs.timers.Emissions.{reference_rises}
 
 -- At a mark the reference is that of the step, and else it stays.
 
-told_at : (o : Option ℕ) (r before : ℕ) → is_some o ≡ true → of_some o before (λ c. r) ≡ r
+told_at : (o : Option ℕ) (r before : ℕ) → is_some o ≡ true → map_or o before (λ c. r) ≡ r
 told_at None r before h = cc
 told_at (Some c) r before h = refl
 
-untold_at : (o : Option ℕ) (r before : ℕ) → is_some o ≡ false → of_some o before (λ c. r) ≡ before
+untold_at : (o : Option ℕ) (r before : ℕ) → is_some o ≡ false → map_or o before (λ c. r) ≡ before
 untold_at None r before h = refl
 untold_at (Some c) r before h = cc
 
@@ -33,8 +34,8 @@ marked_now : (f : Did → Option ℕ) (act : Act) (d r before : ℕ) (p : Option
 marked_now f (Makes m making) d r before p h = ap (λ b. if b then r else before) h
 marked_now f (Calls m call) d r before p h = go (nat_eq m d) p h
   where
-    go : (b : Bool) (q : Option Past) → (b && of_some q false (λ x. is_some (f (did_by x call)))) ≡ true
-        → (if b then of_some q before (λ x. of_some (f (did_by x call)) before (λ c. r)) else before) ≡ r
+    go : (b : Bool) (q : Option Past) → (b && map_or q false (λ x. is_some (f (did_by x call)))) ≡ true
+        → (if b then map_or q before (λ x. map_or (f (did_by x call)) before (λ c. r)) else before) ≡ r
     go true None h' = cc
     go true (Some x) h' = told_at (f (did_by x call)) r before h'
     go false q h' = cc
@@ -45,8 +46,8 @@ unmarked_now : (f : Did → Option ℕ) (act : Act) (d r before : ℕ) (p : Opti
 unmarked_now f (Makes m making) d r before p h = ap (λ b. if b then r else before) h
 unmarked_now f (Calls m call) d r before p h = go (nat_eq m d) p h
   where
-    go : (b : Bool) (q : Option Past) → (b && of_some q false (λ x. is_some (f (did_by x call)))) ≡ false
-        → (if b then of_some q before (λ x. of_some (f (did_by x call)) before (λ c. r)) else before) ≡ before
+    go : (b : Bool) (q : Option Past) → (b && map_or q false (λ x. is_some (f (did_by x call)))) ≡ false
+        → (if b then map_or q before (λ x. map_or (f (did_by x call)) before (λ c. r)) else before) ≡ before
     go true None h' = refl
     go true (Some x) h' = untold_at (f (did_by x call)) r before h'
     go false q h' = refl
@@ -96,26 +97,26 @@ latest_mark f (s ∷ earlier) d past is = go (marks_by f s.act d (past_in earlie
 
 -- What comes after the latest mark is unmarked.
 
-head_reference : (setting : Setting) (t : Step) (older steps : List Step) → IsTail (t ∷ older) steps → AreTimed setting steps
+head_reference : (setting : Setting) (t : Step) (older steps : List Step) → Tail (t ∷ older) steps → AreTimed setting steps
     → reference_of t.seen.event ≤ latest_reference (seen_of steps)
 head_reference setting t older _ whole timed = omega arith
-head_reference setting t older _ (beyond {x = s} {xs = earlier} tail) timed =
+head_reference setting t older _ (behind {x = s} {xs = earlier} tail) timed =
     let rest : reference_of t.seen.event ≤ latest_reference (seen_of earlier) = head_reference setting t older earlier tail timed.0 in
     let on : latest_reference (seen_of earlier) ≤ reference_of s.seen.event = timed.1.goes_on in
     omega (arith, rest, on)
 
 -- since a step that is later than the mark, the device was not marked
-pub unmarked_since : (f : Did → Option ℕ) (setting : Setting) (t : Step) (older steps : List Step) (d : ℕ) → IsTail (t ∷ older) steps → AreTimed setting steps
+pub unmarked_since : (f : Did → Option ℕ) (setting : Setting) (t : Step) (older steps : List Step) (d : ℕ) → Tail (t ∷ older) steps → AreTimed setting steps
     → reference_by f steps d < reference_of t.seen.event → Unmarked f d older steps
 unmarked_since f setting t older _ d whole timed lt = one_step (false_from_ne_true (marks_by f t.act d (past_in older d)) never) no_step
   where
     never : marks_by f t.act d (past_in older d) ≡ true → ⊥
     never e = let at : reference_by f (t ∷ older) d ≡ reference_of t.seen.event =
         marked_now f t.act d (reference_of t.seen.event) (reference_by f older d) (past_in older d) e in omega (arith, at, lt)
-unmarked_since f setting t older _ d (beyond {x = s} {xs = earlier} tail) timed lt =
+unmarked_since f setting t older _ d (behind {x = s} {xs = earlier} tail) timed lt =
     let head : reference_of t.seen.event ≤ latest_reference (seen_of earlier) = head_reference setting t older earlier tail timed.0 in
     let on : latest_reference (seen_of earlier) ≤ reference_of s.seen.event = timed.1.goes_on in
-    let rises : reference_by f earlier d ≤ reference_by f (s ∷ earlier) d = reference_rises f setting earlier (s ∷ earlier) d (beyond whole) timed in
+    let rises : reference_by f earlier d ≤ reference_by f (s ∷ earlier) d = reference_rises f setting earlier (s ∷ earlier) d (behind whole) timed in
     one_step (false_from_ne_true (marks_by f s.act d (past_in earlier d)) (never head on))
     (unmarked_since f setting t older earlier d tail timed.0 (omega (arith, rises, lt)))
   where
@@ -167,9 +168,9 @@ pub before_act : (act : Act) (d : ℕ) (p : Option Past) (past : Past) → marks
 before_act (Makes m making) d p past none same still = (past, sym (ap (λ b. if b then Some (new_past making) else p) none) ∙ same, still, none)
 before_act (Calls m call) d p past none same still = go (nat_eq m d) p none same
   where
-    go : (b : Bool) (q : Option Past) → (b && of_some q false (λ x. is_some (hears (did_by x call)))) ≡ false
+    go : (b : Bool) (q : Option Past) → (b && map_or q false (λ x. is_some (hears (did_by x call)))) ≡ false
         → (if b then option_map (λ x. after x call) q else q) ≡ Some past
-        → (old : Past) × (q ≡ Some old) × (is_acting old ≡ false) × ((b && of_some q false (λ x. is_some (taken_up (transition_of x call)))) ≡ false)
+        → (old : Past) × (q ≡ Some old) × (is_acting old ≡ false) × ((b && map_or q false (λ x. is_some (taken_up (transition_of x call)))) ≡ false)
     go true None h same' = cc
     go true (Some x) h same' =
         let now : is_acting (after x call) ≡ false = subst (λ y. is_acting y ≡ false) (sym (some_is same')) still in

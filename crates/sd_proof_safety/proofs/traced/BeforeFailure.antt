@@ -2,7 +2,7 @@
 use Rattle.std.specs.Prelude.{◌≡◌, ℕ, ◌≤◌, Bool, true, false, ◌||◌, List, [], ◌∷◌, nat_eq, Option, Some, refl}
 use Rattle.std.proofs.Common.{arith, ◌∙◌, ap, sym, subst}
 use Rattle.std.proofs.Math.Nat.{le_antisymm}
-use Rattle.sd_checker.specs.Num.Lists.{of_some}
+use Rattle.sd_checker.specs.Num.Lists.{map_or}
 use Rattle.sd_checker.specs.Topo.declared.Thing.TheVariants as thing
 use Rattle.sd_history.specs.Msg.declared.Message.{Message}
 use Rattle.sd_history.specs.Core.Words.{epoch_now}
@@ -20,7 +20,7 @@ use Rattle.sd_proof_safety.specs.messages.Moments.{whole, behind, IsChronicle, M
 use Rattle.sd_proof_safety.proofs.messages.Tails.{Order, before, same, after, ordered, rest_of, tail_chronicle, history_chronicle, before_is_earlier}
 use Rattle.sd_proof_safety.proofs.messages.Opening.{sending_fails_not}
 use Rattle.sd_proof_safety.proofs.messages.Sending.{sends_own}
-use Rattle.sd_proof_safety.proofs.silences.Phases.{as_tail, era_grows, fails_among, failed_on}
+use Rattle.sd_proof_safety.proofs.silences.Phases.{era_grows, fails_among, failed_on}
 use Rattle.sd_proof_safety.proofs.silences.RootIsSource.{emission_keeps}
 use Rattle.sd_proof_safety.proofs.silences.SoundWays.{top_of}
 use Rattle.sd_proof_safety.proofs.windows.Senders.{called_is_up}
@@ -58,7 +58,7 @@ emits_before setting x h fair clean each failed p here m emits own = by (first_f
         g = top_of setting f.earlier f.event
 
         g_in : IsIn g (chronicle setting (x ∷ h))
-        g_in = as_tail (chronicle_tail setting (f.event ∷ f.earlier) (x ∷ h) f.tail)
+        g_in = (chronicle_tail setting (f.event ∷ f.earlier) (x ∷ h) f.tail)
 
         fails_root : fails (thing.Device root) f.event ≡ true
         fails_root = one_fails (fails (thing.Device root) f.event) f.fails
@@ -106,8 +106,8 @@ emits_before setting x h fair clean each failed p here m emits own = by (first_f
         at_failure : when p ≤ when g → when p ≤ root_failed_at setting (chronicle setting (x ∷ h))
         at_failure le =
             let at = f.at in
-            let value : of_some (first_failure (thing.Device root ∷ []) (seen_of steps)) 0 (λ reference. reference) ≡ found.0 =
-            ap (λ (o : Option ℕ). of_some o 0 (λ reference. reference)) found.1 in
+            let value : map_or (first_failure (thing.Device root ∷ []) (seen_of steps)) 0 (λ reference. reference) ≡ found.0 =
+            ap (λ (o : Option ℕ). map_or o 0 (λ reference. reference)) found.1 in
             let lower : found.0 ≤ late setting steps found.0 = late_since (nat_eq (era steps) 1) found.0 (all_started setting steps) in
             subst (λ r. when p ≤ late setting steps r) (sym value) (trans_le (when p) (when g) found.0 (late setting steps found.0) le at lower)
           where

@@ -16,7 +16,7 @@ use Rattle.sd_history.proofs.Given.{some_is}
 use Rattle.sd_proof_safety.specs.invariant.Eras.{era, plan_now, is_old, root_failed, root_lives}
 use Rattle.sd_proof_safety.specs.invariant.Clauses.{staged_root}
 use Rattle.sd_proof_safety.specs.invariant.Invariant.{Core, Invariant, AtEach}
-use Rattle.sd_proof_safety.specs.invariant.Coming.{IsFair, IsClean, Comes}
+use Rattle.sd_proof_safety.specs.invariant.Coming.{IsFair, IsClean, IsNextEvent}
 use Rattle.sd_proof_safety.proofs.invariant.Prefix.{clean_before}
 use Rattle.sd_proof_safety.proofs.invariant.Sides.{implied, not_both}
 use Rattle.sd_proof_safety.specs.messages.Moments.{Tail, Moment, upto, IsIn, Accepts, entering, following}
@@ -35,8 +35,9 @@ use Rattle.sd_proof_safety.proofs.receipts.Stood.{core_of, acts_is, epoch_is}
 use Rattle.sd_proof_safety.proofs.terms.Actors.{IsActor}
 use Rattle.sd_proof_safety.proofs.entering.Stages.{Stage, stage}
 use Rattle.sd_proof_safety.proofs.entering.States as states
+use Rattle.sd_proof_safety.proofs.entering.Source.{none_or_some}
 
-module _ (setting : Setting) (h : List Event) (e : Event) (comes : Comes setting h e) (past : Past) where
+module _ (setting : Setting) (h : List Event) (e : Event) (comes : IsNextEvent setting h e) (past : Past) where
   abbrev steps : List Step
   steps = chronicle setting h
 
@@ -78,13 +79,6 @@ no_parent past edge acts is = never (sym (ap (λ b. if b then None else if has_m
     never : {x : Edge} → ◌≡◌ {A = Option Edge} None (Some x) → ⊥
     never same = cc
 
--- who has a parent edge does not act
-pub not_acting : (past : Past) (edge : Edge) → parent_edge past ≡ Some edge → is_acting past ≡ false
-not_acting past edge is = false_from_ne_true (is_acting past) (λ acts. no_parent past edge acts is)
-
-none_some : {A : Type 0} {o : Option A} {x : A} → o ≡ None → o ≡ Some x → ⊥
-none_some none some = cc
-
 next_or_now : (n a : ℕ) (c : Bool) → n ≤ reach_of c a → a ≤ n → (n ≡ a) ⊎ ((n ≡ a + 1) × (c ≡ true))
 next_or_now n a true le least = by (cases_lt a n)
   where
@@ -112,7 +106,7 @@ root_takes_none setting (y ∷ hs) fair clean each q here stamp from x hop = by 
     st : Stage setting q
     st = stage setting fair q hs y clean each.0 here
 
-    by : (h : List Event) (e : Event) → q ≡ top_of setting h e → Comes setting h e → ⊥
+    by : (h : List Event) (e : Event) → q ≡ top_of setting h e → IsNextEvent setting h e → ⊥
     by h e is comes = go hop.receipt.accepts
       where
         past : Past
@@ -159,4 +153,4 @@ root_takes_none setting (y ∷ hs) fair clean each q here stamp from x hop = by 
             let far : hop.flight.message.epoch ≤ reach older = (within setting h comes.clean.is.0).messages hop.flight sent in
             let commit : has_commit (seen_of older) ≡ true =
             reached (has_commit (seen_of older)) (era older) (subst (λ k. k ≤ reach older) (hop.epoch_is ∙ next) far) in
-            none_some (with_commit next commit).1 given
+            none_or_some (with_commit next commit).1 given

@@ -2,7 +2,7 @@
 use Rattle.std.specs.Prelude.{◌≡◌, ℕ, ◌+◌, ◌*◌, ◌≤◌, true, false, List, [], ◌∷◌, nat_eq, nat_le, Option, Some, refl, if◌then◌else◌}
 use Rattle.std.proofs.Common.{arith, ◌∙◌, ap, sym, subst, inl, inr}
 use Rattle.std.proofs.lemmas.Bool.{and_parts, and_from, eqb-true, eq-eqb, leb-true, false_from_ne_true}
-use Rattle.sd_checker.specs.Num.Lists.{of_some}
+use Rattle.sd_checker.specs.Num.Lists.{map_or}
 use Rattle.sd_checker.specs.Topo.Network.{rates_of}
 use Rattle.sd_checker.specs.Plan.declared.Plan.{Plan}
 use Rattle.sd_checker.specs.Plan.declared.Duty.{Duty}
@@ -22,7 +22,7 @@ use Rattle.sd_proof_safety.specs.invariant.Eras.{era, plan_now, all_started, beg
 use Rattle.sd_proof_safety.specs.invariant.Clauses.{is_beginning}
 use Rattle.sd_proof_safety.specs.invariant.Invariant.{Invariant, AtEach}
 use Rattle.sd_proof_safety.specs.invariant.Silences.{root_failed_at}
-use Rattle.sd_proof_safety.specs.invariant.Coming.{IsFair, IsClean, Comes}
+use Rattle.sd_proof_safety.specs.invariant.Coming.{IsFair, IsClean, IsNextEvent}
 use Rattle.sd_proof_safety.proofs.invariant.Closings.{start_closes_none}
 use Rattle.sd_proof_safety.proofs.invariant.Facts.{IsSound, sound_now}
 use Rattle.sd_proof_safety.proofs.invariant.Prefix.{clean_before}
@@ -52,7 +52,7 @@ pub start_early : (setting : Setting) (fair : IsFair setting) (d n : ℕ) (f : E
     → past_in (chronicle setting (f ∷ earlier)) d ≡ Some past → epoch_now past ≡ n → 1 ≤ n
     → (era (chronicle setting earlier) ≡ 1) × (reference_of f ≤ all_started setting (chronicle setting (f ∷ earlier)))
 start_early setting fair d n (event.Start r m c clock eps) earlier clean each makes_ past there own one =
-    let comes : Comes setting earlier (event.Start r m c clock eps) = record { fair = fair; clean = clean; before = each } in
+    let comes : IsNextEvent setting earlier (event.Start r m c clock eps) = record { fair = fair; clean = clean; before = each } in
     let begins : is_beginning setting (chronicle setting (event.Start r m c clock eps ∷ earlier)) ≡ true =
     subst (λ steps. is_beginning setting steps ≡ true) (sym (now_is setting r m c clock eps earlier comes))
     (starts_by setting r m c clock eps earlier comes) in
@@ -72,7 +72,7 @@ start_early setting fair d n (event.Join r m c clock eps) earlier clean each mak
 start_early setting fair d n _ earlier clean each makes_ past there own one = cc
 
 -- where the root failed, a backup root that was started and heard nothing since was so before that
-pub started_by : (setting : Setting) (x : Event) (h : List Event) (e : Event) (comes : Comes setting (x ∷ h) e)
+pub started_by : (setting : Setting) (x : Event) (h : List Event) (e : Event) (comes : IsNextEvent setting (x ∷ h) e)
     → IsStarted setting (x ∷ h) (plan_now setting (chronicle setting (x ∷ h))).backup_root (era (chronicle setting (x ∷ h)))
     → heard_at (chronicle setting (x ∷ h)) (plan_now setting (chronicle setting (x ∷ h))).backup_root ≤ root_failed_at setting
     (chronicle setting (x ∷ h)) + (depth setting.net + 1) * delay setting.net
@@ -95,7 +95,7 @@ started_by setting x h e comes s =
     sum : (a r s t g d : ℕ) → a ≡ r → r ≤ s → s ≡ t → t ≤ g → a ≤ g + d
     sum a r s t g d one two three four = omega (arith, one, two, three, four)
 
-module _ (setting : Setting) (x : Event) (h : List Event) (e : Event) (comes : Comes setting (x ∷ h) e)
+module _ (setting : Setting) (x : Event) (h : List Event) (e : Event) (comes : IsNextEvent setting (x ∷ h) e)
     (failed : root_failed setting (chronicle setting (x ∷ h)) ≡ true)
     (old : is_old (chronicle setting (x ∷ h)) (plan_now setting (chronicle setting (x ∷ h))).backup_root ≡ true)
     (on : on_primary (chronicle setting (x ∷ h)) (plan_now setting (chronicle setting (x ∷ h))).backup_root ≡ true) where
@@ -121,7 +121,7 @@ module _ (setting : Setting) (x : Event) (h : List Event) (e : Event) (comes : C
   idle = sym stands.acts_is ∙ idle_of steps b on
 
   own : epoch_now stands.past ≡ era (chronicle setting (x ∷ h))
-  own = ap (λ (o : Option Duty). of_some o 0 (λ u. u.epoch)) stands.duty
+  own = ap (λ (o : Option Duty). map_or o 0 (λ u. u.epoch)) stands.duty
 
   longer : (a g k d : ℕ) → a ≤ g + k * d → a ≤ g + (k + 1) * d
   longer a g k d le = let more : (k + 1) * d ≡ k * d + d = omega (arith) in omega (arith, le, more)

@@ -17,10 +17,8 @@ use Rattle.sd_proof_safety.specs.messages.Traces.{Hop, Trace, begins, goes_on}
 use Rattle.sd_proof_safety.proofs.messages.Tails.{tail_trans}
 use Rattle.sd_proof_safety.proofs.messages.Overlap.{hop_time}
 use Rattle.sd_proof_safety.specs.frame.Descents.{TakesFromAbove}
-use Rattle.sd_proof_safety.proofs.frame.Climbing.{inner}
-
-further : (q from at n d : ℕ) → from ≤ at + n * d → q ≤ from + d → q ≤ at + suc n * d
-further q from at n d x y = let more : suc n * d ≡ n * d + d = omega (arith) in omega (arith, x, y, more)
+use Rattle.sd_proof_safety.proofs.frame.Climbing.{further}
+use Rattle.sd_proof_safety.proofs.messages.Flowing.{tail_rest}
 
 longer : (q at n d : ℕ) → q ≤ at + d → q ≤ at + suc n * d
 longer q at n d le = let more : suc n * d ≡ n * d + d = omega (arith) in omega (arith, le, more)
@@ -61,7 +59,7 @@ module _ (setting : Setting) (plan : Plan) (stamp : Stamp) (epoch : ℕ) (p : Mo
       absurd ((down y on_ low first here).begins_none message emits carries epoch_is)
   from_by n q y (suc m) (goes_on {from = from} {x = z} trace hop) here on_ low (Some h) is within ends rest =
       let parent : h.parent ≡ z = (down y on_ low q here).takes z from hop h is in
-      let before : IsBefore from p = tail_trans hop.before (inner here) in
+      let before : IsBefore from p = tail_trans hop.before (tail_rest here) in
       let up : Trace setting stamp epoch first source m from h.parent = subst (λ v. Trace setting stamp epoch first source m from v) (sym parent) trace in
       let on_parent : on h.parent ≡ true = within h.parent (or_left (nat_eq h.parent h.parent) _ (eq-eqb h.parent h.parent refl)) in
       by (is_root plan h.parent) refl (hop_time setting stamp epoch from q z y hop) up (behind before) on_parent within ends

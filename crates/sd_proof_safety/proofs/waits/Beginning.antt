@@ -3,15 +3,16 @@
 use Rattle.std.specs.Prelude.{◌≡◌, ℕ, ◌+◌, ◌-◌, ◌*◌, ◌<◌, ◌≤◌, Bool, true, false, ◌&&◌, ◌||◌, not, List, [], ◌∷◌, length, nat_eq, nat_le, Option, Some, None, option_map, IsTrue, refl, if◌then◌else◌}
 use Rattle.std.proofs.Common.{arith, sym, ◌∙◌, ap, subst, inl, inr}
 use Rattle.std.proofs.lemmas.Bool.{and_parts, or_cases, lt-leb, eqb-true, eq-eqb, false_from_ne_true, both_ways}
-use Rattle.sd_checker.specs.Num.Lists.{of_some}
+use Rattle.sd_checker.specs.Num.Lists.{map_or}
 use Rattle.sd_checker.specs.Num.Numbers.{low}
 use Rattle.sd_checker.specs.Topo.Network.{rates_of, least_low}
 use Rattle.sd_checker.specs.Topo.declared.Thing.TheVariants as thing
 use Rattle.sd_checker.specs.Plan.Plans.{is_member}
 use Rattle.sd_checker.specs.CheckRoot.Timing.{silence}
 use Rattle.sd_checker.specs.Verdicts.{IsAccepted}
+use Rattle.sd_checker.proofs.Num.Shared.{same_number-some}
 use Rattle.sd_history.specs.Core.Calls as calls
-use Rattle.sd_history.specs.Core.Calls.{Making, Call, Transition, Emitted, TookOver, Moved, Did, Past}
+use Rattle.sd_history.specs.Core.Calls.{Transition, Emitted, TookOver, Moved, Past}
 use Rattle.sd_history.specs.Core.Words.{after, transition_of, has_moved, is_acting, emits_at, moves_at}
 use Rattle.sd_history.specs.Sched.declared.Event.{Event}
 use Rattle.sd_history.specs.Sched.Events.{reference_of, device_of}
@@ -27,16 +28,15 @@ use Rattle.sd_proof_safety.proofs.invariant.InForce.{in_force_too}
 use Rattle.sd_proof_safety.proofs.invariant.Timed.{IsTimed, timed as plan_is_timed}
 use Rattle.sd_proof_safety.specs.timers.Times.{counter_at}
 use Rattle.sd_proof_safety.proofs.timers.NetworkBounds.{least_is_low, rate_is_low}
-use Rattle.sd_proof_safety.proofs.timers.Marks.{some_is}
 use Rattle.sd_proof_safety.proofs.timers.NotEarly.{IsTick, move_waited}
 use Rattle.sd_proof_safety.proofs.timers.Pasts.{takeover_from_backup, acting_has_duty}
 use Rattle.sd_proof_safety.proofs.timers.Turns.{IsMove, is_move, IsTakeover, is_takeover, IsEmission, is_emission, backup_by_move}
 use Rattle.sd_proof_safety.proofs.timers.CalmBeginning.{calm_move, calm_emission}
 use Rattle.sd_proof_safety.proofs.timers.Periods.{periods_in}
 use Rattle.sd_history.proofs.Known.{named_is_known}
+use Rattle.sd_history.proofs.Given.{some_is}
 use Rattle.sd_proof_safety.proofs.timers.Histories.{Timely, timed, before}
 use Rattle.sd_proof_safety.proofs.waits.LeastWaits.{waits_are_long, Late, not_late, timely_of, starts_in_time}
-use Rattle.sd_proof_safety.proofs.timers.Readings.{named}
 
 -- what is twice as long as V is longer than a tick gap
 longer : (s q l : ℕ) → 1 ≤ q → 2 * (s + q) ≤ l → q < l
@@ -56,7 +56,7 @@ module _ (setting : Setting) (fair : IsFair setting) (e : Event) (d c : ℕ) (ol
   ticker_is_known : (history : List Event) → Timely setting (e ∷ history) → IsTickOf history → d < length setting.net.devices
   ticker_is_known history t act =
       named_is_known setting (chronicle setting history) e d t.is.1
-      (named (device_of e) d
+      (same_number-some (device_of e) d
       ((timed setting (e ∷ history) t).1.fits.named d c (ap (λ a. counter_at a d) act ∙ ap (λ b. if b then Some c else None) (eq-eqb d d refl))))
 
   tick_of : (history : List Event) → Timely setting (e ∷ history) → IsTickOf history → past_in (chronicle setting history) d ≡ Some old
@@ -166,7 +166,7 @@ module _ (setting : Setting) (fair : IsFair setting) where
       by_transition old was calls.Nothing ed h = cc
 
       go : (b : Bool) (p : Option Past) → past_in (chronicle setting history) m ≡ p
-          → of_some (if b then option_map (λ past. record { call = call; transition = transition_of past call }) p else None) false begins_round ≡ true
+          → map_or (if b then option_map (λ past. record { call = call; transition = transition_of past call }) p else None) false begins_round ≡ true
           → Late setting (seen_of (chronicle setting (e ∷ history)))
       go true None ep h = cc
       go true (Some old) ep h = by_transition old ep (transition_of old call) refl h
@@ -195,7 +195,7 @@ quiet setting history fair clean =
     implies (is_beginning setting (chronicle setting history)) (has_emission (chronicle setting history))
     (λ begins emits. not_late setting (chronicle setting history) begins (emitted_late setting fair history (timely_of setting history fair clean) emits))
 
-moved_past : (b : Bool) (p : Option Past) → of_some (if b then p else None) false has_moved ≡ true → (past : Past) × (p ≡ Some past) × (has_moved past ≡ true)
+moved_past : (b : Bool) (p : Option Past) → map_or (if b then p else None) false has_moved ≡ true → (past : Past) × (p ≡ Some past) × (has_moved past ≡ true)
 moved_past true None h = cc
 moved_past true (Some past) h = (past, refl, h)
 moved_past false p h = cc

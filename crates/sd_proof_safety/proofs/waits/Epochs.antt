@@ -2,7 +2,7 @@
 use Rattle.std.specs.Prelude.{◌≡◌, ℕ, ◌+◌, ◌≤◌, List, [], ◌∷◌, cond, count_by, Option, Some, None, option_map}
 use Rattle.std.proofs.Common.{arith, sym, subst}
 use Rattle.std.proofs.lemmas.List.Sums.{sum_by-cons}
-use Rattle.sd_checker.specs.Num.Lists.{of_some}
+use Rattle.sd_checker.specs.Num.Lists.{map_or}
 use Rattle.sd_checker.specs.Plan.declared.Duty.{Duty}
 use Rattle.sd_checker.specs.Plan.Duties.{duty_of}
 use Rattle.sd_history.specs.Msg.declared.Flight.{Flight}
@@ -14,9 +14,9 @@ use Rattle.sd_history.specs.Sched.declared.Event.TheVariants as event
 use Rattle.sd_history.specs.World.{Setting, Seen, window, staged_epoch, plan_numbered}
 use Rattle.sd_history.specs.Steps.{Calls, Passes, Step, seen_of, act_by, flight_numbered}
 use Rattle.sd_history.specs.Chronicle.{past_in, chronicle, next_step}
+use Rattle.sd_history.proofs.Given.{some_is}
 use Rattle.sd_proof_safety.specs.invariant.Eras.{era}
 use Rattle.sd_proof_safety.specs.timers.Times.{gives_duty}
-use Rattle.sd_proof_safety.proofs.timers.Marks.{some_is}
 use Rattle.sd_proof_safety.proofs.timers.Periods.{EachGives, duties_in}
 
 -- its number is from 1 to n + 1
@@ -35,7 +35,7 @@ era_rises s steps =
 module _ (setting : Setting) (n : ℕ) where
   given_numbered : (steps : List Step) (m : ℕ) (w : Option (List Seen)) → era steps ≤ n → (duty : Duty)
       → gives_duty
-      (of_some (option_map (λ v. plan_numbered setting (staged_epoch (seen_of steps))) w) Passes
+      (map_or (option_map (λ v. plan_numbered setting (staged_epoch (seen_of steps))) w) Passes
       (λ plan. Calls m (calls.Give (duty_of setting.net plan (staged_epoch (seen_of steps)) m)))) ≡ Some duty → IsNumbered n duty
   given_numbered steps m None le duty same = cc
   given_numbered steps m (Some v) le duty same = subst (IsNumbered n) (some_is same) (one (count_by (λ (x : Seen). x.closed) (seen_of steps)) n le)
@@ -43,7 +43,7 @@ module _ (setting : Setting) (n : ℕ) where
       one : (k m : ℕ) → k + 1 ≤ m → (1 ≤ k + 1 + 1) × (k + 1 + 1 ≤ m + 1)
       one k m le = (omega arith, omega (arith, le))
 
-  received_numbered : (m c : ℕ) (o : Option Flight) (duty : Duty) → gives_duty (of_some o Passes (λ f. Calls m (calls.Receive f.link f.message c))) ≡ Some duty
+  received_numbered : (m c : ℕ) (o : Option Flight) (duty : Duty) → gives_duty (map_or o Passes (λ f. Calls m (calls.Receive f.link f.message c))) ≡ Some duty
       → IsNumbered n duty
   received_numbered m c None duty same = cc
   received_numbered m c (Some f) duty same = cc

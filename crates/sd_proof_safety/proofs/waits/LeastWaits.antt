@@ -4,7 +4,7 @@ use Rattle.std.specs.Prelude.{◌≡◌, ℕ, ◌+◌, ◌-◌, ◌*◌, ◌<◌
 use Rattle.std.proofs.Common.{arith, sym, ◌∙◌, ap, subst}
 use Rattle.std.proofs.lemmas.Bool.{and_parts, leb-true, leb-false}
 use Rattle.std.proofs.lemmas.List.Sums.{sum_by-cons}
-use Rattle.sd_checker.specs.Num.Lists.{of_some, below}
+use Rattle.sd_checker.specs.Num.Lists.{map_or, below}
 use Rattle.sd_checker.specs.Topo.Network.{Network, Each, least_low}
 use Rattle.sd_checker.specs.Topo.Limits.{IsNetwork}
 use Rattle.sd_checker.specs.Plan.declared.Plan.{Plan}
@@ -17,7 +17,7 @@ use Rattle.sd_checker.specs.CheckRoot.Timing.{silence}
 use Rattle.sd_checker.specs.Verdicts.{IsAccepted}
 use Rattle.sd_history.specs.Msg.declared.Flight.{Flight}
 use Rattle.sd_history.specs.Core.Calls as calls
-use Rattle.sd_history.specs.Core.Calls.{Making, Call, Transition, Emitted, TookOver, Moved, Did, Past}
+use Rattle.sd_history.specs.Core.Calls.{Past}
 use Rattle.sd_history.specs.Core.Words.{duty_now, wait_to_move}
 use Rattle.sd_history.specs.Sched.declared.Event.{Event}
 use Rattle.sd_history.specs.Sched.declared.Event.TheVariants as event
@@ -29,15 +29,15 @@ use Rattle.sd_history.specs.Chronicle.{past_in, chronicle, next_step, IsHistory}
 use Rattle.sd_history.specs.Premises.{first_reference, ticks_in_time}
 use Rattle.sd_history.proofs.Among.{Among, first, later, passes}
 use Rattle.sd_history.proofs.Contained.{none_holds}
+use Rattle.sd_history.proofs.Given.{some_is}
+use Rattle.sd_history.proofs.Shared.{among_below}
 use Rattle.sd_proof_safety.specs.invariant.Eras.{era, beginning}
 use Rattle.sd_proof_safety.specs.invariant.Clauses.{is_beginning}
 use Rattle.sd_proof_safety.specs.invariant.Coming.{IsFair, IsClean}
 use Rattle.sd_proof_safety.proofs.invariant.InForce.{in_force_too, of_each}
 use Rattle.sd_proof_safety.proofs.invariant.Timed.{IsTimed, timed as plan_is_timed}
 use Rattle.sd_proof_safety.specs.timers.Times.{gives_duty}
-use Rattle.sd_proof_safety.proofs.timers.Marks.{some_is}
 use Rattle.sd_proof_safety.proofs.timers.Periods.{EachGives, duties_in}
-use Rattle.sd_proof_safety.proofs.timers.Deadlines.{among_below}
 use Rattle.sd_proof_safety.proofs.timers.Histories.{Timely, timely}
 
 -- Waits are as long as twice V.
@@ -131,7 +131,7 @@ long_plans setting fair i plan at = accepted_is_long setting.net plan fair.netwo
 module _ (setting : Setting) (fair : IsFair setting) where
   given_long : (steps : List Step) (m : ℕ) (w : Option (List Seen)) → (is_some w ≡ true → epoch_in_force (seen_of steps) < length setting.plans) → (duty : Duty)
       → gives_duty
-      (of_some (option_map (λ v. plan_numbered setting (staged_epoch (seen_of steps))) w) Passes
+      (map_or (option_map (λ v. plan_numbered setting (staged_epoch (seen_of steps))) w) Passes
       (λ plan. Calls m (calls.Give (duty_of setting.net plan (staged_epoch (seen_of steps)) m)))) ≡ Some duty → LongDuty setting.net duty
   given_long steps m None within duty same = cc
   given_long steps m (Some v) within duty same =
@@ -142,7 +142,7 @@ module _ (setting : Setting) (fair : IsFair setting) where
       lower : epoch_in_force (seen_of steps) < length setting.plans → epoch_in_force (seen_of steps) + 1 - 1 < length setting.plans
       lower lt = omega (arith, lt)
 
-  received_long : (m c : ℕ) (o : Option Flight) (duty : Duty) → gives_duty (of_some o Passes (λ f. Calls m (calls.Receive f.link f.message c))) ≡ Some duty
+  received_long : (m c : ℕ) (o : Option Flight) (duty : Duty) → gives_duty (map_or o Passes (λ f. Calls m (calls.Receive f.link f.message c))) ≡ Some duty
       → LongDuty setting.net duty
   received_long m c None duty same = cc
   received_long m c (Some f) duty same = cc

@@ -2,7 +2,7 @@
 -- backup was on its backup since it heard and moved. From Back of timers, with what devices answer.
 use Rattle.std.specs.Prelude.{◌≡◌, ℕ, ◌<◌, Bool, true, false, ◌&&◌, not, List, [], ◌∷◌, Option, Some, None, is_some, option_map, refl, if◌then◌else◌}
 use Rattle.std.proofs.Common.{sym, ◌∙◌, ap, subst}
-use Rattle.sd_checker.specs.Num.Lists.{of_some}
+use Rattle.sd_checker.specs.Num.Lists.{map_or}
 use Rattle.sd_checker.specs.Topo.declared.Thing.TheVariants as thing
 use Rattle.sd_history.specs.Core.Calls.{Did, Past}
 use Rattle.sd_history.specs.Core.Words.{has_moved, is_acting, epoch_now, duty_now}
@@ -11,23 +11,26 @@ use Rattle.sd_history.specs.Sched.Events.{reference_of}
 use Rattle.sd_history.specs.World.{Setting, makes, fails, is_up}
 use Rattle.sd_history.specs.Steps.{Act, Makes, Calls, Asks, Passes, Step, seen_of, acts_in, epoch_in, live_answers}
 use Rattle.sd_history.specs.Chronicle.{past_in, chronicle, answers_by}
+use Rattle.sd_proof_safety.specs.messages.Moments.{Tail, whole, behind}
 use Rattle.sd_proof_safety.specs.invariant.Eras.{live_past, moved, on_primary, on_backup, heard_at, moved_at}
 use Rattle.sd_proof_safety.proofs.invariant.Parents.{live_is}
 use Rattle.sd_proof_safety.specs.timers.Times.{AreTimed, makes_device, hears, heard_in}
-use Rattle.sd_proof_safety.specs.timers.Since.{IsTail, whole, beyond, marks_by, Unmarked, no_step, one_step}
+use Rattle.sd_proof_safety.specs.timers.Since.{marks_by, Unmarked, no_step, one_step}
 use Rattle.sd_proof_safety.proofs.timers.Unmarked.{Same, unmarked_since}
 use Rattle.sd_proof_safety.proofs.timers.LookingBack.{same_then, primary_then, backup_then}
 use Rattle.sd_proof_safety.proofs.waits.SameReferences.{heard_is, moved_is}
+use Rattle.sd_proof_safety.proofs.moves.Ahead.{up_since}
+use Rattle.sd_proof_safety.proofs.invariant.Causes.{ordinary_parts}
 
 -- a tail of a chronicle is the chronicle of a tail of its history
 pub record IsChronicleOf (setting : Setting) (older : List Step) : Type 0 where
   pub history : List Event
   pub is : older ≡ chronicle setting history
 
-pub tail_is_chronicle : (setting : Setting) (history : List Event) (older : List Step) → IsTail older (chronicle setting history) → IsChronicleOf setting older
+pub tail_is_chronicle : (setting : Setting) (history : List Event) (older : List Step) → Tail older (chronicle setting history) → IsChronicleOf setting older
 tail_is_chronicle setting [] older whole = record { history = []; is = refl }
 tail_is_chronicle setting (e ∷ earlier) older whole = record { history = e ∷ earlier; is = refl }
-tail_is_chronicle setting (e ∷ earlier) older (beyond rest) = tail_is_chronicle setting earlier older rest
+tail_is_chronicle setting (e ∷ earlier) older (behind rest) = tail_is_chronicle setting earlier older rest
 
 -- a device that is up, and was not made since, was up then
 not_makes : (f : Did → Option ℕ) (act : Act) (d : ℕ) (p : Option Past) → marks_by f act d p ≡ false → makes_device act d ≡ false
@@ -36,17 +39,12 @@ not_makes f (Calls m call) d p none = refl
 not_makes f (Asks m counter) d p none = refl
 not_makes f Passes d p none = refl
 
-up_before : (m f before : Bool) → m ≡ false → of_some (if m then Some true else if f then Some false else None) before (λ x. x) ≡ true → before ≡ true
-up_before true f before none up = cc
-up_before false true before none up = cc
-up_before false false before none up = up
-
 was_up : (f : Did → Option ℕ) (setting : Setting) (d : ℕ) (older steps : List Step) → Unmarked f d older steps → AreTimed setting steps
     → is_up (seen_of steps) d ≡ true → is_up (seen_of older) d ≡ true
 was_up f setting d older _ no_step timed up = up
 was_up f setting d older _ (one_step {s = s} {steps = steps} none rest) timed up =
     was_up f setting d older steps rest timed.0
-    (up_before (makes d s.seen.event) (fails (thing.Device d) s.seen.event) (is_up (seen_of steps) d)
+    (up_since (makes d s.seen.event) (fails (thing.Device d) s.seen.event) (is_up (seen_of steps) d)
     (timed.1.fits.makes_it d ∙ not_makes f s.act d (past_in steps d) none) up)
 
 -- what a live device answers is what its past says, in every tail of a chronicle
@@ -71,8 +69,8 @@ stands_by setting steps d c past up there =
       past = past;
       live = up;
       there = there;
-      moved_is = ap (λ p. of_some p false has_moved) live;
-      acts_is = ap (λ a. of_some a false (λ x. x.acts)) answers;
+      moved_is = ap (λ p. map_or p false has_moved) live;
+      acts_is = ap (λ a. map_or a false (λ x. x.acts)) answers;
       epoch_is = ap (option_map (λ a. a.epoch)) answers;
     }
 
@@ -81,29 +79,23 @@ live_of true None some = cc
 live_of true (Some past) some = (refl, past, refl)
 live_of false p some = cc
 
-moved_some : (b : Bool) (p : Option Past) → of_some (if b then p else None) false has_moved ≡ true → is_some (if b then p else None) ≡ true
+moved_some : (b : Bool) (p : Option Past) → map_or (if b then p else None) false has_moved ≡ true → is_some (if b then p else None) ≡ true
 moved_some true None h = cc
 moved_some true (Some past) h = refl
 moved_some false p h = cc
-
-three_parts : (l m a : Bool) → (l && not m && not a) ≡ true → (l ≡ true) × (m ≡ false) × (a ≡ false)
-three_parts true false false h = (refl, refl, refl)
-three_parts true false true h = cc
-three_parts true true a h = cc
-three_parts false m a h = cc
 
 pub two_parts : (m a : Bool) → (m && not a) ≡ true → (m ≡ true) × (a ≡ false)
 two_parts true false h = (refl, refl)
 two_parts true true h = cc
 two_parts false a h = cc
 
-all_three : (l m a : Bool) → l ≡ true → m ≡ false → a ≡ false → (l && not m && not a) ≡ true
+pub all_three : (l m a : Bool) → l ≡ true → m ≡ false → a ≡ false → (l && not m && not a) ≡ true
 all_three true false false x y z = refl
 all_three true false true x y z = cc
 all_three true true a x y z = cc
 all_three false m a x y z = cc
 
-both_two : (m a : Bool) → m ≡ true → a ≡ false → (m && not a) ≡ true
+pub both_two : (m a : Bool) → m ≡ true → a ≡ false → (m && not a) ≡ true
 both_two true false x y = refl
 both_two true true x y = cc
 both_two false a x y = cc
@@ -114,12 +106,12 @@ pub record Was (setting : Setting) (older steps : List Step) (d : ℕ) (place : 
   pub live : is_up (seen_of older) d ≡ true
   pub epoch : epoch_in older d ≡ epoch_in steps d
 
-module _ (setting : Setting) (history : List Event) (t : Step) (older : List Step) (d : ℕ) (tail : IsTail (t ∷ older) (chronicle setting history))
+module _ (setting : Setting) (history : List Event) (t : Step) (older : List Step) (d : ℕ) (tail : Tail (t ∷ older) (chronicle setting history))
     (timed : AreTimed setting (chronicle setting history))
     (heard_before : heard_at (chronicle setting history) d < reference_of t.seen.event) where
-  below : {A : Type 0} {x : A} {xs ys : List A} → IsTail (x ∷ xs) ys → IsTail xs ys
-  below whole = beyond whole
-  below (beyond rest) = beyond (below rest)
+  below : {A : Type 0} {x : A} {xs ys : List A} → Tail (x ∷ xs) ys → Tail xs ys
+  below whole = behind whole
+  below (behind rest) = behind (below rest)
 
   heard_first : heard_in (chronicle setting history) d < reference_of t.seen.event
   heard_first = subst (λ h. h < reference_of t.seen.event) (heard_is setting (chronicle setting history) timed d) heard_before
@@ -153,16 +145,16 @@ module _ (setting : Setting) (history : List Event) (t : Step) (older : List Ste
             on =
                 all_three (is_some (live_past older d)) (moved older d) (acts_in older d)
                 (ap (λ b. is_some (if b then past_in older d else None)) (up_then now.live) ∙ ap is_some there)
-                (ap (λ b. of_some (if b then past_in older d else None) false has_moved) (up_then now.live) ∙ ap (λ p. of_some p false has_moved) there ∙ put)
-                (ap (λ a. of_some a false (λ x. x.acts)) answers ∙ acts_not);
+                (ap (λ b. map_or (if b then past_in older d else None) false has_moved) (up_then now.live) ∙ ap (λ p. map_or p false has_moved) there ∙ put)
+                (ap (λ a. map_or a false (λ x. x.acts)) answers ∙ acts_not);
             live = up_then now.live;
-            epoch = ap (option_map (λ a. a.epoch)) answers ∙ ap (λ u. Some (of_some u 0 (λ v. v.epoch))) (sym duty) ∙ sym now.epoch_is;
+            epoch = ap (option_map (λ a. a.epoch)) answers ∙ ap (λ u. Some (map_or u 0 (λ v. v.epoch))) (sym duty) ∙ sym now.epoch_is;
           }
 
   pub was_on_primary : on_primary (chronicle setting history) d ≡ true → Was setting older (chronicle setting history) d on_primary
   was_on_primary on =
       let steps : List Step = chronicle setting history in
-      let parts = three_parts (is_some (live_past steps d)) (moved steps d) (acts_in steps d) on in
+      let parts = ordinary_parts (is_some (live_past steps d)) (moved steps d) (acts_in steps d) on in
       let there = live_of (is_up (seen_of steps) d) (past_in steps d) parts.0 in
       let now : Live steps d = stands_by setting steps d (record { history = history; is = refl }) there.1 there.0 there.2 in
       primary_by now (sym now.moved_is ∙ parts.1) (sym now.acts_is ∙ parts.2)
@@ -188,10 +180,10 @@ module _ (setting : Setting) (history : List Event) (t : Step) (older : List Ste
           record {
             on =
                 both_two (moved older d) (acts_in older d)
-                (ap (λ b. of_some (if b then past_in older d else None) false has_moved) (up_then now.live) ∙ ap (λ p. of_some p false has_moved) there ∙ put)
-                (ap (λ a. of_some a false (λ x. x.acts)) answers ∙ acts_not);
+                (ap (λ b. map_or (if b then past_in older d else None) false has_moved) (up_then now.live) ∙ ap (λ p. map_or p false has_moved) there ∙ put)
+                (ap (λ a. map_or a false (λ x. x.acts)) answers ∙ acts_not);
             live = up_then now.live;
-            epoch = ap (option_map (λ a. a.epoch)) answers ∙ ap (λ u. Some (of_some u 0 (λ v. v.epoch))) (sym duty) ∙ sym now.epoch_is;
+            epoch = ap (option_map (λ a. a.epoch)) answers ∙ ap (λ u. Some (map_or u 0 (λ v. v.epoch))) (sym duty) ∙ sym now.epoch_is;
           }
 
   pub was_on_backup : moved_at (chronicle setting history) d < reference_of t.seen.event → on_backup (chronicle setting history) d ≡ true

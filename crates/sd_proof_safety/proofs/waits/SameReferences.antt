@@ -1,7 +1,7 @@
 -- The references of the invariant's words are those of timers: where a device heard, moved and sent. By induction on the steps.
 use Rattle.std.specs.Prelude.{◌≡◌, ℕ, Bool, true, false, ◌||◌, List, [], ◌∷◌, nat_eq, Option, Some, None, is_some, option_map, refl, if◌then◌else◌}
 use Rattle.std.proofs.Common.{◌∙◌, ap}
-use Rattle.sd_checker.specs.Num.Lists.{of_some}
+use Rattle.sd_checker.specs.Num.Lists.{map_or}
 use Rattle.sd_history.specs.Core.Calls.{Call, Did, Past}
 use Rattle.sd_history.specs.Core.Words.{emits}
 use Rattle.sd_history.specs.Sched.Events.{reference_of}
@@ -13,7 +13,7 @@ use Rattle.sd_proof_safety.specs.invariant.Eras.{latest_such, does, heard_at, mo
 use Rattle.sd_proof_safety.specs.timers.Times.{AreTimed, did_by, reference_after, reference_by, makes_device, hears, moves, heard_in, moved_in, sent_in}
 use Rattle.sd_proof_safety.proofs.timers.Transitions.{heard_counts, move_counts}
 
-told_or : (o : Option ℕ) (t : Bool) (r before : ℕ) → is_some o ≡ t → (if t then r else before) ≡ of_some o before (λ c. r)
+told_or : (o : Option ℕ) (t : Bool) (r before : ℕ) → is_some o ≡ t → (if t then r else before) ≡ map_or o before (λ c. r)
 told_or None true r before is = cc
 told_or None false r before is = refl
 told_or (Some c) true r before is = refl
@@ -21,7 +21,7 @@ told_or (Some c) false r before is = cc
 
 module _ (test : Did → Bool) (f : Did → Option ℕ) (same : (past : Past) (call : Call) → is_some (f (did_by past call)) ≡ test (did_by past call)) where
   by_act : (earlier : List Step) (act : Act) (d r before : ℕ)
-      → (if makes_device act d || of_some (eras.did_by earlier act d) false test then r else before) ≡ reference_after f r act d (past_in earlier d) before
+      → (if makes_device act d || map_or (eras.did_by earlier act d) false test then r else before) ≡ reference_after f r act d (past_in earlier d) before
   by_act earlier (Makes m making) d r before = go (nat_eq m d)
     where
       go : (b : Bool) → (if b || false then r else before) ≡ (if b then r else before)
@@ -29,8 +29,8 @@ module _ (test : Did → Bool) (f : Did → Option ℕ) (same : (past : Past) (c
       go false = refl
   by_act earlier (Calls m call) d r before = go (nat_eq m d) (past_in earlier d)
     where
-      go : (b : Bool) (p : Option Past) → (if false || of_some (if b then option_map (λ past. did_by past call) p else None) false test then r else before)
-          ≡ (if b then of_some p before (λ q. of_some (f (did_by q call)) before (λ c. r)) else before)
+      go : (b : Bool) (p : Option Past) → (if false || map_or (if b then option_map (λ past. did_by past call) p else None) false test then r else before)
+          ≡ (if b then map_or p before (λ q. map_or (f (did_by q call)) before (λ c. r)) else before)
       go true None = refl
       go true (Some q) = told_or (f (did_by q call)) (test (did_by q call)) r before (same q call)
       go false p = refl

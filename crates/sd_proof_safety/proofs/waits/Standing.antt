@@ -5,7 +5,7 @@ use Rattle.std.specs.Prelude.{◌≡◌, ℕ, ◌+◌, ◌<◌, ◌≤◌, Bool,
 use Rattle.std.proofs.Common.{arith, ap, sym, subst}
 use Rattle.std.proofs.lemmas.Bool.{and_parts, and_from, or_left, or_parts, or_from, eqb-true, eq-eqb, leb-true, lt-ltb, false_from_ne_true, true_from_ne_false, both_ways}
 use Rattle.std.proofs.lemmas.List.Sums.{sum_by-cons}
-use Rattle.sd_checker.specs.Num.Lists.{of_some, leading}
+use Rattle.sd_checker.specs.Num.Lists.{map_or, leading}
 use Rattle.std.specs.List.{cons_option}
 use Rattle.sd_checker.specs.Domain.Things.{same_thing}
 use Rattle.sd_checker.specs.Topo.declared.Thing.{Thing}
@@ -23,7 +23,7 @@ use Rattle.sd_proof_safety.specs.invariant.Eras.{era, plan_now, is_among, device
 use Rattle.sd_proof_safety.specs.invariant.Clauses.{is_beginning, staged_root}
 use Rattle.sd_proof_safety.specs.invariant.Silences.{root_leads}
 use Rattle.sd_proof_safety.specs.invariant.Invariant.{Invariant}
-use Rattle.sd_proof_safety.specs.invariant.Coming.{IsClean, Comes}
+use Rattle.sd_proof_safety.specs.invariant.Coming.{IsClean, IsNextEvent}
 use Rattle.sd_proof_safety.proofs.invariant.Prefix.{clean_before}
 use Rattle.sd_proof_safety.proofs.invariant.Sides.{implied, not_both}
 use Rattle.sd_proof_safety.proofs.invariant.Following.{held_now}
@@ -36,7 +36,7 @@ use Rattle.sd_proof_safety.proofs.invariant.Facts.{IsSound, sound_now, not_both_
 
 -- Untouched
 
-made_by : (m f was ever up : Bool) → of_some (if m then Some true else if f then Some false else None) up (λ told. told) ≡ false → (f || ever) ≡ false
+made_by : (m f was ever up : Bool) → map_or (if m then Some true else if f then Some false else None) up (λ told. told) ≡ false → (f || ever) ≡ false
     → (up ≡ false → ever ≡ false → (not was && not ever) ≡ true) → (not (m || was) && not (f || ever)) ≡ true
 made_by true f was ever up down none rest = cc
 made_by false true was ever up down none rest = cc
@@ -54,7 +54,7 @@ first_open true count is = absurd (omega (arith, is))
 first_open false count is = (refl, omega (arith, is))
 
 among_here : (x : Thing) (o : Option Thing) (rest : List Thing) → is_among (cons_option o rest) x ≡ false
-    → (of_some o false (same_thing x) ≡ false) × (is_among rest x ≡ false)
+    → (map_or o false (same_thing x) ≡ false) × (is_among rest x ≡ false)
 among_here x None rest none = (refl, none)
 among_here x (Some y) rest none = or_parts (same_thing x y) (is_among rest x) none
 
@@ -77,7 +77,7 @@ never_failed (s ∷ seen) d era_ none =
         (thing.Device d) ≡ false) is none') in
         or_from (fails (thing.Device d) s.event) (has_ever_failed seen d) parts.0 (rest parts.1)
 
-module _ (setting : Setting) (x : Event) (h : List Event) (e : Event) (comes : Comes setting (x ∷ h) e) where
+module _ (setting : Setting) (x : Event) (h : List Event) (e : Event) (comes : IsNextEvent setting (x ∷ h) e) where
   pub now : Invariant setting (chronicle setting (x ∷ h))
   now = comes.before.1
 

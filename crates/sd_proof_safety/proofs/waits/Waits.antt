@@ -1,9 +1,9 @@
 -- Lemmas 4 to 6 in the words of the invariant: how long an old device is silent, rests or sends nothing at most, and how long it was at least when it moves,
 -- takes over or emits. From the laws of timers, with the duties of the plan in force.
-use Rattle.std.specs.Prelude.{◌≡◌, ℕ, ◌+◌, ◌-◌, ◌≤◌, Bool, true, false, ◌&&◌, not, List, ◌∷◌, max, Option, Some, None, is_some, option_map, refl, if◌then◌else◌}
+use Rattle.std.specs.Prelude.{◌≡◌, ℕ, ◌+◌, ◌-◌, ◌≤◌, Bool, true, false, ◌&&◌, List, ◌∷◌, max, Option, Some, None, is_some, option_map, refl, if◌then◌else◌}
 use Rattle.std.proofs.Common.{arith, sym, ◌∙◌, ap, subst}
 use Rattle.std.proofs.lemmas.Bool.{or_left}
-use Rattle.sd_checker.specs.Num.Lists.{of_some}
+use Rattle.sd_checker.specs.Num.Lists.{map_or}
 use Rattle.sd_checker.specs.Topo.Network.{Network, least_low, greatest_up}
 use Rattle.sd_checker.specs.Plan.declared.Plan.{Plan}
 use Rattle.sd_checker.specs.Plan.declared.Duty.{Duty}
@@ -22,15 +22,18 @@ use Rattle.sd_history.specs.World.{Setting, is_up, is_staged_member}
 use Rattle.sd_history.specs.Steps.{Step, seen_of, acts_in}
 use Rattle.sd_history.specs.Chronicle.{past_in, chronicle, answers_by}
 use Rattle.sd_history.specs.Premises.{is_current_member}
+use Rattle.sd_history.proofs.Given.{some_is}
 use Rattle.sd_proof_safety.specs.invariant.Bounds.{first_up, first_low, second_up, second_low, wait_up, wait_low, tick_gap}
 use Rattle.sd_proof_safety.specs.invariant.Eras.{plan_now, era, is_old, live_past, moved, on_primary, on_backup, silent_for, rests_for, heard_at, moved_at, sent_at}
 use Rattle.sd_proof_safety.proofs.invariant.Parents.{IsOld, old_is, live_is}
 use Rattle.sd_proof_safety.specs.timers.Times.{AreTimed, heard_in, moved_in, sent_in, sealed_in}
-use Rattle.sd_proof_safety.proofs.timers.Marks.{some_is}
-use Rattle.sd_proof_safety.proofs.timers.Sealed.{SealedBy, sealed_from_start}
+use Rattle.sd_proof_safety.specs.moves.Wanted.{IsSealedBy}
+use Rattle.sd_proof_safety.proofs.timers.Sealed.{sealed_from_start}
 use Rattle.sd_proof_safety.proofs.timers.Histories.{Timely, timed, before, silence_ends, rest_ends, sends_soon, move_waits, takeover_waits, emission_waits_since}
 use Rattle.sd_proof_safety.proofs.waits.SameReferences.{heard_is, moved_is, sent_is}
 use Rattle.sd_proof_safety.proofs.waits.LookingBack.{two_parts}
+use Rattle.sd_proof_safety.proofs.windows.Leading.{stands_by}
+use Rattle.sd_proof_safety.proofs.windows.Committing.{up_and_past}
 
 -- how an old device stands, by its past
 pub record Stands (setting : Setting) (steps : List Step) (d : ℕ) : Type 0 where
@@ -41,32 +44,22 @@ pub record Stands (setting : Setting) (steps : List Step) (d : ℕ) : Type 0 whe
   pub moved_is : moved steps d ≡ has_moved past
   pub acts_is : acts_in steps d ≡ is_acting past
 
-up_of : (b : Bool) (p : Option Past) (past : Past) → (if b then p else None) ≡ Some past → (b ≡ true) × (p ≡ Some past)
-up_of true p past is = (refl, is)
-up_of false p past is = cc
-
 pub old_stands : (setting : Setting) (history : List Event) (d : ℕ) → is_old (chronicle setting history) d ≡ true → Stands setting (chronicle setting history) d
 old_stands setting history d old =
     let steps = chronicle setting history in
     let o : IsOld setting steps d = old_is setting history d old in
-    let up = up_of (is_up (seen_of steps) d) (past_in steps d) o.past o.live in
+    let up = up_and_past (is_up (seen_of steps) d) (past_in steps d) o.past o.live in
     record {
       past = o.past;
       live = up.0;
       there = up.1;
       duty = o.duty;
-      moved_is = ap (λ p. of_some p false has_moved) o.live;
-      acts_is = ap (λ a. of_some a false (λ x. x.acts)) (live_is setting history d) ∙ ap (λ p. of_some (option_map answers_by p) false (λ x. x.acts)) o.live;
+      moved_is = ap (λ p. map_or p false has_moved) o.live;
+      acts_is = ap (λ a. map_or a false (λ x. x.acts)) (live_is setting history d) ∙ ap (λ p. map_or (option_map answers_by p) false (λ x. x.acts)) o.live;
     }
 
-primary_parts : (l m a : Bool) → (l && not m && not a) ≡ true → (m ≡ false) × (a ≡ false)
-primary_parts true false false h = (refl, refl)
-primary_parts true false true h = cc
-primary_parts true true a h = cc
-primary_parts false m a h = cc
-
 -- the waits of a plan's duties
-backup_root_waits : (net : Network) (plan : Plan) (epoch d : ℕ) → is_root plan d ≡ false → is_backup_root plan d ≡ true
+pub backup_root_waits : (net : Network) (plan : Plan) (epoch d : ℕ) → is_root plan d ≡ false → is_backup_root plan d ≡ true
     → wait_to_move (duty_of net plan epoch d) ≡ Some plan.wait_first
 backup_root_waits net plan epoch d root backup = rw (root, backup) refl
 
@@ -74,7 +67,7 @@ ordinary_waits : (net : Network) (plan : Plan) (epoch d : ℕ) → is_root plan 
     → wait_to_move (duty_of net plan epoch d) ≡ Some plan.wait
 ordinary_waits net plan epoch d root backup has = rw (root, backup) (by_hop (backup_of plan d) has)
   where
-    by_hop : (o : Option Hop) → of_some o false (λ hop. true) ≡ true
+    by_hop : (o : Option Hop) → map_or o false (λ hop. true) ≡ true
         → (if is_some (option_map (edge_of net d) o) then Some plan.wait else None) ≡ Some plan.wait
     by_hop None h = cc
     by_hop (Some hop) h = refl
@@ -82,7 +75,7 @@ ordinary_waits net plan epoch d root backup has = rw (root, backup) (by_hop (bac
 is_backup_duty : (net : Network) (plan : Plan) (epoch d : ℕ) (past : Past) → duty_now past ≡ Some (duty_of net plan epoch d) → is_root plan d ≡ false
     → is_backup_root plan d ≡ true → is_backup_root_now past ≡ true
 is_backup_duty net plan epoch d past has root backup =
-    ap (λ o. of_some o false (λ (duty : Duty). elim duty.role [ role.BackupRoot ↦ true | _ ↦ false ])) has ∙ role_is
+    ap (λ o. map_or o false (λ (duty : Duty). elim duty.role [ role.BackupRoot ↦ true | _ ↦ false ])) has ∙ role_is
   where
     role_is : elim (duty_of net plan epoch d).role as (λ (x : Role). Bool) [ role.BackupRoot ↦ true | _ ↦ false ] ≡ true
     role_is = rw (root, backup) refl
@@ -113,7 +106,7 @@ module _ (setting : Setting) (e : Event) (history : List Event) (d : ℕ) (t : T
   silent_at_most wait q waits primary seal by =
       let steps : List Step = chronicle setting history in
       let s : Stands setting steps d = stands in
-      let parts = primary_parts (is_some (live_past steps d)) (moved steps d) (acts_in steps d) primary in
+      let parts = stands_by (is_some (live_past steps d)) (moved steps d) (acts_in steps d) primary in
       let same : heard_at steps d ≡ heard_in steps d = heard_is setting steps all_timed d in
       let line : reference_of e ≤ heard_in steps d + greatest_up setting.net wait + setting.net.params.tick =
       silence_ends setting e history d s.past t s.live current s.there (duty_of setting.net (plan_now setting steps) (era steps) d) wait q s.duty waits
@@ -253,7 +246,7 @@ module _ (setting : Setting) (r d c : ℕ) (history : List Event) (t : Timely se
 -- A device whose entry is its start is sealed since no later than it heard: what backup_root_silence and ordinary_silence ask for.
 pub sealed_when_started : (setting : Setting) (history : List Event) → Timely setting history → (d : ℕ) (past : Past)
     → past_in (chronicle setting history) d ≡ Some past → later_entry past ≡ None
-    → SealedBy (chronicle setting history) d (heard_at (chronicle setting history) d)
+    → IsSealedBy (chronicle setting history) d (heard_at (chronicle setting history) d)
 sealed_when_started setting history t d past is none =
-    subst (SealedBy (chronicle setting history) d) (sym (heard_is setting (chronicle setting history) (timed setting history t) d))
+    subst (IsSealedBy (chronicle setting history) d) (sym (heard_is setting (chronicle setting history) (timed setting history t) d))
     (sealed_from_start setting (chronicle setting history) (timed setting history t) d past is none)

@@ -1,10 +1,9 @@
 -- How long devices stay silent, at each event that comes (13 to 18): with all that the crates below show of it put in.
 use Rattle.sd_history.specs.World.{Setting}
 use Rattle.sd_proof_safety.specs.invariant.Coming.{AtNext}
-use Rattle.sd_proof_safety.specs.invariant.Silences.{EntersSoon, AreSilent}
+use Rattle.sd_proof_safety.specs.invariant.Silences.{AreSilent}
 use Rattle.sd_proof_safety.specs.behind.Feeding.{BehindWaitsUnmended, BehindWaitsMended, BehindWaitsCommitted}
 use Rattle.sd_proof_safety.proofs.behind.Silent as behind_
-use Rattle.sd_proof_safety.proofs.entering.Entering.{members_enter}
 use Rattle.sd_proof_safety.proofs.entering.Hears.{new_hears}
 use Rattle.sd_proof_safety.proofs.spans.PathHearsAtEvents.{whole_path_hears}
 use Rattle.sd_proof_safety.proofs.spans.FallbackRests.{fallback_hears}
@@ -42,7 +41,3 @@ are_silent setting =
       beside = behind_.beside setting (whole_path_hears setting) (hears_no_more setting);
       entered = new_hears setting;
     }
-
--- 18, of members
-pub members_enter_soon : (setting : Setting) → AtNext EntersSoon setting
-members_enter_soon setting = members_enter setting

@@ -1,25 +1,17 @@
 -- Before a commit only one counted device can act: the root, or where that failed the backup root. So this is the one that commits (C9 c).
-use Rattle.std.specs.Prelude.{◌≡◌, ℕ, Bool, true, false, ◌&&◌, ◌||◌, not, List, None, is_some, refl, if◌then◌else◌}
+use Rattle.std.specs.Prelude.{◌≡◌, ℕ, Bool, true, false, ◌&&◌, ◌||◌, not, List, is_some, refl, if◌then◌else◌}
 use Rattle.std.proofs.Common.{◌∙◌, ap, sym}
 use Rattle.std.proofs.lemmas.Bool.{and_from, eqb-true, not-true, false_from_ne_true}
-use Rattle.sd_checker.specs.Num.Lists.{of_some}
 use Rattle.sd_checker.specs.Plan.Plans.{is_member, is_root, is_backup_root}
 use Rattle.sd_history.specs.Sched.declared.Event.{Event}
 use Rattle.sd_history.specs.World.{Setting, is_up, has_commit, is_counted, joined_in_window}
-use Rattle.sd_history.specs.Steps.{Step, seen_of, answers_in, acts_in, parent_in}
+use Rattle.sd_history.specs.Steps.{Step, seen_of, acts_in, parent_in}
 use Rattle.sd_history.specs.Chronicle.{chronicle, IsHistory}
 use Rattle.sd_proof_safety.specs.invariant.Eras.{plan_now, is_old, is_new, is_blank, is_ordinary, root_failed}
 use Rattle.sd_proof_safety.proofs.invariant.Sides.{implied, not_both, stands}
 use Rattle.sd_proof_safety.specs.windows.Standing.{HasStanding}
 use Rattle.sd_proof_safety.proofs.windows.NoneBeforeCommit.{uncommitted}
-
--- who acts is up
-pub acting_is_up : (steps : List Step) (x : ℕ) → acts_in steps x ≡ true → is_up (seen_of steps) x ≡ true
-acting_is_up steps x acts = go (is_up (seen_of steps) x) acts
-  where
-    go : (b : Bool) → of_some (if b then answers_in steps x else None) false (λ a. a.acts) ≡ true → b ≡ true
-    go true is = refl
-    go false is = cc
+use Rattle.sd_proof_safety.proofs.invariant.Known.{acting_is_up}
 
 pub no_blank : (blank parent acts : Bool) → (not blank || (not parent && not acts)) ≡ true → acts ≡ true → blank ≡ false
 no_blank true true acts idle is = cc

@@ -2,7 +2,7 @@
 use Rattle.std.specs.Prelude.{◌≡◌, ℕ, Bool, true, false, ◌&&◌, ◌||◌, not, List, ◌∷◌, nat_eq, Option, Some, None, option_map, refl, if◌then◌else◌}
 use Rattle.std.proofs.Common.{◌∙◌, ap, sym}
 use Rattle.std.proofs.lemmas.Bool.{and_parts, eqb-true, false_from_ne_true, not-true}
-use Rattle.sd_checker.specs.Num.Lists.{of_some, same_number}
+use Rattle.sd_checker.specs.Num.Lists.{map_or, same_number}
 use Rattle.sd_checker.specs.Plan.declared.Plan.{Plan}
 use Rattle.sd_checker.specs.Plan.Plans.{is_member}
 use Rattle.sd_history.specs.Msg.declared.Message.{Message}
@@ -55,10 +55,10 @@ acted past l m c =
     }) (calls.Receive l m c) refl
 
 abbrev acts_as : Option Past → Bool
-acts_as p = of_some (option_map answers_by p) false (λ a. a.acts)
+acts_as p = map_or (option_map answers_by p) false (λ a. a.acts)
 
 acts_back : (d x c : ℕ) (up : Bool) (p : Option Past) (o : Option Flight)
-    → acts_as (if up then past_after (of_some o Passes (λ f. Calls d (calls.Receive f.link f.message c))) x p else None) ≡ true
+    → acts_as (if up then past_after (map_or o Passes (λ f. Calls d (calls.Receive f.link f.message c))) x p else None) ≡ true
     → acts_as (if up then p else None) ≡ true
 acts_back d x c false p o is = is
 acts_back d x c true p None is = is
@@ -71,7 +71,7 @@ acts_back d x c true p (Some f) is = go (nat_eq d x) p is
     go false q is' = is'
 
 acts_on : (d x c : ℕ) (up : Bool) (q : Past) (o : Option Flight) → given_now q ≡ None
-    → acts_as (if up then past_after (of_some o Passes (λ f. Calls d (calls.Receive f.link f.message c))) x (Some q) else None)
+    → acts_as (if up then past_after (map_or o Passes (λ f. Calls d (calls.Receive f.link f.message c))) x (Some q) else None)
     ≡ acts_as (if up then Some q else None)
 acts_on d x c false q o none = refl
 acts_on d x c true q None none = refl
@@ -87,22 +87,22 @@ module _ (setting : Setting) (r d c k : ℕ) (history : List Event) (clean : IsC
 
   began_not : (x : ℕ) → acts_in (chronicle setting (event.Recv r d c k ∷ history)) x ≡ true → acts_in (chronicle setting history) x ≡ true
   began_not x acts =
-      ap (λ o. of_some o false (λ a. a.acts)) (live_is setting history x)
+      ap (λ o. map_or o false (λ a. a.acts)) (live_is setting history x)
       ∙ acts_back d x c (is_up (seen_of (chronicle setting history)) x) (past_in (chronicle setting history) x) (flight_numbered (chronicle setting history) k)
-      (sym (ap (λ o. of_some o false (λ a. a.acts)) (live_is setting (event.Recv r d c k ∷ history) x)) ∙ acts)
+      (sym (ap (λ o. map_or o false (λ a. a.acts)) (live_is setting (event.Recv r d c k ∷ history) x)) ∙ acts)
 
   new_acts : (x : ℕ) → is_new (chronicle setting history) x ≡ true
       → acts_in (chronicle setting (event.Recv r d c k ∷ history)) x ≡ acts_in (chronicle setting history) x
   new_acts x new =
       let of : NewPast (chronicle setting history) x = new_past_of setting history x new in
-      ap (λ o. of_some o false (λ a. a.acts)) (live_is setting (event.Recv r d c k ∷ history) x)
+      ap (λ o. map_or o false (λ a. a.acts)) (live_is setting (event.Recv r d c k ∷ history) x)
       ∙ ap (λ p. acts_as
       (if is_up (seen_of (chronicle setting history)) x then past_after
-      (of_some (flight_numbered (chronicle setting history) k) Passes (λ f. Calls d (calls.Receive f.link f.message c))) x p else None)) of.there
+      (map_or (flight_numbered (chronicle setting history) k) Passes (λ f. Calls d (calls.Receive f.link f.message c))) x p else None)) of.there
       ∙ acts_on d x c (is_up (seen_of (chronicle setting history)) x) of.past (flight_numbered (chronicle setting history) k)
       (new_has_none setting history clean.is.0 x of.past of.there of.epoch)
       ∙ sym (ap (λ p. acts_as (if is_up (seen_of (chronicle setting history)) x then p else None)) of.there)
-      ∙ sym (ap (λ o. of_some o false (λ a. a.acts)) (live_is setting history x))
+      ∙ sym (ap (λ o. map_or o false (λ a. a.acts)) (live_is setting history x))
 
   -- C9 c at a receipt: who acts
   pub receipt_keeps_acting : committer_is_root setting (chronicle setting history) ≡ true → (x : ℕ)
@@ -112,7 +112,7 @@ module _ (setting : Setting) (r d c k : ℕ) (history : List Event) (clean : IsC
       && is_counted setting (seen_of (chronicle setting (event.Recv r d c k ∷ history))) x) _ shown
     where
       root_same : staged_root setting (chronicle setting (event.Recv r d c k ∷ history)) ≡ staged_root setting (chronicle setting history)
-      root_same = ap (λ o. of_some o 0 (λ (plan : Plan). plan.root))
+      root_same = ap (λ o. map_or o 0 (λ (plan : Plan). plan.root))
           (staged_on setting (next_step setting (chronicle setting history) (event.Recv r d c k)) (chronicle setting history) shut refl)
 
       by : (b : Bool) → nat_eq x (staged_root setting (chronicle setting history)) ≡ b → has_commit (seen_of (chronicle setting history)) ≡ true

@@ -4,7 +4,7 @@ use Rattle.std.specs.Prelude.{◌≡◌, ℕ, ◌+◌, ◌-◌, ◌*◌, ◌<◌
 use Rattle.std.specs.List.{list_any, list_all}
 use Rattle.std.proofs.Common.{arith, ◌∙◌, ap, sym, subst}
 use Rattle.std.proofs.lemmas.Bool.{and_parts, and_from, or_left, or_right, eqb-true, eq-eqb, le-leb, lt-ltb, ltb-true, false_from_ne_true}
-use Rattle.sd_checker.specs.Num.Lists.{of_some, same_number}
+use Rattle.sd_checker.specs.Num.Lists.{map_or, same_number}
 use Rattle.sd_checker.specs.Plan.declared.Plan.{Plan}
 use Rattle.sd_checker.specs.Plan.Plans.{is_member, is_root, is_present, members}
 use Rattle.sd_checker.proofs.Plan.Rules.{KeepsRules, keeps_rules}
@@ -20,6 +20,7 @@ use Rattle.sd_history.specs.World.{Setting, Seen, is_up, window, window_is_open,
 use Rattle.sd_history.specs.Steps.{Answers, Step, seen_of, answers_in, live_answers, acts_in, epoch_in, parent_in, given_in, has_settled}
 use Rattle.sd_history.specs.Chronicle.{past_in, next_step, chronicle}
 use Rattle.sd_history.proofs.Among.{Among, passes}
+use Rattle.sd_history.proofs.Shared.{among_below}
 use Rattle.sd_proof_safety.specs.invariant.Bounds.{depth, delay, rounds_gap}
 use Rattle.sd_proof_safety.specs.invariant.Eras.{era, plan_now, belongs, will_belong, is_old, is_new, is_blank, on_primary, heard_at, sent_at, sends, silent_for, root_failed}
 use Rattle.sd_proof_safety.specs.invariant.Clauses.{just_closed, member_enters, member_begins, root_begins, link_begins, staged_root, leads_to_root}
@@ -28,7 +29,6 @@ use Rattle.sd_proof_safety.proofs.invariant.InForce.{in_force_too}
 use Rattle.sd_proof_safety.proofs.invariant.Prefix.{clean_before}
 use Rattle.sd_proof_safety.proofs.invariant.Sides.{implied, not_both}
 use Rattle.sd_proof_safety.proofs.invariant.Staying.{filter_in}
-use Rattle.sd_proof_safety.proofs.messages.Ends.{among_below}
 use Rattle.sd_proof_safety.proofs.timers.Histories.{Timely, timely, timed, before, sends_soon}
 use Rattle.sd_proof_safety.proofs.waits.SameReferences.{sent_is}
 use Rattle.sd_proof_safety.specs.windows.Standing.{HasEntered}
@@ -46,7 +46,7 @@ epoch_up steps x n is = go (is_up (seen_of steps) x) is
     go true is' = refl
     go false is' = cc
 
-pub settled_epoch : (o : Option Answers) (n : ℕ) → of_some o false (λ a. nat_eq a.epoch n && a.sealed) ≡ true
+pub settled_epoch : (o : Option Answers) (n : ℕ) → map_or o false (λ a. nat_eq a.epoch n && a.sealed) ≡ true
     → same_number (option_map (λ a. a.epoch) o) n ≡ true
 settled_epoch None n is = cc
 settled_epoch (Some a) n is = (and_parts (nat_eq a.epoch n) a.sealed is).0
@@ -54,14 +54,14 @@ settled_epoch (Some a) n is = (and_parts (nat_eq a.epoch n) a.sealed is).0
 pub commit_is_open : (seen : List Seen) → has_commit seen ≡ true → window_is_open seen ≡ true
 commit_is_open seen commit = go (window seen) commit
   where
-    go : (w : Option (List Seen)) → of_some w false (list_any (λ x. is_commit x.event)) ≡ true → is_some w ≡ true
+    go : (w : Option (List Seen)) → map_or w false (list_any (λ x. is_commit x.event)) ≡ true → is_some w ≡ true
     go None is = cc
     go (Some v) is = refl
 
 -- what a window that closes tells
 closing_tells : (setting : Setting) (s : Seen) (n : ℕ) (up settled : ℕ → Bool) (w : Option (List Seen)) → is_commit s.event ≡ false
     → closing setting n up settled (option_map (λ v. s ∷ v) w) ≡ true
-    → (of_some w false (list_any (λ x. is_commit x.event)) ≡ true)
+    → (map_or w false (list_any (λ x. is_commit x.event)) ≡ true)
     × ((x : ℕ) → Among x (filter up (members setting.net (plan_numbered setting n))) → settled x ≡ true)
 closing_tells setting s n up settled None none is = cc
 closing_tells setting s n up settled (Some v) none is =
@@ -89,7 +89,7 @@ enters_up setting steps x enters commit member =
 
 -- a seal sends nothing
 sent_by : (b : Bool) (p : Option Past) (r h : ℕ)
-    → (if of_some (if b then option_map (λ (past : Past). record { call = calls.Seal; transition = calls.Nothing }) p else None) false sends then r else h) ≡ h
+    → (if map_or (if b then option_map (λ (past : Past). record { call = calls.Seal; transition = calls.Nothing }) p else None) false sends then r else h) ≡ h
 sent_by false p r h = refl
 sent_by true None r h = refl
 sent_by true (Some past) r h = refl
@@ -147,10 +147,10 @@ module _ (setting : Setting) (r d : ℕ) (history : List Event) (fair : IsFair s
 
   staged_member : (x : ℕ) → is_member (staged_plan setting (chronicle setting history)) x ≡ true
       → is_staged_member setting (seen_of (chronicle setting history)) x ≡ true
-  staged_member x member = ap (λ o. of_some o false (λ (plan : Plan). is_member plan x)) some ∙ member
+  staged_member x member = ap (λ o. map_or o false (λ (plan : Plan). is_member plan x)) some ∙ member
 
   pub root_is : staged_root setting (chronicle setting history) ≡ (staged_plan setting (chronicle setting history)).root
-  root_is = ap (λ o. of_some o 0 (λ (plan : Plan). plan.root)) some
+  root_is = ap (λ o. map_or o 0 (λ (plan : Plan). plan.root)) some
 
   pub era_is : era (chronicle setting (event.Seal r d ∷ history)) ≡ staged_epoch (seen_of (chronicle setting history))
   era_is = era_grows (next_step setting (chronicle setting history) (event.Seal r d)) (chronicle setting history) closed
@@ -228,12 +228,12 @@ module _ (setting : Setting) (r d : ℕ) (history : List Event) (fair : IsFair s
       let new = member_new x known member in
       let apart : nat_eq x (staged_root setting (chronicle setting history)) ≡ false = other in
       let linked =
-      and_parts (on_primary (chronicle setting history) x && of_some (parent_in (chronicle setting history) x) false (is_new (chronicle setting history)))
+      and_parts (on_primary (chronicle setting history) x && map_or (parent_in (chronicle setting history) x) false (is_new (chronicle setting history)))
       (leads_to_root setting (chronicle setting history) x)
       (implied (is_new (chronicle setting history) x && not (nat_eq x (staged_root setting (chronicle setting history)))) _
       (has.linked x (member_up x known member)) (and_from (is_new (chronicle setting history) x) _ new (ap not apart))) in
       let on = and_parts (on_primary (chronicle setting history) x)
-      (of_some (parent_in (chronicle setting history) x) false (is_new (chronicle setting history))) linked.0 in
+      (map_or (parent_in (chronicle setting history) x) false (is_new (chronicle setting history))) linked.0 in
       let hears : silent_for (chronicle setting history) x r ≤ rounds_gap setting.net + depth setting.net * delay setting.net = has.hears x new apart in
       let le : r ≤ heard_at (chronicle setting history) x + silence setting.net =
       short setting.net.params.loss setting.net.params.depth (delay setting.net) (round_gap setting.net) r (heard_at (chronicle setting history) x) hears in

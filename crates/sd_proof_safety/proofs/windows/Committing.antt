@@ -4,7 +4,7 @@ use Rattle.std.specs.Prelude.{◌≡◌, ℕ, ◌+◌, ◌-◌, ◌<◌, Bool, t
 use Rattle.std.specs.List.{list_any, list_all}
 use Rattle.std.proofs.Common.{arith, ◌∙◌, ap, sym, subst}
 use Rattle.std.proofs.lemmas.Bool.{and_parts, and_from, eqb-true, eq-eqb, or_right, false_from_ne_true}
-use Rattle.sd_checker.specs.Num.Lists.{of_some, same_number}
+use Rattle.sd_checker.specs.Num.Lists.{map_or, same_number}
 use Rattle.sd_checker.specs.Topo.Network.{Each}
 use Rattle.sd_checker.specs.Topo.declared.Thing.TheVariants as thing
 use Rattle.sd_checker.specs.Domain.Things.{same_thing}
@@ -14,7 +14,7 @@ use Rattle.sd_checker.specs.Plan.Plans.{is_member, members}
 use Rattle.sd_checker.proofs.Plan.Rules.{KeepsRules, keeps_rules}
 use Rattle.sd_checker.specs.Verdicts.{IsAccepted}
 use Rattle.sd_history.specs.Core.Calls as calls
-use Rattle.sd_history.specs.Core.Calls.{Transition, Past}
+use Rattle.sd_history.specs.Core.Calls.{Past}
 use Rattle.sd_history.specs.Core.Words.{after, transition_of, given_now, epoch_now, is_acting, committed_by}
 use Rattle.sd_history.specs.Sched.declared.Event.{Event}
 use Rattle.sd_history.specs.Sched.declared.Event.TheVariants as event
@@ -31,8 +31,8 @@ use Rattle.sd_proof_safety.proofs.invariant.Parents.{live_is}
 use Rattle.sd_proof_safety.proofs.invariant.Orders.{renews}
 use Rattle.sd_proof_safety.proofs.invariant.Sides.{not_both}
 use Rattle.sd_proof_safety.proofs.invariant.Staying.{filter_in}
-use Rattle.sd_proof_safety.proofs.messages.Ends.{among_below}
 use Rattle.sd_history.proofs.Known.{named_is_known}
+use Rattle.sd_history.proofs.Shared.{among_below}
 use Rattle.sd_proof_safety.proofs.timers.Turns.{after_recommit}
 use Rattle.sd_proof_safety.proofs.waits.LeastWaits.{staged_within}
 use Rattle.sd_proof_safety.specs.windows.Standing.{HasStanding}
@@ -74,9 +74,9 @@ pub record ActingPast (steps : List Step) (d : ℕ) : Type 0 where
 
 pub acting_past : (setting : Setting) (history : List Event) (d : ℕ) → acts_in (chronicle setting history) d ≡ true → ActingPast (chronicle setting history) d
 acting_past setting history d acts =
-    go (live_past (chronicle setting history) d) refl (sym (ap (λ o. of_some o false (λ a. a.acts)) (live_is setting history d)) ∙ acts)
+    go (live_past (chronicle setting history) d) refl (sym (ap (λ o. map_or o false (λ a. a.acts)) (live_is setting history d)) ∙ acts)
   where
-    go : (p : Option Past) → live_past (chronicle setting history) d ≡ p → of_some (option_map answers_by p) false (λ a. a.acts) ≡ true
+    go : (p : Option Past) → live_past (chronicle setting history) d ≡ p → map_or (option_map answers_by p) false (λ a. a.acts) ≡ true
         → ActingPast (chronicle setting history) d
     go None is acts' = cc
     go (Some past) is acts' = record { past = past; live = is; acts = acts' }
@@ -113,13 +113,13 @@ commit_asks setting r d c history fair clean =
     let asks : IsCommitting setting steps d = committing setting r d c history clean.is in
     let some : staged setting (seen_of steps) ≡ Some (staged_plan setting steps) = staged_some setting steps asks.opened in
     let parts = and_parts (acts_in steps d) _ (renews setting (event.Commit r d c) history clean).commits in
-    let rest = subst (λ o. of_some o true (λ plan. list_all (is_prepared setting (seen_of steps)) (members setting.net plan)
+    let rest = subst (λ o. map_or o true (λ plan. list_all (is_prepared setting (seen_of steps)) (members setting.net plan)
     && leaves_out_failed setting (seen_of steps) plan && leaves_out_cleanly setting (seen_of steps) plan) ≡ true) some parts.1 in
     let one = and_parts (list_all (is_prepared setting (seen_of steps)) (members setting.net (staged_plan setting steps))
     && leaves_out_failed setting (seen_of steps) (staged_plan setting steps)) _ rest in
     let two = and_parts (list_all (is_prepared setting (seen_of steps)) (members setting.net (staged_plan setting steps))) _ one.0 in
     let root : (staged_plan setting steps).root ≡ d =
-    eqb-true (staged_plan setting steps).root d (sym (ap (λ o. of_some o false (λ plan. nat_eq plan.root d)) some) ∙ asks.root) in
+    eqb-true (staged_plan setting steps).root d (sym (ap (λ o. map_or o false (λ plan. nat_eq plan.root d)) some) ∙ asks.root) in
     let prepared : (x : ℕ) → x < length setting.net.devices → is_member (staged_plan setting steps) x ≡ true → is_prepared setting (seen_of steps) x ≡ true =
     (λ x known member. passes (is_prepared setting (seen_of steps))
     (filter_in (is_member (staged_plan setting steps)) x _ (among_below (length setting.net.devices) x known) member) two.0) in
@@ -181,7 +181,7 @@ module _ (setting : Setting) (r d c : ℕ) (history : List Event) (fair : IsFair
         before = own.live;
         duty = u.0;
         epoch = u.2;
-        transition = ap (λ g. of_some g calls.Nothing (committed_by own.past)) u.1
+        transition = ap (λ g. map_or g calls.Nothing (committed_by own.past)) u.1
             ∙ ap (λ b. if b then calls.Recommitted u.0 else calls.Committed u.0) own.acts;
         live =
             ap (λ b. if b then (if nat_eq d d then option_map (λ past. after past (calls.Commit c)) (past_in (chronicle setting history) d) else past_in
@@ -209,12 +209,12 @@ module _ (setting : Setting) (r d c : ℕ) (history : List Event) (fair : IsFair
   pub committer_still_acts : acts_in (chronicle setting (event.Commit r d c ∷ history)) d ≡ true
   committer_still_acts =
       let of : Committed = committed in
-      ap (λ o. of_some o false (λ a. a.acts)) (answers_now of) ∙ (after_recommit of.past (calls.Commit c) of.duty of.transition).acts
+      ap (λ o. map_or o false (λ a. a.acts)) (answers_now of) ∙ (after_recommit of.past (calls.Commit c) of.duty of.transition).acts
 
   pub root_is : staged_root setting (chronicle setting (event.Commit r d c ∷ history)) ≡ d
   root_is =
       let asks : AtCommit setting (chronicle setting history) d = commit_asks setting r d c history fair clean in
-      ap (λ o. of_some o 0 (λ plan. plan.root)) (staged_on setting s steps open_ refl ∙ staged_some setting steps asks.opened) ∙ asks.root
+      ap (λ o. map_or o 0 (λ plan. plan.root)) (staged_on setting s steps open_ refl ∙ staged_some setting steps asks.opened) ∙ asks.root
 
   failed_same : root_failed setting (chronicle setting (event.Commit r d c ∷ history)) ≡ root_failed setting (chronicle setting history)
   failed_same =

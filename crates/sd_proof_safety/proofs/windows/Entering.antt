@@ -1,8 +1,8 @@
 -- A receipt keeps C9 d: a device that enters stands on its primary, and its parent is the sender, which is new; other new devices stand as they did.
-use Rattle.std.specs.Prelude.{◌≡◌, ℕ, ◌<◌, Bool, true, false, ◌&&◌, not, List, [], ◌∷◌, length, nat_eq, Option, Some, None, is_some, option_map, option_and_then, refl, if◌then◌else◌}
+use Rattle.std.specs.Prelude.{◌≡◌, ℕ, ◌<◌, Bool, true, false, ◌&&◌, List, [], ◌∷◌, length, nat_eq, Option, Some, None, is_some, option_map, option_and_then, refl, if◌then◌else◌}
 use Rattle.std.proofs.Common.{◌∙◌, ap, sym, subst, inl, inr}
 use Rattle.std.proofs.lemmas.Bool.{and_parts, or_cases, eqb-true}
-use Rattle.sd_checker.specs.Num.Lists.{of_some}
+use Rattle.sd_checker.specs.Num.Lists.{map_or}
 use Rattle.sd_checker.specs.Topo.Network.{Network, joins, link_of}
 use Rattle.sd_checker.specs.Plan.declared.Duty.{Duty}
 use Rattle.sd_checker.specs.Plan.declared.Edge.{Edge}
@@ -24,14 +24,17 @@ use Rattle.sd_history.specs.Steps.{Step, act_by, flights, ends_at, live_answers,
 use Rattle.sd_history.specs.Chronicle.{answers_by, next_step, chronicle}
 use Rattle.sd_history.proofs.Among.{Among, either_side}
 use Rattle.sd_history.proofs.Given.{some_is}
+use Rattle.sd_history.proofs.flights.Sending.{IsOver}
 use Rattle.sd_proof_safety.proofs.messages.Sending.{sends_own}
-use Rattle.sd_proof_safety.proofs.messages.Flights.{IsOver, IsSentBy, sent_by}
+use Rattle.sd_proof_safety.proofs.messages.Flights.{IsSentBy, sent_by}
 use Rattle.sd_proof_safety.specs.messages.Hops.{Leads}
 use Rattle.sd_proof_safety.proofs.messages.Parents.{ends_lead}
 use Rattle.sd_proof_safety.specs.invariant.Eras.{is_new, live_past, moved}
 use Rattle.sd_proof_safety.proofs.invariant.Parents.{live_is}
 use Rattle.sd_proof_safety.proofs.timers.Transitions.{by_case}
 use Rattle.sd_proof_safety.proofs.windows.Leading.{IsLinked, stands_by}
+use Rattle.sd_proof_safety.proofs.windows.NoneBeforeCommit.{is_commit_call}
+use Rattle.sd_proof_safety.proofs.waits.LookingBack.{all_three}
 
 -- Over a link a device has one parent.
 
@@ -56,7 +59,7 @@ flights_lead setting (e ∷ history) f among =
       | inr before ↦ flights_lead setting history f before
     ]
 
-joins_one : (net : Network) (l d a b : ℕ) → joins net l d a ≡ true → joins net l d b ≡ true → a ≡ b
+pub joins_one : (net : Network) (l d a b : ℕ) → joins net l d a ≡ true → joins net l d b ≡ true → a ≡ b
 joins_one net l d a b one two =
     elim (or_cases (nat_eq (link_of net l).end_a d && nat_eq (link_of net l).end_b a) (nat_eq (link_of net l).end_a a && nat_eq (link_of net l).end_b d) one) [
       | inl x ↦ elim (or_cases (nat_eq (link_of net l).end_a d && nat_eq (link_of net l).end_b b)
@@ -102,10 +105,6 @@ one_parent net plan d x y l rules known one two =
 
 -- Receipts that take up a duty, and others
 
-abbrev pub is_commit_call : Call → Bool
-is_commit_call (calls.Commit counter) = true
-is_commit_call _ = false
-
 abbrev pub Enters : Call → Transition → Type 0
 Enters call transition = (u : Duty) → is_commit_call call ≡ false → taken_up transition ≡ Some u → (edge : Edge) × (transition ≡ calls.Entered u edge)
 
@@ -131,7 +130,7 @@ pub record TurnsNone (past : Past) (call : Call) (transition : Transition) : Typ
   pub parent : parent_now (record { making = past.making; did = record { call = call; transition = transition } ∷ past.did }) ≡ parent_now past
 
 accepts_none : (past : Past) (call : Call) (b : Bool) (o : Option Edge)
-    → TurnsNone past call (of_some (if b then option_map calls.Accepted o else None) calls.Nothing (λ transition. transition))
+    → TurnsNone past call (map_or (if b then option_map calls.Accepted o else None) calls.Nothing (λ transition. transition))
 accepts_none past call false o = record { stands = refl; acts = refl; parent = refl }
 accepts_none past call true None = record { stands = refl; acts = refl; parent = refl }
 accepts_none past call true (Some edge) = record { stands = refl; acts = refl; parent = refl }
@@ -140,20 +139,14 @@ pub turns_none : (past : Past) (l : ℕ) (m : Message) (c : ℕ) → given_now p
     → TurnsNone past (calls.Receive l m c) (transition_of past (calls.Receive l m c))
 turns_none past l m c none =
     subst (TurnsNone past (calls.Receive l m c))
-    (sym (ap (λ g. of_some
+    (sym (ap (λ g. map_or
     (option_and_then
     (λ (duty : Duty). if nat_eq duty.epoch m.epoch then option_map (calls.Entered duty) (option_and_then (over_link l) duty.primary) else None) g)
-    (of_some (accepted_by past l m) calls.Nothing (λ transition. transition)) (λ transition. transition)) none))
+    (map_or (accepted_by past l m) calls.Nothing (λ transition. transition)) (λ transition. transition)) none))
     (accepts_none past (calls.Receive l m c) (nat_eq (epoch_now past) m.epoch && is_newer m.stamp (stamp_now past))
     (option_and_then (over_link l) (parent_edge past)))
 
 -- Linked, by the past
-
-on_by : (some moved_ acts : Bool) → some ≡ true → moved_ ≡ false → acts ≡ false → (some && not moved_ && not acts) ≡ true
-on_by true false false a b c = refl
-on_by true true acts a b c = cc
-on_by true false true a b c = cc
-on_by false moved_ acts a b c = cc
 
 module _ (setting : Setting) (history : List Event) (x : ℕ) (past : Past) (live : live_past (chronicle setting history) x ≡ Some past) where
   answers : live_answers (chronicle setting history) x ≡ Some (answers_by past)
@@ -164,8 +157,8 @@ module _ (setting : Setting) (history : List Event) (x : ℕ) (past : Past) (liv
   linked_by y stands idle parent new =
       record {
         primary =
-            on_by (is_some (live_past (chronicle setting history) x)) (moved (chronicle setting history) x) (acts_in (chronicle setting history) x)
-            (ap is_some live) (ap (λ p. of_some p false has_moved) live ∙ stands) (ap (λ o. of_some o false (λ a. a.acts)) answers ∙ idle);
+            all_three (is_some (live_past (chronicle setting history) x)) (moved (chronicle setting history) x) (acts_in (chronicle setting history) x)
+            (ap is_some live) (ap (λ p. map_or p false has_moved) live ∙ stands) (ap (λ o. map_or o false (λ a. a.acts)) answers ∙ idle);
         parent = y;
         leads = ap (option_and_then (λ a. a.parent)) answers ∙ parent;
         new = new;
@@ -175,7 +168,7 @@ module _ (setting : Setting) (history : List Event) (x : ℕ) (past : Past) (liv
   stands_of of =
       let put = stands_by (is_some (live_past (chronicle setting history) x)) (moved (chronicle setting history) x)
       (acts_in (chronicle setting history) x) of.primary in
-      (sym (ap (λ p. of_some p false has_moved) live) ∙ put.0, sym (ap (λ o. of_some o false (λ a. a.acts)) answers) ∙ put.1)
+      (sym (ap (λ p. map_or p false has_moved) live) ∙ put.0, sym (ap (λ o. map_or o false (λ a. a.acts)) answers) ∙ put.1)
 
   pub parent_of : (of : IsLinked (chronicle setting history) x) → parent_now past ≡ Some of.parent
   parent_of of = sym (ap (option_and_then (λ a. a.parent)) answers) ∙ of.leads

@@ -3,7 +3,7 @@ use Rattle.std.specs.Prelude.{◌≡◌, ℕ, ◌+◌, true, false, ◌&&◌, �
 use Rattle.std.proofs.Common.{arith, ◌∙◌, ap}
 use Rattle.std.proofs.lemmas.Bool.{or_parts, not-false}
 use Rattle.std.proofs.lemmas.List.Sums.{sum_by-cons}
-use Rattle.sd_checker.specs.Num.Lists.{of_some, same_number}
+use Rattle.sd_checker.specs.Num.Lists.{map_or, same_number}
 use Rattle.sd_history.specs.Sched.declared.Event.{Event}
 use Rattle.sd_history.specs.Sched.declared.Event.TheVariants as event
 use Rattle.sd_history.specs.Sched.Events.{device_of, is_stage, is_commit, is_seal}
@@ -52,7 +52,7 @@ stages_shut setting e history is =
 pub record IsCommitting (setting : Setting) (steps : List Step) (d : ℕ) : Type 0 where
   pub opened : window_is_open (seen_of steps) ≡ true
   pub first_one : has_commit (seen_of steps) ≡ false
-  pub root : of_some (staged setting (seen_of steps)) false (λ plan. nat_eq plan.root d) ≡ true
+  pub root : map_or (staged setting (seen_of steps)) false (λ plan. nat_eq plan.root d) ≡ true
   pub given : same_number (given_in steps d) (staged_epoch (seen_of steps)) ≡ true
 
 pub committing : (setting : Setting) (r d c : ℕ) (history : List Event) → IsHistory setting (event.Commit r d c ∷ history)
@@ -64,13 +64,13 @@ committing setting r d c history is =
     none_holds (causes setting steps e) _ is.1 (later (later (later (later (later (later (later (later (later (later (later (later first)))))))))))) in
     let outside = or_parts (window_order_seen setting (seen_of steps) e) (window_order_within steps e) order in
     let last = or_parts _ (is_seal e && (not (window_is_open (seen_of steps)) || not (has_commit (seen_of steps)))) outside.0 in
-    let front = or_parts _ (is_commit e && of_some (device_of e) false (λ x. not (of_some (staged setting (seen_of steps)) false (λ plan. nat_eq plan.root x))))
+    let front = or_parts _ (is_commit e && map_or (device_of e) false (λ x. not (map_or (staged setting (seen_of steps)) false (λ plan. nat_eq plan.root x))))
     last.0 in
     let prepares = or_parts (not (window_is_open (seen_of steps))) (has_commit (seen_of steps)) (orderly setting e history is).prepares in
     record {
       opened = not-false (window_is_open (seen_of steps)) prepares.0;
       first_one = prepares.1;
-      root = not-false (of_some (staged setting (seen_of steps)) false (λ plan. nat_eq plan.root d)) front.1;
+      root = not-false (map_or (staged setting (seen_of steps)) false (λ plan. nat_eq plan.root d)) front.1;
       given = not-false (same_number (given_in steps d) (staged_epoch (seen_of steps)))
           (or_parts (not (same_number (given_in steps d) (staged_epoch (seen_of steps)))) false outside.1).0;
     }

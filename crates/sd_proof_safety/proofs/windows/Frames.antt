@@ -4,7 +4,7 @@ use Rattle.std.specs.Prelude.{◌≡◌, ℕ, ◌+◌, Bool, true, false, ◌&&�
 use Rattle.std.specs.List.{list_any, cons_option}
 use Rattle.std.proofs.Common.{◌∙◌, ap}
 use Rattle.std.proofs.lemmas.Bool.{or_from}
-use Rattle.sd_checker.specs.Num.Lists.{of_some, same_number, leading}
+use Rattle.sd_checker.specs.Num.Lists.{map_or, same_number, leading}
 use Rattle.sd_checker.specs.Topo.declared.Thing.TheVariants as thing
 use Rattle.sd_history.specs.Core.Calls.{Did, Past}
 use Rattle.sd_history.specs.Core.Words.{after, transition_of, has_moved}
@@ -25,22 +25,22 @@ module _ (setting : Setting) (s : Step) (steps : List Step) (open_ : s.seen.clos
       ∙ ap (λ b. if b then Some [] else option_map (λ w. s.seen ∷ w) (window (seen_of steps))) no_stage
 
   added : (test : Seen → Bool) (w : Option (List Seen)) → test s.seen ≡ false
-      → of_some (option_map (λ v. s.seen ∷ v) w) false (list_any test) ≡ of_some w false (list_any test)
+      → map_or (option_map (λ v. s.seen ∷ v) w) false (list_any test) ≡ map_or w false (list_any test)
   added test None none = refl
   added test (Some v) none = ap (λ b. b || list_any test v) none
 
   pub in_window_on : (test : Seen → Bool) → is_stage s.seen.event ≡ false → test s.seen ≡ false
       → in_window test (seen_of (s ∷ steps)) ≡ in_window test (seen_of steps)
-  in_window_on test no_stage none = ap (λ w. of_some w false (list_any test)) (window_on no_stage) ∙ added test (window (seen_of steps)) none
+  in_window_on test no_stage none = ap (λ w. map_or w false (list_any test)) (window_on no_stage) ∙ added test (window (seen_of steps)) none
 
   found_in : (test : Seen → Bool) (w : Option (List Seen)) → is_some w ≡ true → test s.seen ≡ true
-      → of_some (option_map (λ v. s.seen ∷ v) w) false (list_any test) ≡ true
+      → map_or (option_map (λ v. s.seen ∷ v) w) false (list_any test) ≡ true
   found_in test None some is = cc
   found_in test (Some v) some is = ap (λ b. b || list_any test v) is
 
   pub in_window_now : (test : Seen → Bool) → is_stage s.seen.event ≡ false → is_some (window (seen_of steps)) ≡ true → test s.seen ≡ true
       → in_window test (seen_of (s ∷ steps)) ≡ true
-  in_window_now test no_stage some is = ap (λ w. of_some w false (list_any test)) (window_on no_stage) ∙ found_in test (window (seen_of steps)) some is
+  in_window_now test no_stage some is = ap (λ w. map_or w false (list_any test)) (window_on no_stage) ∙ found_in test (window (seen_of steps)) some is
 
   pub staged_epoch_on : staged_epoch (seen_of (s ∷ steps)) ≡ staged_epoch (seen_of steps)
   staged_epoch_on = ap (λ n. n + 1) (era_kept s steps open_)
@@ -70,15 +70,15 @@ pub record IsLeft (s : Step) (x : ℕ) : Type 0 where
 
 module _ (s : Step) (steps : List Step) (x : ℕ) (left : IsLeft s x) where
   pub up_on : is_up (seen_of (s ∷ steps)) x ≡ is_up (seen_of steps) x
-  up_on = ap (λ o. of_some o (is_up (seen_of steps) x) (λ told. told)) left.stands
+  up_on = ap (λ o. map_or o (is_up (seen_of steps) x) (λ told. told)) left.stands
 
   pub answers_on : live_answers (s ∷ steps) x ≡ live_answers steps x
   answers_on =
       ap (λ b. if b then answers_in (s ∷ steps) x else None) up_on
-      ∙ ap (λ b. if is_up (seen_of steps) x then of_some (if b then Some s.told.answers else None) (answers_in steps x) (λ told. told) else None) left.uncalled
+      ∙ ap (λ b. if is_up (seen_of steps) x then map_or (if b then Some s.told.answers else None) (answers_in steps x) (λ told. told) else None) left.uncalled
 
   pub acts_on : acts_in (s ∷ steps) x ≡ acts_in steps x
-  acts_on = ap (λ o. of_some o false (λ a. a.acts)) answers_on
+  acts_on = ap (λ o. map_or o false (λ a. a.acts)) answers_on
 
   pub epoch_on : epoch_in (s ∷ steps) x ≡ epoch_in steps x
   epoch_on = ap (option_map (λ a. a.epoch)) answers_on
@@ -102,21 +102,21 @@ module _ (s : Step) (steps : List Step) (x : ℕ) (left : IsLeft s x) where
   live_past_on = ap (λ b. if b then past_in (s ∷ steps) x else None) up_on ∙ ap (λ p. if is_up (seen_of steps) x then p else None) past_on
 
   pub moved_on : moved (s ∷ steps) x ≡ moved steps x
-  moved_on = ap (λ p. of_some p false has_moved) live_past_on
+  moved_on = ap (λ p. map_or p false has_moved) live_past_on
 
   pub primary_on : on_primary (s ∷ steps) x ≡ on_primary steps x
   primary_on =
-      ap (λ p. is_some p && not (of_some p false has_moved) && not (acts_in (s ∷ steps) x)) live_past_on
+      ap (λ p. is_some p && not (map_or p false has_moved) && not (acts_in (s ∷ steps) x)) live_past_on
       ∙ ap (λ b. is_some (live_past steps x) && not (moved steps x) && not b) acts_on
 
   not_made : (m f : Bool) → (if m then Some true else if f then Some false else None) ≡ None → m ≡ false
   not_made true f none = cc
   not_made false f none = refl
 
-  did_none : (act : Act) → same_number (changed act) x ≡ false → (test : Did → Bool) → of_some (did_by steps act x) false test ≡ false
+  did_none : (act : Act) → same_number (changed act) x ≡ false → (test : Did → Bool) → map_or (did_by steps act x) false test ≡ false
   did_none (Makes e making) other test = refl
   did_none (Calls e call) other test =
-      ap (λ b. of_some (if b then option_map (λ past. record { call = call; transition = transition_of past call }) (past_in steps x) else None) false test)
+      ap (λ b. map_or (if b then option_map (λ past. record { call = call; transition = transition_of past call }) (past_in steps x) else None) false test)
       other
   did_none (Asks e counter) other test = refl
   did_none Passes other test = refl

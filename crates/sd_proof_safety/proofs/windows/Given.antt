@@ -4,7 +4,7 @@ use Rattle.std.specs.Prelude.{◌≡◌, ℕ, ◌+◌, ◌≤◌, Bool, true, fa
 use Rattle.std.specs.List.{list_any}
 use Rattle.std.proofs.Common.{◌∙◌, ap, sym, subst}
 use Rattle.std.proofs.lemmas.Bool.{and_parts, or_parts, eqb-true, eq-eqb, false_from_ne_true}
-use Rattle.sd_checker.specs.Num.Lists.{of_some, same_number, latest, leading}
+use Rattle.sd_checker.specs.Num.Lists.{map_or, same_number, find_map_or, leading}
 use Rattle.sd_checker.specs.Topo.declared.Thing.TheVariants as thing
 use Rattle.sd_checker.specs.Plan.declared.Duty.{Duty}
 use Rattle.sd_checker.specs.Plan.declared.Plan.{Plan}
@@ -34,7 +34,9 @@ use Rattle.sd_proof_safety.specs.windows.Reaching.{reach}
 use Rattle.sd_proof_safety.proofs.windows.Eras.{era_kept}
 use Rattle.sd_proof_safety.proofs.windows.NoneBeforeCommit.{within}
 use Rattle.sd_proof_safety.proofs.windows.Committing.{staged_some, staged_plan}
-use Rattle.sd_proof_safety.proofs.windows.StaysNew.{reached, starts_none}
+use Rattle.sd_proof_safety.proofs.windows.StaysNew.{reached, starts_none, gives_of}
+use Rattle.sd_proof_safety.proofs.moves.Ahead.{up_since}
+use Rattle.sd_proof_safety.proofs.messages.Receipts.{device_is}
 
 -- a device with a past to which the staged duty was given
 pub record GivenPast (steps : List Step) (x : ℕ) : Type 0 where
@@ -51,10 +53,10 @@ record GivenWhen (s : Seen) (x : ℕ) (c st : Bool) (w : Option (List Seen)) : T
   opened : is_some w ≡ true
   unjoined : same_number (joined s.event) x ≡ false
   one : (same_number (given s.event) x
-      || of_some w false (λ v. list_any (λ y. same_number (given y.event) x) (leading (λ y. not (same_number (joined y.event) x)) v))) ≡ true
+      || map_or w false (λ v. list_any (λ y. same_number (given y.event) x) (leading (λ y. not (same_number (joined y.event) x)) v))) ≡ true
 
 given_when : (s : Seen) (x : ℕ) (c st : Bool) (w : Option (List Seen))
-    → of_some (if c then None else if st then Some [] else option_map (λ v. s ∷ v) w) false
+    → map_or (if c then None else if st then Some [] else option_map (λ v. s ∷ v) w) false
     (λ v. list_any (λ y. same_number (given y.event) x) (leading (λ y. not (same_number (joined y.event) x)) v)) ≡ true → GivenWhen s x c st w
 given_when s x true st w is = cc
 given_when s x false true w is = cc
@@ -68,8 +70,8 @@ given_when s x false false (Some v) is = by (same_number (joined s.event) x) ref
     by false joined_ is' = record { open_ = refl; unstaged = refl; opened = refl; unjoined = joined_; one = is' }
 
 uncommitted_when : (s : Seen) (c st : Bool) (w : Option (List Seen)) → c ≡ false → st ≡ false
-    → of_some (if c then None else if st then Some [] else option_map (λ v. s ∷ v) w) false (λ v. list_any (λ y. is_commit y.event) v) ≡ false
-    → of_some w false (λ v. list_any (λ y. is_commit y.event) v) ≡ false
+    → map_or (if c then None else if st then Some [] else option_map (λ v. s ∷ v) w) false (λ v. list_any (λ y. is_commit y.event) v) ≡ false
+    → map_or w false (λ v. list_any (λ y. is_commit y.event) v) ≡ false
 uncommitted_when s true st w o u none = cc
 uncommitted_when s false true w o u none = cc
 uncommitted_when s false false None o u none = refl
@@ -79,29 +81,17 @@ unmade : (o p : Option ℕ) (x : ℕ) → is_some o ≡ false → same_number p 
 unmade None p x none other = other
 unmade (Some y) p x none other = cc
 
-was_up : (m f before : Bool) → m ≡ false → of_some (if m then Some true else if f then Some false else None) before (λ told. told) ≡ true → before ≡ true
-was_up true f before none is = cc
-was_up false true before none is = cc
-was_up false false before none is = is
-
 -- Acts
 
-abbrev gives_of : Act → Option Duty
-gives_of (Calls d call) = duty_given call
-gives_of _ = None
-
-device_is : {d m : ℕ} {a b : Call} → Calls d a ≡ Calls m b → d ≡ m
-device_is {d = d} same = ap (λ act. elim act [ Calls x call ↦ x | _ ↦ d ]) same
-
-maker_is : {d m : ℕ} {a b : Making} → Makes d a ≡ Makes m b → d ≡ m
+pub maker_is : {d m : ℕ} {a b : Making} → Makes d a ≡ Makes m b → d ≡ m
 maker_is {d = d} same = ap (λ act. elim act [ Makes x making ↦ x | _ ↦ d ]) same
 
-none_received : (d c m : ℕ) (call : Call) (o : Option Flight) → of_some o Passes (λ f. Calls d (calls.Receive f.link f.message c)) ≡ Calls m call
+none_received : (d c m : ℕ) (call : Call) (o : Option Flight) → map_or o Passes (λ f. Calls d (calls.Receive f.link f.message c)) ≡ Calls m call
     → duty_given call ≡ None
 none_received d c m call None same = cc
 none_received d c m call (Some f) same = sym (ap gives_of same)
 
-given_other : (d m : ℕ) (call : Call) (o : Option Plan) (duty : Plan → Duty) → of_some o Passes (λ plan. Calls d (calls.Give (duty plan))) ≡ Calls m call
+given_other : (d m : ℕ) (call : Call) (o : Option Plan) (duty : Plan → Duty) → map_or o Passes (λ plan. Calls d (calls.Give (duty plan))) ≡ Calls m call
     → nat_eq d m ≡ false → duty_given call ≡ None
 given_other d m call None duty same apart = cc
 given_other d m call (Some plan) duty same apart = absurd (not_both (nat_eq d m) (eq-eqb d m (device_is same)) apart)
@@ -121,11 +111,11 @@ made_or d m p same = go (nat_eq d m) (eq-eqb d m same)
     go true is = refl
     go false is = cc
 
-no_maker : (d c m : ℕ) (making : Making) (o : Option Flight) → of_some o Passes (λ f. Calls d (calls.Receive f.link f.message c)) ≡ Makes m making → ⊥
+no_maker : (d c m : ℕ) (making : Making) (o : Option Flight) → map_or o Passes (λ f. Calls d (calls.Receive f.link f.message c)) ≡ Makes m making → ⊥
 no_maker d c m making None same = cc
 no_maker d c m making (Some f) same = cc
 
-no_giver : (d m : ℕ) (making : Making) (o : Option Plan) (duty : Plan → Duty) → of_some o Passes (λ plan. Calls d (calls.Give (duty plan))) ≡ Makes m making → ⊥
+no_giver : (d m : ℕ) (making : Making) (o : Option Plan) (duty : Plan → Duty) → map_or o Passes (λ plan. Calls d (calls.Give (duty plan))) ≡ Makes m making → ⊥
 no_giver d m making None duty same = cc
 no_giver d m making (Some plan) duty same = cc
 
@@ -150,21 +140,21 @@ remakes_none setting steps e a none = by (act_by setting steps e) refl
     by Passes is = refl
 
 pub kept_given : (y : Did) (did : List Did) (t : Bool) → takes_up y ≡ t → t ≡ false → duty_given y.call ≡ None
-    → latest (λ z. option_map Some (duty_given z.call)) (cond (not t) (y ∷ leading (λ z. not (takes_up z)) did) []) None
-    ≡ latest (λ z. option_map Some (duty_given z.call)) (leading (λ z. not (takes_up z)) did) None
+    → find_map_or (λ z. option_map Some (duty_given z.call)) (cond (not t) (y ∷ leading (λ z. not (takes_up z)) did) []) None
+    ≡ find_map_or (λ z. option_map Some (duty_given z.call)) (leading (λ z. not (takes_up z)) did) None
 kept_given y did true is none gives = cc
 kept_given y did false is none gives =
-    ap (λ o. of_some (option_map Some o) (latest (λ z. option_map Some (duty_given z.call)) (leading (λ z. not (takes_up z)) did) None) (λ told. told)) gives
+    ap (λ o. map_or (option_map Some o) (find_map_or (λ z. option_map Some (duty_given z.call)) (leading (λ z. not (takes_up z)) did) None) (λ told. told)) gives
 
 the_given : {u v : Duty} → Some u ≡ Some v → u.epoch ≡ v.epoch
-the_given {u = u} same = ap (λ o. of_some o u.epoch (λ w. w.epoch)) same
+the_given {u = u} same = ap (λ o. map_or o u.epoch (λ w. w.epoch)) same
 
 -- a give calls its device with the staged duty
 gives_here : (setting : Setting) (steps : List Step) (e : Event) (x : ℕ) → same_number (given e) x ≡ true
     → staged setting (seen_of steps) ≡ Some (staged_plan setting steps)
     → act_by setting steps e ≡ Calls x (calls.Give (duty_of setting.net (staged_plan setting steps) (staged_epoch (seen_of steps)) x))
 gives_here setting steps (event.Give r d) x gives some =
-    ap (λ o. of_some o Passes (λ plan. Calls d (calls.Give (duty_of setting.net plan (staged_epoch (seen_of steps)) d)))) some
+    ap (λ o. map_or o Passes (λ plan. Calls d (calls.Give (duty_of setting.net plan (staged_epoch (seen_of steps)) d)))) some
     ∙ ap (λ k. Calls k (calls.Give (duty_of setting.net (staged_plan setting steps) (staged_epoch (seen_of steps)) k))) (eqb-true d x gives)
 gives_here setting steps _ x gives some = cc
 
@@ -184,7 +174,7 @@ given_so setting (e ∷ history) clean none x gave up =
     (staged_before (seen_of (chronicle setting history)) when.opened) in
     let not_made : makes x e ≡ false = unmade (started e) (joined e) x unstarted when.unjoined in
     let up_before : is_up (seen_of (chronicle setting history)) x ≡ true =
-    was_up (makes x e) (fails (thing.Device x) e) (is_up (seen_of (chronicle setting history)) x) not_made up in
+    up_since (makes x e) (fails (thing.Device x) e) (is_up (seen_of (chronicle setting history)) x) not_made up in
     go when.open_ when.opened not_made up_before (same_number (given e) x) refl when.one
     (λ gave'. given_so setting history (clean_before setting e history clean) before x gave' up_before)
   where
@@ -233,7 +223,7 @@ given_so setting (e ∷ history) clean none x gave up =
     kept call is open_ gives of (Some v) takes =
         let same : v.epoch ≡ of.duty.epoch = the_given (sym (takes_given of.past call v takes) ∙ of.given) in
         let now : epoch_now (after of.past call) ≡ staged_epoch (seen_of (chronicle setting (e ∷ history))) =
-        ap (λ o. of_some (of_some (option_map Some o) (duty_now of.past) (λ told. told)) 0 (λ u. u.epoch)) takes ∙ same ∙ of.epoch ∙ epoch_on open_ in
+        ap (λ o. map_or (map_or (option_map Some o) (duty_now of.past) (λ told. told)) 0 (λ u. u.epoch)) takes ∙ same ∙ of.epoch ∙ epoch_on open_ in
         let le = (within setting (e ∷ history) clean.is).epochs x (after of.past call) (called call is of.past of.there) in
         absurd
         (too_far (has_commit (seen_of (chronicle setting (e ∷ history)))) refl

@@ -3,26 +3,24 @@
 use Rattle.std.specs.Prelude.{◌≡◌, ℕ, zero, suc, ◌≤◌, Bool, true, false, ◌&&◌, ◌||◌, not, List, [], ◌∷◌, Option, Some, None, is_some, option_map, option_and_then, refl, if◌then◌else◌}
 use Rattle.std.proofs.Common.{arith, ◌∙◌, ap, sym}
 use Rattle.std.proofs.lemmas.Bool.{eqb-true}
-use Rattle.sd_checker.specs.Num.Lists.{of_some}
-use Rattle.sd_checker.specs.Topo.Network.{Network}
+use Rattle.sd_checker.specs.Num.Lists.{map_or}
 use Rattle.sd_checker.specs.Plan.declared.Hop.{Hop}
-use Rattle.sd_checker.specs.Plan.declared.PlanRow.{PlanRow}
 use Rattle.sd_checker.specs.Plan.declared.Duty.{Duty}
 use Rattle.sd_checker.specs.Plan.Plans.{is_member, is_root, has_row, row_of, primary_of}
 use Rattle.sd_checker.specs.Plan.Walks.{hops, walk, end_of}
 use Rattle.sd_checker.specs.Plan.Duties.{edge_of}
 use Rattle.sd_checker.proofs.Plan.Rules.{KeepsRules, member_is}
+use Rattle.sd_checker.proofs.CheckLoop.Shared.{primary_row}
 use Rattle.sd_history.specs.Core.Words.{duty_now, is_acting, has_moved, primary_now, backup_now}
 use Rattle.sd_history.specs.Sched.declared.Event.{Event}
 use Rattle.sd_history.specs.World.{Setting, staged_epoch, plan_numbered}
 use Rattle.sd_history.specs.Steps.{Step, seen_of, live_answers, parent_in, acts_in}
 use Rattle.sd_history.specs.Chronicle.{answers_by, past_in, chronicle, IsHistory}
-use Rattle.sd_history.proofs.Given.{some_is}
 use Rattle.sd_proof_safety.specs.invariant.Bounds.{depth}
 use Rattle.sd_proof_safety.specs.invariant.Eras.{is_new, live_past, moved, on_primary}
 use Rattle.sd_history.specs.Lines.{follow}
 use Rattle.sd_proof_safety.proofs.invariant.Cycles.{Over, follow_front}
-use Rattle.sd_proof_safety.proofs.invariant.Parents.{IsPlanned, duties_planned, live_is}
+use Rattle.sd_proof_safety.proofs.invariant.Parents.{IsPlanned, duties_planned, live_is, over_hop}
 use Rattle.sd_proof_safety.proofs.invariant.Sides.{implied, not_both}
 use Rattle.sd_history.proofs.Known.{up_is_known}
 use Rattle.sd_proof_safety.proofs.windows.Committing.{staged_plan}
@@ -35,19 +33,11 @@ pub record IsLinked (steps : List Step) (x : ℕ) : Type 0 where
   pub leads : parent_in steps x ≡ Some parent
   pub new : is_new steps parent ≡ true
 
-over_hop : (net : Network) (x : ℕ) (o : Option Hop) (z : ℕ) → option_map (λ edge. edge.parent) (option_map (edge_of net x) o) ≡ Some z → Over o z
-over_hop net x None z same = cc
-over_hop net x (Some hop) z same = record { hop = hop; is = refl; leads = some_is same }
-
 pub stands_by : (some moved_ acts : Bool) → (some && not moved_ && not acts) ≡ true → (moved_ ≡ false) × (acts ≡ false)
 stands_by true false false on = (refl, refl)
 stands_by true false true on = cc
 stands_by true true acts on = cc
 stands_by false moved_ acts on = cc
-
-rowed : (o : Option PlanRow) (h : Hop) → option_map (λ row. row.primary) o ≡ Some h → of_some o false (λ row. true) ≡ true
-rowed None h same = cc
-rowed (Some row) h same = refl
 
 -- the primary hop of a new device that is linked
 module _ (setting : Setting) (history : List Event) where
@@ -69,10 +59,10 @@ module _ (setting : Setting) (history : List Event) where
           (acts_in (chronicle setting history) x) of.primary
 
       unmoved : has_moved own.past ≡ false
-      unmoved = sym (ap (λ p. of_some p false has_moved) live) ∙ put.0
+      unmoved = sym (ap (λ p. map_or p false has_moved) live) ∙ put.0
 
       idle : is_acting own.past ≡ false
-      idle = sym (ap (λ o. of_some o false (λ a. a.acts)) answers) ∙ put.1
+      idle = sym (ap (λ o. map_or o false (λ a. a.acts)) answers) ∙ put.1
 
       parent : option_map (λ edge. edge.parent) (primary_now own.past) ≡ Some of.parent
       parent =
@@ -81,13 +71,13 @@ module _ (setting : Setting) (history : List Event) where
           ∙ sym (ap (option_and_then (λ a. a.parent)) answers) ∙ of.leads
 
       by : (o : Option Duty) → duty_now own.past ≡ o → Over (primary_of (staged_plan setting (chronicle setting history)) x) of.parent
-      by None none = let zero_ : 0 ≡ staged_epoch (seen_of (chronicle setting history)) = sym (ap (λ o. of_some o 0 (λ u. u.epoch)) none) ∙ own.epoch in
+      by None none = let zero_ : 0 ≡ staged_epoch (seen_of (chronicle setting history)) = sym (ap (λ o. map_or o 0 (λ u. u.epoch)) none) ∙ own.epoch in
           absurd (omega (arith, zero_))
       by (Some u) has =
-          let epoch : u.epoch ≡ staged_epoch (seen_of (chronicle setting history)) = sym (ap (λ o. of_some o 0 (λ v. v.epoch)) has) ∙ own.epoch in
+          let epoch : u.epoch ≡ staged_epoch (seen_of (chronicle setting history)) = sym (ap (λ o. map_or o 0 (λ v. v.epoch)) has) ∙ own.epoch in
           let planned : IsPlanned setting x u = (duties_planned setting history x own.past own.there).duty u has in
           over_hop setting.net x (primary_of (staged_plan setting (chronicle setting history)) x) of.parent
-          (sym (ap (λ o. option_map (λ edge. edge.parent) (of_some o None (λ v. v.primary))) has
+          (sym (ap (λ o. option_map (λ edge. edge.parent) (map_or o None (λ v. v.primary))) has
           ∙ ap (λ (v : Duty). option_map (λ edge. edge.parent) v.primary) planned.is
           ∙ ap (λ n. option_map (λ edge. edge.parent) (option_map (edge_of setting.net x) (primary_of (plan_numbered setting n) x))) epoch) ∙ parent)
 
@@ -175,7 +165,7 @@ module _ (setting : Setting) (history : List Event) (each : (x : ℕ) → is_new
       let member : is_member (staged_plan setting (chronicle setting history)) x ≡ true =
       sym (member_is setting.net (staged_plan setting (chronicle setting history)) x rules known)
       ∙ ap (λ b. b || has_row (staged_plan setting (chronicle setting history)) x) other
-      ∙ rowed (row_of (staged_plan setting (chronicle setting history)) x) over.hop over.is in
+      ∙ primary_row (row_of (staged_plan setting (chronicle setting history)) x) over.hop over.is in
       let reaches =
       implied (is_member (staged_plan setting (chronicle setting history)) x)
       (is_root (staged_plan setting (chronicle setting history)) (end_of x (walk setting.net (staged_plan setting (chronicle setting history)) x)))

@@ -2,17 +2,19 @@
 use Rattle.std.specs.Prelude.{◌≡◌, ℕ, ◌+◌, ◌<◌, ◌≤◌, Bool, true, false, ◌&&◌, not, List, ◌∷◌, nat_eq, Option, Some, None, refl}
 use Rattle.std.proofs.Common.{arith, ◌∙◌, ap, sym}
 use Rattle.std.proofs.lemmas.Bool.{and_parts, and_from, eqb-true, eq-eqb, not-true}
-use Rattle.sd_checker.specs.Num.Lists.{of_some, same_number, below}
+use Rattle.sd_checker.specs.Num.Lists.{map_or, same_number, below}
 use Rattle.sd_checker.specs.Plan.declared.Plan.{Plan}
 use Rattle.sd_checker.specs.Plan.Plans.{is_root}
 use Rattle.sd_checker.proofs.Plan.Rules.{keeps_rules}
 use Rattle.sd_checker.specs.Verdicts.{IsAccepted}
+use Rattle.sd_checker.proofs.Num.Shared.{unequal_swap}
 use Rattle.sd_history.specs.Sched.declared.Event.{Event}
 use Rattle.sd_history.specs.Sched.declared.Event.TheVariants as event
 use Rattle.sd_history.specs.World.{Setting, is_up, has_commit, window_is_open, staged_epoch, plan_numbered}
 use Rattle.sd_history.specs.Steps.{Step, seen_of, parent_in, epoch_in}
 use Rattle.sd_history.specs.Chronicle.{next_step, chronicle, IsHistory}
 use Rattle.sd_history.specs.Lines.{follow}
+use Rattle.sd_history.proofs.Shared.{among_below}
 use Rattle.sd_proof_safety.specs.invariant.Bounds.{depth}
 use Rattle.sd_proof_safety.specs.invariant.Eras.{era, is_new, on_primary}
 use Rattle.sd_proof_safety.specs.invariant.Clauses.{new_is_linked, leads_to_root, staged_root, just_closed}
@@ -20,7 +22,6 @@ use Rattle.sd_proof_safety.specs.invariant.Invariant.{IsClosed}
 use Rattle.sd_proof_safety.specs.invariant.Coming.{IsFair, IsClean}
 use Rattle.sd_proof_safety.proofs.invariant.Prefix.{any_passing}
 use Rattle.sd_proof_safety.proofs.invariant.Sides.{implied, not_both}
-use Rattle.sd_proof_safety.proofs.messages.Ends.{among_below}
 use Rattle.sd_proof_safety.specs.windows.Standing.{HasEntered}
 use Rattle.sd_proof_safety.proofs.windows.NoneBeforeCommit.{epoch_within}
 use Rattle.sd_proof_safety.proofs.windows.Frames.{staged_epoch_on, epoch_on}
@@ -30,10 +31,9 @@ use Rattle.sd_proof_safety.proofs.windows.Closing.{commit_is_open, epoch_up, mem
 use Rattle.sd_proof_safety.proofs.windows.StaysNew.{reached}
 use Rattle.sd_proof_safety.proofs.windows.Leading.{IsLinked, leads}
 use Rattle.sd_proof_safety.proofs.windows.Receiving.{linked_now}
-use Rattle.sd_proof_safety.proofs.invariant.Facts.{turned}
 use Rattle.sd_proof_safety.proofs.invariant.Opening.{gives}
 
-some_parent : (steps : List Step) (x : ℕ) (o : Option ℕ) → parent_in steps x ≡ o → on_primary steps x ≡ true → of_some o false (is_new steps) ≡ true
+some_parent : (steps : List Step) (x : ℕ) (o : Option ℕ) → parent_in steps x ≡ o → on_primary steps x ≡ true → map_or o false (is_new steps) ≡ true
     → IsLinked steps x
 some_parent steps x None is primary new = cc
 some_parent steps x (Some y) is primary new = record { primary = primary; parent = y; leads = is; new = new }
@@ -48,20 +48,20 @@ module _ (setting : Setting) (history : List Event) (clean : IsHistory setting h
 
   root_is : (x : ℕ) → is_new (chronicle setting history) x ≡ true
       → staged_root setting (chronicle setting history) ≡ (staged_plan setting (chronicle setting history)).root
-  root_is x new = ap (λ o. of_some o 0 (λ (plan : Plan). plan.root)) (staged_some setting (chronicle setting history) (new_opens x new))
+  root_is x new = ap (λ o. map_or o 0 (λ (plan : Plan). plan.root)) (staged_some setting (chronicle setting history) (new_opens x new))
 
   -- from the clause
   pub linked_of : (x : ℕ) → new_is_linked setting (chronicle setting history) x ≡ true → is_new (chronicle setting history) x ≡ true
       → is_root (staged_plan setting (chronicle setting history)) x ≡ false → IsLinked (chronicle setting history) x
   linked_of x clause new other =
       let apart : nat_eq x (staged_root setting (chronicle setting history)) ≡ false =
-      ap (nat_eq x) (root_is x new) ∙ turned (staged_plan setting (chronicle setting history)).root x other in
+      ap (nat_eq x) (root_is x new) ∙ unequal_swap (staged_plan setting (chronicle setting history)).root x other in
       let all = and_parts (on_primary (chronicle setting history) x
-      && of_some (parent_in (chronicle setting history) x) false (is_new (chronicle setting history))) (leads_to_root setting (chronicle setting history) x)
+      && map_or (parent_in (chronicle setting history) x) false (is_new (chronicle setting history))) (leads_to_root setting (chronicle setting history) x)
       (implied (is_new (chronicle setting history) x && not (nat_eq x (staged_root setting (chronicle setting history)))) _ clause
       (and_from (is_new (chronicle setting history) x) _ new (ap not apart))) in
       let both = and_parts (on_primary (chronicle setting history) x)
-      (of_some (parent_in (chronicle setting history) x) false (is_new (chronicle setting history))) all.0 in
+      (map_or (parent_in (chronicle setting history) x) false (is_new (chronicle setting history))) all.0 in
       some_parent (chronicle setting history) x (parent_in (chronicle setting history) x) refl both.0 both.1
 
   -- and to it
@@ -71,23 +71,23 @@ module _ (setting : Setting) (history : List Event) (clean : IsHistory setting h
     clause_of x = gives (is_new (chronicle setting history) x && not (nat_eq x (staged_root setting (chronicle setting history)))) _ shown
       where
         shown : (is_new (chronicle setting history) x && not (nat_eq x (staged_root setting (chronicle setting history)))) ≡ true
-            → (on_primary (chronicle setting history) x && of_some (parent_in (chronicle setting history) x) false (is_new (chronicle setting history))
+            → (on_primary (chronicle setting history) x && map_or (parent_in (chronicle setting history) x) false (is_new (chronicle setting history))
             && leads_to_root setting (chronicle setting history) x) ≡ true
         shown both =
             let parts = and_parts (is_new (chronicle setting history) x) (not (nat_eq x (staged_root setting (chronicle setting history)))) both in
             let root = root_is x parts.0 in
             let other : is_root (staged_plan setting (chronicle setting history)) x ≡ false =
-            turned x (staged_plan setting (chronicle setting history)).root
+            unequal_swap x (staged_plan setting (chronicle setting history)).root
             (sym (ap (nat_eq x) root) ∙ not-true (nat_eq x (staged_root setting (chronicle setting history))) parts.1) in
             let of : IsLinked (chronicle setting history) x = each x parts.0 other in
             let accepted : IsAccepted setting.net (staged_plan setting (chronicle setting history)) =
             staged_too (IsAccepted setting.net) setting history fair.accepted clean (new_opens x parts.0) in
             let led = leads setting history each (keeps_rules setting.net (staged_plan setting (chronicle setting history)) accepted.structure) clean x parts.0
             other in
-            and_from (on_primary (chronicle setting history) x && of_some (parent_in (chronicle setting history) x) false (is_new (chronicle setting history)))
+            and_from (on_primary (chronicle setting history) x && map_or (parent_in (chronicle setting history) x) false (is_new (chronicle setting history)))
             _
             (and_from (on_primary (chronicle setting history) x) _ of.primary
-            (ap (λ o. of_some o false (is_new (chronicle setting history))) of.leads ∙ of.new))
+            (ap (λ o. map_or o false (is_new (chronicle setting history))) of.leads ∙ of.new))
             (any_passing (λ k. same_number (follow (parent_in (chronicle setting history)) k x) (staged_root setting (chronicle setting history))) led.steps
             (below (depth setting.net + 1)) (among_below (depth setting.net + 1) led.steps (less led.steps (depth setting.net) led.few))
             (ap (λ o. same_number o (staged_root setting (chronicle setting history))) led.led

@@ -3,7 +3,7 @@ use Rattle.std.specs.Prelude.{◌≡◌, ℕ, ◌<◌, Bool, true, false, ◌||�
 use Rattle.std.specs.List.{list_any}
 use Rattle.std.proofs.Common.{◌∙◌, ap, sym, subst}
 use Rattle.std.proofs.lemmas.Bool.{eqb-true, leb-false, not-true, false_from_ne_true}
-use Rattle.sd_checker.specs.Num.Lists.{of_some, has}
+use Rattle.sd_checker.specs.Num.Lists.{map_or, has}
 use Rattle.sd_checker.specs.Topo.declared.Thing.{Thing}
 use Rattle.sd_checker.specs.Topo.declared.Thing.TheVariants as thing
 use Rattle.sd_checker.specs.Plan.Plans.{is_present}
@@ -18,11 +18,11 @@ use Rattle.sd_history.specs.Refusals.{causes, unknown_link}
 use Rattle.sd_history.specs.Premises.{has_mend}
 use Rattle.sd_history.proofs.Among.{first, later, passes}
 use Rattle.sd_history.proofs.Contained.{none_holds}
+use Rattle.sd_history.proofs.Shared.{among_below}
 use Rattle.sd_proof_safety.specs.invariant.Coming.{IsFair, IsClean}
 use Rattle.sd_proof_safety.proofs.invariant.Orders.{renews}
 use Rattle.sd_proof_safety.proofs.invariant.Prefix.{clean_before}
 use Rattle.sd_proof_safety.proofs.invariant.Sides.{implied, not_both}
-use Rattle.sd_proof_safety.proofs.messages.Ends.{among_below}
 use Rattle.sd_proof_safety.proofs.windows.Frames.{staged_epoch_on}
 use Rattle.sd_proof_safety.proofs.windows.Committing.{staged_plan, AtCommit, commit_asks}
 
@@ -41,7 +41,7 @@ failed_link_known setting (e ∷ history) l is failed =
     go (fails (thing.Link l) e) refl (is_thing (mended e) (thing.Link l)) (λ before. failed_link_known setting history l is.0 before) failed
   where
     go : (f : Bool) → fails (thing.Link l) e ≡ f → (m : Bool) → (link_has_failed (seen_of (chronicle setting history)) l ≡ true → l < length setting.net.links)
-        → of_some (if f then Some true else if m then Some false else None) (link_has_failed (seen_of (chronicle setting history)) l) (λ told. told) ≡ true
+        → map_or (if f then Some true else if m then Some false else None) (link_has_failed (seen_of (chronicle setting history)) l) (λ told. told) ≡ true
         → l < length setting.net.links
     go true here m rest failed' = fails_known setting e l (none_holds (causes setting (chronicle setting history) e) _ is.1 (later first)) here
     go false here true rest failed' = cc
@@ -53,15 +53,15 @@ unfailed_after : (e : Event) (seen : List Seen) (s : Seen) (l : ℕ) → s.event
 unfailed_after e seen s l is none was = go (failure_of s.event) (ap (λ x. is_some (failure_of x)) is ∙ none) (is_thing (mended s.event) (thing.Link l))
   where
     go : (o : Option Thing) → is_some o ≡ false → (m : Bool)
-        → of_some (if is_thing o (thing.Link l) then Some true else if m then Some false else None) (link_has_failed seen l) (λ told. told) ≡ false
+        → map_or (if is_thing o (thing.Link l) then Some true else if m then Some false else None) (link_has_failed seen l) (λ told. told) ≡ false
     go None none' true = refl
     go None none' false = was
     go (Some x) none' m = cc
 
 -- a commit in the window is the event at hand, or one before it
 committed_when : (s : Seen) (c st : Bool) (w : Option (List Seen))
-    → of_some (if c then None else if st then Some [] else option_map (λ v. s ∷ v) w) false (list_any (λ x. is_commit x.event)) ≡ true
-    → (c ≡ false) × ((is_commit s.event || of_some w false (list_any (λ x. is_commit x.event))) ≡ true)
+    → map_or (if c then None else if st then Some [] else option_map (λ v. s ∷ v) w) false (list_any (λ x. is_commit x.event)) ≡ true
+    → (c ≡ false) × ((is_commit s.event || map_or w false (list_any (λ x. is_commit x.event))) ≡ true)
 committed_when s true st w is = cc
 committed_when s false true w is = cc
 committed_when s false false None is = cc

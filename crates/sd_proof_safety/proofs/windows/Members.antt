@@ -2,7 +2,7 @@
 use Rattle.std.specs.Prelude.{◌≡◌, ℕ, ◌<◌, Bool, true, false, ◌&&◌, ◌||◌, not, List, ◌∷◌, length, nat_eq, nat_lt, Some, refl}
 use Rattle.std.proofs.Common.{◌∙◌, ap, sym}
 use Rattle.std.proofs.lemmas.Bool.{and_parts, and_from, or_left, or_right, eqb-true, eq-eqb, ltb-true}
-use Rattle.sd_checker.specs.Num.Lists.{of_some, same_number}
+use Rattle.sd_checker.specs.Num.Lists.{map_or, same_number}
 use Rattle.sd_checker.specs.Plan.declared.Plan.{Plan}
 use Rattle.sd_checker.specs.Plan.Plans.{is_member}
 use Rattle.sd_history.specs.Sched.declared.Event.{Event}
@@ -91,7 +91,7 @@ module _ (setting : Setting) (r d c : ℕ) (history : List Event) (fair : IsFair
           let wb = and_parts (nat_lt x (length setting.net.devices)) (is_staged_member setting (seen_of (chronicle setting (event.Commit r d c ∷ history))) x)
           (and_parts (has_commit (seen_of (chronicle setting (event.Commit r d c ∷ history)))) _ both).1 in
           let member : is_member (staged_plan setting (chronicle setting history)) x ≡ true =
-          sym (ap (λ o. of_some o false (λ (plan : Plan). is_member plan x))
+          sym (ap (λ o. map_or o false (λ (plan : Plan). is_member plan x))
           (staged_on setting (next_step setting (chronicle setting history) (event.Commit r d c)) (chronicle setting history) shut refl
           ∙ staged_some setting (chronicle setting history) asks.opened)) ∙ wb.1 in
           by (nat_eq d x) refl (ltb-true x (length setting.net.devices) wb.0) member

@@ -4,9 +4,10 @@ use Rattle.std.specs.Prelude.{◌≡◌, ℕ, Bool, true, false, ◌&&◌, ◌||
 use Rattle.std.specs.List.{list_any, list_all}
 use Rattle.std.proofs.Common.{◌∙◌, ap, sym}
 use Rattle.std.proofs.lemmas.Bool.{and_parts, and_from, false_from_ne_true, not-true}
-use Rattle.sd_checker.specs.Num.Lists.{of_some, same_number, leading}
+use Rattle.sd_checker.specs.Num.Lists.{map_or, same_number, leading}
 use Rattle.sd_checker.specs.Plan.declared.Duty.{Duty}
 use Rattle.sd_checker.specs.Plan.Plans.{members}
+use Rattle.sd_checker.proofs.Num.Shared.{all_imply}
 use Rattle.sd_history.specs.Msg.declared.Flight.{Flight}
 use Rattle.sd_history.specs.Core.Calls as calls
 use Rattle.sd_history.specs.Core.Calls.{Call, Did, Past}
@@ -47,14 +48,14 @@ unsettled past call n unsealed is =
     let x : Did = record { call = call; transition = transition_of past call } in
     let back = sealed_by x past.did (takes_up x) unsealed both.1 in
     and_from (nat_eq (epoch_now past) n) (is_sealed past)
-    (sym (ap (λ o. nat_eq (of_some o 0 (λ u. u.epoch)) n) (keeps (taken_up (transition_of past call)) back.0)) ∙ both.0) back.1
+    (sym (ap (λ o. nat_eq (map_or o 0 (λ u. u.epoch)) n) (keeps (taken_up (transition_of past call)) back.0)) ∙ both.0) back.1
   where
-    keeps : (t : Option Duty) → is_some t ≡ false → of_some (option_map Some t) (duty_now past) (λ told. told) ≡ duty_now past
+    keeps : (t : Option Duty) → is_some t ≡ false → map_or (option_map Some t) (duty_now past) (λ told. told) ≡ duty_now past
     keeps None none = refl
     keeps (Some u) none = cc
 
 abbrev settles : ℕ → Option Past → Bool
-settles n p = of_some (option_map answers_by p) false (λ a. nat_eq a.epoch n && a.sealed)
+settles n p = map_or (option_map answers_by p) false (λ a. nat_eq a.epoch n && a.sealed)
 
 -- the act makes nobody and seals nobody
 abbrev SealsNone : Act → Type 0
@@ -76,15 +77,11 @@ settled_act n x true (Calls d call) p none is = go (nat_eq d x) p is
 settled_act n x true (Asks d counter) p none is = is
 settled_act n x true Passes p none is = is
 
-all_too : {A : Type 0} (p q : A → Bool) (xs : List A) → ((x : A) → p x ≡ true → q x ≡ true) → list_all p xs ≡ true → list_all q xs ≡ true
-all_too p q [] more all = refl
-all_too p q (x ∷ xs) more all = let both = and_parts (p x) (list_all p xs) all in and_from (q x) (list_all q xs) (more x both.0) (all_too p q xs more both.1)
-
 -- the window can close, by the window, the settled and the present
 abbrev pub closing : Setting → ℕ → (ℕ → Bool) → (ℕ → Bool) → Option (List Seen) → Bool
 closing setting n up settled w =
-    of_some w false (list_any (λ x. is_commit x.event))
-    && of_some (option_map (λ v. plan_numbered setting n) w) false (λ plan.
+    map_or w false (list_any (λ x. is_commit x.event))
+    && map_or (option_map (λ v. plan_numbered setting n) w) false (λ plan.
     let present = filter up (members setting.net plan) in
     nat_le 1 (length present) && list_all settled present)
 
@@ -97,10 +94,10 @@ module _ (setting : Setting) (history : List Event) (e : Event) where
   begun = first_step setting (chronicle setting history) e (told_by (chronicle setting history) (act_by setting (chronicle setting history) e))
 
   settled_is : (n x : ℕ) → has_settled (chronicle setting (e ∷ history)) n x ≡ settles n (live_past (chronicle setting (e ∷ history)) x)
-  settled_is n x = ap (λ o. of_some o false (λ a. nat_eq a.epoch n && a.sealed)) (live_is setting (e ∷ history) x)
+  settled_is n x = ap (λ o. map_or o false (λ a. nat_eq a.epoch n && a.sealed)) (live_is setting (e ∷ history) x)
 
   settled_was : (n x : ℕ) → has_settled (chronicle setting history) n x ≡ settles n (live_past (chronicle setting history) x)
-  settled_was n x = ap (λ o. of_some o false (λ a. nat_eq a.epoch n && a.sealed)) (live_is setting history x)
+  settled_was n x = ap (λ o. map_or o false (λ a. nat_eq a.epoch n && a.sealed)) (live_is setting history x)
 
   -- who has settled after the event had settled before it
   pub had_settled : SealsNone (act_by setting (chronicle setting history) e) → (n x : ℕ)
@@ -128,9 +125,9 @@ shut_by setting s n up now was (Some v) none more shut = false_from_ne_true _ (�
         let rest = and_parts (nat_le 1 (length (filter up (members setting.net (plan_numbered setting n)))))
         (list_all now (filter up (members setting.net (plan_numbered setting n)))) parts.1 in
         and_from (list_any (λ x. is_commit x.event) v) _ (sym (ap (λ b. b || list_any (λ x. is_commit x.event) v) none) ∙ parts.0)
-        (and_from (nat_le 1 (length (filter up (members setting.net (plan_numbered setting n))))) _ rest.0 (all_too now was _ more rest.1))
+        (and_from (nat_le 1 (length (filter up (members setting.net (plan_numbered setting n))))) _ rest.0 (all_imply now was _ more rest.1))
 
-seals_none_received : (d c : ℕ) (o : Option Flight) → SealsNone (of_some o Passes (λ f. Calls d (calls.Receive f.link f.message c)))
+seals_none_received : (d c : ℕ) (o : Option Flight) → SealsNone (map_or o Passes (λ f. Calls d (calls.Receive f.link f.message c)))
 seals_none_received d c None = tt
 seals_none_received d c (Some f) = refl
 
@@ -179,7 +176,7 @@ module _ (setting : Setting) (history : List Event) where
       (implied (not (has_commit (seen_of (chronicle setting history)))) (not (is_new (chronicle setting history) x))
       ((uncommitted setting history is).devices x) (ap not none)))
     where
-      epoch_of : (o : Option Answers) → of_some o false (λ a. nat_eq a.epoch (staged_epoch (seen_of (chronicle setting history))) && a.sealed) ≡ true
+      epoch_of : (o : Option Answers) → map_or o false (λ a. nat_eq a.epoch (staged_epoch (seen_of (chronicle setting history))) && a.sealed) ≡ true
           → same_number (option_map (λ a. a.epoch) o) (staged_epoch (seen_of (chronicle setting history))) ≡ true
       epoch_of None s = cc
       epoch_of (Some a) s = (and_parts (nat_eq a.epoch (staged_epoch (seen_of (chronicle setting history)))) a.sealed s).0

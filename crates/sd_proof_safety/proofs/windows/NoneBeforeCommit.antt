@@ -4,7 +4,7 @@ use Rattle.std.specs.Prelude.{◌≡◌, ℕ, ◌+◌, ◌≤◌, Bool, true, fa
 use Rattle.std.specs.List.{list_any}
 use Rattle.std.proofs.Common.{arith, ◌∙◌, ap, sym, subst, inl, inr}
 use Rattle.std.proofs.lemmas.Bool.{eqb-true, eq-eqb, not-true, le-leb}
-use Rattle.sd_checker.specs.Num.Lists.{of_some, same_number}
+use Rattle.sd_checker.specs.Num.Lists.{map_or, same_number}
 use Rattle.sd_checker.specs.Plan.declared.Duty.{Duty}
 use Rattle.sd_checker.specs.Plan.declared.Edge.{Edge}
 use Rattle.sd_checker.specs.Plan.declared.Plan.{Plan}
@@ -12,7 +12,7 @@ use Rattle.sd_checker.specs.Plan.Duties.{duty_of}
 use Rattle.sd_history.specs.Msg.declared.Message.{Message}
 use Rattle.sd_history.specs.Msg.declared.Flight.{Flight}
 use Rattle.sd_history.specs.Core.Calls as calls
-use Rattle.sd_history.specs.Core.Calls.{Making, Call, Transition, Past}
+use Rattle.sd_history.specs.Core.Calls.{Call, Transition, Past}
 use Rattle.sd_history.specs.Core.Words.{after, transition_of, epoch_now, duty_now, given_now, taken_up, accepted_over, emits_at, takes_over_at, moves_at}
 use Rattle.sd_history.specs.Sched.declared.Event.{Event}
 use Rattle.sd_history.specs.Sched.declared.Event.TheVariants as event
@@ -22,7 +22,7 @@ use Rattle.sd_history.specs.Steps.{Act, Makes, Calls, Asks, Passes, Answers, Ste
 use Rattle.sd_history.specs.Chronicle.{answers_by, new_past, past_in, past_after, next_step, chronicle, IsHistory}
 use Rattle.sd_history.proofs.Among.{either_side, found, all_pass}
 use Rattle.sd_history.proofs.Bridges.{answers_by_words}
-use Rattle.sd_history.proofs.Given.{some_is, takes_given}
+use Rattle.sd_history.proofs.Given.{some_is, takes_given, tick_takes_none}
 use Rattle.sd_proof_safety.proofs.messages.Sending.{passes_on, sends_own}
 use Rattle.sd_proof_safety.proofs.messages.Flights.{IsSentBy, sent_by}
 use Rattle.sd_proof_safety.specs.invariant.Eras.{era, is_new, live_past}
@@ -36,7 +36,7 @@ use Rattle.sd_proof_safety.specs.windows.Reaching.{reach_of, reach, IsWithin}
 use Rattle.sd_proof_safety.proofs.windows.Eras.{era_after, stages_shut, IsCommitting, committing}
 
 abbrev committed : Option (List Seen) → Bool
-committed w = of_some w false (list_any (λ x. is_commit x.event))
+committed w = map_or w false (list_any (λ x. is_commit x.event))
 
 rises : (s : Seen) (n : ℕ) (c st : Bool) (w : Option (List Seen)) → (st && is_some w) ≡ false
     → reach_of (committed w) n ≤ reach_of (committed (if c then None else if st then Some [] else option_map (λ v. s ∷ v) w)) (n + cond c 1 0)
@@ -96,17 +96,11 @@ BringsWithin steps bound (Asks d counter) = Unit {0}
 BringsWithin steps bound Passes = Unit {0}
 
 taken_epoch : (past : Past) (call : Call) (bound : ℕ) → epoch_now past ≤ bound → (t : Option Duty) → ((u : Duty) → t ≡ Some u → u.epoch ≤ bound)
-    → of_some (of_some (option_map Some t) (duty_now past) (λ told. told)) 0 (λ u. u.epoch) ≤ bound
+    → map_or (map_or (option_map Some t) (duty_now past) (λ told. told)) 0 (λ u. u.epoch) ≤ bound
 taken_epoch past call bound old None takes = old
 taken_epoch past call bound old (Some u) takes = takes u refl
 
-no_tick_takes : (a b c : Bool) → taken_up (if a then calls.Emitted else if b then calls.TookOver else if c then calls.Moved else calls.Nothing) ≡ None
-no_tick_takes true b c = refl
-no_tick_takes false true c = refl
-no_tick_takes false false true = refl
-no_tick_takes false false false = refl
-
-abbrev is_commit_call : Call → Bool
+abbrev pub is_commit_call : Call → Bool
 is_commit_call (calls.Commit counter) = true
 is_commit_call _ = false
 
@@ -136,7 +130,7 @@ received_epoch past link m counter bound old message = go (accepted_over (transi
   where
     by_taken : (t : Option Duty) → taken_up (transition_of past (calls.Receive link m counter)) ≡ t
         → is_some (accepted_over (transition_of past (calls.Receive link m counter))) ≡ false
-        → of_some (of_some (option_map Some t) (duty_now past) (λ told. told)) 0 (λ u. u.epoch) ≤ bound
+        → map_or (map_or (option_map Some t) (duty_now past) (λ told. told)) 0 (λ u. u.epoch) ≤ bound
     by_taken None is none = old
     by_taken (Some u) is none =
         absurd (not_both (is_some (accepted_over (transition_of past (calls.Receive link m counter))))
@@ -151,7 +145,7 @@ called_epoch : (steps : List Step) (d bound : ℕ) (past : Past) (call : Call) �
     → BringsWithin steps bound (Calls d call) → epoch_now (after past call) ≤ bound
 called_epoch steps d bound past (calls.Tick counter) there old brings =
     taken_epoch past (calls.Tick counter) bound old _
-    (λ u same. absurd (never (no_tick_takes (emits_at past counter) (takes_over_at past counter) (moves_at past counter)) same))
+    (λ u same. absurd (never (tick_takes_none (emits_at past counter) (takes_over_at past counter) (moves_at past counter)) same))
   where
     never : {o : Option Duty} {u : Duty} → o ≡ None → o ≡ Some u → ⊥
     never none some = cc
@@ -188,12 +182,12 @@ module _ (setting : Setting) where
   -- Each event brings no more
 
   brings_recv : (steps : List Step) (bound d c : ℕ) (o : Option Flight) → ((f : Flight) → o ≡ Some f → f.message.epoch ≤ bound)
-      → BringsWithin steps bound (of_some o Passes (λ f. Calls d (calls.Receive f.link f.message c)))
+      → BringsWithin steps bound (map_or o Passes (λ f. Calls d (calls.Receive f.link f.message c)))
   brings_recv steps bound d c None within = tt
   brings_recv steps bound d c (Some f) within = within f refl
 
   brings_give : (steps : List Step) (bound d : ℕ) (o : Option Plan) (duty : Plan → Duty)
-      → BringsWithin steps bound (of_some o Passes (λ plan. Calls d (calls.Give (duty plan))))
+      → BringsWithin steps bound (map_or o Passes (λ plan. Calls d (calls.Give (duty plan))))
   brings_give steps bound d None duty = tt
   brings_give steps bound d (Some plan) duty = tt
 
@@ -201,11 +195,11 @@ module _ (setting : Setting) where
       → same_number (given_in steps d) n ≡ true → (u : Duty) → given_now past ≡ Some u → u.epoch ≡ n
   given_epoch steps d past n answers there given u has = go (is_up (seen_of steps) d) given
     where
-      at : (o : Option Answers) → o ≡ Some (answers_by past) → same_number (of_some o None (λ a. option_map (λ duty. duty.epoch) a.given)) n ≡ true
+      at : (o : Option Answers) → o ≡ Some (answers_by past) → same_number (map_or o None (λ a. option_map (λ duty. duty.epoch) a.given)) n ≡ true
           → u.epoch ≡ n
       at o is given' =
           eqb-true u.epoch n (sym (ap (λ g. same_number (option_map (λ duty. duty.epoch) g) n) has)
-          ∙ sym (ap (λ x. same_number (of_some x None (λ a. option_map (λ duty. duty.epoch) a.given)) n) is) ∙ given')
+          ∙ sym (ap (λ x. same_number (map_or x None (λ a. option_map (λ duty. duty.epoch) a.given)) n) is) ∙ given')
 
       is_there : answers_in steps d ≡ Some (answers_by past)
       is_there = answers ∙ ap (option_map answers_by) there

@@ -2,7 +2,7 @@
 use Rattle.std.specs.Prelude.{◌≡◌, ℕ, ◌+◌, Bool, true, false, ◌&&◌, ◌||◌, List, ◌∷◌, nat_eq, nat_lt, length, Option, Some, None, is_some, option_map, option_and_then, refl, if◌then◌else◌}
 use Rattle.std.proofs.Common.{◌∙◌, ap, sym, inl, inr}
 use Rattle.std.proofs.lemmas.Bool.{and_parts, or_left, or_right, or_cases}
-use Rattle.sd_checker.specs.Num.Lists.{of_some, same_number}
+use Rattle.sd_checker.specs.Num.Lists.{map_or, same_number}
 use Rattle.sd_checker.specs.Plan.declared.Duty.{Duty}
 use Rattle.sd_checker.specs.Plan.declared.Plan.{Plan}
 use Rattle.sd_checker.specs.Plan.Plans.{is_member}
@@ -47,8 +47,8 @@ received : (n l c : ℕ) (m : Message) (q : Past) → waits_as n (Some (answers_
 received n l c m q was = go (taken_up (transition_of q (calls.Receive l m c))) refl
   where
     epoch_is : (t : Option Duty) → taken_up (transition_of q (calls.Receive l m c)) ≡ t
-        → epoch_now (after q (calls.Receive l m c)) ≡ of_some (of_some (option_map Some t) (duty_now q) (λ told. told)) 0 (λ u. u.epoch)
-    epoch_is t takes = ap (λ o. of_some (of_some (option_map Some o) (duty_now q) (λ told. told)) 0 (λ u. u.epoch)) takes
+        → epoch_now (after q (calls.Receive l m c)) ≡ map_or (map_or (option_map Some t) (duty_now q) (λ told. told)) 0 (λ u. u.epoch)
+    epoch_is t takes = ap (λ o. map_or (map_or (option_map Some o) (duty_now q) (λ told. told)) 0 (λ u. u.epoch)) takes
 
     go : (t : Option Duty) → taken_up (transition_of q (calls.Receive l m c)) ≡ t
         → (entered_as n (Some (answers_by (after q (calls.Receive l m c)))) || waits_as n (Some (answers_by (after q (calls.Receive l m c))))) ≡ true
@@ -66,8 +66,8 @@ received n l c m q was = go (taken_up (transition_of q (calls.Receive l m c))) r
         ∙ sym (ap (λ g. same_number (option_map (λ (v : Duty). v.epoch) g) (n + 1)) (takes_given q (calls.Receive l m c) u takes)) ∙ gave)
 
 step_enters : (n d x c : ℕ) (up : Bool) (p : Option Past) (o : Option Flight) → waits_as n (option_map answers_by (if up then p else None)) ≡ true
-    → (entered_as n (option_map answers_by (if up then past_after (of_some o Passes (λ f. Calls d (calls.Receive f.link f.message c))) x p else None))
-    || waits_as n (option_map answers_by (if up then past_after (of_some o Passes (λ f. Calls d (calls.Receive f.link f.message c))) x p else None))) ≡ true
+    → (entered_as n (option_map answers_by (if up then past_after (map_or o Passes (λ f. Calls d (calls.Receive f.link f.message c))) x p else None))
+    || waits_as n (option_map answers_by (if up then past_after (map_or o Passes (λ f. Calls d (calls.Receive f.link f.message c))) x p else None))) ≡ true
 step_enters n d x c false p o was = cc
 step_enters n d x c true None o was = cc
 step_enters n d x c true (Some q) None was = or_right (entered_as n (Some (answers_by q))) _ was
@@ -130,7 +130,7 @@ receipt_keeps_entering setting r d c k history clean x before =
         let same_staged = staged_on setting (next_step setting (chronicle setting history) (event.Recv r d c k)) (chronicle setting history) shut refl in
         let was = sym (ap (λ h. h && will_belong setting (chronicle setting (event.Recv r d c k ∷ history)) x) same_commit
         ∙ ap (λ o. has_commit (seen_of (chronicle setting history))
-        && (nat_lt x (length setting.net.devices) && of_some o false (λ (plan : Plan). is_member plan x))) same_staged) ∙ both in
+        && (nat_lt x (length setting.net.devices) && map_or o false (λ (plan : Plan). is_member plan x))) same_staged) ∙ both in
         elim (or_cases (is_new (chronicle setting history) x) _
         (implied (has_commit (seen_of (chronicle setting history)) && will_belong setting (chronicle setting history) x) _ before was)) [
           | inl new ↦ or_left (is_new (chronicle setting (event.Recv r d c k ∷ history)) x) _ (new_stays setting (event.Recv r d c k) history clean shut x new)

@@ -2,7 +2,7 @@
 use Rattle.std.specs.Prelude.{◌≡◌, ℕ, ◌<◌, ◌≤◌, Bool, true, false, not, List, ◌∷◌, length, nat_eq, Option, Some, None, option_map, refl, if◌then◌else◌}
 use Rattle.std.proofs.Common.{◌∙◌, ap, sym, subst}
 use Rattle.std.proofs.lemmas.Bool.{eqb-true, eq-eqb, not-false}
-use Rattle.sd_checker.specs.Num.Lists.{of_some, same_number}
+use Rattle.sd_checker.specs.Num.Lists.{map_or, same_number}
 use Rattle.sd_checker.specs.Plan.declared.Duty.{Duty}
 use Rattle.sd_checker.specs.Plan.declared.Edge.{Edge}
 use Rattle.sd_checker.specs.Plan.Plans.{is_root}
@@ -83,13 +83,13 @@ module _ (setting : Setting) (r d c n : ℕ) (history : List Event) (fair : IsFa
   apart_left : (x : ℕ) → nat_eq d x ≡ false → IsLeft (next_step setting (chronicle setting history) (event.Recv r d c n)) x
   apart_left x apart = record { stands = refl; uncalled = by (flight_numbered (chronicle setting history) n) }
     where
-      by : (o : Option Flight) → same_number (changed (of_some o Passes (λ f. Calls d (calls.Receive f.link f.message c)))) x ≡ false
+      by : (o : Option Flight) → same_number (changed (map_or o Passes (λ f. Calls d (calls.Receive f.link f.message c)))) x ≡ false
       by None = refl
       by (Some f) = apart
 
   none_left : flight_numbered (chronicle setting history) n ≡ None → IsLeft (next_step setting (chronicle setting history) (event.Recv r d c n)) d
   none_left none =
-      record { stands = refl; uncalled = ap (λ o. same_number (changed (of_some o Passes (λ f. Calls d (calls.Receive f.link f.message c)))) d) none }
+      record { stands = refl; uncalled = ap (λ o. same_number (changed (map_or o Passes (λ f. Calls d (calls.Receive f.link f.message c)))) d) none }
 
   -- the device that receives
   module _ (f : Flight) (is : flight_numbered (chronicle setting history) n ≡ Some f) (q : Past) (there : past_in (chronicle setting history) d ≡ Some q)
@@ -99,7 +99,7 @@ module _ (setting : Setting) (r d c n : ℕ) (history : List Event) (fair : IsFa
 
     now_there : past_in (chronicle setting (event.Recv r d c n ∷ history)) d ≡ Some (after q (calls.Receive f.link f.message c))
     now_there =
-        ap (λ o. past_after (of_some o Passes (λ g. Calls d (calls.Receive g.link g.message c))) d (past_in (chronicle setting history) d)) is
+        ap (λ o. past_after (map_or o Passes (λ g. Calls d (calls.Receive g.link g.message c))) d (past_in (chronicle setting history) d)) is
         ∙ ap (λ b. if b then option_map (λ p. after p (calls.Receive f.link f.message c)) (past_in (chronicle setting history) d) else past_in
         (chronicle setting history) d) (eq-eqb d d refl)
         ∙ ap (option_map (λ p. after p (calls.Receive f.link f.message c))) there
@@ -148,7 +148,7 @@ module _ (setting : Setting) (r d c n : ℕ) (history : List Event) (fair : IsFa
           by (flight_numbered (chronicle setting history) n) is
           (none_holds (causes setting (chronicle setting history) (event.Recv r d c n)) _ clean.is.1 (later (later (later (later (later (later first)))))))
         where
-          by : (o : Option Flight) → o ≡ Some f → of_some o false (λ g. not (same_number (Some d) g.receiver)) ≡ false → f.receiver ≡ d
+          by : (o : Option Flight) → o ≡ Some f → map_or o false (λ g. not (same_number (Some d) g.receiver)) ≡ false → f.receiver ≡ d
           by None same right = cc
           by (Some g) same right = ap (λ (h : Flight). h.receiver) (sym (some_is same)) ∙ sym (eqb-true d g.receiver (not-false (nat_eq d g.receiver) right))
 
@@ -197,7 +197,7 @@ module _ (setting : Setting) (r d c n : ℕ) (history : List Event) (fair : IsFa
           by_taken : (t : Option Duty) → taken_up (transition_of q (calls.Receive f.link f.message c)) ≡ t
               → IsLinked (chronicle setting (event.Recv r d c n ∷ history)) d
           by_taken None takes =
-              absurd (not_staged (sym (ap (λ o. of_some (of_some (option_map Some o) (duty_now q) (λ told. told)) 0 (λ u. u.epoch)) takes) ∙ now_epoch))
+              absurd (not_staged (sym (ap (λ o. map_or (map_or (option_map Some o) (duty_now q) (λ told. told)) 0 (λ u. u.epoch)) takes) ∙ now_epoch))
           by_taken (Some u) takes =
               let entered = enters_so q (calls.Receive f.link f.message c) u refl takes in
               let over : accepted_over (transition_of q (calls.Receive f.link f.message c)) ≡ Some entered.0 = ap accepted_over entered.1 in
@@ -232,7 +232,7 @@ module _ (setting : Setting) (r d c n : ℕ) (history : List Event) (fair : IsFa
               off true k = refl
               off false k = refl
 
-              empty : (o : Option Flight) → past_after (of_some o Passes (λ g. Calls d (calls.Receive g.link g.message c))) d None ≡ None
+              empty : (o : Option Flight) → past_after (map_or o Passes (λ g. Calls d (calls.Receive g.link g.message c))) d None ≡ None
               empty None = refl
               empty (Some g) = off (nat_eq d d) (calls.Receive g.link g.message c)
           by_past (Some q) there = by_new (is_new (chronicle setting history) d) refl

@@ -3,7 +3,7 @@ use Rattle.std.specs.Prelude.{◌≡◌, ℕ, ◌+◌, ◌*◌, ◌<◌, Bool, t
 use Rattle.std.specs.List.{list_any}
 use Rattle.std.proofs.Common.{arith, ◌∙◌, ap, sym}
 use Rattle.std.proofs.lemmas.Bool.{and_parts, and_from, eqb-true, eq-eqb, ltb-true}
-use Rattle.sd_checker.specs.Num.Lists.{of_some, latest}
+use Rattle.sd_checker.specs.Num.Lists.{map_or, find_map_or}
 use Rattle.sd_checker.specs.Topo.declared.Thing.TheVariants as thing
 use Rattle.sd_checker.specs.Domain.Things.{same_thing}
 use Rattle.sd_checker.specs.Plan.declared.Plan.{Plan}
@@ -37,7 +37,7 @@ receipt_keeps_committer setting r d c k history clean before = gives (has_commit
     shut = receipt_closes_none setting history r d c k
 
     root_same : staged_root setting (chronicle setting (event.Recv r d c k ∷ history)) ≡ staged_root setting (chronicle setting history)
-    root_same = ap (λ o. of_some o 0 (λ (plan : Plan). plan.root))
+    root_same = ap (λ o. map_or o 0 (λ (plan : Plan). plan.root))
         (staged_on setting (next_step setting (chronicle setting history) (event.Recv r d c k)) (chronicle setting history) shut refl)
 
     failed_same : root_failed setting (chronicle setting (event.Recv r d c k ∷ history)) ≡ root_failed setting (chronicle setting history)
@@ -81,10 +81,10 @@ late_by true false late new never = refl
 late_by false wb late new never = refl
 
 commit_now : (s : Seen) (r : ℕ) (w : Option (List Seen)) → is_some w ≡ true → is_commit s.event ≡ true → reference_of s.event ≡ r
-    → of_some (option_map (λ v. s ∷ v) w) 0 (λ v. latest (λ x. if is_commit x.event then Some (reference_of x.event) else None) v 0) ≡ r
+    → map_or (option_map (λ v. s ∷ v) w) 0 (λ v. find_map_or (λ x. if is_commit x.event then Some (reference_of x.event) else None) v 0) ≡ r
 commit_now s r None some is at = cc
 commit_now s r (Some v) some is at =
-    ap (λ b. of_some (if b then Some (reference_of s.event) else None) (latest (λ x. if is_commit x.event then Some (reference_of x.event) else None) v 0)
+    ap (λ b. map_or (if b then Some (reference_of s.event) else None) (find_map_or (λ x. if is_commit x.event then Some (reference_of x.event) else None) v 0)
     (λ told. told)) is ∙ at
 
 -- C9 b at a commit: it is not yet late
@@ -96,7 +96,7 @@ commit_is_in_time setting r d c history clean x =
     (λ late.
     let lt = ltb-true (commit_at (chronicle setting (event.Commit r d c ∷ history)) + rounds_gap setting.net + depth setting.net * delay setting.net) r late in
     let at : commit_at (chronicle setting (event.Commit r d c ∷ history)) ≡ r =
-    ap (λ w. of_some w 0 (λ v. latest (λ y. if is_commit y.event then Some (reference_of y.event) else None) v 0))
+    ap (λ w. map_or w 0 (λ v. find_map_or (λ y. if is_commit y.event then Some (reference_of y.event) else None) v 0))
     (window_on setting (next_step setting (chronicle setting history) (event.Commit r d c)) (chronicle setting history)
     (commit_closes_none setting history r d c clean.is) refl)
     ∙ commit_now (next_step setting (chronicle setting history) (event.Commit r d c)).seen r (window (seen_of (chronicle setting history)))

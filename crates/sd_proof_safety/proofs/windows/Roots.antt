@@ -1,15 +1,11 @@
 -- Of an accepted plan: the backup root is a member, and is not the root.
-use Rattle.std.specs.Prelude.{◌≡◌, Bool, true, false, ◌||◌, not, nat_eq, Option, Some, None, option_map, refl, if◌then◌else◌}
-use Rattle.std.specs.Option.{option_or}
+use Rattle.std.specs.Prelude.{◌≡◌, Bool, true, false, ◌||◌, not, nat_eq, Some, None, option_map, refl, if◌then◌else◌}
 use Rattle.sd_checker.specs.Topo.Network.{Network}
 use Rattle.sd_checker.specs.Plan.declared.Plan.{Plan}
 use Rattle.sd_checker.specs.Plan.Plans.{is_member}
 use Rattle.sd_checker.specs.Plan.Structure.{structure_breach, roots_breach}
-use Rattle.sd_proof_safety.proofs.invariant.Fallback.{none_mapped}
-
-first_none : {X : Type 0} (a b : Option X) → option_or a b ≡ None → a ≡ None
-first_none None b none = refl
-first_none (Some x) b none = cc
+use Rattle.sd_checker.proofs.Plan.Rules.{none_mapped}
+use Rattle.sd_checker.proofs.Num.Shared.{first_none}
 
 pub backup_root_member : (net : Network) (plan : Plan) → structure_breach net plan ≡ None
     → (is_member plan plan.backup_root ≡ true) × (nat_eq plan.root plan.backup_root ≡ false)

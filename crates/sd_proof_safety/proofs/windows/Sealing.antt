@@ -1,7 +1,7 @@
 -- A seal leaves all but who is sealed: epoch, acting, moves and what was heard. And the clauses on a closing ask nothing where the window stays open.
 use Rattle.std.specs.Prelude.{◌≡◌, ℕ, Bool, true, false, ◌&&◌, not, List, ◌∷◌, nat_eq, Option, Some, None, is_some, option_map, refl, if◌then◌else◌}
 use Rattle.std.proofs.Common.{◌∙◌, ap, sym}
-use Rattle.sd_checker.specs.Num.Lists.{of_some}
+use Rattle.sd_checker.specs.Num.Lists.{map_or}
 use Rattle.sd_history.specs.Core.Calls as calls
 use Rattle.sd_history.specs.Core.Calls.{Did, Past}
 use Rattle.sd_history.specs.Core.Words.{after, has_moved}
@@ -27,13 +27,13 @@ epoch_by true true None = refl
 epoch_by true true (Some past) = refl
 
 acts_by : (up b : Bool) (p : Option Past)
-    → of_some (option_map answers_by (sealed_past up b p)) false (λ a. a.acts) ≡ of_some (option_map answers_by (plain_past up p)) false (λ a. a.acts)
+    → map_or (option_map answers_by (sealed_past up b p)) false (λ a. a.acts) ≡ map_or (option_map answers_by (plain_past up p)) false (λ a. a.acts)
 acts_by false b p = refl
 acts_by true false p = refl
 acts_by true true None = refl
 acts_by true true (Some past) = refl
 
-moved_by : (up b : Bool) (p : Option Past) → of_some (sealed_past up b p) false has_moved ≡ of_some (plain_past up p) false has_moved
+moved_by : (up b : Bool) (p : Option Past) → map_or (sealed_past up b p) false has_moved ≡ map_or (plain_past up p) false has_moved
 moved_by false b p = refl
 moved_by true false p = refl
 moved_by true true None = refl
@@ -46,7 +46,7 @@ some_by true true None = refl
 some_by true true (Some past) = refl
 
 heard_by : (b : Bool) (p : Option Past) (r h : ℕ)
-    → (if of_some (if b then option_map (λ (past : Past). record { call = calls.Seal; transition = calls.Nothing }) p else None) false hears then r else h) ≡ h
+    → (if map_or (if b then option_map (λ (past : Past). record { call = calls.Seal; transition = calls.Nothing }) p else None) false hears then r else h) ≡ h
 heard_by false p r h = refl
 heard_by true None r h = refl
 heard_by true (Some past) r h = refl
@@ -60,9 +60,9 @@ module _ (setting : Setting) (history : List Event) (r d x : ℕ) where
 
   pub acts_sealed : acts_in (chronicle setting (event.Seal r d ∷ history)) x ≡ acts_in (chronicle setting history) x
   acts_sealed =
-      ap (λ o. of_some o false (λ a. a.acts)) (live_is setting (event.Seal r d ∷ history) x)
+      ap (λ o. map_or o false (λ a. a.acts)) (live_is setting (event.Seal r d ∷ history) x)
       ∙ acts_by (is_up (seen_of (chronicle setting history)) x) (nat_eq d x) (past_in (chronicle setting history) x)
-      ∙ sym (ap (λ o. of_some o false (λ a. a.acts)) (live_is setting history x))
+      ∙ sym (ap (λ o. map_or o false (λ a. a.acts)) (live_is setting history x))
 
   pub moved_sealed : moved (chronicle setting (event.Seal r d ∷ history)) x ≡ moved (chronicle setting history) x
   moved_sealed = moved_by (is_up (seen_of (chronicle setting history)) x) (nat_eq d x) (past_in (chronicle setting history) x)

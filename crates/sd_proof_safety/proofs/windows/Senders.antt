@@ -2,7 +2,7 @@
 use Rattle.std.specs.Prelude.{◌≡◌, ℕ, ◌+◌, ◌≤◌, Bool, true, false, ◌||◌, not, List, [], ◌∷◌, nat_eq, Option, Some, None, is_some, option_map, refl, if◌then◌else◌}
 use Rattle.std.proofs.Common.{arith, ◌∙◌, ap, sym, subst, inl, inr}
 use Rattle.std.proofs.lemmas.Bool.{eqb-true, eq-eqb, not-false}
-use Rattle.sd_checker.specs.Num.Lists.{of_some, same_number}
+use Rattle.sd_checker.specs.Num.Lists.{map_or, same_number}
 use Rattle.sd_checker.specs.Topo.declared.Thing.{Thing}
 use Rattle.sd_checker.specs.Topo.declared.Thing.TheVariants as thing
 use Rattle.sd_checker.specs.Plan.declared.Duty.{Duty}
@@ -88,7 +88,7 @@ module _ (setting : Setting) (e : Event) (history : List Event) (clean : IsClean
       rests = rests_at setting e history clean commit
 
       up : is_up (seen_of (chronicle setting (e ∷ history))) x ≡ true
-      up = ap (λ o. of_some o (is_up (seen_of (chronicle setting history)) x) (λ told. told))
+      up = ap (λ o. map_or o (is_up (seen_of (chronicle setting history)) x) (λ told. told))
           (unmoved x (started e) (joined e) (failure_of e) rests.start rests.join rests.failure) ∙ of.up
 
       staged_same : staged_epoch (seen_of (chronicle setting history)) ≡ staged_epoch (seen_of (chronicle setting (e ∷ history)))
@@ -105,7 +105,7 @@ module _ (setting : Setting) (e : Event) (history : List Event) (clean : IsClean
           }
 
       takes_none : (call : Call) (t : Option Duty) → taken_up (transition_of of.past call) ≡ t → epoch_now (after of.past call) ≡ epoch_now of.past
-      takes_none call None is = ap (λ o. of_some (of_some (option_map Some o) (duty_now of.past) (λ told. told)) 0 (λ u. u.epoch)) is
+      takes_none call None is = ap (λ o. map_or (map_or (option_map Some o) (duty_now of.past) (λ told. told)) 0 (λ u. u.epoch)) is
       takes_none call (Some u) is = absurd (never (new_has_none setting history clean.is.0 x of.past of.there of.epoch) (takes_given of.past call u is))
         where
           never : {o : Option Duty} {v : Duty} → o ≡ None → o ≡ Some v → ⊥
@@ -145,12 +145,12 @@ module _ (setting : Setting) (steps : List Step) (d : ℕ) (call : Call) where
   by_name e v same stays started_ = subst (IsCalled steps e) same (record { up = not-false (is_up (seen_of steps) v) started_; stays = stays })
 
   by_receipt : (e : Event) (v c : ℕ) (o : Option Flight) → up_after v e ≡ None → not (is_up (seen_of steps) v) ≡ false
-      → of_some o Passes (λ f. Calls v (calls.Receive f.link f.message c)) ≡ Calls d call → IsCalled steps e d
+      → map_or o Passes (λ f. Calls v (calls.Receive f.link f.message c)) ≡ Calls d call → IsCalled steps e d
   by_receipt e v c None stays started_ same = cc
   by_receipt e v c (Some f) stays started_ same = by_name e v (device_is same) stays started_
 
   by_give : (e : Event) (v : ℕ) (o : Option Plan) (duty : Plan → Duty) → up_after v e ≡ None → not (is_up (seen_of steps) v) ≡ false
-      → of_some o Passes (λ plan. Calls v (calls.Give (duty plan))) ≡ Calls d call → IsCalled steps e d
+      → map_or o Passes (λ plan. Calls v (calls.Give (duty plan))) ≡ Calls d call → IsCalled steps e d
   by_give e v None duty stays started_ same = cc
   by_give e v (Some plan) duty stays started_ same = by_name e v (device_is same) stays started_
 
@@ -206,7 +206,7 @@ senders_new setting (e ∷ history) clean f among epoch =
               (new_by_past setting (e ∷ history) sent.device
               (record {
                 past = after sent.past sent.call;
-                up = ap (λ o. of_some o (is_up (seen_of (chronicle setting history)) sent.device) (λ told. told)) up.stays ∙ up.up;
+                up = ap (λ o. map_or o (is_up (seen_of (chronicle setting history)) sent.device) (λ told. told)) up.stays ∙ up.up;
                 there =
                     ap (λ a. past_after a sent.device (past_in (chronicle setting history) sent.device)) sent.act_is
                     ∙ ap (λ b. if b then option_map (λ q. after q sent.call) (past_in (chronicle setting history) sent.device) else past_in

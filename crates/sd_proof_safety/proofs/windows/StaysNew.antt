@@ -3,7 +3,7 @@ use Rattle.std.specs.Prelude.{◌≡◌, ℕ, ◌+◌, ◌≤◌, Bool, true, fa
 use Rattle.std.specs.List.{list_any}
 use Rattle.std.proofs.Common.{arith, ◌∙◌, ap, sym, subst, inl, inr}
 use Rattle.std.proofs.lemmas.Bool.{and_parts}
-use Rattle.sd_checker.specs.Num.Lists.{of_some, latest, leading}
+use Rattle.sd_checker.specs.Num.Lists.{map_or, find_map_or, leading}
 use Rattle.sd_checker.specs.Plan.declared.Duty.{Duty}
 use Rattle.sd_checker.specs.Plan.declared.Plan.{Plan}
 use Rattle.sd_checker.specs.Plan.Duties.{duty_of}
@@ -84,7 +84,7 @@ rests_at setting e history clean commit =
 
 -- What acts give and make
 
-abbrev gives_of : Act → Option Duty
+abbrev pub gives_of : Act → Option Duty
 gives_of (Calls d call) = duty_given call
 gives_of _ = None
 
@@ -92,7 +92,7 @@ abbrev pub makes_some : Act → Bool
 makes_some (Makes d making) = true
 makes_some _ = false
 
-receipt_gives : (d c : ℕ) (o : Option Flight) → gives_of (of_some o Passes (λ f. Calls d (calls.Receive f.link f.message c))) ≡ None
+receipt_gives : (d c : ℕ) (o : Option Flight) → gives_of (map_or o Passes (λ f. Calls d (calls.Receive f.link f.message c))) ≡ None
 receipt_gives d c None = refl
 receipt_gives d c (Some f) = refl
 
@@ -101,11 +101,11 @@ act_gives_none setting steps (event.Give r d) none = cc
 act_gives_none setting steps (event.Recv r d c n) none = receipt_gives d c (flight_numbered steps n)
 act_gives_none setting steps _ none = refl
 
-receipt_makes : (d c : ℕ) (o : Option Flight) → makes_some (of_some o Passes (λ f. Calls d (calls.Receive f.link f.message c))) ≡ false
+receipt_makes : (d c : ℕ) (o : Option Flight) → makes_some (map_or o Passes (λ f. Calls d (calls.Receive f.link f.message c))) ≡ false
 receipt_makes d c None = refl
 receipt_makes d c (Some f) = refl
 
-give_makes : (d : ℕ) (o : Option Plan) (duty : Plan → Duty) → makes_some (of_some o Passes (λ plan. Calls d (calls.Give (duty plan)))) ≡ false
+give_makes : (d : ℕ) (o : Option Plan) (duty : Plan → Duty) → makes_some (map_or o Passes (λ plan. Calls d (calls.Give (duty plan)))) ≡ false
 give_makes d None duty = refl
 give_makes d (Some plan) duty = refl
 
@@ -125,7 +125,7 @@ reached true n le = refl
 reached false n le = absurd (omega (arith, le))
 
 taken_leaves_none : (x : Did) (did : List Did) (t : Bool) → takes_up x ≡ t → t ≡ true
-    → latest (λ y. option_map Some (duty_given y.call)) (cond (not t) (x ∷ leading (λ y. not (takes_up y)) did) []) None ≡ None
+    → find_map_or (λ y. option_map Some (duty_given y.call)) (cond (not t) (x ∷ leading (λ y. not (takes_up y)) did) []) None ≡ None
 taken_leaves_none x did true is takes = refl
 taken_leaves_none x did false is takes = cc
 
@@ -142,7 +142,7 @@ given_after past call n gives_none before is = go (taken_up (transition_of past 
     kept none (inr gone) = gone
 
     epoch_same : (t : Option Duty) → taken_up (transition_of past call) ≡ t → t ≡ None → epoch_now (after past call) ≡ epoch_now past
-    epoch_same t is' none = ap (λ o. of_some (of_some (option_map Some o) (duty_now past) (λ told. told)) 0 (λ u. u.epoch)) (is' ∙ none)
+    epoch_same t is' none = ap (λ o. map_or (map_or (option_map Some o) (duty_now past) (λ told. told)) 0 (λ u. u.epoch)) (is' ∙ none)
 
     go : (t : Option Duty) → taken_up (transition_of past call) ≡ t → given_now (after past call) ≡ None
     go (Some u) takes =
@@ -150,7 +150,7 @@ given_after past call n gives_none before is = go (taken_up (transition_of past 
         (ap is_some takes)
     go None takes = kept (before (sym (epoch_same None takes refl) ∙ is)) (given_stays_or_goes past call gives_none)
 
-given_call : (m d : ℕ) (call : Call) (o : Option Plan) (duty : Plan → Duty) → of_some o Passes (λ plan. Calls d (calls.Give (duty plan))) ≡ Calls m call
+given_call : (m d : ℕ) (call : Call) (o : Option Plan) (duty : Plan → Duty) → map_or o Passes (λ plan. Calls d (calls.Give (duty plan))) ≡ Calls m call
     → (q : Past) → taken_up (transition_of q call) ≡ None
 given_call m d call None duty same q = cc
 given_call m d call (Some plan) duty same q =
@@ -187,7 +187,7 @@ module _ (setting : Setting) where
       by_given true gives q was epoch' =
           let none = give_takes_none setting (chronicle setting history) e m call gives act q in
           let same : epoch_now q ≡ staged_epoch (seen_of (chronicle setting history)) =
-          sym (ap (λ o. of_some (of_some (option_map Some o) (duty_now q) (λ told. told)) 0 (λ u. u.epoch)) none) ∙ epoch' in
+          sym (ap (λ o. map_or (map_or (option_map Some o) (duty_now q) (λ told. told)) 0 (λ u. u.epoch)) none) ∙ epoch' in
           let le = (within setting history is.0).epochs x q was in
           let commit =
           reached (has_commit (seen_of (chronicle setting history))) (era (chronicle setting history))
@@ -212,7 +212,7 @@ module _ (setting : Setting) where
   pub shut_reach : (s : Step) (steps : List Step) → s.seen.closed ≡ true → reach (s ∷ steps) ≡ era (s ∷ steps)
   shut_reach s steps closed =
       ap (λ b. reach_of
-      (of_some (if b then None else if is_stage s.seen.event then Some [] else option_map (λ w. s.seen ∷ w) (window (seen_of steps))) false
+      (map_or (if b then None else if is_stage s.seen.event then Some [] else option_map (λ w. s.seen ∷ w) (window (seen_of steps))) false
       (list_any (λ x. is_commit x.event))) (era (s ∷ steps))) closed
 
   -- a device of the staged epoch has no given duty

@@ -2,7 +2,7 @@
 -- the devices behind it.
 use Rattle.std.specs.Prelude.{◌≡◌, ℕ, ◌+◌, ◌*◌, ◌<◌, ◌≤◌, Bool, true, false, not, List, max, is_some, IsTrue, ◌⊎◌}
 use Rattle.std.specs.List.{list_any}
-use Rattle.sd_checker.specs.Num.Lists.{of_some, leading}
+use Rattle.sd_checker.specs.Num.Lists.{map_or, leading}
 use Rattle.sd_checker.specs.Plan.Walks.{path}
 use Rattle.sd_checker.specs.CheckRoot.Timing.{round_gap}
 use Rattle.sd_history.specs.Core.Calls.{Did}
@@ -22,8 +22,9 @@ mended_now steps = list_any (λ s. is_some (mended s.event)) (leading (λ s. not
 abbrev pub path_failed_at : Setting → List Step → ℕ
 path_failed_at setting steps =
     late setting steps
-    (of_some (first_failure (path setting.net (plan_now setting steps) (plan_now setting steps).backup_root) (seen_of steps)) 0 (λ reference. reference))
+    (map_or (first_failure (path setting.net (plan_now setting steps) (plan_now setting steps).backup_root) (seen_of steps)) 0 (λ reference. reference))
 
+-- the call was a takeover
 abbrev pub takes_over : Did → Bool
 takes_over x = is_takeover x.transition
 

@@ -6,6 +6,7 @@ use Rattle.sd_proof_safety.specs.invariant.Bounds.{depth, delay}
 use Rattle.sd_proof_safety.specs.invariant.Eras.{plan_now, is_old, on_backup, root_failed, heard_at}
 use Rattle.sd_proof_safety.specs.invariant.Silences.{root_failed_at}
 
+-- where the root failed, a backup root that has moved heard at most (H + 1) * D after that
 abbrev pub MovedHearsNoMore : Setting → List Step → ℕ → Type 0
 MovedHearsNoMore setting steps reference =
     IsTrue (root_failed setting steps) → IsTrue (is_old steps (plan_now setting steps).backup_root)

@@ -18,7 +18,7 @@ use Rattle.sd_history.specs.Steps.{Step, flight_numbered}
 use Rattle.sd_history.specs.Chronicle.{past_in, chronicle}
 use Rattle.sd_proof_safety.specs.invariant.Eras.{era, plan_now}
 use Rattle.sd_proof_safety.specs.invariant.Clauses.{above_backup_root, backup_root_stays}
-use Rattle.sd_proof_safety.specs.invariant.Coming.{IsFair, IsClean, Comes}
+use Rattle.sd_proof_safety.specs.invariant.Coming.{IsFair, IsClean, IsNextEvent}
 use Rattle.sd_proof_safety.specs.invariant.Invariant.{Invariant, AtEach}
 use Rattle.sd_proof_safety.specs.messages.Moments.{Tail, Moment, IsIn, Emits}
 use Rattle.sd_proof_safety.specs.messages.Traces.{Hop}
@@ -34,7 +34,7 @@ pub record TakesFromAbove (setting : Setting) (plan : Plan) (stamp : Stamp) (epo
 abbrev pub ComesDown : Setting → Type 0
 ComesDown setting =
     (reference counter message : ℕ) (history : List Event)
-    → Comes setting history (event.Recv reference (plan_now setting (chronicle setting history)).backup_root counter message)
+    → IsNextEvent setting history (event.Recv reference (plan_now setting (chronicle setting history)).backup_root counter message)
     → (edge : Edge)
     → transition_of_receipt (chronicle setting history) (plan_now setting (chronicle setting history)).backup_root counter message ≡ Accepted edge
     → backup_root_stays setting (chronicle setting history) ≡ true

@@ -1,6 +1,6 @@
 -- Receipts, by what they make the device do; and what a receipt of the backup root on its primary asks of the devices above it (C6).
 use Rattle.std.specs.Prelude.{◌≡◌, ℕ, ◌+◌, ◌*◌, ◌≤◌, true, false, List, ◌∷◌, max}
-use Rattle.sd_checker.specs.Num.Lists.{has, of_some}
+use Rattle.sd_checker.specs.Num.Lists.{has, map_or}
 use Rattle.sd_checker.specs.Plan.declared.Duty.{Duty}
 use Rattle.sd_checker.specs.Plan.declared.Edge.{Edge}
 use Rattle.sd_checker.specs.Plan.Plans.{is_root}
@@ -16,18 +16,18 @@ use Rattle.sd_proof_safety.specs.invariant.Bounds.{depth, delay, tick_gap}
 use Rattle.sd_proof_safety.specs.invariant.Eras.{plan_now, is_old, heard_at}
 use Rattle.sd_proof_safety.specs.invariant.Clauses.{above_backup_root, backup_root_stays}
 use Rattle.sd_proof_safety.specs.invariant.Invariant.{Core}
-use Rattle.sd_proof_safety.specs.invariant.Coming.{Comes}
+use Rattle.sd_proof_safety.specs.invariant.Coming.{IsNextEvent}
 
 -- what a receipt makes the device do
 abbrev pub transition_of_receipt : List Step → ℕ → ℕ → ℕ → Transition
 transition_of_receipt steps d counter message =
-    of_some (flight_numbered steps message) Nothing
-    (λ f. of_some (past_in steps d) Nothing (λ past. transition_of past (calls.Receive f.link f.message counter)))
+    map_or (flight_numbered steps message) Nothing
+    (λ f. map_or (past_in steps d) Nothing (λ past. transition_of past (calls.Receive f.link f.message counter)))
 
 -- a receipt that enters the staged plan keeps the core
 abbrev pub KeepsEntering : Setting → Type 0
 KeepsEntering setting =
-    (reference d counter message : ℕ) (history : List Event) → Comes setting history (event.Recv reference d counter message)
+    (reference d counter message : ℕ) (history : List Event) → IsNextEvent setting history (event.Recv reference d counter message)
     → (duty : Duty) (edge : Edge) → transition_of_receipt (chronicle setting history) d counter message ≡ Entered duty edge
     → Core setting (chronicle setting (event.Recv reference d counter message ∷ history))
 
@@ -35,7 +35,7 @@ KeepsEntering setting =
 abbrev pub AboveHears : Setting → Type 0
 AboveHears setting =
     (reference counter message : ℕ) (history : List Event)
-    → Comes setting history (event.Recv reference (plan_now setting (chronicle setting history)).backup_root counter message)
+    → IsNextEvent setting history (event.Recv reference (plan_now setting (chronicle setting history)).backup_root counter message)
     → (edge : Edge)
     → transition_of_receipt (chronicle setting history) (plan_now setting (chronicle setting history)).backup_root counter message ≡ Accepted edge
     → backup_root_stays setting (chronicle setting history) ≡ true

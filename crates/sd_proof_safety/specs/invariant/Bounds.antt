@@ -8,12 +8,15 @@ use Rattle.sd_checker.specs.CheckRoot.Timing.{round_gap, silence}
 abbrev pub depth : Network → ℕ
 depth net = net.params.depth
 
+-- the greatest number of rounds lost in a row (K)
 abbrev pub losses : Network → ℕ
 losses net = net.params.loss
 
+-- the greatest delay of a hop (D)
 abbrev pub delay : Network → ℕ
 delay net = greatest_delay net
 
+-- the greatest time between two ticks (Q)
 abbrev pub tick_gap : Network → ℕ
 tick_gap net = net.params.tick
 
@@ -31,18 +34,23 @@ noticed net = silence net + tick_gap net
 abbrev pub first_up : Network → Plan → ℕ
 first_up net plan = greatest_up net plan.wait_first
 
+-- the least reference time of the first wait
 abbrev pub first_low : Network → Plan → ℕ
 first_low net plan = least_low net plan.wait_first
 
+-- the greatest reference time of the second wait
 abbrev pub second_up : Network → Plan → ℕ
 second_up net plan = greatest_up net plan.wait_second
 
+-- the least reference time of the second wait
 abbrev pub second_low : Network → Plan → ℕ
 second_low net plan = least_low net plan.wait_second
 
+-- the greatest reference time of the wait of other devices
 abbrev pub wait_up : Network → Plan → ℕ
 wait_up net plan = greatest_up net plan.wait
 
+-- the least reference time of the wait of other devices
 abbrev pub wait_low : Network → Plan → ℕ
 wait_low net plan = least_low net plan.wait
 

@@ -1,7 +1,7 @@
 -- The clauses of the invariant, each a test of the state after steps, most of them of one device or link: so they compute on a given history.
 use Rattle.std.specs.Prelude.{ℕ, ◌+◌, ◌*◌, Bool, false, ◌&&◌, ◌||◌, not, List, [], ◌∷◌, map, max, nat_eq, nat_le, nat_lt, Some, None, is_some, if◌then◌else◌}
 use Rattle.std.specs.List.{list_any, list_all}
-use Rattle.sd_checker.specs.Num.Lists.{below, has, of_some, same_number, latest}
+use Rattle.sd_checker.specs.Num.Lists.{below, has, map_or, same_number, find_map_or}
 use Rattle.sd_checker.specs.Plan.Plans.{is_member, is_present, is_root}
 use Rattle.sd_checker.specs.Plan.Walks.{walk}
 use Rattle.sd_checker.specs.CheckRoot.Timing.{round_gap, silence}
@@ -139,6 +139,7 @@ shadow_is_short setting steps x =
 
 -- C7: fallback
 
+-- the backup root is old and has moved
 abbrev pub backup_root_moved : Setting → List Step → Bool
 backup_root_moved setting steps = let b = (plan_now setting steps).backup_root in is_old steps b && moved steps b
 
@@ -172,15 +173,19 @@ none_sent_ahead steps = not (has_commit (seen_of steps)) ⟹ list_all (λ f. nat
 abbrev pub none_sealed_early : List Step → Bool
 none_sealed_early steps = not (has_commit (seen_of steps)) ⟹ not (in_window (λ s. is_seal s.event) (seen_of steps))
 
+-- the event fails something
 abbrev pub is_failure : Seen → Bool
 is_failure s = is_some (failure_of s.event)
 
+-- the event mends something
 abbrev pub is_mend : Seen → Bool
 is_mend s = is_some (mended s.event)
 
+-- the event starts a device
 abbrev pub is_start : Seen → Bool
 is_start s = is_some (started s.event)
 
+-- the event lets a device join
 abbrev pub is_join : Seen → Bool
 is_join s = is_some (joined s.event)
 
@@ -200,7 +205,7 @@ rests_after_commit steps = none_after_in_window (λ s. is_commit s.event) (λ s.
 
 -- the reference of the open window's commit
 abbrev pub commit_at : List Step → ℕ
-commit_at steps = of_some (window (seen_of steps)) 0 (λ w. latest (λ s. if is_commit s.event then Some (reference_of s.event) else None) w 0)
+commit_at steps = map_or (window (seen_of steps)) 0 (λ w. find_map_or (λ s. if is_commit s.event then Some (reference_of s.event) else None) w 0)
 
 -- a member of the staged plan is new, or old or blank with its duty given
 abbrev pub member_enters : Setting → List Step → ℕ → Bool
@@ -217,8 +222,9 @@ member_entered setting steps d =
 
 -- the root of the staged plan, which commits: the root, or where that failed the backup root
 abbrev pub staged_root : Setting → List Step → ℕ
-staged_root setting steps = of_some (staged setting (seen_of steps)) 0 (λ plan. plan.root)
+staged_root setting steps = map_or (staged setting (seen_of steps)) 0 (λ plan. plan.root)
 
+-- after a commit the root of the staged plan is new, and it is the root, or where that failed the backup root
 abbrev pub committer_is_root : Setting → List Step → Bool
 committer_is_root setting steps =
     has_commit (seen_of steps)
@@ -239,7 +245,7 @@ leads_to_root setting steps d = list_any (λ n. same_number (follow (parent_in s
 abbrev pub new_is_linked : Setting → List Step → ℕ → Bool
 new_is_linked setting steps d =
     is_new steps d && not (nat_eq d (staged_root setting steps))
-    ⟹ on_primary steps d && of_some (parent_in steps d) false (is_new steps) && leads_to_root setting steps d
+    ⟹ on_primary steps d && map_or (parent_in steps d) false (is_new steps) && leads_to_root setting steps d
 
 -- some member of the first plan has neither started, nor joined, nor failed
 abbrev pub someone_untouched : Setting → List Step → ℕ → Bool

@@ -26,11 +26,11 @@ pub record IsClean (setting : Setting) (history : List Event) : Type 0 where
   pub premises : IsTrue (all_hold setting (seen_of (chronicle setting history)))
 
 -- the event comes after the history, and the invariant holds after each event before
-pub record Comes (setting : Setting) (history : List Event) (e : Event) : Type 0 where
+pub record IsNextEvent (setting : Setting) (history : List Event) (e : Event) : Type 0 where
   pub fair : IsFair setting
   pub clean : IsClean setting (e ∷ history)
   pub before : AtEach (Invariant setting) (chronicle setting history)
 
 -- what is said of the state before an event and the event's reference, at each event that comes so
 abbrev pub AtNext : (Setting → List Step → ℕ → Type 0) → Setting → Type 0
-AtNext Says setting = (history : List Event) (e : Event) → Comes setting history e → Says setting (chronicle setting history) (reference_of e)
+AtNext Says setting = (history : List Event) (e : Event) → IsNextEvent setting history e → Says setting (chronicle setting history) (reference_of e)

@@ -3,7 +3,7 @@
 use Rattle.std.specs.Prelude.{ℕ, ◌+◌, ◌-◌, Bool, true, false, ◌&&◌, ◌||◌, not, List, [], ◌∷◌, filter, length, max, nat_eq, nat_lt, Option, Some, None, is_some, option_map, if◌then◌else◌}
 use Rattle.std.specs.List.{list_any}
 use Rattle.std.specs.Option.{option_or}
-use Rattle.sd_checker.specs.Num.Lists.{of_some, same_number}
+use Rattle.sd_checker.specs.Num.Lists.{map_or, same_number}
 use Rattle.sd_checker.specs.Topo.Network.{Network}
 use Rattle.sd_checker.specs.Topo.declared.Thing.{Thing}
 use Rattle.sd_checker.specs.Topo.declared.Thing.TheVariants as thing
@@ -26,6 +26,7 @@ use Rattle.sd_proof_safety.specs.invariant.Bounds.{tick_gap}
 abbrev pub era : List Step → ℕ
 era steps = epoch_in_force (seen_of steps)
 
+-- the plan of the era
 abbrev pub plan_now : Setting → List Step → Plan
 plan_now setting steps = in_force setting (seen_of steps)
 
@@ -33,12 +34,15 @@ plan_now setting steps = in_force setting (seen_of steps)
 abbrev pub failed_now : List Step → List Thing
 failed_now steps = failures_since_closing (seen_of steps)
 
+-- the thing is among these
 abbrev pub is_among : List Thing → Thing → Bool
 is_among things x = list_any (same_thing x) things
 
+-- the device failed in the era
 abbrev pub device_failed_now : List Step → ℕ → Bool
 device_failed_now steps d = is_among (failed_now steps) (thing.Device d)
 
+-- the link failed in the era
 abbrev pub link_failed_now : List Step → ℕ → Bool
 link_failed_now steps l = is_among (failed_now steps) (thing.Link l)
 
@@ -72,12 +76,15 @@ first_failure things (s ∷ earlier) =
 abbrev pub is_old : List Step → ℕ → Bool
 is_old steps d = same_number (epoch_in steps d) (era steps)
 
+-- the device is up and follows the staged plan
 abbrev pub is_new : List Step → ℕ → Bool
 is_new steps d = same_number (epoch_in steps d) (staged_epoch (seen_of steps))
 
+-- the device is up and follows no plan
 abbrev pub is_blank : List Step → ℕ → Bool
 is_blank steps d = same_number (epoch_in steps d) 0
 
+-- the device is up and neither old, new nor blank
 abbrev pub is_past : List Step → ℕ → Bool
 is_past steps d = is_up (seen_of steps) d && not (is_old steps d || is_new steps d || is_blank steps d)
 
@@ -87,12 +94,13 @@ live_past steps d = if is_up (seen_of steps) d then past_in steps d else None
 
 -- it moved since its entry
 abbrev pub moved : List Step → ℕ → Bool
-moved steps d = of_some (live_past steps d) false has_moved
+moved steps d = map_or (live_past steps d) false has_moved
 
 -- a device of a plan is on its primary, on its backup, or acts
 abbrev pub on_primary : List Step → ℕ → Bool
 on_primary steps d = is_some (live_past steps d) && not (moved steps d) && not (acts_in steps d)
 
+-- the device has moved to its backup, and does not act
 abbrev pub on_backup : List Step → ℕ → Bool
 on_backup steps d = moved steps d && not (acts_in steps d)
 
@@ -130,6 +138,7 @@ hit_otherwise setting steps d = touches (failed_besides_root setting steps) (epa
 abbrev pub path_hit : Setting → List Step → ℕ → Bool
 path_hit setting steps d = touches (failed_now steps) (path setting.net (plan_now setting steps) d)
 
+-- the root failed in the era
 abbrev pub root_failed : Setting → List Step → Bool
 root_failed setting steps = device_failed_now steps (plan_now setting steps).root
 
@@ -149,16 +158,18 @@ did_by earlier Passes d = None
 
 -- the step made the device do what the test asks for
 abbrev pub does : (Did → Bool) → List Step → Step → ℕ → Bool
-does test earlier s d = of_some (did_by earlier s.act d) false test
+does test earlier s d = map_or (did_by earlier s.act d) false test
 
 -- the reference of the latest step that made the device or made it do such a thing, and 0 before it was made
 abbrev pub latest_such : (Did → Bool) → List Step → ℕ → ℕ
 latest_such test [] d = 0
 latest_such test (s ∷ earlier) d = if makes d s.seen.event || does test earlier s d then reference_of s.seen.event else latest_such test earlier d
 
+-- the call accepted a message
 abbrev pub hears : Did → Bool
 hears x = is_some (accepted_over x.transition)
 
+-- the call was a move
 abbrev pub moves : Did → Bool
 moves x = is_move x.transition
 
@@ -197,11 +208,12 @@ rests_for steps d reference = reference - max (heard_at steps d) (moved_at steps
 
 -- some device began a round before
 abbrev pub emission_by : List Step → Act → Bool
-emission_by earlier (Calls e call) = of_some (did_by earlier (Calls e call) e) false begins_round
+emission_by earlier (Calls e call) = map_or (did_by earlier (Calls e call) e) false begins_round
 emission_by earlier (Makes e making) = false
 emission_by earlier (Asks e counter) = false
 emission_by earlier Passes = false
 
+-- some step was an emission
 abbrev pub has_emission : List Step → Bool
 has_emission [] = false
 has_emission (s ∷ earlier) = emission_by earlier s.act || has_emission earlier
@@ -215,4 +227,4 @@ none_after first second (s ∷ earlier) = none_after first second earlier && not
 
 -- the same of the open window, where there is one
 abbrev pub none_after_in_window : (Seen → Bool) → (Seen → Bool) → List Seen → Bool
-none_after_in_window first second seen = of_some (window seen) true (none_after first second)
+none_after_in_window first second seen = map_or (window seen) true (none_after first second)

@@ -12,7 +12,7 @@ abbrev pub Of : (ℕ → Bool) → Type 0
 Of test = (d : ℕ) → IsTrue (test d)
 
 -- C0
-pub record IsCalm (setting : Setting) (steps : List Step) : Type 0 where
+pub record BeganQuietly (setting : Setting) (steps : List Step) : Type 0 where
   -- while members of the first plan may start, nothing is emitted
   pub quiet : IsTrue (nothing_emitted setting steps)
   -- and nobody moves
@@ -116,7 +116,7 @@ pub record IsClosed (setting : Setting) (steps : List Step) : Type 0 where
 
 -- what has to be shown at each event
 pub record Core (setting : Setting) (steps : List Step) : Type 0 where
-  pub calm : IsCalm setting steps
+  pub calm : BeganQuietly setting steps
   pub census : IsCounted setting steps
   pub roles : HasRoles setting steps
   pub causes : HasCauses setting steps
@@ -142,6 +142,7 @@ pub data IsPart : List Step → List Step → Type 0 where
 
 -- The invariant as a test
 
+-- the clauses on a device
 abbrev pub device_tests : Setting → List Step → ℕ → Bool
 device_tests setting steps d =
     stays setting steps d && was_touched setting steps d
@@ -154,9 +155,11 @@ device_tests setting steps d =
     && member_enters setting steps d && member_entered setting steps d && committer_acts setting steps d && new_is_linked setting steps d
     && member_begins setting steps d
 
+-- the clauses on a link
 abbrev pub link_tests : Setting → List Step → ℕ → Bool
 link_tests setting steps l = link_is_sound setting steps l && fallback_link_is_sound setting steps l && link_begins setting steps l
 
+-- the clauses on the whole state
 abbrev pub state_tests : Setting → List Step → Bool
 state_tests setting steps =
     nothing_emitted setting steps

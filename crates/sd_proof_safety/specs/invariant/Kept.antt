@@ -1,7 +1,7 @@
 -- The induction: each kind of event keeps the invariant, so it holds after each event of a clean history, and from it follow no loop and at
 -- most one root.
 use Rattle.std.specs.Prelude.{◌≡◌, ℕ, ◌≤◌, Bool, true, false, List, ◌∷◌, length, None}
-use Rattle.sd_checker.specs.Num.Lists.{of_some}
+use Rattle.sd_checker.specs.Num.Lists.{map_or}
 use Rattle.sd_history.specs.Core.Calls as calls
 use Rattle.sd_history.specs.Core.Calls.{Transition, Nothing, Emitted, TookOver, Moved}
 use Rattle.sd_history.specs.Core.Words.{transition_of}
@@ -13,27 +13,27 @@ use Rattle.sd_history.specs.Chronicle.{past_in, chronicle}
 use Rattle.sd_history.specs.Lines.{first_on_loop, roots}
 use Rattle.sd_proof_safety.specs.invariant.Invariant.{Core, Invariant, AtEach}
 use Rattle.sd_proof_safety.specs.invariant.Clauses.{just_closed}
-use Rattle.sd_proof_safety.specs.invariant.Coming.{IsFair, IsClean, Comes}
+use Rattle.sd_proof_safety.specs.invariant.Coming.{IsFair, IsClean, IsNextEvent}
 
 -- the core of the invariant holds after the event, wherever it comes
 abbrev pub Keeps : Setting → Event → Type 0
-Keeps setting e = (history : List Event) → Comes setting history e → Core setting (chronicle setting (e ∷ history))
+Keeps setting e = (history : List Event) → IsNextEvent setting history e → Core setting (chronicle setting (e ∷ history))
 
 -- what a tick makes the device do
 abbrev pub transition_of_tick : List Step → ℕ → ℕ → Transition
-transition_of_tick steps d counter = of_some (past_in steps d) Nothing (λ past. transition_of past (calls.Tick counter))
+transition_of_tick steps d counter = map_or (past_in steps d) Nothing (λ past. transition_of past (calls.Tick counter))
 
 -- the same where the tick makes the device do this
 abbrev pub KeepsTick : Setting → Transition → Type 0
 KeepsTick setting transition =
-    (reference d counter : ℕ) (history : List Event) → Comes setting history (event.Tick reference d counter)
+    (reference d counter : ℕ) (history : List Event) → IsNextEvent setting history (event.Tick reference d counter)
     → transition_of_tick (chronicle setting history) d counter ≡ transition
     → Core setting (chronicle setting (event.Tick reference d counter ∷ history))
 
 -- the same of a seal with which the window closes, or stays open
 abbrev pub KeepsSeal : Setting → Bool → Type 0
 KeepsSeal setting closes =
-    (reference d : ℕ) (history : List Event) → Comes setting history (event.Seal reference d)
+    (reference d : ℕ) (history : List Event) → IsNextEvent setting history (event.Seal reference d)
     → just_closed (chronicle setting (event.Seal reference d ∷ history)) ≡ closes
     → Core setting (chronicle setting (event.Seal reference d ∷ history))
 

@@ -1,7 +1,7 @@
 -- How long devices stay silent, and how long the backup root rests: statements of the state before an event and of the event's reference, each
 -- to be shown from the invariant after the events before.
 use Rattle.std.specs.Prelude.{◌≡◌, ℕ, ◌+◌, ◌*◌, ◌<◌, ◌≤◌, Bool, false, ◌&&◌, ◌||◌, not, List, [], ◌∷◌, nat_eq, nat_lt, IsTrue}
-use Rattle.sd_checker.specs.Num.Lists.{of_some}
+use Rattle.sd_checker.specs.Num.Lists.{map_or}
 use Rattle.sd_checker.specs.Topo.declared.Thing.TheVariants as thing
 use Rattle.sd_checker.specs.CheckRoot.Timing.{round_gap}
 use Rattle.sd_history.specs.World.{Setting, has_commit}
@@ -41,7 +41,7 @@ FallbackHears setting steps reference =
 -- the reference of the root's failure, or where that is later the one by which all have started
 abbrev pub root_failed_at : Setting → List Step → ℕ
 root_failed_at setting steps =
-    late setting steps (of_some (first_failure (thing.Device (plan_now setting steps).root ∷ []) (seen_of steps)) 0 (λ reference. reference))
+    late setting steps (map_or (first_failure (thing.Device (plan_now setting steps).root ∷ []) (seen_of steps)) 0 (λ reference. reference))
 
 -- 16: where the root failed, an old backup root acts soon
 abbrev pub TakesOverSoon : Setting → List Step → ℕ → Type 0

@@ -4,6 +4,7 @@ use Rattle.sd_checker.specs.Plan.declared.Hop.{Hop as PlanHop}
 use Rattle.sd_checker.specs.Plan.declared.Plan.{Plan}
 use Rattle.sd_checker.specs.Plan.Plans.{primary_of, backup_of}
 
+-- the hop is the primary or the backup one of the device
 abbrev pub IsPlanHop : Plan → ℕ → PlanHop → Type 0
 IsPlanHop plan d hop = (primary_of plan d ≡ Some hop) ⊎ (backup_of plan d ≡ Some hop)
 

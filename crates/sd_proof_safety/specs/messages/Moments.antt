@@ -55,6 +55,7 @@ pub record Sends (p : Moment) (d : ℕ) (message : Message) : Type 0 where
   pub act : p.step.act ≡ Calls d call
   pub effect : effect_of past call ≡ Send message
 
+-- the transition begins a round
 abbrev pub is_emission : Transition → Bool
 is_emission TookOver = true
 is_emission Emitted = true

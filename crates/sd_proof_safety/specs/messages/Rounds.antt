@@ -116,6 +116,7 @@ pub record IsWhole (setting : Setting) (steps : List Step) (epoch : ℕ) (start 
   pub ready : (q : Moment) → IsIn q steps → IsBefore start q → when q ≤ limit → (past : Past) → past_in q.earlier e.device ≡ Some past
       → IsReady past epoch e.link
 
+-- the hops of a way from x are whole
 abbrev pub AreWhole : Setting → List Step → ℕ → Moment → ℕ → ℕ → ℕ → List End → Type 0
 AreWhole setting steps epoch start limit source x [] = Unit {0}
 AreWhole setting steps epoch start limit source x (e ∷ way) =

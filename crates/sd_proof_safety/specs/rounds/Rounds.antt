@@ -46,6 +46,7 @@ pub record IsOpenHop (setting : Setting) (top : Moment) (epoch : ℕ) (start : M
       → (fails (thing.Device x) q.step.seen.event ≡ false) × (fails (thing.Device e.device) q.step.seen.event ≡ false)
       × (fails (thing.Link e.link) q.step.seen.event ≡ false)
 
+-- the hops of a way from x are such
 abbrev pub AreOpenHops : Setting → Moment → ℕ → Moment → ℕ → ℕ → ℕ → List End → Type 0
 AreOpenHops setting top epoch start limit source x [] = Unit {0}
 AreOpenHops setting top epoch start limit source x (e ∷ way) =

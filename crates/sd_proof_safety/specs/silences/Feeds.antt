@@ -55,6 +55,7 @@ pub record IsSound (setting : Setting) (top : Moment) (epoch s0 source x : ℕ) 
       → (fails (thing.Device x) q.step.seen.event ≡ false) × (fails (thing.Device e.device) q.step.seen.event ≡ false)
       × (fails (thing.Link e.link) q.step.seen.event ≡ false)
 
+-- the hops of a way from x are sound
 abbrev pub AreSound : Setting → Moment → ℕ → ℕ → ℕ → ℕ → List End → Type 0
 AreSound setting top epoch s0 source x [] = Unit {0}
 AreSound setting top epoch s0 source x (e ∷ way) = IsSound setting top epoch s0 source x e × AreSound setting top epoch s0 source e.device way

@@ -9,14 +9,14 @@ use Rattle.sd_history.specs.Steps.{Step, seen_of}
 use Rattle.sd_history.specs.Chronicle.{chronicle}
 use Rattle.sd_proof_safety.specs.invariant.Bounds.{depth, delay, rounds_gap, tick_gap}
 use Rattle.sd_proof_safety.specs.invariant.Eras.{era, plan_now, all_started, heard_at, moved_at, is_old, on_primary, path_hit, root_lives, heard_since_made, silent_for}
-use Rattle.sd_proof_safety.specs.invariant.Coming.{Comes}
+use Rattle.sd_proof_safety.specs.invariant.Coming.{IsNextEvent}
 use Rattle.sd_proof_safety.specs.invariant.Silences.{FallbackHears, root_leads}
 use Rattle.sd_proof_safety.specs.silences.Phases.{IsPhase, IsLed}
 
 -- in the first era, before a commit, at an event that fails nothing
 abbrev pub AtFirst : (Setting → List Step → ℕ → Type 0) → Setting → Type 0
 AtFirst Says setting =
-    (history : List Event) (e : Event) → Comes setting history e → failure_of e ≡ None → era (chronicle setting history) ≡ 1
+    (history : List Event) (e : Event) → IsNextEvent setting history e → failure_of e ≡ None → era (chronicle setting history) ≡ 1
     → has_commit (seen_of (chronicle setting history)) ≡ false
     → Says setting (chronicle setting history) (reference_of e)
 
@@ -47,21 +47,21 @@ FallbackInPhase setting =
 -- in the first era, before a commit, at each event, of the reference of the event before it
 abbrev pub AtFirstLately : (Setting → List Step → ℕ → Type 0) → Setting → Type 0
 AtFirstLately Says setting =
-    (history : List Event) (e : Event) → Comes setting history e → era (chronicle setting history) ≡ 1
+    (history : List Event) (e : Event) → IsNextEvent setting history e → era (chronicle setting history) ≡ 1
     → has_commit (seen_of (chronicle setting history)) ≡ false
     → Says setting (chronicle setting history) (latest_reference (seen_of (chronicle setting history)))
 
 -- in the first era, before a commit, at each event
 abbrev pub AtFirstAlways : (Setting → List Step → ℕ → Type 0) → Setting → Type 0
 AtFirstAlways Says setting =
-    (history : List Event) (e : Event) → Comes setting history e → era (chronicle setting history) ≡ 1
+    (history : List Event) (e : Event) → IsNextEvent setting history e → era (chronicle setting history) ≡ 1
     → has_commit (seen_of (chronicle setting history)) ≡ false
     → Says setting (chronicle setting history) (reference_of e)
 
 -- 13 in the first era, before a commit, at each event, both parts as they stand, whoever leads
 abbrev pub WholePathAlways : Setting → Type 0
 WholePathAlways setting =
-    (history : List Event) (e : Event) → Comes setting history e → era (chronicle setting history) ≡ 1
+    (history : List Event) (e : Event) → IsNextEvent setting history e → era (chronicle setting history) ≡ 1
     → has_commit (seen_of (chronicle setting history)) ≡ false → let steps = chronicle setting history in
     (d : ℕ) → IsTrue (root_lives setting steps) → IsTrue (is_old steps d) → IsTrue (on_primary steps d) → path_hit setting steps d ≡ false
     → (silent_for steps d (reference_of e) ≤ rounds_gap setting.net + round_gap setting.net + depth setting.net * delay setting.net)

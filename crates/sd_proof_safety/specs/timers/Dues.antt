@@ -1,6 +1,6 @@
 -- What the latest tick of a device says of its waits: had one of them been over by then, the tick would have acted on it.
 use Rattle.std.specs.Prelude.{◌≡◌, ℕ, ◌+◌, ◌<◌, ◌≤◌, true, false, List, length, max, Option, Some, is_some, if◌then◌else◌}
-use Rattle.sd_checker.specs.Num.Lists.{of_some}
+use Rattle.sd_checker.specs.Num.Lists.{map_or}
 use Rattle.sd_checker.specs.Num.Numbers.{up}
 use Rattle.sd_checker.specs.Num.declared.Rates.{Rates}
 use Rattle.sd_checker.specs.Plan.declared.Duty.{Duty}
@@ -34,9 +34,9 @@ abbrev pub times_with : ℕ → Did → Times → Times
 times_with r x t =
     record {
       tick = if is_tick x.call then r else t.tick;
-      heard = of_some (hears x) t.heard (λ c. r);
-      moved = of_some (moves x) t.moved (λ c. r);
-      sent = of_some (emits x) t.sent (λ c. r);
+      heard = map_or (hears x) t.heard (λ c. r);
+      moved = map_or (moves x) t.moved (λ c. r);
+      sent = map_or (emits x) t.sent (λ c. r);
       seal = seal_with r x t.seal;
     }
 

@@ -1,22 +1,18 @@
 -- Earlier states in a list of steps: its tails, the tails since a device's entry, and a tick in a span of references.
 use Rattle.std.specs.Prelude.{◌≡◌, ℕ, ◌<◌, ◌≤◌, Bool, true, false, ◌&&◌, List, ◌∷◌, nat_eq, Option, Some, is_some}
-use Rattle.sd_checker.specs.Num.Lists.{of_some, same_number}
+use Rattle.sd_checker.specs.Num.Lists.{map_or, same_number}
 use Rattle.sd_history.specs.Core.Calls.{Call, Did, Past}
 use Rattle.sd_history.specs.Core.Words.{transition_of, taken_up}
 use Rattle.sd_history.specs.Sched.Events.{reference_of, ticked}
 use Rattle.sd_history.specs.Steps.{Act, Makes, Calls, Asks, Passes, Step}
 use Rattle.sd_history.specs.Chronicle.{past_in}
+use Rattle.sd_proof_safety.specs.messages.Moments.{Tail}
 use Rattle.sd_proof_safety.specs.timers.Times.{did_by}
-
--- older is a tail of the list: the state at an earlier event, or the present one
-pub data IsTail {A : Type 0} (older : List A) : List A → Type 0 where
-  whole : IsTail older older
-  beyond : {x : A} {xs : List A} → IsTail older xs → IsTail older (x ∷ xs)
 
 -- the act makes the device, or has it take up a duty
 abbrev pub enters_by : Act → ℕ → Option Past → Bool
 enters_by (Makes m making) d past = nat_eq m d
-enters_by (Calls m call) d past = nat_eq m d && of_some past false (λ p. is_some (taken_up (transition_of p call)))
+enters_by (Calls m call) d past = nat_eq m d && map_or past false (λ p. is_some (taken_up (transition_of p call)))
 enters_by (Asks m counter) d past = false
 enters_by Passes d past = false
 
@@ -29,7 +25,7 @@ pub data SameEntry (d : ℕ) (older : List Step) : List Step → Type 0 where
 pub record TicksWithin (steps : List Step) (d x y : ℕ) : Type 0 where
   pub tick : Step
   pub older : List Step
-  pub tail : IsTail (tick ∷ older) steps
+  pub tail : Tail (tick ∷ older) steps
   pub ticks : same_number (ticked tick.seen.event) d ≡ true
   pub after : x < reference_of tick.seen.event
   pub by : reference_of tick.seen.event ≤ y
@@ -46,7 +42,7 @@ pub record IsMarked (f : Did → Option ℕ) (s : Step) (earlier : List Step) (d
 -- the act makes the device, or f tells something of its call
 abbrev pub marks_by : (Did → Option ℕ) → Act → ℕ → Option Past → Bool
 marks_by f (Makes m making) d past = nat_eq m d
-marks_by f (Calls m call) d past = nat_eq m d && of_some past false (λ p. is_some (f (did_by p call)))
+marks_by f (Calls m call) d past = nat_eq m d && map_or past false (λ p. is_some (f (did_by p call)))
 marks_by f (Asks m counter) d past = false
 marks_by f Passes d past = false
 

@@ -1,7 +1,7 @@
 -- The references at which a device was made, ticked, heard, moved, sent and was sealed, in a list of steps: its words on counters (heard,
 -- moved_at, sent_at) seen from outside. And what each step of a history of honest clocks owes the steps before it.
 use Rattle.std.specs.Prelude.{◌≡◌, ℕ, ◌≤◌, Bool, true, false, ◌&&◌, ◌||◌, not, List, [], ◌∷◌, nat_eq, nat_le, Option, Some, None, is_some, option_and_then, if◌then◌else◌}
-use Rattle.sd_checker.specs.Num.Lists.{of_some, same_number}
+use Rattle.sd_checker.specs.Num.Lists.{map_or, same_number}
 use Rattle.sd_checker.specs.Plan.declared.Duty.{Duty}
 use Rattle.sd_history.specs.Core.Calls.{Call, Tick, Did, Past}
 use Rattle.sd_history.specs.Core.Words.{transition_of, accepted_over, is_move, emits, takes_up, is_seal, making_counter, first_duty, duty_given, counter_of as counter_of_call}
@@ -20,6 +20,7 @@ did_by past call = record { call = call; transition = transition_of past call }
 abbrev pub hears : Did → Option ℕ
 hears x = option_and_then (λ edge. counter_of_call x.call) (accepted_over x.transition)
 
+-- the counter of a move
 abbrev pub moves : Did → Option ℕ
 moves x = if is_move x.transition then counter_of_call x.call else None
 
@@ -27,7 +28,7 @@ moves x = if is_move x.transition then counter_of_call x.call else None
 abbrev pub reference_after : (Did → Option ℕ) → ℕ → Act → ℕ → Option Past → ℕ → ℕ
 reference_after f r (Makes m making) d past before = if nat_eq m d then r else before
 reference_after f r (Calls m call) d past before =
-    if nat_eq m d then of_some past before (λ p. of_some (f (did_by p call)) before (λ c. r)) else before
+    if nat_eq m d then map_or past before (λ p. map_or (f (did_by p call)) before (λ c. r)) else before
 reference_after f r (Asks m counter) d past before = before
 reference_after f r Passes d past before = before
 
@@ -52,9 +53,10 @@ sent_in steps d = reference_by emits steps d
 abbrev pub seal_with : ℕ → Did → Option ℕ → Option ℕ
 seal_with r x before = if takes_up x then None else if is_some before then before else if is_seal x.call then Some r else None
 
+-- the first seal since the entry of a device, after an act
 abbrev pub seal_after : ℕ → Act → ℕ → Option Past → Option ℕ → Option ℕ
 seal_after r (Makes m making) d past before = if nat_eq m d then Some r else before
-seal_after r (Calls m call) d past before = if nat_eq m d then of_some past before (λ p. seal_with r (did_by p call) before) else before
+seal_after r (Calls m call) d past before = if nat_eq m d then map_or past before (λ p. seal_with r (did_by p call) before) else before
 seal_after r (Asks m counter) d past before = before
 seal_after r Passes d past before = before
 
@@ -65,16 +67,19 @@ sealed_in (s ∷ earlier) d = seal_after (reference_of s.seen.event) s.act d (pa
 
 -- What a step owes the steps before it
 
+-- the act makes the device
 abbrev pub makes_device : Act → ℕ → Bool
 makes_device (Makes m making) d = nat_eq m d
 makes_device (Calls m call) d = false
 makes_device (Asks m counter) d = false
 makes_device Passes d = false
 
+-- the call is a tick
 abbrev pub is_tick : Call → Bool
 is_tick (Tick counter) = true
 is_tick _ = false
 
+-- the act is a tick of the device
 abbrev pub ticks_device : Act → ℕ → Bool
 ticks_device (Makes m making) d = false
 ticks_device (Calls m call) d = nat_eq m d && is_tick call

@@ -9,6 +9,7 @@ use Rattle.sd_history.specs.Chronicle.{past_in}
 use Rattle.sd_history.proofs.Among.{Among}
 use Rattle.sd_proof_safety.specs.invariant.Eras.{era}
 
+-- the greatest epoch there may be: after a commit one more than the era
 abbrev pub reach_of : Bool → ℕ → ℕ
 reach_of commit n = if commit then n + 1 else n
 

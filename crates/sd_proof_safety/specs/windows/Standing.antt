@@ -5,6 +5,7 @@ use Rattle.sd_history.specs.Steps.{Step, seen_of}
 use Rattle.sd_proof_safety.specs.invariant.Clauses.{outsider_is_past, counted_is_current, blank_is_idle, ordinary_follows, failed_root_is_not_old, takeover_is_caused, member_enters, new_is_linked, committer_is_root, committer_acts}
 use Rattle.sd_proof_safety.specs.invariant.Silences.{NewHears}
 
+-- the clauses of the invariant that these lemmas take
 pub record HasStanding (setting : Setting) (steps : List Step) : Type 0 where
   pub outsiders : (x : ℕ) → is_up (seen_of steps) x ≡ true → outsider_is_past setting steps x ≡ true
   pub current : (x : ℕ) → is_up (seen_of steps) x ≡ true → counted_is_current setting steps x ≡ true

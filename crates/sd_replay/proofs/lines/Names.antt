@@ -1,10 +1,10 @@
 -- Names are short.
-use Rattle.std.specs.Prelude.{◌≡◌, ℕ, ◌≤◌, true, ◌&&◌, List, [], length, nat_le, slice_get, Option, Some, None, IsTrue, refl}
+use Rattle.std.specs.Prelude.{◌≡◌, ℕ, ◌≤◌, ◌&&◌, List, [], length, nat_le, slice_get, Option, Some, None, IsTrue, refl}
 use Rattle.std.specs.List.{list_all}
 use Rattle.std.proofs.Common.{arith}
 use Rattle.std.proofs.lemmas.Bool.{and_parts, leb-true}
-use Rattle.sd_num.specs.Lists.{of_some}
-use Rattle.sd_topo.specs.Network.{Network, device_names, name_at, is_name, is_name_byte, Each}
+use Rattle.sd_num.specs.Lists.{map_or}
+use Rattle.sd_topo.specs.Network.{Network, device_names, is_name, is_name_byte}
 use Rattle.sd_topo.specs.Limits.{IsNetwork}
 use Rattle.sd_history.specs.Text.{device_name}
 
@@ -18,6 +18,6 @@ short name is =
 pub name_short : (net : Network) (d : ℕ) → IsNetwork net → length (device_name net d) ≤ 64
 name_short net d is = by (slice_get (device_names net) d) (λ name at. short name (is.names.0 d name at))
   where
-    by : (o : Option (List ℕ)) → ((name : List ℕ) → o ≡ Some name → length name ≤ 64) → length (of_some o [] (λ name. name)) ≤ 64
+    by : (o : Option (List ℕ)) → ((name : List ℕ) → o ≡ Some name → length name ≤ 64) → length (map_or o [] (λ name. name)) ≤ 64
     by None each = omega arith
     by (Some name) each = each name refl

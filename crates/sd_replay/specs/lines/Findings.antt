@@ -1,6 +1,6 @@
 -- The lines of what is found of one event.
 use Rattle.std.specs.Prelude.{◌≡◌, ◌⊎◌, ℕ, ◌<◌, Bool, false, not, ◌||◌, ◌&&◌, is_some, List, [], ◌∷◌, ◌++◌, length, flat_map, Option, IfSome}
-use Rattle.sd_num.specs.Lists.{of_some}
+use Rattle.sd_num.specs.Lists.{map_or}
 use Rattle.sd_num.specs.Texts.{text_of}
 use Rattle.sd_topo.specs.Network.{Network}
 use Rattle.sd_clock.specs.declared.Report.{Report}
@@ -33,23 +33,26 @@ are_none found = finds_none found.broken found.looped found.roots found.report
 
 -- there is a report that misses the reference
 abbrev pub misses_in : Findings → Bool
-misses_in found = of_some found.report false (λ told. not (contains told.1 found.reference))
+misses_in found = map_or found.report false (λ told. not (contains told.1 found.reference))
 
+-- the line of a loop, if one was found
 abbrev pub loop_found : Option ℕ → List Line
-loop_found looped = of_some looped [] (λ d. LoopAlarm d ∷ [])
+loop_found looped = map_or looped [] (λ d. LoopAlarm d ∷ [])
 
+-- the line of two roots, if they were found
 abbrev pub roots_found : Option (ℕ × ℕ) → List Line
-roots_found roots = of_some roots [] (λ two. RootsAlarm two.0 two.1 ∷ [])
+roots_found roots = map_or roots [] (λ two. RootsAlarm two.0 two.1 ∷ [])
 
 -- the lines of what was found, in their order
 abbrev pub found_lines : Findings → List Line
 found_lines found =
-    broken_lines found.broken ++ loop_found found.looped ++ roots_found found.roots ++ of_some found.report [] (report_lines found.reference)
+    broken_lines found.broken ++ loop_found found.looped ++ roots_found found.roots ++ map_or found.report [] (report_lines found.reference)
 
 -- a line of the event with number n, as it is printed
 abbrev pub line_bytes : Network → ℕ → Line → List ℕ
 line_bytes net n line = text_of (line_words net n line)
 
+-- all lines of the event with number n, as they are printed
 abbrev pub found_bytes : Network → ℕ → Findings → List ℕ
 found_bytes net n found = flat_map (line_bytes net n) (found_lines found)
 

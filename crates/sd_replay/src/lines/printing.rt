@@ -1,7 +1,7 @@
 //! The lines of one event, in a buffer that has room for all that an event can bring.
 ghost use Rattle.std.specs.Prelude.{◌≡◌, ◌<◌, ◌≤◌, ◌+◌, ◌++◌, [], ◌∷◌, ℕ, length, flat_map, codes, decimal, IfSome, if◌then◌else◌};
 ghost use Rattle.sd_num.specs.Texts.{text_of};
-ghost use Rattle.sd_num.specs.Lists.{of_some};
+ghost use Rattle.sd_num.specs.Lists.{map_or};
 ghost use Rattle.sd_replay.specs.lines.Printed.{printed};
 ghost use Rattle.sd_topo.specs.Topologies.{network};
 ghost use Rattle.sd_history.specs.Lines.{broken_lines, report_lines};
@@ -147,7 +147,7 @@ fn print_answer(out: &mut EventLines, topo: &Topology, number: u64, findings: &F
     requires room { length (printed out.old) + 357 ≤ 2048 }
     ensures text { printed out.new ≡ printed out.old
         ++ flat_map (line_bytes (network topo.now) number)
-        (of_some findings.now.report [] (report_lines findings.now.reference)) }
+        (map_or findings.now.report [] (report_lines findings.now.reference)) }
     ensures short { length (printed out.new) ≤ length (printed out.old) + 357 }
 {
     if let Some((d, report)) = findings.report {

@@ -1,17 +1,12 @@
 -- The plan of the square speaks of every network of its shape, and is right over it.
-use Rattle.std.proofs.Common.{◌≡◌, None, ℕ, ◌<◌, [], ◌∷◌, Option, Some, refl, sym, subst, arith, length}
-use Rattle.std.specs.Prelude.{IfSome}
+use Rattle.std.proofs.Common.{◌≡◌, None, ℕ, ◌<◌, [], ◌∷◌, Some, refl, sym, subst, arith, length}
 use Rattle.std.proofs.lemmas.List.Elements.{All-nil, All-cons}
+use Rattle.sd_plan.proofs.Fitting.{is_row_of_two}
 use Rattle.sd_test_examples.specs.Topo.Network.{Network}
 use Rattle.sd_test_examples.proofs.Topo.Lists.{each_of}
 use Rattle.sd_test_examples.specs.Plan.Examples.{IsSquare, square_plan, hop, row}
 use Rattle.sd_test_examples.specs.Plan.Plans.{Fits, IsHop, IsRow}
 use Rattle.sd_test_examples.specs.Plan.Structure.{structure_breach}
-use Rattle.sd_test_examples.specs.Plan.declared.Hop.{Hop}
-
--- a row whose two hops are there
-both : (net : Network) (primary backup : Hop) → IsHop net primary → IsHop net backup → IsRow net (Some (record { primary = primary; backup = Some backup }))
-both net primary backup one two = (one, λ h is. subst (λ (found : Option Hop). IfSome found (IsHop net)) is two)
 
 pub square_fits : (net : Network) → IsSquare net → Fits net square_plan
 square_fits net square =
@@ -20,11 +15,11 @@ square_fits net square =
     let is : (parent link : ℕ) → parent < 4 → link < 5 → IsHop net (hop parent link) =
     λ parent link p l. (subst (λ (n : ℕ). parent < n) (sym four) p, subst (λ (n : ℕ). link < n) (sym five) l) in
     let of_b : IsRow net (row (hop 0 0) (Some (hop 2 2))) =
-    both net (hop 0 0) (hop 2 2) (is 0 0 (omega arith) (omega arith)) (is 2 2 (omega arith) (omega arith)) in
+    is_row_of_two net (hop 0 0) (hop 2 2) (is 0 0 (omega arith) (omega arith)) (is 2 2 (omega arith) (omega arith)) in
     let of_x : IsRow net (row (hop 0 1) (Some (hop 3 4))) =
-    both net (hop 0 1) (hop 3 4) (is 0 1 (omega arith) (omega arith)) (is 3 4 (omega arith) (omega arith)) in
+    is_row_of_two net (hop 0 1) (hop 3 4) (is 0 1 (omega arith) (omega arith)) (is 3 4 (omega arith) (omega arith)) in
     let of_y : IsRow net (row (hop 1 3) (Some (hop 2 4))) =
-    both net (hop 1 3) (hop 2 4) (is 1 3 (omega arith) (omega arith)) (is 2 4 (omega arith) (omega arith)) in
+    is_row_of_two net (hop 1 3) (hop 2 4) (is 1 3 (omega arith) (omega arith)) (is 2 4 (omega arith) (omega arith)) in
     record {
       root = omega arith;
       backup_root = omega arith;

@@ -6,13 +6,13 @@ mod cycles;
 mod single;
 mod worked;
 
+use crate::plain::{
+    Change, Plain, Said, Setup, Shape, counted_case, plan_of, said_by, topology_of,
+};
+use sd_checker::{Verdict, accepted_line, check, refused_line};
 use sd_test_examples::num::NoMemory;
 use sd_test_examples::plan::Plan;
 use sd_test_examples::topo::Topology;
-use sd_test_plain::checker::{Verdict, accepted_line, check, refused_line};
-use sd_test_plain::{
-    Change, Plain, Said, Setup, Shape, counted_case, plan_of, said_by, topology_of,
-};
 use std::alloc::{AllocError, Global};
 use std::process::Abort;
 use std::test::Fail;

@@ -7,12 +7,12 @@ ghost use Rattle.sd_test_examples.specs.Topo.Topologies.{network};
 mod ages;
 mod slow;
 
+use crate::plain::{Domain, Plain, counted_case, has_domain, plan_of, topology_of};
+use sd_checker::{Verdict, check};
 use sd_drill::{Budget, WorstList, worst};
 use sd_test_examples::num::NoMemory;
 use sd_test_examples::plan::Plan;
 use sd_test_examples::topo::Topology;
-use sd_test_plain::checker::{Verdict, check};
-use sd_test_plain::{Domain, Plain, counted_case, has_domain, plan_of, topology_of};
 use slow::bounds_of;
 use std::process::Abort;
 use std::test::Fail;

@@ -1,18 +1,19 @@
-//! The schedule of `case 2 3 3`. The program prints how many events and reports it has, which are
-//! counted here of its list.
+//! The network of a case beside the text of it, and the schedule of `case 2 3 3`. The program prints
+//! how many events and reports this has, which are counted here of its list.
 ghost use Rattle.std.specs.Prelude.{◌≤◌, ◌<◌, ◌^◌, length};
 ghost use Rattle.sd_gen.specs.Listed.{AreWithin};
 ghost use Rattle.sd_test_fleet_kit.specs.Topo.Topologies.{network};
 ghost use Rattle.sd_test_fleet_kit.specs.FleetState.membership.Plans.{AreSound};
 
-use sd_gen::{fabric_text, make_schedule};
+use sd_gen::{fabric_text, fabric_topology, make_schedule};
 use sd_test_fleet_kit::device::Device;
 use sd_test_fleet_kit::examples::plans_of;
 use sd_test_fleet_kit::fleet::Fleet;
 use sd_test_fleet_kit::plan::Plan;
 use sd_test_fleet_kit::sched::Event;
 use sd_test_fleet_kit::topo::Topology;
-use sd_test_fleet_kit::topotext::read_topology;
+use sd_test_fleet_kit::topotext::{read_topology, topology_text};
+use std::alloc::Global;
 use std::process::Abort;
 use std::test::Fail;
 
@@ -58,8 +59,34 @@ fn assert_followed(
 
 #[test]
 fn a_fleet_accepts_the_schedule_that_is_listed(rt: HostRuntime) -> Result<(), Fail> {
-    let text = fabric_text(rt.alloc(), 3, 3)?;
-    let topo = read_topology(rt.alloc(), text.as_slice())?;
+    let topo = fabric_topology(rt.alloc(), 3, 3)?;
     let plans = plans_of(rt.alloc(), &topo, &PLANS)?;
     assert_followed(&rt, &topo, plans.as_slice())
+}
+
+/// The text of a topology. It promises nothing, so that no proof looks into the text.
+fn text_of(alloc: Global, topo: &Topology) -> Result<Vec<u8>, Fail> {
+    Ok(topology_text(alloc, topo)?)
+}
+
+/// The network of these sizes is printed as the one that is read from its text.
+fn assert_read(rt: &(impl AllocGlobal + Abort), leaves: u32, spines: u32) -> Result<(), Fail>
+    requires some_leaves { 2 ≤ leaves }
+    requires few_leaves { leaves ≤ 256 }
+    requires some_spines { 3 ≤ spines }
+    requires few_spines { spines ≤ 32 }
+{
+    let made = fabric_topology(rt.alloc(), leaves, spines)?;
+    let text = fabric_text(rt.alloc(), leaves, spines)?;
+    let read = read_topology(rt.alloc(), text.as_slice())?;
+    let made_text = text_of(rt.alloc(), &made)?;
+    let read_text = text_of(rt.alloc(), &read)?;
+    assert_eq!(rt; made_text.as_slice(), read_text.as_slice());
+    Ok(())
+}
+
+#[test]
+fn the_network_is_the_one_of_its_text(rt: HostRuntime) -> Result<(), Fail> {
+    assert_read(&rt, 2, 3)?;
+    assert_read(&rt, 12, 5)
 }

@@ -1,9 +1,9 @@
 //! Placing over topologies that are read.
 ghost use Rattle.std.specs.Prelude.{IfOk};
 ghost use Rattle.sd_test_examples.specs.Topo.Topologies.{network};
-ghost use Rattle.sd_planner_place.specs.Absences.{IsAbsentOf};
+ghost use Rattle.sd_planner.specs.Absences.{IsAbsentOf};
 
-use sd_planner_place::{Neighbour, Placed, Present, backup_root_of, place};
+use sd_planner::{Neighbour, Placed, Present, backup_root_of, place};
 use sd_test_examples::plan::{Absent, DeviceList};
 use sd_test_examples::topo::Topology;
 use sd_test_examples::{FABRIC, topology_of};

@@ -2,10 +2,10 @@
 //! counters and clocks show.
 
 use super::tempers::{Temper, goes_wrong};
+use crate::plain::PlainReplay;
 use sd_test_fleet_kit::plain::{Numbers, Plain, Sent, Step, Subject};
 use sd_test_fleet_kit::sched::Event;
 use sd_test_fleet_kit::topo::Thing;
-use sd_test_replay_plain::PlainReplay;
 
 /// A history so far, and how it goes on.
 #[derive(Clone, Copy)]

@@ -1,6 +1,6 @@
 //! How often each kind of thing came in all histories.
 
-use sd_test_replay_plain::{Found, PREMISES, Premise};
+use crate::plain::{Found, PREMISES, Premise};
 
 /// What was seen in one history.
 #[derive(Drop)]

@@ -2,7 +2,7 @@
 
 use super::texts::*;
 use crate::runs::{Run, assert_calls_fail, assert_ran, run_of};
-use sd_test_rows_kit::top::Status;
+use sd_top::Status;
 use std::test::Fail;
 
 /// The words of a run over the fabric, how often it calls the shelf, and what it writes. A text of

@@ -2,7 +2,7 @@
 
 use super::texts::*;
 use crate::runs::{Run, assert_ran, run_of};
-use sd_test_rows_kit::top::Status;
+use sd_top::Status;
 use std::alloc::Global;
 use std::process::Abort;
 use std::test::Fail;

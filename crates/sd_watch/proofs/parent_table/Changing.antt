@@ -1,28 +1,20 @@
 -- Where no device follows or acts there is no loop and no root; and what stays where one device is written.
-use Rattle.std.specs.Prelude.{◌≡◌, ℕ, zero, suc, Bool, true, false, List, [], ◌∷◌, length, filter, replicate, slice_set, Option, Some, None, is_some, IsTrue, ◌↔◌, refl, MatchOption, if◌then◌else◌}
+use Rattle.std.specs.Prelude.{◌≡◌, ℕ, Bool, true, false, List, [], ◌∷◌, length, filter, replicate, slice_set, Option, Some, None, is_some, IsTrue, ◌↔◌, refl, MatchOption, if◌then◌else◌}
 use Rattle.std.proofs.Common.{sym, ap, ◌∙◌, subst}
 use Rattle.std.proofs.lemmas.Option.{none-some}
 use Rattle.sd_num.specs.Lists.{below, at_place}
+use Rattle.sd_num.proofs.Shared.{no_acting}
 use Rattle.sd_watch.specs.Watch.{parent_in, IsOnLoop, HasNoLoop, IsFirstOnLoop, acting_devices, two_least}
 use Rattle.sd_watch.proofs.Following.{before_last}
 use Rattle.sd_watch.proofs.Changed.{through_written}
+use Rattle.sd_watch.proofs.Shared.{no_parent}
 
 -- Before any event
-
-no_parent : (n d : ℕ) → parent_in (replicate n None) d ≡ None
-no_parent zero d = refl
-no_parent (suc n) zero = refl
-no_parent (suc n) (suc d) = no_parent n d
 
 pub none_follow : (n : ℕ) → HasNoLoop (parent_in (replicate n None))
 none_follow n d loop =
     let last = before_last (parent_in (replicate n None)) loop.steps d d loop.back in
     absurd (none-some d (sym (no_parent n last.0) ∙ last.2))
-
-no_acting : (n d : ℕ) → at_place (replicate n false) d false (λ acts. acts) ≡ false
-no_acting zero d = refl
-no_acting (suc n) zero = refl
-no_acting (suc n) (suc d) = no_acting n d
 
 none_pass : (p : ℕ → Bool) (xs : List ℕ) → ((x : ℕ) → p x ≡ false) → filter p xs ≡ []
 none_pass p [] none = refl

@@ -4,9 +4,11 @@ use Rattle.sd_watch.specs.Watch.{parent_in, HasNoLoop, IsFirstOnLoop, acting_dev
 use Rattle.sd_watch.specs.parent_table.ParentTable.{Kept}
 use Rattle.sd_watch.specs.declared.parent_table.ParentTable.TheInside.{Inside}
 
+-- what the fields stand for
 abbrev pub parent_table_seen : Inside → Kept
 parent_table_seen s = record { parents = s.parents.items; acting = s.acting.items }
 
+-- the loop and the roots that are kept are those of the parents and of who acts
 pub record IsParentTable (s : Inside) : Type 0 where
   pub looped : MatchOption s.looped (HasNoLoop (parent_in s.parents.items)) (λ d. IsFirstOnLoop (parent_in s.parents.items) d)
   pub roots : s.roots ≡ two_least (acting_devices s.acting.items)

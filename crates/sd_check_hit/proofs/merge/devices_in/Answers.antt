@@ -1,5 +1,5 @@
 use Rattle.std.proofs.Common.{◌≡◌, ◌≤◌, ◌+◌, ℕ, List, Vec, Global, length, get_or, refl, sym, ◌∙◌, ap, subst, arith}
-use Rattle.sd_plan.specs.Indexed.{no_span}
+use Rattle.sd_plan.specs.IndexedPlan.{no_span}
 use Rattle.sd_check_hit.proofs.Merged.{IsMerged, merged_more, merged_same, merged_all}
 use Rattle.sd_check_hit.proofs.merge.devices_in.Goals as goal
 use Rattle.sd_check_hit.proofs.merge.devices_in.Goals.{then-from-span+in_ok-add_all, else-from-span}

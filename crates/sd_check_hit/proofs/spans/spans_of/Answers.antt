@@ -2,7 +2,8 @@ use Rattle.std.proofs.Common.{◌<◌, ℕ, List, length, All, sym, subst, arith
 use Rattle.sd_topo.specs.Topologies.{network}
 use Rattle.sd_domain.specs.Lone.{IsDomain}
 use Rattle.sd_domain.specs.declared.DomainId.TheVariants as domain
-use Rattle.sd_check_hit.proofs.Bounds.{carries_devices, carried_length, devices_within, links_within}
+use Rattle.sd_plan.proofs.Shared.{carried_length}
+use Rattle.sd_check_hit.proofs.Bounds.{carries_devices, devices_within, links_within}
 use Rattle.sd_check_hit.proofs.spans.spans_of.Goals as goal
 
 pub add_below_devices-requires-clause-range : goal.add_below_devices-requires-clause-range

@@ -1,5 +1,5 @@
 use Rattle.std.proofs.Common.{◌||◌, nat_eq, find, sym, ap, ◌∙◌, arith}
-use Rattle.sd_plan.specs.Indexed.{has_link}
+use Rattle.sd_plan.specs.IndexedPlan.{has_link}
 use Rattle.sd_plan.specs.Walks.{path}
 use Rattle.sd_topo.specs.Topologies.{network}
 use Rattle.sd_check_root.proofs.Domains.{link_at}

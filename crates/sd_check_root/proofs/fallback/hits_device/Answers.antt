@@ -2,7 +2,7 @@ use Rattle.std.proofs.Common.{get_or, sym, ap, ◌∙◌, arith}
 use Rattle.std.specs.List.{list_any}
 use Rattle.std.proofs.lemmas.Bool.{or_from}
 use Rattle.std.proofs.lemmas.List.Folds.{list_any_more, list_any_at}
-use Rattle.sd_plan.specs.Indexed.{has_device}
+use Rattle.sd_plan.specs.IndexedPlan.{has_device}
 use Rattle.sd_plan.specs.Walks.{path}
 use Rattle.sd_topo.specs.Topologies.{network}
 use Rattle.sd_check_root.proofs.Domains.{device_at}

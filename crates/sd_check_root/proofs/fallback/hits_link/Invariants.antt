@@ -1,6 +1,6 @@
 use Rattle.std.proofs.Common.{◌≡◌, false, take}
 use Rattle.std.specs.List.{list_any}
-use Rattle.sd_plan.specs.Indexed.{has_link}
+use Rattle.sd_plan.specs.IndexedPlan.{has_link}
 use Rattle.sd_plan.specs.Walks.{path}
 use Rattle.sd_topo.specs.Topologies.{network}
 use Rattle.sd_check_root.proofs.fallback.hits_link.Given as goal

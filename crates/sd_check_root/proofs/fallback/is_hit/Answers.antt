@@ -1,7 +1,7 @@
 use Rattle.std.proofs.Common.{◌||◌, sym, ap, ◌∙◌}
 use Rattle.std.specs.List.{list_any}
 use Rattle.std.proofs.lemmas.Bool.{or_left}
-use Rattle.sd_plan.specs.Indexed.{has_device, has_link}
+use Rattle.sd_plan.specs.IndexedPlan.{has_device, has_link}
 use Rattle.sd_plan.specs.Walks.{path}
 use Rattle.sd_topo.specs.Topologies.{network}
 use Rattle.sd_check_root.specs.Parts.{devices_in, links_in}

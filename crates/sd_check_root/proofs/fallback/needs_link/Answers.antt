@@ -1,6 +1,6 @@
 use Rattle.std.proofs.Common.{arith}
 use Rattle.sd_topo.specs.Topologies.{network}
-use Rattle.sd_check_root.proofs.Paths.{carried_length}
+use Rattle.sd_plan.proofs.Shared.{carried_length}
 use Rattle.sd_check_root.proofs.fallback.needs_link.Goals as goal
 
 pub walk_has_link-requires-clause-range : goal.walk_has_link-requires-clause-range

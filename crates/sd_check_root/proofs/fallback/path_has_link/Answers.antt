@@ -1,6 +1,7 @@
 use Rattle.std.proofs.Common.{arith}
 use Rattle.sd_topo.specs.Topologies.{network}
-use Rattle.sd_check_root.proofs.Paths.{carried_length, backup_root_member}
+use Rattle.sd_plan.proofs.Shared.{carried_length}
+use Rattle.sd_check_root.proofs.Paths.{backup_root_member}
 use Rattle.sd_check_root.proofs.fallback.path_has_link.Goals as goal
 
 pub walk_has_link-requires-clause-device : goal.walk_has_link-requires-clause-device

@@ -1,7 +1,7 @@
 use Rattle.std.proofs.Common.{◌≡◌, ℕ, ◌+◌, length, Option, sym, ◌∙◌, subst, arith}
 use Rattle.sd_domain.specs.Domains.{domains}
 use Rattle.sd_topo.specs.Topologies.{network}
-use Rattle.sd_plan.specs.declared.indexed.Indexed.{Indexed}
+use Rattle.sd_plan.specs.declared.indexed.IndexedPlan.{IndexedPlan}
 use Rattle.sd_check_reach.specs.Searches.{HasRoom}
 use Rattle.sd_checker.specs.declared.Breach.{Breach}
 use Rattle.sd_checker.specs.Findings.{IsFoundAmong, Judges}
@@ -23,7 +23,7 @@ earlier_breach-requires-clause-search c = c.clear.ensures.fresh _ _ _
 
 pub earlier_breach-requires-clause-room : goal.earlier_breach-requires-clause-room
 earlier_breach-requires-clause-room c =
-    subst (λ (p : Indexed). HasRoom (network p.topo.now) c.clear.new.self) (sym c.outage-outage.ensures.planned)
+    subst (λ (p : IndexedPlan). HasRoom (network p.topo.now) c.clear.new.self) (sym c.outage-outage.ensures.planned)
     (c.clear.ensures.room (network c.args.planned.topo.now) c.loop-place.invariant.search)
 
 pub returns-then-is_loop : goal.returns-then-is_loop
@@ -62,7 +62,7 @@ loop-place-preserved c =
                 (subst (λ (o : Option Breach). Judges net plan before domain o) w.in_default.is judged))
           ];
       impact = c.strike.ensures.room;
-      search = subst (λ (p : Indexed). HasRoom (network p.topo.now) c.earlier_breach.new.search) c.outage-outage.ensures.planned c.earlier_breach.ensures.room;
+      search = subst (λ (p : IndexedPlan). HasRoom (network p.topo.now) c.earlier_breach.new.search) c.outage-outage.ensures.planned c.earlier_breach.ensures.room;
     }
 
 pub returns : goal.returns

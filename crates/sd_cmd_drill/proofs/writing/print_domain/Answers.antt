@@ -6,9 +6,10 @@ use Rattle.sd_topo.specs.Network.{device_name}
 use Rattle.sd_drill.specs.Printed.{bound_line}
 use Rattle.sd_cmd_drill.specs.Endings.{AreEndings}
 use Rattle.sd_cmd_drill.specs.Printing.{front_of, line_behind}
-use Rattle.sd_cmd_drill.specs.declared.endings.Ending.{Ending}
+use Rattle.sd_cmd_drill.specs.declared.endings.CachedSuffix.{CachedSuffix}
 use Rattle.sd_outside.specs.Printed.{printed}
-use Rattle.sd_cmd_drill.proofs.Names.{behind_fronts, bound_is, line_is}
+use Rattle.sd_drill.proofs.Shared.{bound_is}
+use Rattle.sd_cmd_drill.proofs.Names.{behind_fronts, line_is}
 use Rattle.sd_cmd_drill.proofs.writing.print_domain.Goals as goal
 
 pub loop-d-init : goal.loop-d-init
@@ -19,7 +20,7 @@ loop-d-init c = (
   c.begin.ensures.bound_front,
   c.begin.ensures.nobound_front,
   c.begin.ensures.text,
-  subst (λ (xs : List Ending). AreEndings (network c.args.topo.now) xs) (sym c.begin.ensures.endings) c.requires.endings,
+  subst (λ (xs : List CachedSuffix). AreEndings (network c.args.topo.now) xs) (sym c.begin.ensures.endings) c.requires.endings,
 )
 
 pub loop-d-preserved : goal.loop-d-preserved

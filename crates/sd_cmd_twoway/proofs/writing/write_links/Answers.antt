@@ -1,5 +1,5 @@
 use Rattle.std.proofs.Common.{◌∙◌, ℕ, [], Option, Result, ap, sym, subst, length, rules, arith}
-use Rattle.sd_num.specs.Lists.{of_some}
+use Rattle.sd_num.specs.Lists.{map_or}
 use Rattle.sd_topo.specs.Topologies.{network}
 use Rattle.sd_twoway.specs.Printed.{link_line}
 use Rattle.sd_twoway.specs.declared.Span.{Span}
@@ -19,7 +19,7 @@ returns-in_err-send-clause-writes g c =
     (handed_on c.from_residual.result _ c.from_residual.ensures.1)
     (adds_cut (Unit {0}) ℕ net c.args.tally.now.spans c.loop-link.link (length net.links) c.printed.result.now _ _ _ c.in_err-send.field-0.0
     (search (rules, arith))
-    (ap (λ (joint : Option (Span × ℕ)). of_some joint [] (link_line net c.loop-link.link)) (sym c.in-Some.ensures.kept)
+    (ap (λ (joint : Option (Span × ℕ)). map_or joint [] (link_line net c.loop-link.link)) (sym c.in-Some.ensures.kept)
     ∙ sym (c.printed.ensures ∙ c.print_link.ensures)) c.in_err-send.ensures.only c.loop-link.invariant.added c.in_err-send.ensures.writes)
 
 pub loop-link-preserved : goal.loop-link-preserved

@@ -9,4 +9,4 @@ returns-in-Some-clause-bound c =
     let known : IsSparedBound (net_of o) (plan_of o) c.args.times.budget c.args.d (Some c.in-Some.bound) =
     subst (λ (found : Option ℕ). IsSparedBound (net_of o) (plan_of o) c.args.times.budget c.args.d found) (sym c.get.ensures ∙ c.in-Some.is)
     (c.requires.known.spared.each c.args.d) in
-    known o.domain (sym c.spares.ensures ∙ c.if-not-spares.false)
+    known o.domain (sym c.is_spared.ensures ∙ c.if-not-is_spared.false)

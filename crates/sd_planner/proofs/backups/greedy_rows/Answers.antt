@@ -1,8 +1,8 @@
 use Rattle.std.proofs.Common.{◌≡◌, ℕ, length, map, sym, ap, ◌∙◌, arith, rules}
 use Rattle.sd_num.specs.Lists.{below}
-use Rattle.sd_planner_place.specs.declared.present.Present.{Present}
-use Rattle.sd_planner_place.specs.Views.{net_of, left_out}
-use Rattle.sd_planner_place.proofs.Growing.{placed_grows}
+use Rattle.sd_planner.specs.declared.present.Present.{Present}
+use Rattle.sd_planner.specs.Views.{net_of, left_out}
+use Rattle.sd_planner.proofs.Growing.{placed_grows}
 use Rattle.sd_planner.specs.Serving.{greedy_row, greedy_rows}
 use Rattle.sd_planner.specs.Surveys.{net_in}
 use Rattle.sd_planner.proofs.Rowing.{clear_first}

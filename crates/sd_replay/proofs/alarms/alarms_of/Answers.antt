@@ -9,13 +9,13 @@ pub returns-then-all_kept-clause-stands : goal.returns-then-all_kept-clause-stan
 returns-then-all_kept-clause-stands g c = c.all_kept.ensures c.if-all_kept.true
 
 pub returns-then-all_kept-clause-looped : goal.returns-then-all_kept-clause-looped
-returns-then-all_kept-clause-looped g c = λ setting run accepted are.
-    no_new_loop c.args.parent_table.now setting accepted.next.step (steps_of run) are (c.all_kept.ensures c.if-all_kept.true setting run accepted are)
-    (steps_know setting (steps_of run) accepted.stands.fabric.accepted.0)
-    (steps_know setting (accepted.next.step ∷ steps_of run) accepted.stands.fabric.accepted)
+returns-then-all_kept-clause-looped g c = λ setting run made are.
+    no_new_loop c.args.parent_table.now setting made.next.step (steps_of run) are (c.all_kept.ensures c.if-all_kept.true setting run made are)
+    (steps_know setting (steps_of run) made.stands.fabric.accepted.0)
+    (steps_know setting (made.next.step ∷ steps_of run) made.stands.fabric.accepted)
 
 pub returns-then-all_kept-clause-roots : goal.returns-then-all_kept-clause-roots
-returns-then-all_kept-clause-roots g c = λ setting run accepted are.
-    no_new_roots c.args.parent_table.now setting accepted.next.step (steps_of run) are (c.all_kept.ensures c.if-all_kept.true setting run accepted are)
-    (steps_know setting (steps_of run) accepted.stands.fabric.accepted.0)
-    (steps_know setting (accepted.next.step ∷ steps_of run) accepted.stands.fabric.accepted)
+returns-then-all_kept-clause-roots g c = λ setting run made are.
+    no_new_roots c.args.parent_table.now setting made.next.step (steps_of run) are (c.all_kept.ensures c.if-all_kept.true setting run made are)
+    (steps_know setting (steps_of run) made.stands.fabric.accepted.0)
+    (steps_know setting (made.next.step ∷ steps_of run) made.stands.fabric.accepted)

@@ -4,7 +4,7 @@ use Rattle.sd_msg.specs.declared.Flight.{Flight}
 use Rattle.sd_sched.specs.declared.Event.{Event}
 use Rattle.sd_sched.specs.declared.Event.TheVariants.{Tick, Recv}
 use Rattle.sd_sched.specs.Events.{device_of}
-use Rattle.sd_fleet.specs.FleetFabric.declared.Outcome.{Outcome}
+use Rattle.sd_fleet.specs.declared.Outcome.{Outcome}
 use Rattle.sd_premise.specs.Calm.{IsCalmTick, IsCalmReceipt}
 use Rattle.sd_replay.specs.Sights.{sight_by}
 use Rattle.sd_replay.proofs.judging.judge.Goals as goal

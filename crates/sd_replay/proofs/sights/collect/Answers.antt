@@ -1,7 +1,7 @@
 -- One flight more is looked up.
 use Rattle.std.proofs.Common.{ℕ, ◌≡◌, ◌+◌, ◌∷◌, length, filter, ap, ◌∙◌, arith}
 use Rattle.std.proofs.lemmas.List.{take_all}
-use Rattle.sd_fleet.specs.FleetFabric.declared.Outcome.{Outcome}
+use Rattle.sd_fleet.specs.declared.Outcome.{Outcome}
 use Rattle.sd_history.specs.flights.Flights.{look_in}
 use Rattle.sd_history.specs.Nodes.{steps_of}
 use Rattle.sd_replay.proofs.Flights.{one_collected}

@@ -1,6 +1,6 @@
 use Rattle.std.proofs.Common.{◌≡◌, ◌≢◌, ◌∙◌, sym, ap, arith, length, get_or, [], ◌+◌, true, false}
-use Rattle.sd_num.specs.Lists.{of_some}
-use Rattle.sd_sched.specs.Reading.{fault_of, graver}
+use Rattle.sd_num.specs.Lists.{map_or}
+use Rattle.sd_sched.specs.Reading.{fault_of, reported_first}
 use Rattle.sd_sched.specs.declared.LineFault.{LineFault}
 use Rattle.sd_sched.specs.declared.words.Field.TheVariants.{Amount}
 use Rattle.sd_sched.proofs.Join.{ReadTo-none, ReadTo-number, ReadTo-fault, ReadTo-short, ReadTo-long, ReadTo-within}
@@ -25,9 +25,9 @@ loop-place-preserved c =
           (sym w.in-Some-number.is ∙ found.ensures.number) (rw w.in-Some-number.is at found.ensures.within) found.ensures.left)
       | in-None w ↦
           let field = get_or c.args.shape.now c.loop-place.place Amount in
-          let fault : w.graver.result ≡ of_some c.loop-place.fault (fault_of field (c.loop-place.place + 1))
-          (λ f. graver f (fault_of field (c.loop-place.place + 1))) =
-          w.graver.ensures ∙ ap (λ (g : LineFault). of_some c.loop-place.fault g (λ f. graver f g)) w.fault_of.ensures in
+          let fault : w.reported_first.result ≡ map_or c.loop-place.fault (fault_of field (c.loop-place.place + 1))
+          (λ f. reported_first f (fault_of field (c.loop-place.place + 1))) =
+          w.reported_first.ensures ∙ ap (λ (g : LineFault). map_or c.loop-place.fault g (λ f. reported_first f g)) w.fault_of.ensures in
           rw (w.numbers-is, w.fault-is, fault)
           (ReadTo-fault _ _ _ _ _ _ c.in-Some.bytes.now _ read c.loop-place-test.true c.in-Some.ensures.more
           (sym w.in-None.is ∙ found.ensures.number) found.ensures.left)

@@ -6,11 +6,11 @@ ghost use Rattle.sd_test_examples.specs.Plan.Examples.{IsSquare};
 ghost use Rattle.sd_test_examples.specs.Topo.Topologies.{network};
 
 use sd_check_loop::loop_breach;
+use sd_domain::DomainId::{self, Link, Listed};
 use sd_test_examples::num::NoMemory;
 use sd_test_examples::plan::{DeviceList, Plan};
 use sd_test_examples::topo::Topology;
 use sd_test_examples::{square, square_plan};
-use sd_test_plain::domain::DomainId::{self, Link, Listed};
 use std::alloc::Global;
 use std::process::Abort;
 use std::test::Fail;

@@ -6,15 +6,15 @@ ghost use Rattle.sd_test_examples.specs.Plan.Structure as structure;
 ghost use Rattle.sd_test_examples.specs.Topo.Topologies.{network};
 
 use super::Tally;
-use sd_check_loop::loop_breach;
-use sd_check_reach::{domain_breach, reach_breach};
-use sd_test_examples::plan::{Plan, structure_breach};
-use sd_test_examples::topo::Topology;
-use sd_test_plain::check_root::root_breach;
-use sd_test_plain::domain::DomainId;
-use sd_test_plain::{
+use crate::plain::{
     CONDITIONS, Condition, Domain, Plain, Said, counted_case, has_domain, plan_of, topology_of,
 };
+use sd_check_loop::loop_breach;
+use sd_check_reach::{domain_breach, reach_breach};
+use sd_check_root::root_breach;
+use sd_domain::DomainId;
+use sd_test_examples::plan::{Plan, structure_breach};
+use sd_test_examples::topo::Topology;
 use std::alloc::{AllocError, Global};
 use std::process::Abort;
 use std::test::Fail;

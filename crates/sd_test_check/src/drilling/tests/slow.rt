@@ -1,8 +1,8 @@
 //! The bounds of the drill by their definition: over walks of one hop, of two, and so on.
+use crate::plain::{Domain, Plain, Rule, error_of, low_of};
 use sd_drill::Budget;
 use sd_test_examples::num::Rates;
 use sd_test_examples::plan::Hop;
-use sd_test_plain::{Domain, Plain, Rule, error_of, low_of};
 use std::alloc::{AllocError, Global};
 
 /// What the walks from a device reach.

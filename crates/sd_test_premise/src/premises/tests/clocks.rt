@@ -87,13 +87,12 @@ fn event_of(transition: Transition, reference: u64) -> Event
 }
 
 /// Whether the premise on drift holds still when device 0 does this.
-fn does(monitor: &mut DriftMonitor, topo: &Topology, transition: Transition, reference: u64) -> bool
-    requires lives { length monitor.old.lives ≡ length (network topo.now).devices }
-    requires device { 0 < length (network topo.now).devices }
+fn does(monitor: &mut DriftMonitor, transition: Transition, reference: u64) -> bool
+    requires { 0 < length monitor.old.lives }
     ensures { length monitor.new.lives ≡ length monitor.old.lives }
 {
     let seen = seen(event_of(transition, reference));
-    monitor.observe(topo, &seen)
+    monitor.observe(&seen)
 }
 
 /// A reference, what device 0 does then, and whether the premise on drift holds.
@@ -110,7 +109,7 @@ fn assert_moments_of(
     assert!(rt; topo.devices() == 3);
     for moment in moments {
         let (reference, transition, holds) = *moment;
-        let held = does(monitor, topo, transition, reference);
+        let held = does(monitor, transition, reference);
         assert_eq!(rt; held, holds, "{reference}");
     }
 }

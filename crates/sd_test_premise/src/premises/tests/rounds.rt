@@ -1,6 +1,7 @@
 //! Short schedules at each boundary of the premise of loss. Up to two consecutive rounds of one
 //! term may be spoiled, and each flight is due 10 after it is sent.
 
+use sd_fleet_state::world::failure_of;
 use sd_msg::{Flight, Message, Stamp};
 use sd_premise_loss::rounds::Rounds;
 use sd_sched::Event;
@@ -102,14 +103,15 @@ fn flight(number: u64, at: u64, stamp: Stamp) -> Flight {
 /// What the monitor answers to one step, for which room is made.
 fn judge(alloc: Global, rounds: &mut Rounds, number: u64, step: Step) -> Result<bool, NoMemory> {
     let event = event(step);
+    let (reference, failed) = (event.reference(), failure_of(&event));
     match step {
         Step::Send { at, term, round } => {
             rounds.ready(alloc, 1)?;
             let sent = [flight(number, at, Stamp { term, round })];
-            Ok(rounds.observe(&event, None, &sent))
+            Ok(rounds.see(reference, failed, None, &sent))
         }
-        Step::Receive { number, .. } => Ok(rounds.observe(&event, Some(number), &[])),
-        _ => Ok(rounds.observe(&event, None, &[])),
+        Step::Receive { number, .. } => Ok(rounds.see(reference, failed, Some(number), &[])),
+        _ => Ok(rounds.see(reference, failed, None, &[])),
     }
 }
 

@@ -4,12 +4,12 @@ use Rattle.sd_topo.specs.Network.{Network}
 use Rattle.sd_check_reach.specs.Aftermaths.{net_of, plan_of, domain_of}
 use Rattle.sd_plan.specs.declared.End.{End}
 use Rattle.sd_plan.specs.declared.Plan.{Plan}
-use Rattle.sd_plan.specs.Indexed.{Indexed, IsIndexOf, usable_ends}
+use Rattle.sd_plan.specs.IndexedPlan.{IndexedPlan, IsIndexOf, usable_ends}
 use Rattle.sd_plan.proofs.Numbered.{get_or-numbered}
 use Rattle.sd_check_reach.proofs.Joining.{usable_from, over_left, looked_more, passed_more, all_around}
 use Rattle.sd_check_reach.proofs.aftermath.Aftermath.look_around.Goals as goal
 
-items_are : (net : Network) (plan : Plan) (index : Indexed) (d : ℕ) (items : List End) → IsIndexOf net plan index → d < length net.devices
+items_are : (net : Network) (plan : Plan) (index : IndexedPlan) (d : ℕ) (items : List End) → IsIndexOf net plan index → d < length net.devices
     → items ≡ slice_index_or index.usable d [] → items ≡ usable_ends net plan d
 items_are net plan index d items indexed within is = is ∙ ap (λ (u : List (List End)). slice_index_or u d []) indexed.usable
     ∙ get_or-numbered (usable_ends net plan) (length net.devices) d [] within

@@ -5,7 +5,7 @@ use Rattle.sd_plan.specs.Plans.{Fits}
 use Rattle.sd_checker.specs.Verdicts.{IsAccepted}
 use Rattle.sd_cmd_files.specs.Inputs.{plan_in_file}
 use Rattle.sd_cmd_files.specs.Texts.{texts_of}
-use Rattle.sd_cmd_files.specs.Writes.{Makes}
+use Rattle.sd_cmd_files.specs.Writes.{IsAllowed}
 use Rattle.sd_cmd_files.specs.planfiles.SetupError.{made_of}
 use Rattle.sd_cmd_files.specs.planfiles.PlanFiles.{AfterAllPlans, AfterPlan}
 use Rattle.sd_cmd_files.specs.planfiles.Refusing.{Nothing}
@@ -27,16 +27,16 @@ returns-in_err-plan-clause-makes g c =
     let net = network c.args.topo.now in
     let makes =
     subst (λ (held : Option (List ℕ → Option (List ℕ))). IfSome held
-    (λ h. Makes (AfterPlan net (c.plans.place + 1) (texts_of h (string_bytes c.index-names-place.result)) Nothing) (made_of c.in_err-plan.field-0.0)))
+    (λ h. IsAllowed (AfterPlan net (c.plans.place + 1) (texts_of h (string_bytes c.index-names-place.result)) Nothing) (made_of c.in_err-plan.field-0.0)))
     c.plans.invariant.same_held
     (
     subst (λ (n : List ℕ). IfSome (g.S.Shelf.held c.plans.shelf)
-    (λ h. Makes (AfterPlan net (c.plans.place + 1) (texts_of h n) Nothing) (made_of c.in_err-plan.field-0.0))) c.as_str-name.ensures.value
+    (λ h. IsAllowed (AfterPlan net (c.plans.place + 1) (texts_of h n) Nothing) (made_of c.in_err-plan.field-0.0))) c.as_str-name.ensures.value
     c.in_err-plan.ensures.makes
     ) in
     handed_on
     (λ (early : SetupError). IfSome (g.S.Shelf.held c.args.shelf.now)
-    (λ h. Makes (AfterAllPlans net (map (λ name. texts_of h name) (map string_bytes c.args.names.now)) Nothing) (made_of early)))
+    (λ h. IsAllowed (AfterAllPlans net (map (λ name. texts_of h name) (map string_bytes c.args.names.now)) Nothing) (made_of early)))
     c.from_residual.result c.in_err-plan.field-0.0 c.from_residual.ensures.1
     (told_early (g.S.Shelf.held c.args.shelf.now) net c.args.names.now c.plans.plans.items c.plans.place c.index-names-place.result
     (made_of c.in_err-plan.field-0.0) c.plans.invariant.placed c.plans.invariant.read c.plans.invariant.accepted

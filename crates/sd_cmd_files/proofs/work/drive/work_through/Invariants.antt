@@ -2,7 +2,7 @@ use Rattle.std.proofs.Common.{◌≡◌, ◌≤◌, ◌-◌, ◌^◌, [], IfSome
 use Rattle.sd_stream.specs.Reader.{bytes_before}
 use Rattle.sd_cmd_files.specs.work.Works.{Work}
 use Rattle.sd_cmd_files.specs.work.Comes.{HasCome}
-use Rattle.sd_cmd_files.specs.work.Progresses.{Holds}
+use Rattle.sd_cmd_files.specs.work.Progresses.{HasAccepted}
 use Rattle.sd_cmd_files.proofs.work.drive.work_through.Given as goal
 
 -- the lines so far were taken and written, and nothing else of the shelf has changed
@@ -14,7 +14,7 @@ invariant-lines g l =
       come :
           (w : Work g.row.W-Item.Denot) → g.W.LineWork.does l.fn.work w []
           → IfSome (shelf.rest l.fn.shelf)
-          (λ text. HasCome shelf w (Holds g.W.LineWork l.progress w) text l.reader (sink.written l.fn.out) (sink.written l.out));
+          (λ text. HasCome shelf w (HasAccepted g.W.LineWork l.progress w) text l.reader (sink.written l.fn.out) (sink.written l.out));
       within : bytes_before l.reader ≤ 2 ^ 32;
       counted : l.progress.taken ≤ bytes_before l.reader;
       steady : shelf.faults l.reader.shelf.now ≡ shelf.faults l.fn.shelf;

@@ -1,7 +1,7 @@
 use Rattle.std.proofs.Common.{◌≡◌, ℕ, Option, Some, None, Result, Err, IfSome}
-use Rattle.sd_fleet_fabric.specs.History.declared.ApplyFault.{ApplyFault}
-use Rattle.sd_fleet_fabric.specs.declared.Outcome.{Outcome}
-use Rattle.sd_fleet_fabric.specs.Causes.{refusal_in}
+use Rattle.sd_fleet.specs.History.declared.ApplyFault.{ApplyFault}
+use Rattle.sd_fleet.specs.declared.Outcome.{Outcome}
+use Rattle.sd_fleet.specs.Causes.{refusal_in}
 use Rattle.sd_fleet.proofs.fleet.Fleet.apply.Goals as goal
 
 abbrev same_answer : Result Outcome ApplyFault → Result Outcome ApplyFault → Type 0

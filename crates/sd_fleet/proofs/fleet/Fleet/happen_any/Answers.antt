@@ -1,14 +1,14 @@
 use Rattle.std.proofs.Common.{◌∙◌, ◌≤◌, ◌^◌, sym, subst}
 use Rattle.std.specs.Vec.{with_items}
 use Rattle.std.proofs.lemmas.List.{with_items_is}
-use Rattle.sd_fleet_fabric.specs.History.Nodes.{steps_of}
-use Rattle.sd_fleet_fabric.specs.History.Steps.{Act}
-use Rattle.sd_fleet_fabric.specs.Doing.{act_seen}
-use Rattle.sd_fleet.specs.declared.crew.CallContext.{CallContext}
-use Rattle.sd_fleet.specs.Crew.{Acts}
+use Rattle.sd_fleet.specs.History.Nodes.{steps_of}
+use Rattle.sd_fleet.specs.History.Steps.{Act}
+use Rattle.sd_fleet.specs.Doing.{act_seen}
+use Rattle.sd_fleet.specs.declared.nodes.CallContext.{CallContext}
+use Rattle.sd_fleet.specs.Nodes.{Acts}
 use Rattle.sd_fleet.proofs.Reporting.{outcome_limited, sent_most}
 use Rattle.sd_fleet.proofs.Telling.{tells}
-use Rattle.sd_fleet.proofs.Applying.{device_if, can_do, length_done, crew_next, accepted_next}
+use Rattle.sd_fleet.proofs.Applying.{device_if, can_do, length_done, nodes_next, accepted_next}
 use Rattle.sd_fleet.proofs.fleet.Fleet.happen_any.Goals as goal
 
 pub context_at-context-requires : goal.context_at-context-requires
@@ -22,7 +22,7 @@ pub perform-reply-requires-clause-can : goal.perform-reply-requires-clause-can
 perform-reply-requires-clause-can g c =
     can_do g.N.Node c.args.self.now.fabric c.args.event.now c.args.self.now.nodes.items _ _ _ c.deref_mut.ensures.value c.context_at-context.ensures.context
     c.act-act.ensures
-    c.args.self.now.crew c.context_at-context.ensures.sound c.requires.prepared.accepted c.requires.within
+    c.args.self.now.are_nodes c.context_at-context.ensures.sound c.requires.prepared.accepted c.requires.within
 
 pub step-requires-clause-tells : goal.step-requires-clause-tells
 step-requires-clause-tells g c =
@@ -36,12 +36,12 @@ invariant_of-self g c =
     let long = length_done g.N.Node c.args.self.now.nodes.items c.deref_mut.result.now c.perform-reply.new.nodes c.context_at-context.result
     (act_seen c.act-act.result) c.perform-reply.result c.deref_mut.ensures.value c.perform-reply.ensures in
     record {
-      crew =
-          crew_next g.N.Node c.args.self.now.fabric c.step.new.self c.args.event.now c.args.self.now.nodes.items c.deref_mut.result.now
+      are_nodes =
+          nodes_next g.N.Node c.args.self.now.fabric c.step.new.self c.args.event.now c.args.self.now.nodes.items c.deref_mut.result.now
           c.perform-reply.new.nodes (with_items c.args.self.now.nodes c.perform-reply.new.nodes).items
           c.context_at-context.result (act_seen c.act-act.result) c.perform-reply.result c.deref_mut.ensures.value c.context_at-context.ensures.context
           c.act-act.ensures c.perform-reply.ensures
-          (with_items_is c.args.self.now.nodes c.perform-reply.new.nodes (long ∙ sym c.args.self.now.nodes.ok.0)) c.args.self.now.crew
+          (with_items_is c.args.self.now.nodes c.perform-reply.new.nodes (long ∙ sym c.args.self.now.nodes.ok.0)) c.args.self.now.are_nodes
           c.context_at-context.ensures.sound c.requires.prepared.accepted c.step.ensures.after;
     }
 
@@ -55,7 +55,7 @@ returns-clause-accepted g c =
     (with_items c.args.self.now.nodes c.perform-reply.new.nodes).items
     c.context_at-context.result (act_seen c.act-act.result) c.perform-reply.result c.step.new.outcome setting run c.deref_mut.ensures.value
     c.act-act.ensures c.perform-reply.ensures
-    (with_items_is c.args.self.now.nodes c.perform-reply.new.nodes (long ∙ sym c.args.self.now.nodes.ok.0)) c.args.self.now.crew.places
+    (with_items_is c.args.self.now.nodes c.perform-reply.new.nodes (long ∙ sym c.args.self.now.nodes.ok.0)) c.args.self.now.are_nodes.places
     c.requires.prepared.accepted
     stands.is_run stands.fabric stands.nodes (λ told says. c.step.ensures.stands setting (steps_of run) told says stands.fabric)
     (λ told says. c.step.ensures.outcome setting (steps_of run) told says stands.fabric)

@@ -1,6 +1,6 @@
 use Rattle.std.proofs.Common.{◌∙◌}
-use Rattle.sd_fleet_fabric.specs.History.Nodes.{steps_of}
-use Rattle.sd_fleet_fabric.proofs.Room.{most_sent_is}
+use Rattle.sd_fleet.specs.History.Nodes.{steps_of}
+use Rattle.sd_fleet.proofs.Room.{most_sent_is}
 use Rattle.sd_fleet.proofs.fleet.Fleet.most_sent.Goals as goal
 
 pub returns-clause-exact : goal.returns-clause-exact

@@ -1,6 +1,6 @@
 use Rattle.std.proofs.Common.{◌∙◌, ◌≢◌, ℕ, sym, subst}
-use Rattle.sd_fleet_fabric.specs.History.Nodes.{steps_of}
-use Rattle.sd_fleet.proofs.Applying.{refused_fault, memory_fault, crew_grown}
+use Rattle.sd_fleet.specs.History.Nodes.{steps_of}
+use Rattle.sd_fleet.proofs.Applying.{refused_fault, memory_fault, nodes_grown}
 use Rattle.sd_fleet.proofs.fleet.Fleet.prepare.Goals as goal
 
 pub returns-in-Some-clause-fault : goal.returns-in-Some-clause-fault
@@ -10,7 +10,7 @@ returns-in-Some-clause-fault g c =
 
 pub invariant_of-self : goal.invariant_of-self
 invariant_of-self g c =
-    record { crew = crew_grown g.N.Node c.args.self.now.fabric c.ready.new.self c.args.self.now.nodes.items c.args.self.now.crew c.ready.ensures.others }
+    record { are_nodes = nodes_grown g.N.Node c.args.self.now.fabric c.ready.new.self c.args.self.now.nodes.items c.args.self.now.are_nodes c.ready.ensures.others }
 
 pub returns-in-Err-clause-fault : goal.returns-in-Err-clause-fault
 returns-in-Err-clause-fault g c =

@@ -4,17 +4,17 @@ use Rattle.std.specs.Vec.{with_items}
 use Rattle.std.proofs.lemmas.List.{with_items_is}
 use Rattle.sd_sched.specs.declared.Event.{Event}
 use Rattle.sd_sched.specs.declared.Event.TheVariants as event
-use Rattle.sd_fleet_fabric.specs.FleetState.world.Registers.{is_open}
-use Rattle.sd_fleet_fabric.specs.FleetState.membership.Memberships as membership
-use Rattle.sd_fleet_fabric.specs.declared.Reply.{Reply}
-use Rattle.sd_fleet_fabric.specs.Causes.{flight_at}
-use Rattle.sd_fleet_fabric.specs.Doing.{act_in, replied}
-use Rattle.sd_fleet_fabric.specs.Stepping.{IsAfter, outcome_in}
-use Rattle.sd_fleet_fabric.proofs.Admitted.{device_known}
-use Rattle.sd_fleet_fabric.proofs.Keeping.{reference_few, can_deliver}
-use Rattle.sd_fleet_fabric.proofs.Steady.{receipt_tells, mid_accepted, receipt_after, receipt_comes}
-use Rattle.sd_fleet.specs.Crew.{Acts}
-use Rattle.sd_fleet.proofs.Applying.{crew_next, length_done}
+use Rattle.sd_fleet.specs.FleetState.world.Registers.{is_open}
+use Rattle.sd_fleet.specs.FleetState.membership.Memberships as membership
+use Rattle.sd_fleet.specs.declared.Reply.{Reply}
+use Rattle.sd_fleet.specs.Causes.{flight_at}
+use Rattle.sd_fleet.specs.Doing.{act_in, replied}
+use Rattle.sd_fleet.specs.Stepping.{IsAfter, outcome_in}
+use Rattle.sd_fleet.proofs.Admitted.{device_known}
+use Rattle.sd_fleet.proofs.FabricKeeping.{reference_few, can_deliver}
+use Rattle.sd_fleet.proofs.Steady.{receipt_tells, mid_accepted, receipt_after, receipt_comes}
+use Rattle.sd_fleet.specs.Nodes.{Acts}
+use Rattle.sd_fleet.proofs.Applying.{nodes_next, length_done}
 use Rattle.sd_fleet.proofs.Reporting.{outcome_limited, sent_most}
 use Rattle.sd_fleet.proofs.Stepping.{goes_further, context_few, can_receive, for_receiver, taken_there, found_taken, received_acts, room_without}
 use Rattle.sd_fleet.proofs.fleet.Fleet.receive.Goals as goal
@@ -47,21 +47,21 @@ step_at-effect-requires-clause-place g c =
     (can_receive g.N.Node c.args.self.now.fabric c.args.reference c.args.d c.args.counter c.args.message c.in-Some.flight
     c.args.self.now.nodes.items c.deref_mut.result.now c.context_of_call-context.result c.deref_mut.ensures.value c.context_of_call-context.ensures.context
     (found_taken (flight_at c.args.self.now.fabric c.args.message) c.take.new.taken c.in-Some.flight c.take.ensures.taken c.in-Some.is)
-    c.args.self.now.crew c.context_of_call-context.ensures.sound c.requires.prepared.accepted c.requires.within).0
+    c.args.self.now.are_nodes c.context_of_call-context.ensures.sound c.requires.prepared.accepted c.requires.within).0
 
 pub step_at-effect-requires-clause-there : goal.step_at-effect-requires-clause-there
 step_at-effect-requires-clause-there g c =
     (can_receive g.N.Node c.args.self.now.fabric c.args.reference c.args.d c.args.counter c.args.message c.in-Some.flight
     c.args.self.now.nodes.items c.deref_mut.result.now c.context_of_call-context.result c.deref_mut.ensures.value c.context_of_call-context.ensures.context
     (found_taken (flight_at c.args.self.now.fabric c.args.message) c.take.new.taken c.in-Some.flight c.take.ensures.taken c.in-Some.is)
-    c.args.self.now.crew c.context_of_call-context.ensures.sound c.requires.prepared.accepted c.requires.within).1
+    c.args.self.now.are_nodes c.context_of_call-context.ensures.sound c.requires.prepared.accepted c.requires.within).1
 
 pub step_at-effect-requires-clause-callable : goal.step_at-effect-requires-clause-callable
 step_at-effect-requires-clause-callable g c =
     (can_receive g.N.Node c.args.self.now.fabric c.args.reference c.args.d c.args.counter c.args.message c.in-Some.flight
     c.args.self.now.nodes.items c.deref_mut.result.now c.context_of_call-context.result c.deref_mut.ensures.value c.context_of_call-context.ensures.context
     (found_taken (flight_at c.args.self.now.fabric c.args.message) c.take.new.taken c.in-Some.flight c.take.ensures.taken c.in-Some.is)
-    c.args.self.now.crew c.context_of_call-context.ensures.sound c.requires.prepared.accepted c.requires.within).2
+    c.args.self.now.are_nodes c.context_of_call-context.ensures.sound c.requires.prepared.accepted c.requires.within).2
 
 pub tick-requires-clause-accepted : goal.tick-requires-clause-accepted
 tick-requires-clause-accepted g c =
@@ -130,14 +130,14 @@ invariant_of-self g c =
     let long = length_done g.N.Node c.args.self.now.nodes.items c.deref_mut.result.now c.step_at-effect.new.nodes c.context_of_call-context.result
     (act_in c.args.self.now.fabric (event.Recv c.args.reference c.args.d c.args.counter c.args.message)) reply_ c.deref_mut.ensures.value acts_ in
     record {
-      crew =
-          crew_next g.N.Node c.args.self.now.fabric c.tick.new.self
+      are_nodes =
+          nodes_next g.N.Node c.args.self.now.fabric c.tick.new.self
           (event.Recv c.args.reference c.args.d c.args.counter c.args.message) c.args.self.now.nodes.items
           c.deref_mut.result.now c.step_at-effect.new.nodes (with_items c.args.self.now.nodes c.step_at-effect.new.nodes).items
           c.context_of_call-context.result
           (act_in c.args.self.now.fabric (event.Recv c.args.reference c.args.d c.args.counter c.args.message)) reply_ c.deref_mut.ensures.value
           c.context_of_call-context.ensures.context refl acts_
-          (with_items_is c.args.self.now.nodes c.step_at-effect.new.nodes (long ∙ sym c.args.self.now.nodes.ok.0)) c.args.self.now.crew
+          (with_items_is c.args.self.now.nodes c.step_at-effect.new.nodes (long ∙ sym c.args.self.now.nodes.ok.0)) c.args.self.now.are_nodes
           c.context_of_call-context.ensures.sound c.requires.prepared.accepted
           (receipt_after c.args.self.now.fabric c.take.new.self c.args.reference c.args.d c.args.counter c.args.message c.step_at-effect.result
           c.step_at-effect.new.answers c.take.ensures.left c.tick.new.self c.tick.ensures.after);
@@ -149,7 +149,7 @@ returns-clause-accepted g c =
     (let on =
     goes_further g.N.Node c.args.self.now.fabric c.tick.new.self (happened g c) c.args.self.now.nodes.items c.deref_mut.result.now
     c.step_at-effect.new.nodes (with_items c.args.self.now.nodes c.step_at-effect.new.nodes).items c.context_of_call-context.result (reply g c)
-    c.tick.new.outcome c.deref_mut.ensures.value (acts g c) (left_is g c) c.args.self.now.crew c.requires.prepared.accepted
+    c.tick.new.outcome c.deref_mut.ensures.value (acts g c) (left_is g c) c.args.self.now.are_nodes c.requires.prepared.accepted
     (receipt_tells c.args.reference c.args.d c.args.counter c.args.message c.step_at-effect.result
     c.step_at-effect.new.answers)
     (after g c) (comes g c) setting run stands.is_run stands.fabric stands.nodes

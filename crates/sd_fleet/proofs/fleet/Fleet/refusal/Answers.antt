@@ -1,6 +1,6 @@
 use Rattle.std.proofs.Common.{◌∙◌}
-use Rattle.sd_fleet_fabric.specs.History.Nodes.{steps_of}
-use Rattle.sd_fleet_fabric.proofs.Refused.{refusal_is}
+use Rattle.sd_fleet.specs.History.Nodes.{steps_of}
+use Rattle.sd_fleet.proofs.Refused.{refusal_is}
 use Rattle.sd_fleet.proofs.fleet.Fleet.refusal.Goals as goal
 
 pub returns-clause-exact : goal.returns-clause-exact

@@ -1,6 +1,6 @@
 use Rattle.std.proofs.Common.{sym, subst, length, List}
 use Rattle.sd_topo.specs.Topologies.{network}
-use Rattle.sd_fleet_state.specs.declared.membership.plans.Numbered.{Numbered}
+use Rattle.sd_fleet_state.specs.declared.membership.plans.NumberedPlan.{NumberedPlan}
 use Rattle.sd_fleet_state.specs.membership.Plans.{AreTables}
 use Rattle.sd_fleet_state.specs.membership.Memberships.{Registers}
 use Rattle.sd_fleet_state.proofs.membership.Tables.{tables_fit}
@@ -37,7 +37,7 @@ returns-clause-sound c =
 
 pub returns-clause-tables : goal.returns-clause-tables
 returns-clause-tables c =
-    subst (λ (ps : List Numbered). AreTables (network c.args.topo.now) ps) (sym c.in_ok-numbered.ensures)
+    subst (λ (ps : List NumberedPlan). AreTables (network c.args.topo.now) ps) (sym c.in_ok-numbered.ensures)
     (tables_fit (record { net = network c.args.topo.now; plans = c.args.plans.now }) c.args.topo.now.is_network c.requires.sound)
 
 pub returns-clause-stands : goal.returns-clause-stands

@@ -1,6 +1,6 @@
 use Rattle.std.proofs.Common.{nat_eq, not, ◌&&◌, sym, ap, ◌∙◌}
 use Rattle.std.proofs.lemmas.Bool.{ne_eqb, eq-eqb, not_from_true, and_left}
-use Rattle.sd_plan.specs.Indexed.{stands_below, is_cut_before}
+use Rattle.sd_plan.specs.IndexedPlan.{stands_below, is_cut_before}
 use Rattle.sd_plan.proofs.Cutting.{has_device_by}
 use Rattle.sd_plan.proofs.index.WalkIndex.epath_has_device.Goals as goal
 

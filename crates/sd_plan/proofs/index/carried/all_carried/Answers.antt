@@ -1,7 +1,7 @@
 use Rattle.std.proofs.Common.{length, find, ap, ◌∙◌, arith}
 use Rattle.sd_num.specs.Lists.{below}
 use Rattle.sd_topo.specs.Topologies.{network}
-use Rattle.sd_plan.specs.Indexed.{goes_over}
+use Rattle.sd_plan.specs.IndexedPlan.{goes_over}
 use Rattle.sd_plan.proofs.Numbered.{length-numbered}
 use Rattle.sd_plan.proofs.Forest.{forest_of}
 use Rattle.sd_plan.proofs.Listing.{carried_none, carried_grown, has_link_within, written}

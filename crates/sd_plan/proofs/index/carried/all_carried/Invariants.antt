@@ -2,7 +2,7 @@ use Rattle.std.proofs.Common.{◌≡◌, map, find}
 use Rattle.sd_num.specs.Lists.{below}
 use Rattle.sd_topo.specs.Network.{link_numbers}
 use Rattle.sd_topo.specs.Topologies.{network}
-use Rattle.sd_plan.specs.Indexed.{goes_over}
+use Rattle.sd_plan.specs.IndexedPlan.{goes_over}
 use Rattle.sd_plan.proofs.index.carried.all_carried.Given as goal
 
 abbrev pub invariant-loop-d : goal.invariant-loop-d

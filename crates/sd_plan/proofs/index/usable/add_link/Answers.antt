@@ -1,11 +1,11 @@
 use Rattle.std.proofs.Common.{◌≡◌, ◌<◌, ◌+◌, [], length, get_or, refl, sym, ap, ◌∙◌, arith, append-nil}
+use Rattle.std.proofs.lemmas.Result.{on_ok_weaker}
 use Rattle.sd_topo.specs.Network.{link_of}
 use Rattle.sd_topo.specs.Limits.{IsLink}
 use Rattle.sd_topo.specs.Topologies.{network}
 use Rattle.sd_topo.proofs.Laws.{link_law}
 use Rattle.sd_plan.specs.Usable.{usable_before}
 use Rattle.sd_plan.proofs.Numbered.{length-numbered}
-use Rattle.sd_plan.proofs.Over.{on_ok}
 use Rattle.sd_plan.proofs.Listing.{rows_grown, usable_rows, usable_same}
 use Rattle.sd_plan.proofs.index.usable.add_link.Goals as goal
 
@@ -38,7 +38,7 @@ add_usable-requires-2-clause-at c =
 pub returns : goal.returns
 returns c =
     let net = network c.args.topo.now in
-    on_ok c.add_usable-2.result
+    on_ok_weaker c.add_usable-2.result
     (λ second. usable_rows net c.args.plan.now c.args.l c.link-link.result c.args.rows.now c.add_usable.new.rows c.add_usable-2.new.rows
     c.args.topo.now.is_network c.requires.link
     (sym c.requires.present ∙ c.if-not-present.false) c.link-link.ensures c.requires.rows (omega arith) (omega arith) c.in_ok-add_usable.ensures second)

@@ -1,11 +1,12 @@
 use Rattle.std.proofs.Common.{◌≡◌, ◌<◌, length, ap, ◌∙◌, arith}
+use Rattle.std.proofs.lemmas.Result.{on_ok_weaker}
 use Rattle.sd_topo.specs.Network.{link_of}
 use Rattle.sd_topo.specs.Limits.{IsLink}
 use Rattle.sd_topo.specs.Topologies.{network}
 use Rattle.sd_topo.proofs.Laws.{link_law}
 use Rattle.sd_plan.specs.Tables.{ends_before}
 use Rattle.sd_plan.proofs.Numbered.{length-numbered}
-use Rattle.sd_plan.proofs.Over.{rows_more, on_ok}
+use Rattle.sd_plan.proofs.Over.{rows_more}
 use Rattle.sd_plan.proofs.Rules.{keeps_rules}
 use Rattle.sd_plan.proofs.table.ends.add_link.Goals as goal
 
@@ -32,7 +33,7 @@ add_end-requires-2-clause-parent c =
 pub returns : goal.returns
 returns c =
     let first = c.in_ok-add_end.ensures in
-    on_ok c.add_end-2.result
+    on_ok_weaker c.add_end-2.result
     (λ second. rows_more (network c.args.topo.now) c.args.plan.now c.args.l c.args.rows.now c.add_end.new.rows c.add_end-2.new.rows c.args.topo.now.is_network
     (keeps_rules (network c.args.topo.now) c.args.plan.now c.requires.structured) c.requires.link c.requires.rows (omega arith) (omega arith)
     (rw (← c.link-link.ensures) first) (rw (← c.link-link.ensures) second))

@@ -1,6 +1,6 @@
 use Rattle.std.proofs.Common.{◌≡◌, ℕ, ◌&&◌, ◌||◌, length, nat_eq, take}
 use Rattle.sd_num.specs.Lists.{has}
-use Rattle.sd_planner.specs.Listed.{listed}
+use Rattle.sd_plan.specs.Subtrees.{listed}
 use Rattle.sd_planner.proofs.backups.domain_lists.add_domain.Given as goal
 
 abbrev pub invariant-loop-thing : goal.invariant-loop-thing

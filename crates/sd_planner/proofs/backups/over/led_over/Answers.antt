@@ -1,6 +1,6 @@
 use Rattle.std.proofs.Common.{◌<◌, length, arith, get_or, None, ap}
 use Rattle.std.proofs.lemmas.Option.{slice_get-get_or}
-use Rattle.sd_planner_place.specs.declared.placement.Placed.{Placed}
+use Rattle.sd_planner.specs.declared.placement.Placed.{Placed}
 use Rattle.sd_planner.proofs.Leading.{over_more}
 use Rattle.sd_planner.proofs.backups.over.led_over.Goals as goal
 

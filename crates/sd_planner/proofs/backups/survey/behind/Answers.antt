@@ -1,7 +1,7 @@
 use Rattle.std.proofs.Common.{set, true, false, length, replicate, ap, ◌∙◌, arith}
 use Rattle.std.proofs.lemmas.List.{length-set, length-replicate}
 use Rattle.std.proofs.lemmas.Result.{IfOk-weaker}
-use Rattle.sd_planner.proofs.Placing.{over_one}
+use Rattle.sd_planner.proofs.FoundDevices.{over_one}
 use Rattle.sd_planner.proofs.backups.survey.behind.Goals as goal
 
 pub returns : goal.returns

@@ -1,28 +1,30 @@
-use Rattle.std.proofs.Common.{◌≤◌, false, None, length, Option, option_map, subst, sym, ap, ◌∙◌}
+use Rattle.std.proofs.Common.{◌≡◌, ◌≤◌, false, None, length, Option, option_map, refl, subst, sym, ap, ◌∙◌}
 use Rattle.sd_topo.specs.Network.{Network}
 use Rattle.sd_msg.specs.declared.Flight.{Flight}
 use Rattle.sd_sched.specs.declared.Event.TheVariants.{Tick}
 use Rattle.sd_sched.specs.Events.{reference_of}
 use Rattle.sd_sched.specs.Honesty.{clock_set}
+use Rattle.sd_history.specs.declared.BrokenSet.{BrokenSet}
+use Rattle.sd_history.specs.World.{Seen}
+use Rattle.sd_history.specs.Premises.{delay_holds, newly}
 use Rattle.sd_history.specs.Refusals.{makes_some}
 use Rattle.sd_history.specs.Things.{failure_of}
+use Rattle.sd_fleet_state.specs.world.Registers.{registers_after}
 use Rattle.sd_premise_clocks.specs.Drifts.{reading_of, IsReading}
 use Rattle.sd_premise_clocks.proofs.Skipping.{start_skips, delay_skips}
 use Rattle.sd_premise_loss.specs.rounds.Standing.{IsShown}
 use Rattle.sd_premise_renewal.proofs.Skipping.{domain_skips, renewal_skips_tick}
+use Rattle.sd_premise.specs.Calm.{IsCalmTick}
+use Rattle.sd_premise.specs.Worlds.{world_after}
 use Rattle.sd_premise.proofs.Following.{follows, tick_before}
 use Rattle.sd_premise.proofs.Worlds.{world_stands, world_by}
-use Rattle.sd_premise.proofs.Judging.{tick_answered, breaks_with}
+use Rattle.sd_premise.proofs.Judging.{held_answered, sees, still}
 use Rattle.sd_premise.proofs.premises.Premises.tick.Goals as goal
 
-pub returns-clause-world : goal.returns-clause-world
-returns-clause-world c s is =
-    c.note_call.ensures.tick
-    ∙ world_by c.args.self.now.world s (Tick c.args.reference c.args.device c.args.counter) is.tick.event is.tick.stays
-
-pub returns-clause-stands : goal.returns-clause-stands
-returns-clause-stands c setting earlier s is can stands =
-    let event = is.tick.event in
+pub returns : goal.returns
+returns c =
+    sees (λ setting earlier s is can stands.
+    (let event = is.tick.event in
     let at = ap reference_of event in
     let reading : IsReading s.event c.args.device c.args.reference c.args.counter false = record { reading = ap reading_of event; life = sym (ap makes_some event) } in
     let low = tick_before setting earlier s c.args.device c.args.reference stands.order can at in
@@ -46,28 +48,27 @@ returns-clause-stands c setting earlier s is can stands =
       sound = stands.sound;
       members = stands.members;
       links = stands.links;
-      world = world_stands c.args.self.now.world _ setting s earlier (returns-clause-world c s is) stands.world;
+      world = world_stands c.args.self.now.world _ setting s earlier (c.note_call.ensures.tick ∙ world s is) stands.world;
       start = start;
-      drift = c.read.ensures.stands setting earlier s stands.net reading stands.drift can.allowed;
+      drift = c.read.ensures.stands setting earlier s reading stands.drift can.allowed;
       delay = delay;
       tick = c.tick.ensures.stands setting earlier s c.args.counter is.tick can.allowed low stands.tick;
       loss = c.see.ensures.stands setting earlier s shown (follows setting earlier s can) stands.loss;
       domain = domain;
       renew = renew;
       broken =
-          c.break_now.ensures.kept
-          ∙ tick_answered setting s earlier c.args.self.now.broken c.read.result c.tick.result c.see.result stands.broken
+          c.note_held.ensures.kept
+          ∙ held_answered setting s earlier c.args.self.now.broken _ stands.broken
           (sym stands.start.holds ∙ start.holds)
-          (c.read.ensures.holds setting earlier s stands.net reading stands.drift can.allowed)
-          (sym stands.delay.holds ∙ delay.holds)
+          (c.read.ensures.holds setting earlier s reading stands.drift can.allowed)
+          (still c.args.self.now.broken.delay (delay_holds setting earlier) (ap (λ (b : BrokenSet). b.delay) stands.broken) ∙ sym stands.delay.holds ∙ delay.holds)
           (c.tick.ensures.holds setting earlier s c.args.counter is.tick can.allowed low stands.tick)
           (c.see.ensures.holds setting earlier s shown (follows setting earlier s can) stands.loss)
           (sym stands.domain.holds ∙ domain.holds)
           (sym stands.renew.holds ∙ renew.holds);
-    }
-
-pub returns-clause-breaks : goal.returns-clause-breaks
-returns-clause-breaks c setting earlier s is can stands =
-    c.break_now.ensures.breaks
-    ∙ breaks_with setting s earlier c.args.self.now.broken _ stands.broken
-    (sym c.break_now.ensures.kept ∙ (returns-clause-stands c setting earlier s is can stands).broken)
+    }))
+    (c.note_held.ensures.breaks ∙ ap (newly c.args.self.now.broken) (sym c.note_held.ensures.kept)) c.see.ensures.room (λ s is. c.note_call.ensures.tick ∙ world s is) refl
+  where
+    world : (s : Seen) → IsCalmTick s c.args.reference c.args.device c.args.counter c.args.sent.now
+        → registers_after c.args.self.now.world (Tick c.args.reference c.args.device c.args.counter) ≡ world_after c.args.self.now.world s
+    world s is = world_by c.args.self.now.world s (Tick c.args.reference c.args.device c.args.counter) is.tick.event is.tick.stays

@@ -1,5 +1,7 @@
-use Rattle.std.proofs.Common.{ℕ, ◌<◌, Bool, ◌&&◌, set, sym, ap, ◌∙◌, subst}
-use Rattle.sd_topo.specs.Network.{Network, rates_of}
+use Rattle.std.proofs.Common.{ℕ, ◌<◌, Bool, ◌&&◌, length, set, Some, sym, ap, ◌∙◌, subst}
+use Rattle.std.specs.Prelude.{slice_get}
+use Rattle.std.proofs.lemmas.Option.{slice_get-get_or}
+use Rattle.sd_premise_clocks.specs.declared.drift.Life.{Life}
 use Rattle.sd_premise_clocks.specs.declared.offsets.Reading.{Reading}
 use Rattle.sd_premise_clocks.specs.Drifts.{DriftKept}
 use Rattle.sd_premise_clocks.proofs.Lives.{Reads, reads}
@@ -7,23 +9,25 @@ use Rattle.sd_premise_clocks.proofs.Holding.{stands_reading}
 use Rattle.sd_premise_clocks.proofs.drift.DriftMonitor.read.Goals as goal
 
 pub returns-clause-stands : goal.returns-clause-stands
-returns-clause-stands c setting earlier s net is stands may =
+returns-clause-stands c setting earlier s is stands may =
     let reading : Reading = record { reference = c.args.reference; counter = c.args.counter } in
     let read : Reads s.event c.args.device reading = reads s.event c.args.device reading is.reading in
-    let own = c.rates-rates.ensures ∙ ap (λ (n : Network). rates_of n c.args.device) (sym net) in
-    stands_reading setting c.rates-rates.result s c.args.device reading c.life_before-life.result c.at-offsets.result c.args.begins c.args.self.now _ earlier
-    read own
+    let life : Life = c.index_mut.result.now in
+    let within : c.args.device < length c.self.inside.lives.items =
+    subst (λ (kept : DriftKept). c.args.device < length kept.lives) (sym c.self.view_is) c.requires in
+    stands_reading setting s c.args.device reading c.args.begins c.read-keeps.result life c.read-keeps.new.self c.args.self.now _ earlier
+    read
     (record {
       begins_life = is.life;
-      begun = c.life_before-life.ensures.begun;
-      held = c.life_before-life.ensures.kept;
-      offsets_are = c.at-offsets.ensures.offsets;
-      judged = c.at-offsets.ensures.rule;
-      holds = ap (λ (kept : DriftKept). kept.holds && c.allow.result) c.self.view_is ∙ ap (λ (b : Bool). c.args.self.now.holds && b) c.allow.ensures;
-      lives = ap (λ (kept : DriftKept). set kept.lives c.args.device c.with_reading.result) c.self.view_is
-          ∙ ap (set c.args.self.now.lives c.args.device) c.with_reading.ensures;
-      within = subst (λ (n : ℕ). c.args.device < n) (sym c.requires.topology) c.requires.device;
+      within = c.requires;
+      held = ap (λ (kept : DriftKept). slice_get kept.lives c.args.device) (sym c.self.view_is)
+          ∙ slice_get-get_or c.self.inside.lives.items c.args.device life within ∙ ap (λ (l : Life). Some l) (sym c.index_mut.ensures.value);
+      rates = c.read-keeps.ensures.rates;
+      offsets = c.read-keeps.ensures.offsets;
+      judged = c.read-keeps.ensures.keeps;
+      holds = ap (λ (kept : DriftKept). kept.holds && c.read-keeps.result) c.self.view_is;
+      lives = ap (λ (kept : DriftKept). set kept.lives c.args.device c.read-keeps.new.self) c.self.view_is;
     }) stands may
 
 pub returns-clause-holds : goal.returns-clause-holds
-returns-clause-holds c setting earlier s net is stands may = (returns-clause-stands c setting earlier s net is stands may).holds
+returns-clause-holds c setting earlier s is stands may = (returns-clause-stands c setting earlier s is stands may).holds

@@ -1,5 +1,5 @@
 use Rattle.std.proofs.Common.{◌≡◌, ℕ, ◌&&◌, max, cond, true, false, List, ◌∷◌, None, sym, ◌∙◌, ap, subst, arith}
-use Rattle.sd_num.specs.Lists.{of_some, same_number}
+use Rattle.sd_num.specs.Lists.{map_or, same_number}
 use Rattle.sd_topo.specs.declared.Thing.{Thing}
 use Rattle.sd_history.specs.Domain.Things.{same_thing}
 use Rattle.sd_sched.specs.Events.{reference_of}
@@ -47,7 +47,7 @@ stands c setting earlier s told follows was =
     let marked : (x : Thing) → marks x ≡ mark_in (s ∷ earlier) x =
     mark_next setting earlier s old.interruptions c.fail.new.self follows kept.devices kept.links kept.last kept.marks
     (λ x. c.fail.ensures.marks x
-    ∙ ap (λ o. cond (of_some o false (λ f. same_thing x f && has_place old.interruptions f)) (last_number old.interruptions) (mark_of old.interruptions x))
+    ∙ ap (λ o. cond (map_or o false (λ f. same_thing x f && has_place old.interruptions f)) (last_number old.interruptions) (mark_of old.interruptions x))
     (sym told.failed)) in
     let only : HasOnlyLost left marks (reference_of s.event) (has_round old.runs) (has_round judged.runs) =
     subst (λ (n : ℕ). HasOnlyLost left marks n (has_round old.runs) (has_round judged.runs)) (sym reference) c.judge-self.ensures.only in

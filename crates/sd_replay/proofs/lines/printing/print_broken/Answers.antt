@@ -1,4 +1,3 @@
-use Rattle.std.proofs.Common.{◌∙◌}
 use Rattle.sd_topo.specs.Topologies.{network}
 use Rattle.sd_replay.specs.lines.Printed.{printed}
 use Rattle.sd_replay.proofs.lines.Bytes.{premise_by_premise}

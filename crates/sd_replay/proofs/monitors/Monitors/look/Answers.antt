@@ -1,21 +1,13 @@
 -- What is seen of the step, how devices stand after it, and what is found of it.
-use Rattle.std.proofs.Common.{◌≡◌, ◌∷◌, ◌<◌, ℕ, List, Option, length, arith, sym, ap, ◌∙◌, subst, IfSome, Some, None, refl}
+use Rattle.std.proofs.Common.{length, arith, sym, ap, ◌∙◌}
 use Rattle.std.proofs.Props.{props}
 use Rattle.std.proofs.Math.Logic.{∥∥₁_elim, ∥∥₁_map}
-use Rattle.sd_topo.specs.Network.{Network}
-use Rattle.sd_sched.specs.Events.{device_of}
 use Rattle.sd_history.specs.Steps.{seen_of}
 use Rattle.sd_history.specs.Nodes.{steps_of}
-use Rattle.sd_history.proofs.Known.{named_is_known}
 use Rattle.sd_replay.specs.Sights.{sight_by}
 use Rattle.sd_replay.proofs.Looking.{lines_are, found_of}
-use Rattle.sd_replay.proofs.Observing.{can_show, can_see, ask_merely, seen_on, found_on}
+use Rattle.sd_replay.proofs.Observing.{named, can_show, can_see, ask_merely, seen_on, found_on, made_of, named_within, parents_within, acting_within}
 use Rattle.sd_replay.proofs.monitors.Monitors.look.Goals as goal
-
--- a fact of the device that an event names
-named : (count : ℕ) (o : Option ℕ) → ((d : ℕ) → o ≡ Some d → d < count) → IfSome o (λ d. d < count)
-named count None within = tt
-named count (Some d) within = within d refl
 
 pub judge-broken-requires : goal.judge-broken-requires
 judge-broken-requires g c =
@@ -24,57 +16,58 @@ judge-broken-requires g c =
     (∥∥₁_map c.requires.step (λ has.
     can_see g.N.Node c.args.fleet.now has.setting has.run c.args.event.now c.args.outcome.now has.accepted c.deref.result.now
     (c.deref.ensures.value ∙ c.collect.ensures.flights has.setting has.run c.args.event.now has.accepted)
-    c.args.self.now.premises has.onlooks.premises
+    c.args.self.now.premises has.has_seen.premises
     (let few = c.collect.ensures.few in let same = ap length c.deref.ensures.value in omega (arith, few, same, c.requires.room))))
 
 pub alarms_of-alarms-requires-clause-device : goal.alarms_of-alarms-requires-clause-device
 alarms_of-alarms-requires-clause-device g c =
-    named (length c.args.fleet.now.fabric.net.devices) (device_of c.args.event.now)
+    named (length c.args.fleet.now.fabric.net.devices) c.device.result
     (λ d at. ∥∥₁_elim c.requires.step (search props)
-    (λ has.
-    subst (λ (net : Network). d < length net.devices) (sym has.accepted.stands.fabric.net)
-    (named_is_known has.setting (steps_of has.run) has.accepted.next.step.seen.event d has.accepted.stands.fabric.accepted.1
-    (ap device_of has.accepted.happens ∙ at))))
+    (λ has. named_within g.N.Node c.args.self.now c.args.fleet.now c.args.event.now c.args.outcome.now has d (sym c.device.ensures ∙ at)))
 
 pub alarms_of-alarms-requires-clause-parents : goal.alarms_of-alarms-requires-clause-parents
 alarms_of-alarms-requires-clause-parents g c =
-    ∥∥₁_elim c.requires.step (search props) (λ has. has.onlooks.parent_table.parents
-    ∙ sym (ap (λ (net : Network). length net.devices) has.accepted.stands.fabric.net))
+    ∥∥₁_elim c.requires.step (search props) (parents_within g.N.Node c.args.self.now c.args.fleet.now c.args.event.now c.args.outcome.now)
 
 pub alarms_of-alarms-requires-clause-acting : goal.alarms_of-alarms-requires-clause-acting
 alarms_of-alarms-requires-clause-acting g c =
-    ∥∥₁_elim c.requires.step (search props) (λ has. has.onlooks.parent_table.acting
-    ∙ sym (ap (λ (net : Network). length net.devices) has.accepted.stands.fabric.net))
+    ∥∥₁_elim c.requires.step (search props) (acting_within g.N.Node c.args.self.now c.args.fleet.now c.args.event.now c.args.outcome.now)
 
 pub returns-clause-stands : goal.returns-clause-stands
-returns-clause-stands g c = λ setting run accepted onlooks.
+returns-clause-stands g c = λ setting run accepted has_seen.
     let collected = c.deref.ensures.value ∙ c.collect.ensures.flights setting run c.args.event.now accepted in
     record {
       premises =
           seen_on g.N.Node c.args.fleet.now setting run c.args.event.now c.args.outcome.now accepted c.deref.result.now collected c.judge-broken.new.premises
           (c.judge-broken.ensures.stands setting (seen_of (steps_of run))
-          (can_show g.N.Node c.args.fleet.now setting run c.args.event.now c.args.outcome.now accepted c.deref.result.now collected) onlooks.premises);
-      parent_table = c.alarms_of-alarms.ensures.stands setting run accepted onlooks.parent_table;
+          (can_show g.N.Node c.args.fleet.now setting run c.args.event.now c.args.outcome.now accepted c.deref.result.now collected) has_seen.premises);
+      parent_table =
+          c.alarms_of-alarms.ensures.stands setting run
+          (made_of g.N.Node c.args.fleet.now setting run c.args.event.now c.args.outcome.now accepted c.device.result c.device.ensures) has_seen.parent_table;
     }
 
 pub returns-clause-found : goal.returns-clause-found
-returns-clause-found g c = λ setting run accepted onlooks.
+returns-clause-found g c = λ setting run accepted has_seen.
     let collected = c.deref.ensures.value ∙ c.collect.ensures.flights setting run c.args.event.now accepted in
     lines_are setting accepted.next.step (steps_of run) _
     (found_on g.N.Node c.args.fleet.now setting run c.args.event.now c.args.outcome.now accepted c.deref.result.now collected c.judge-broken.result
     c.alarms_of-alarms.result
     (c.judge-broken.ensures.breaks setting (seen_of (steps_of run))
-    (can_show g.N.Node c.args.fleet.now setting run c.args.event.now c.args.outcome.now accepted c.deref.result.now collected) onlooks.premises)
-    (c.alarms_of-alarms.ensures.looped setting run accepted onlooks.parent_table)
-    (c.alarms_of-alarms.ensures.roots setting run accepted onlooks.parent_table))
+    (can_show g.N.Node c.args.fleet.now setting run c.args.event.now c.args.outcome.now accepted c.deref.result.now collected) has_seen.premises)
+    (c.alarms_of-alarms.ensures.looped setting run
+    (made_of g.N.Node c.args.fleet.now setting run c.args.event.now c.args.outcome.now accepted c.device.result c.device.ensures) has_seen.parent_table)
+    (c.alarms_of-alarms.ensures.roots setting run
+    (made_of g.N.Node c.args.fleet.now setting run c.args.event.now c.args.outcome.now accepted c.device.result c.device.ensures) has_seen.parent_table))
 
 pub returns-clause-devices : goal.returns-clause-devices
-returns-clause-devices g c = λ setting run accepted onlooks.
+returns-clause-devices g c = λ setting run accepted has_seen.
     let collected = c.deref.ensures.value ∙ c.collect.ensures.flights setting run c.args.event.now accepted in
     found_of setting accepted.next.step (steps_of run) _
     (found_on g.N.Node c.args.fleet.now setting run c.args.event.now c.args.outcome.now accepted c.deref.result.now collected c.judge-broken.result
     c.alarms_of-alarms.result
     (c.judge-broken.ensures.breaks setting (seen_of (steps_of run))
-    (can_show g.N.Node c.args.fleet.now setting run c.args.event.now c.args.outcome.now accepted c.deref.result.now collected) onlooks.premises)
-    (c.alarms_of-alarms.ensures.looped setting run accepted onlooks.parent_table)
-    (c.alarms_of-alarms.ensures.roots setting run accepted onlooks.parent_table)) accepted.stands.fabric.accepted
+    (can_show g.N.Node c.args.fleet.now setting run c.args.event.now c.args.outcome.now accepted c.deref.result.now collected) has_seen.premises)
+    (c.alarms_of-alarms.ensures.looped setting run
+    (made_of g.N.Node c.args.fleet.now setting run c.args.event.now c.args.outcome.now accepted c.device.result c.device.ensures) has_seen.parent_table)
+    (c.alarms_of-alarms.ensures.roots setting run
+    (made_of g.N.Node c.args.fleet.now setting run c.args.event.now c.args.outcome.now accepted c.device.result c.device.ensures) has_seen.parent_table)) accepted.stands.fabric.accepted

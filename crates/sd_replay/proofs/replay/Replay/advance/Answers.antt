@@ -1,14 +1,17 @@
 -- The event happens in the fleet, is looked at, is noted and is told.
-use Rattle.std.proofs.Common.{◌≡◌, ◌∙◌, ◌++◌, ◌∷◌, [], ℕ, List, Option, Some, MatchOption, refl, sym, subst}
+use Rattle.std.proofs.Common.{◌≡◌, ◌∙◌, ◌+◌, ◌++◌, ◌∷◌, [], ℕ, List, Option, Some, MatchOption, refl, sym, ap, subst}
 use Rattle.std.proofs.Math.Logic.{∥∥₁_map}
+use Rattle.sd_topo.specs.Topologies.{network}
 use Rattle.sd_clock.specs.declared.Report.{Report}
 use Rattle.sd_msg.specs.Observed.{ReportAt}
 use Rattle.sd_msg.specs.Observing.{report_at}
 use Rattle.sd_sched.specs.Events.{reference_of}
 use Rattle.sd_history.specs.Nodes.{steps_of}
-use Rattle.sd_fleet.proofs.FleetFabric.Refused.{refusal_is}
+use Rattle.sd_fleet.proofs.Refused.{refusal_is}
 use Rattle.sd_replay.specs.FleetFaults.{of_fleet}
-use Rattle.sd_replay.specs.Troubles.{found_with}
+use Rattle.sd_replay.specs.Counting.{tally_with}
+use Rattle.sd_replay.specs.lines.Findings.{IsOf, found_bytes}
+use Rattle.sd_replay.specs.Troubles.{found_by, found_with}
 use Rattle.sd_replay.proofs.Causes.{if_told, told_as, told_cause, told_of_fleet, unrefused}
 use Rattle.sd_replay.proofs.Calm.{stays_calm}
 use Rattle.sd_replay.proofs.Going.{with_fleet, stands_prepared, stands_with_room}
@@ -45,9 +48,11 @@ note-requires-clause-room g c =
 
 pub note-requires-clause-devices : goal.note-requires-clause-devices
 note-requires-clause-devices g c =
-    devices_merely g.N.Node g.V.Observer c.ready.new.self.fleet c.ready.new.self.monitors c.ready.new.self.event_output c.ready.new.self.observer
+    subst (λ (r : ℕ). IsOf (network c.ready.new.self.event_output.topology) (found_by c.look-trouble.result c.happen.new.outcome.report r))
+    (sym c.reference-reference.ensures)
+    (devices_merely g.N.Node g.V.Observer c.ready.new.self.fleet c.ready.new.self.monitors c.ready.new.self.event_output c.ready.new.self.observer
     c.happen.new.self c.args.event.now c.happen.new.outcome c.happen.ensures.accepted
-    (found_with c.look-trouble.result c.args.event.now c.happen.new.outcome) c.look-trouble.ensures.devices c.ready.new.self.run
+    (found_with c.look-trouble.result c.args.event.now c.happen.new.outcome) c.look-trouble.ensures.devices c.ready.new.self.run)
 
 pub seen-requires-clause-ready : goal.seen-requires-clause-ready
 seen-requires-clause-ready g c =
@@ -69,12 +74,17 @@ told g c =
     let some : c.happen.new.outcome.report ≡ Some (c.in-Some.d, c.in-Some.report) = cc (c.in-Some.is, c.in-Some.d-is, c.in-Some.report-is) in
     record {
       accepts = c.happen.ensures.accepted;
-      onlooks = c.look-trouble.ensures.stands;
+      has_seen = c.look-trouble.ensures.stands;
       finds = c.look-trouble.ensures.found;
       report = refl;
       topology = c.note.ensures.topology;
-      tally = c.note.ensures.tally;
-      lines = c.note.ensures.lines;
+      tally =
+          c.note.ensures.tally
+          ∙ ap (λ (r : ℕ). tally_with c.ready.new.self.event_output.tally (found_by c.look-trouble.result c.happen.new.outcome.report r)) c.reference-reference.ensures;
+      lines =
+          c.note.ensures.lines
+          ∙ ap (λ (r : ℕ). found_bytes (network c.ready.new.self.event_output.topology) (c.ready.new.self.event_output.tally.events + 1)
+          (found_by c.look-trouble.result c.happen.new.outcome.report r)) c.reference-reference.ensures;
       ended = c.note.ensures.ended;
       tells =
           subst
@@ -84,7 +94,7 @@ told g c =
           (sym some)
           (λ reports_ stands.
           subst (λ (r : ℕ). g.V.Observer.stands c.seen.new.self (reports_ ++ report_at c.note.new.self.tally.events c.in-Some.d r c.in-Some.report ∷ []))
-          c.reference.ensures
+          c.reference-reference.ensures
           (moved (λ (xs : List ReportAt). g.V.Observer.stands c.seen.new.self xs) (c.seen.ensures.told reports_ stands)
           (cc (c.in-Some.is, c.in-Some.d-is, c.in-Some.report-is))));
     }
@@ -97,12 +107,17 @@ untold : (g : Over) (c : goal.In_default-report g)
 untold g c =
     record {
       accepts = c.happen.ensures.accepted;
-      onlooks = c.look-trouble.ensures.stands;
+      has_seen = c.look-trouble.ensures.stands;
       finds = c.look-trouble.ensures.found;
       report = refl;
       topology = c.note.ensures.topology;
-      tally = c.note.ensures.tally;
-      lines = c.note.ensures.lines;
+      tally =
+          c.note.ensures.tally
+          ∙ ap (λ (r : ℕ). tally_with c.ready.new.self.event_output.tally (found_by c.look-trouble.result c.happen.new.outcome.report r)) c.reference-reference.ensures;
+      lines =
+          c.note.ensures.lines
+          ∙ ap (λ (r : ℕ). found_bytes (network c.ready.new.self.event_output.topology) (c.ready.new.self.event_output.tally.events + 1)
+          (found_by c.look-trouble.result c.happen.new.outcome.report r)) c.reference-reference.ensures;
       ended = c.note.ensures.ended;
       tells =
           subst
@@ -137,7 +152,7 @@ pub returns-in-Some-clause-accepted : goal.returns-in-Some-clause-accepted
 unfolding told
 returns-in-Some-clause-accepted g c = λ setting run stands.
     let ready = stands_with_room g.N.Node g.V.Observer setting run c.prepare.ensures.stands c.ready.ensures.fleet c.ready.ensures.event_output
-    c.ready.ensures.onlooks c.ready.ensures.told stands in
+    c.ready.ensures.has_seen c.ready.ensures.told stands in
     let accepted = c.happen.ensures.accepted setting run ready.made in
     let stands_after =
     stands_on g.N.Node g.V.Observer c.ready.new.self.fleet c.happen.new.self c.ready.new.self.monitors c.look-trouble.new.self c.ready.new.self.event_output
@@ -149,7 +164,7 @@ pub returns-in_default-report-clause-accepted : goal.returns-in_default-report-c
 unfolding untold
 returns-in_default-report-clause-accepted g c = λ setting run stands.
     let ready = stands_with_room g.N.Node g.V.Observer setting run c.prepare.ensures.stands c.ready.ensures.fleet c.ready.ensures.event_output
-    c.ready.ensures.onlooks c.ready.ensures.told stands in
+    c.ready.ensures.has_seen c.ready.ensures.told stands in
     let accepted = c.happen.ensures.accepted setting run ready.made in
     let stands_after =
     stands_on g.N.Node g.V.Observer c.ready.new.self.fleet c.happen.new.self c.ready.new.self.monitors c.look-trouble.new.self c.ready.new.self.event_output
@@ -191,7 +206,7 @@ returns-in_default-clause-refusal g c = λ setting run stands.
 pub returns-in_default-clause-refused : goal.returns-in_default-clause-refused
 returns-in_default-clause-refused g c = λ setting run stands.
     let ready = stands_with_room g.N.Node g.V.Observer setting run c.prepare.ensures.stands c.ready.ensures.fleet c.ready.ensures.event_output
-    c.ready.ensures.onlooks c.ready.ensures.told stands in (
+    c.ready.ensures.has_seen c.ready.ensures.told stands in (
       ready,
       (
         sym (refusal_is setting c.prepare.new.self.fabric (steps_of run) c.args.event.now (c.prepare.ensures.stands setting run stands.made).fabric)

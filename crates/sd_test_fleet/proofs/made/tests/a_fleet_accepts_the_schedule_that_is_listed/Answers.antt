@@ -4,4 +4,4 @@ use Rattle.sd_test_fleet.proofs.made.tests.a_fleet_accepts_the_schedule_that_is_
 
 pub assert_followed-requires-clause-sound : goal.assert_followed-requires-clause-sound
 assert_followed-requires-clause-sound g c =
-    followed_as (network c.in_ok-topo.topo) c.in_ok-plans.plans.items c.as_slice-2.result.now c.as_slice-2.ensures.value c.in_ok-plans.ensures.sound
+    followed_as (network c.in_ok-topo.topo) c.in_ok-plans.plans.items c.as_slice.result.now c.as_slice.ensures.value c.in_ok-plans.ensures.sound

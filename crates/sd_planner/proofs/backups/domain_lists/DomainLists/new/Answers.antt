@@ -1,9 +1,9 @@
 use Rattle.std.proofs.Common.{◌≡◌, true, length, arith, ap, subst}
 use Rattle.sd_num.specs.Lists.{has}
+use Rattle.sd_num.proofs.Shared.{has_within}
 use Rattle.sd_topo.specs.Places.{domain_of}
 use Rattle.sd_topo.specs.Topologies.{network}
 use Rattle.sd_topo.proofs.Laws.{domain_law}
-use Rattle.sd_planner.proofs.Members.{had_within}
 use Rattle.sd_planner.proofs.backups.domain_lists.DomainLists.new.Goals as goal
 
 pub add_domain-requires : goal.add_domain-requires
@@ -12,7 +12,7 @@ add_domain-requires c x there =
     let law = domain_law net c.loop-k.k c.args.topo.now.is_network (omega arith) in
     omega (
       arith,
-      had_within (length net.devices) (domain_of net c.loop-k.k).devices x law.devices_within
+      has_within (length net.devices) (domain_of net c.loop-k.k).devices x law.devices_within
           (subst (λ xs. has xs x ≡ true) c.domain_devices.ensures there),
       c.loop-k.invariant.device_count,
       ap length c.deref_mut.ensures.value,
@@ -24,7 +24,7 @@ add_domain-requires-in-loop-k c x there =
     let law = domain_law net c.loop-k.k c.args.topo.now.is_network (omega arith) in
     omega (
       arith,
-      had_within (length net.links) (domain_of net c.loop-k.k).links x law.links_within
+      has_within (length net.links) (domain_of net c.loop-k.k).links x law.links_within
           (subst (λ xs. has xs x ≡ true) c.domain_links.ensures there),
       c.loop-k.invariant.link_count,
       ap length c.deref_mut-in-loop-k.ensures.value,

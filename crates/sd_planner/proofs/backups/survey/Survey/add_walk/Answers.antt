@@ -1,9 +1,9 @@
 use Rattle.std.proofs.Common.{◌≡◌, length, Some, None, ap, sym, ◌∙◌, arith}
 use Rattle.std.proofs.lemmas.Option.{same_Some}
-use Rattle.sd_planner_place.specs.Spreading.{placed_at}
+use Rattle.sd_planner.specs.Spreading.{placed_at}
 use Rattle.sd_planner.specs.Surveys.{net_in, absent_in, order_of}
 use Rattle.sd_planner.proofs.Adding.{goes_up, one_hop, way_done, way_ends}
-use Rattle.sd_planner.proofs.Placing.{survey_grows}
+use Rattle.sd_planner.proofs.FoundDevices.{survey_grows}
 use Rattle.sd_planner.proofs.backups.survey.Survey.add_walk.Goals as goal
 
 pub add_hop-requires-clause-parent : goal.add_hop-requires-clause-parent

@@ -1,6 +1,6 @@
 use Rattle.std.proofs.Common.{List, find, map, ap, sym, ◌∙◌}
-use Rattle.sd_planner_place.specs.declared.present.Neighbour.{Neighbour}
-use Rattle.sd_planner_place.specs.Usable.{hop_to}
+use Rattle.sd_planner.specs.declared.present.Neighbour.{Neighbour}
+use Rattle.sd_planner.specs.Usable.{hop_to}
 use Rattle.sd_planner.specs.Serving.{serves}
 use Rattle.sd_planner.specs.Surveys.{net_in, absent_in}
 use Rattle.sd_planner.proofs.FirstHops.{one_more, first_passes, none_passes}

@@ -1,8 +1,8 @@
 use Rattle.std.proofs.Common.{ap, ◌∙◌}
 use Rattle.std.specs.List.{list_any}
-use Rattle.sd_planner.specs.Surveys.{net_in, absent_in}
+use Rattle.sd_plan.specs.Subtrees.{listed}
+use Rattle.sd_planner.specs.Surveys.{net_in}
 use Rattle.sd_planner.specs.Flags.{is_set}
-use Rattle.sd_planner.specs.Listed.{listed}
 use Rattle.sd_planner.proofs.Joining.{joined_is}
 use Rattle.sd_planner.proofs.Serving.{or_first, or_second}
 use Rattle.sd_planner.proofs.backups.survey.Survey.is_joined.Goals as goal

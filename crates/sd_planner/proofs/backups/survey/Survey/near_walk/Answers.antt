@@ -3,7 +3,7 @@ use Rattle.sd_planner.specs.Climbs.{way_up}
 use Rattle.sd_planner.specs.Surveys.{net_in, absent_in, order_of}
 use Rattle.sd_planner.proofs.Near.{near_is}
 use Rattle.sd_planner.proofs.Within.{way_within}
-use Rattle.sd_planner.proofs.Placing.{survey_grows}
+use Rattle.sd_planner.proofs.FoundDevices.{survey_grows}
 use Rattle.sd_planner.proofs.backups.survey.Survey.near_walk.Goals as goal
 
 pub returns : goal.returns

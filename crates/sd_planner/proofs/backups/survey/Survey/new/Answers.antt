@@ -1,13 +1,13 @@
 use Rattle.std.proofs.Common.{◌<◌, length, slice_get, refl, ap, sym, subst, ◌∙◌}
 use Rattle.sd_num.specs.Lists.{has}
 use Rattle.sd_plan.specs.Walks.{devices_of}
-use Rattle.sd_planner_place.specs.Views.{net_of, left_out}
-use Rattle.sd_planner_place.specs.Placing.{placed}
-use Rattle.sd_planner_place.specs.Trees.{Grows}
+use Rattle.sd_planner.specs.Views.{net_of, left_out}
+use Rattle.sd_planner.specs.Placing.{placed}
+use Rattle.sd_planner.specs.Trees.{Grows}
 use Rattle.sd_planner.specs.Flags.{is_set}
 use Rattle.sd_planner.specs.Climbs.{way_up}
-use Rattle.sd_planner_place.proofs.Growing.{placed_grows}
-use Rattle.sd_planner.proofs.Placing.{backup_root_within}
+use Rattle.sd_planner.proofs.Growing.{placed_grows}
+use Rattle.sd_planner.proofs.FoundDevices.{backup_root_within}
 use Rattle.sd_planner.proofs.Trees.{stands, Stands}
 use Rattle.sd_planner.proofs.Walking.{walk_is}
 use Rattle.sd_planner.proofs.backups.survey.Survey.new.Goals as goal

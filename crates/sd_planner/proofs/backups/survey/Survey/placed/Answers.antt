@@ -1,7 +1,7 @@
 use Rattle.std.proofs.Common.{sym, ap, ◌∙◌, arith}
-use Rattle.sd_planner_place.specs.Spreading.{placed_at}
+use Rattle.sd_planner.specs.Spreading.{placed_at}
 use Rattle.sd_planner.specs.Surveys.{net_in, absent_in, order_of}
-use Rattle.sd_planner.proofs.Placing.{found_same, survey_grows}
+use Rattle.sd_planner.proofs.FoundDevices.{found_same, survey_grows}
 use Rattle.sd_planner.proofs.Walking.{past_none}
 use Rattle.sd_planner.proofs.backups.survey.Survey.placed.Goals as goal
 

@@ -2,7 +2,7 @@ use Rattle.std.proofs.Common.{sym, ap, ◌∙◌}
 use Rattle.sd_planner.specs.Surveys.{net_in, absent_in}
 use Rattle.sd_planner.specs.Serving.{backup_for}
 use Rattle.sd_planner.proofs.Rowing.{no_row, no_hop_row, hop_row}
-use Rattle.sd_planner.proofs.Placing.{survey_grows}
+use Rattle.sd_planner.proofs.FoundDevices.{survey_grows}
 use Rattle.sd_planner.proofs.backups.survey.Survey.row.Goals as goal
 
 pub returns-in_default-clause-row : goal.returns-in_default-clause-row

@@ -1,5 +1,5 @@
 use Rattle.std.proofs.Common.{◌≡◌, ℕ, ◌||◌, not, nat_eq, Some, ap, sym, ◌∙◌}
-use Rattle.sd_planner_place.specs.Spreading.{is_placed, placed_at}
+use Rattle.sd_planner.specs.Spreading.{is_placed, placed_at}
 use Rattle.sd_planner.specs.Serving.{are_joined, differ, is_behind_backup_root, comes_before}
 use Rattle.sd_planner.specs.Surveys.{net_in, absent_in, order_of}
 use Rattle.sd_planner.proofs.Serving.{all_tests, not_placed, placed_found, placed_none}

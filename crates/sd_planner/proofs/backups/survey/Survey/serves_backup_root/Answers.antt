@@ -1,13 +1,13 @@
 use Rattle.std.proofs.Common.{◌≡◌, ℕ, ◌&&◌, not, nat_eq, Some, ap, sym, ◌∙◌}
 use Rattle.std.proofs.lemmas.Bool.{eq-eqb, ne_eqb}
-use Rattle.sd_planner_place.specs.Spreading.{is_placed, placed_at}
-use Rattle.sd_planner_place.specs.Placing.{backup_root_of}
+use Rattle.sd_planner.specs.Spreading.{is_placed, placed_at}
+use Rattle.sd_planner.specs.Placing.{backup_root_of}
 use Rattle.sd_planner.specs.Flags.{is_set}
 use Rattle.sd_planner.specs.Serving.{are_walks_joined, on_walk_up}
 use Rattle.sd_planner.specs.Surveys.{net_in, absent_in, order_of}
 use Rattle.sd_planner.proofs.Serving.{placed_found, placed_none}
 use Rattle.sd_planner.proofs.ByBackupRoot.{same_link, none_placed, is_joined, meets_all, link_joins, parent_joins}
-use Rattle.sd_planner.proofs.Placing.{survey_grows}
+use Rattle.sd_planner.proofs.FoundDevices.{survey_grows}
 use Rattle.sd_planner.proofs.backups.survey.Survey.serves_backup_root.Goals as goal
 use Rattle.sd_planner.proofs.backups.survey.Survey.serves_backup_root.Goals.{then-hop-primary-via-then-hop-primary, then-hop-primary-via-else-hop-primary+then-is_set}
 

@@ -1,11 +1,11 @@
 use Rattle.std.proofs.Common.{◌≡◌, length, List, Bool, ap, ◌∙◌, sym, subst}
-use Rattle.sd_planner_place.specs.declared.placement.Placed.{Placed}
-use Rattle.sd_planner_place.specs.Trees.{Grows}
+use Rattle.sd_planner.specs.declared.placement.Placed.{Placed}
+use Rattle.sd_planner.specs.Trees.{Grows}
 use Rattle.sd_planner.specs.Climbs.{way_up}
 use Rattle.sd_planner.specs.Flags.{AreOver}
 use Rattle.sd_planner.specs.Surveys.{net_in, absent_in, order_of}
 use Rattle.sd_planner.proofs.Near.{unfit_is}
-use Rattle.sd_planner.proofs.Placing.{survey_grows}
+use Rattle.sd_planner.proofs.FoundDevices.{survey_grows}
 use Rattle.sd_planner.proofs.backups.survey.Survey.unfit.Goals as goal
 
 pub led_over-requires : goal.led_over-requires

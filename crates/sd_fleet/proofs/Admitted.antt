@@ -1,0 +1,122 @@
+-- What holds of an event that is not refused, by what a fabric keeps.
+use Rattle.std.specs.Prelude.{◌≡◌, ℕ, ◌^◌, ◌<◌, ◌≤◌, Bool, true, false, ◌&&◌, ◌||◌, not, List, [], ◌∷◌, cond, find, length, nat_lt, Option, Some, None, is_some, option_map, refl, nat_le}
+use Rattle.std.proofs.Common.{ap, subst}
+use Rattle.std.proofs.lemmas.Bool.{leb-false, ltb-false, not-false}
+use Rattle.sd_num.specs.Lists.{map_or}
+use Rattle.sd_num.proofs.Shared.{or_first}
+use Rattle.sd_sched.specs.declared.Event.{Event}
+use Rattle.sd_sched.specs.Events.{reference_of, device_of, counter_of, link_of, message_of, received, started, joined, given, is_stage}
+use Rattle.sd_history.specs.Things.{failure_of, mended}
+use Rattle.sd_history.specs.Refusals.{makes_some}
+use Rattle.sd_history.specs.flights.Flights.{says_unknown, says_spent}
+use Rattle.sd_fleet_state.specs.world.Registers.{up_at, reading_at, is_open}
+use Rattle.sd_fleet_state.specs.membership.Memberships.{is_in_force, is_in_staged}
+use Rattle.sd_fleet.specs.Registers.{Registers}
+use Rattle.sd_fleet.specs.Causes.{Cause, first_of, causes_in, refusal_in, flight_at, is_for_another}
+use Rattle.sd_fleet.proofs.Alike.{in_range}
+
+-- none of the causes holds
+abbrev pub NoneHolds : List Cause → Type 0
+NoneHolds [] = Unit {0}
+NoneHolds (cause ∷ causes) = (cause.1 ≡ false) × NoneHolds causes
+
+pub none_holds : (causes : List Cause) → first_of causes ≡ None → NoneHolds causes
+none_holds [] none = tt
+none_holds (cause ∷ causes) none = go cause.1 refl none (none_holds causes)
+  where
+    go : (b : Bool) → cause.1 ≡ b
+        → option_map (λ (c : Cause). c.0) (cond b (Some cause) (find (λ (c : Cause). c.1) causes)) ≡ None → (first_of causes ≡ None → NoneHolds causes)
+        → (cause.1 ≡ false) × NoneHolds causes
+    go true holds none others = cc
+    go false fails none others = (fails, others none)
+
+-- a test of what is named fails
+fails_at : (o : Option ℕ) (test : ℕ → Bool) (n : ℕ) → map_or o false test ≡ false → o ≡ Some n → test n ≡ false
+fails_at None test n fails is = cc
+fails_at (Some m) test n fails is = let same : m ≡ n = cc in subst (λ (k : ℕ). test k ≡ false) same fails
+
+-- one of two that are both required
+and_right : (a b : Bool) → (a && b) ≡ false → a ≡ true → b ≡ false
+and_right true b both holds = both
+and_right false b both holds = cc
+
+or_second : (a b : Bool) → (a || b) ≡ false → b ≡ false
+or_second true b neither = cc
+or_second false b neither = neither
+
+module _ (r : Registers) (e : Event) (accepted : refusal_in r e ≡ None) where
+  all : NoneHolds (causes_in r e)
+  all = none_holds (causes_in r e) accepted
+
+  -- what is named is known
+  pub device_known : (d : ℕ) → device_of e ≡ Some d → d < length r.net.devices
+  device_known d is = in_range (length r.net.devices) (device_of e) d all.0 is
+
+  pub link_known : (l : ℕ) → link_of e ≡ Some l → l < length r.net.links
+  link_known l is = in_range (length r.net.links) (link_of e) l all.1.0 is
+
+  -- its message is on its way
+  pub message_known : (n : ℕ) → message_of e ≡ Some n → says_unknown (flight_at r n) ≡ false
+  message_known n is = fails_at (message_of e) (λ n. says_unknown (flight_at r n)) n all.1.1.1.1.0 is
+
+  pub message_unspent : (n : ℕ) → message_of e ≡ Some n → says_spent (reference_of e) (flight_at r n) ≡ false
+  message_unspent n is = fails_at (message_of e) (λ n. says_spent (reference_of e) (flight_at r n)) n all.1.1.1.1.1.0 is
+
+  pub message_ours : (n : ℕ) → received e ≡ Some n → is_for_another (device_of e) (flight_at r n) ≡ false
+  message_ours n is = fails_at (received e) (λ n. is_for_another (device_of e) (flight_at r n)) n all.1.1.1.1.1.1.0 is
+
+  -- time and counters do not fall
+  pub reference_rises : r.membership.world.reference ≤ reference_of e
+  reference_rises = ltb-false (reference_of e) r.membership.world.reference all.1.1.1.1.1.1.1.0
+
+  pub counter_rises : (d c : ℕ) → makes_some e ≡ false → device_of e ≡ Some d → counter_of e ≡ Some c → reading_at r.membership.world d ≤ c
+  counter_rises d c makes named read =
+      let late = and_right (not (makes_some e))
+      (map_or (device_of e) false (λ d. map_or (counter_of e) false (λ c. nat_lt c (reading_at r.membership.world d)))) all.1.1.1.1.1.1.1.1.0
+      (ap not makes) in
+      let below = fails_at (device_of e) (λ d. map_or (counter_of e) false (λ c. nat_lt c (reading_at r.membership.world d))) d late named in
+      ltb-false c (reading_at r.membership.world d) (fails_at (counter_of e) (λ c. nat_lt c (reading_at r.membership.world d)) c below read)
+
+  -- its device is up, where it is called or asked
+  pub device_up : (d : ℕ) → (makes_some e || is_some (failure_of e) || is_some (mended e)) ≡ false → device_of e ≡ Some d → up_at r.membership.world d ≡ true
+  device_up d calls named =
+      let down = and_right (not (makes_some e || is_some (failure_of e) || is_some (mended e)))
+      (map_or (device_of e) false (λ d. not (up_at r.membership.world d))) all.1.1.1.1.1.1.1.1.1.0 (ap not calls) in
+      not-false (up_at r.membership.world d) (fails_at (device_of e) (λ d. not (up_at r.membership.world d)) d down named)
+
+  -- members
+  pub started_member : (d : ℕ) → started e ≡ Some d → is_in_force r.membership d ≡ true
+  started_member d is =
+      let none = all.1.1.1.1.1.1.1.1.1.1.1.1.1.1.1.0 in
+      let first = or_first (map_or (started e) false (λ d. not (is_in_force r.membership d)))
+      (map_or (given e) false (λ d. not (is_in_staged r.membership d)))
+      (or_first _ (map_or (joined e) false (λ d. not (is_in_staged r.membership d))) none) in
+      not-false (is_in_force r.membership d) (fails_at (started e) (λ d. not (is_in_force r.membership d)) d first is)
+
+  pub given_member : (d : ℕ) → given e ≡ Some d → is_in_staged r.membership d ≡ true
+  given_member d is =
+      let none = all.1.1.1.1.1.1.1.1.1.1.1.1.1.1.1.0 in
+      let second =
+      or_second (map_or (started e) false (λ d. not (is_in_force r.membership d))) (map_or (given e) false (λ d. not (is_in_staged r.membership d)))
+      (or_first _ (map_or (joined e) false (λ d. not (is_in_staged r.membership d))) none) in
+      not-false (is_in_staged r.membership d) (fails_at (given e) (λ d. not (is_in_staged r.membership d)) d second is)
+
+  pub events_left : r.membership.world.events < 2 ^ 26
+  events_left = leb-false (2 ^ 26) r.membership.world.events all.1.1.1.1.1.1.1.1.1.1.1.1.1.1.1.1.0
+
+  -- a stage has a plan left
+  pub plan_left : is_stage e ≡ true → r.membership.world.epoch < length r.membership.plans
+  plan_left stage =
+      let shut = four _ _ _ _ _ all.1.1.1.1.1.1.1.1.1.1.1.1.0 in
+      leb-false (length r.membership.plans) r.membership.world.epoch
+      (by (is_stage e) (is_open r.membership.world.window) (nat_le (length r.membership.plans) r.membership.world.epoch) stage shut
+      all.1.1.1.1.1.1.1.1.1.1.1.0)
+    where
+      four : (a b c d e : Bool) → (a || b || c || d || e) ≡ false → a ≡ false
+      four true b c d e none = none
+      four false b c d e none = refl
+
+      by : (s o m : Bool) → s ≡ true → (s && o) ≡ false → (s && not o && m) ≡ false → m ≡ false
+      by true false m is closed left = left
+      by true true m is closed left = cc
+      by false o m is closed left = cc

@@ -1,0 +1,19 @@
+-- The node at the place is the one that is told of.
+use Rattle.std.proofs.Common.{rules, ◌≡◌, length, Some, None, refl}
+use Rattle.std.proofs.lemmas.List.{get_or_read_under}
+use Rattle.sd_fleet.specs.Nodes.{node_at}
+use Rattle.sd_fleet.proofs.nodes.step_at.Goals as goal
+
+-- src/nodes.rt:125:17
+pub call-effect-requires-clause-can : goal.call-effect-requires-clause-can
+call-effect-requires-clause-can g c =
+    let read = get_or_read_under c.args.nodes.now c.args.d (length c.args.nodes.now) c.index-nodes-d.result None c.index-nodes-d.is c.requires.place refl in
+    let here : node_at c.args.nodes.now c.args.d ≡ Some c.in-Some.node = search (rules, read) in
+    (c.requires.callable c.in-Some.node here).can
+
+-- src/nodes.rt:126:17
+pub answers_of-requires : goal.answers_of-requires
+answers_of-requires g c =
+    let read = get_or_read_under c.args.nodes.now c.args.d (length c.args.nodes.now) c.index-nodes-d.result None c.index-nodes-d.is c.requires.place refl in
+    let here : node_at c.args.nodes.now c.args.d ≡ Some c.in-Some.node = search (rules, read) in
+    c.given_by.ensures _ _ c.call-effect.ensures.given (c.requires.callable c.in-Some.node here).given

@@ -1,0 +1,230 @@
+//! The nodes of a fleet, each at the place of its device: what an act does to one of them, and what
+//! it replies.
+ghost use Rattle.std.specs.Prelude.{◌≡◌, ◌≢◌, ◌<◌, ◌≤◌, ◌+◌, ◌^◌, ℕ, length, Option, Some, None, IsTrue};
+ghost use Rattle.sd_plan.specs.declared.Duty.{Duty};
+ghost use Rattle.sd_core.specs.Limits.{IfSent};
+ghost use Rattle.sd_fleet.specs.History.Nodes.{answers_of as node_answers};
+ghost use Rattle.sd_fleet.specs.FleetState.membership.Standing.{summary};
+ghost use Rattle.sd_fleet.specs.Doing.{making_seen, call_seen, act_seen, replied};
+ghost use Rattle.sd_fleet.specs.Calling.{IsMessage, IsNode, CanMake, CanCall, GivenAfter, MaySend, counter_made, reading_after};
+ghost use Rattle.sd_fleet.specs.Nodes.{node_at, MakesAt, IsCallable, CallsAt, AsksAt, RestsAt, CanAct, Acts};
+
+use crate::{Act, AnswerSummary, Call, Making, Reply};
+use sd_core::{Effect, Node};
+
+/// When a node is called.
+#[derive(Clone, Copy)]
+pub(crate) struct CallContext {
+    /// The number of the plan whose duty was given to it and is not taken up yet.
+    pub given: Option<u32>,
+    /// After how many events, and what counter it read last: for the prover, since numbers rise by
+    /// so much an event and no more.
+    pub events: u64,
+    pub reading: u64,
+}
+
+/// Does what an event does to its device, and tells what the device replies.
+#[inline(always)]
+pub(crate) fn perform<N: Node>(
+    nodes: &mut [Option<N>],
+    act: &Act<'_>,
+    context: &CallContext,
+) -> Reply
+    requires events { context.now.events ≤ 2 ^ 26 }
+    requires can { CanAct N.Node nodes.old context.now (act_seen act.now) }
+    ensures { Acts N.Node nodes.old (act_seen act.now) context.now result nodes.new }
+{
+    match act {
+        Act::Makes { device, making } => make_at(nodes, *device, making),
+        Act::Calls { device, call } => call_at(nodes, *device, call, context),
+        Act::Asks { device, counter } => ask_at(nodes, *device, *counter, context),
+        Act::Passes => Reply::nothing(),
+    }
+}
+
+/// Makes a node at the place of a device.
+fn make_at<N: Node>(nodes: &mut [Option<N>], d: u32, making: &Making<'_>) -> Reply
+    requires place { d < length nodes.old }
+    requires can { CanMake (making_seen making.now) }
+    ensures { MakesAt N.Node nodes.old d (making_seen making.now) result nodes.new }
+{
+    let node = made::<N>(making);
+    let answers = answers_of(&node, None);
+    nodes[d as usize] = Some(node);
+    Reply::made(answers)
+}
+
+/// Calls the node of a device.
+fn call_at<N: Node>(
+    nodes: &mut [Option<N>],
+    d: u32,
+    called: &Call<'_>,
+    context: &CallContext,
+) -> Reply
+    requires events { context.now.events ≤ 2 ^ 26 }
+    requires place { d < length nodes.old }
+    requires there { node_at nodes.old d ≢ None }
+    requires callable { (n : N) → node_at nodes.old d ≡ Some n
+        → IsCallable N.Node context.now (call_seen called.now) n }
+    ensures { CallsAt N.Node nodes.old d (call_seen called.now) context.now result nodes.new }
+{
+    let mut answers = unanswered();
+    let effect = step_at(nodes, d, called, context, &mut answers);
+    Reply::called(effect, answers)
+}
+
+/// Answers to be written over.
+#[inline(always)]
+pub(crate) fn unanswered() -> AnswerSummary {
+    AnswerSummary {
+        parent: None,
+        acts: false,
+        epoch: 0,
+        given: None,
+        sealed: false,
+    }
+}
+
+/// Calls the node of a device. What it answers from then on is written where the caller wants it.
+// Inlined where the call is known, so that no call and no reply is built.
+#[inline(always)]
+pub(crate) fn step_at<N: Node>(
+    nodes: &mut [Option<N>],
+    d: u32,
+    called: &Call<'_>,
+    context: &CallContext,
+    answers: &mut AnswerSummary,
+) -> Effect
+    requires events { context.now.events ≤ 2 ^ 26 }
+    requires place { d < length nodes.old }
+    requires there { node_at nodes.old d ≢ None }
+    requires callable { (n : N) → node_at nodes.old d ≡ Some n
+        → IsCallable N.Node context.now (call_seen called.now) n }
+    ensures { CallsAt N.Node nodes.old d (call_seen called.now) context.now
+        (replied result answers.new) nodes.new }
+{
+    match &mut nodes[d as usize] {
+        Some(node) => {
+            let effect = call(node, called, context);
+            *answers = answers_of(node, given_by(called, context.given));
+            effect
+        }
+        None => unreachable!(),
+    }
+}
+
+/// Whether the node of a device rests at a tick.
+#[inline(always)]
+pub(crate) fn rests_at<N: Node>(nodes: &[Option<N>], d: u32, counter: u64) -> bool
+    requires place { d < length nodes.now }
+    requires floor { (n : N) → node_at nodes.now d ≡ Some n → N.floor n ≤ counter }
+    ensures { IsTrue result → RestsAt N.Node nodes.now d counter }
+{
+    match &nodes[d as usize] {
+        Some(node) => node.rests(counter),
+        None => false,
+    }
+}
+
+/// Asks the node of a device for a report.
+fn ask_at<N: Node>(nodes: &[Option<N>], d: u32, counter: u64, context: &CallContext) -> Reply
+    requires events { context.now.events ≤ 2 ^ 26 }
+    requires place { d < length nodes.now }
+    requires there { node_at nodes.now d ≢ None }
+    requires numbers { (n : N) → node_at nodes.now d ≡ Some n
+        → IsNode N.Node context.now.events context.now.reading n }
+    requires rises { context.now.reading ≤ counter }
+    requires counter { counter ≤ 2 ^ 60 }
+    ensures { AsksAt N.Node nodes.now d counter context.now result }
+{
+    match &nodes[d as usize] {
+        Some(node) => Reply::reported(node.report(counter)),
+        None => unreachable!(),
+    }
+}
+
+/// Makes a node.
+fn made<N: Node>(making: &Making<'_>) -> N
+    requires { CanMake (making_seen making.now) }
+    ensures made { N.makes (making_seen making.now) result }
+    ensures given { N.given result ≡ None }
+    ensures numbers { (events : ℕ)
+        → IsNode N.Node (events + 1) (counter_made (making_seen making.now)) result }
+{
+    match *making {
+        Making::Started {
+            duty,
+            counter,
+            clock,
+            eps,
+        } => N::start(*duty, counter, clock, eps),
+        Making::Joined {
+            rates,
+            counter,
+            clock,
+            eps,
+        } => N::join(rates, counter, clock, eps),
+    }
+}
+
+/// Calls a node. A tick and a message alone may send something.
+#[inline(always)]
+fn call<N: Node>(node: &mut N, call: &Call<'_>, context: &CallContext) -> Effect
+    requires events { context.now.events ≤ 2 ^ 26 }
+    requires numbers { IsNode N.Node context.now.events context.now.reading node.old }
+    requires can { CanCall N.Node context.now.events context.now.reading node.old
+        (call_seen call.now) }
+    ensures step { N.steps node.old (call_seen call.now) result node.new }
+    ensures given { GivenAfter (call_seen call.now) (N.given node.old) (N.given node.new) }
+    ensures numbers { IsNode N.Node (context.now.events + 1)
+        (reading_after (call_seen call.now) context.now.reading) node.new }
+    ensures sent { IfSent result (IsMessage (context.now.events + 1)) }
+    ensures quiet { MaySend (call_seen call.now) result }
+{
+    match *call {
+        Call::Tick { counter } => return node.on_tick(counter),
+        Call::Receive {
+            link,
+            message,
+            counter,
+        } => return node.on_message(link, *message, counter),
+        Call::Fix {
+            counter,
+            clock,
+            eps,
+        } => node.on_fix(counter, clock, eps),
+        Call::Give { duty } => node.on_give(*duty),
+        Call::Commit { counter } => node.on_commit(counter),
+        Call::Seal => node.on_seal(),
+    }
+    Effect::Quiet
+}
+
+/// What a node answers. It does not say of which plan the duty is that was given to it, so that is
+/// told here.
+#[inline(always)]
+fn answers_of<N: Node>(node: &N, given: Option<u32>) -> AnswerSummary
+    requires { (duty : Duty) → N.given node.now ≡ Some duty → given ≡ Some duty.epoch }
+    ensures { result ≡ summary (node_answers N.Node node.now) }
+{
+    AnswerSummary {
+        parent: node.parent(),
+        acts: node.acts_as_root(),
+        epoch: node.epoch(),
+        given: if node.is_given() { given } else { None },
+        sealed: node.is_sealed(),
+    }
+}
+
+/// The number of the plan whose duty the node was given last, with this call.
+#[inline(always)]
+fn given_by(call: &Call<'_>, before: Option<u32>) -> Option<u32>
+    ensures { (old new : Option Duty) → GivenAfter (call_seen call.now) old new
+        → ((duty : Duty) → old ≡ Some duty → before ≡ Some duty.epoch)
+        → ((duty : Duty) → new ≡ Some duty → result ≡ Some duty.epoch) }
+{
+    match call {
+        Call::Give { duty } => Some(duty.epoch),
+        _ => before,
+    }
+}

@@ -1,0 +1,147 @@
+//! One step: what an accepted event makes of a fabric, once its device has told its part.
+ghost use Rattle.std.specs.Prelude.{◌≡◌, ◌≢◌, ◌≤◌, ◌<◌, ◌+◌, ◌&&◌, not, ℕ, List, ◌∷◌, None, IsTrue, length, OnOk, OnErr, if◌then◌else◌};
+ghost use Rattle.sd_sched.specs.Events.{is_end_event};
+ghost use Rattle.sd_sched.specs.Spelled.{is_within};
+ghost use Rattle.sd_history.specs.World.{Setting};
+ghost use Rattle.sd_history.specs.Steps.{Step, Told, step_of};
+ghost use Rattle.sd_fleet_state.specs.membership.Memberships.{ends_below};
+ghost use Rattle.sd_fleet.specs.Causes.{refusal_in};
+ghost use Rattle.sd_fleet.specs.Doing.{MatchesTold, IsReplyTo};
+ghost use Rattle.sd_fleet.specs.Outcomes.{outcome_of};
+ghost use Rattle.sd_fleet.specs.Room.{ends_in, most_sent_in};
+ghost use Rattle.sd_fleet.specs.Sound.{IsSound};
+ghost use Rattle.sd_fleet.specs.FabricStanding.{Stands};
+ghost use Rattle.sd_fleet.specs.Stepping.{IsAfter, outcome_in, report_in, OnlyRoomGrew};
+
+use crate::deliveries::{deliver, sweep};
+use crate::messages::send;
+use crate::parent_table::{acts, close, is_new};
+use crate::{Fabric, Outcome, Reply};
+use sd_clock::Report;
+use sd_num::NoMemory;
+use sd_sched::Event;
+use std::alloc::Global;
+
+/// Notes the report of an ask, with the device that was asked.
+// A report is written where there is one alone, since most events have none.
+fn note_report(noted: &mut Option<(u32, Report)>, event: &Event, reply: &Reply)
+    ensures { noted.new ≡ report_in event.now reply.now }
+{
+    *noted = None;
+    if let Event::Ask { device, .. } = *event {
+        if let Some(report) = reply.report {
+            *noted = Some((device, report));
+        }
+    }
+}
+
+impl Fabric {
+    /// How many messages the event sends at most: for a `tick` or a `recv` the ends below the named
+    /// device in the plan in force and in the staged one together.
+    #[inline(always)]
+    pub fn most_sent(&self, event: &Event) -> usize
+        ensures { result ≡ most_sent_in self.now event.now }
+    {
+        match *event {
+            Event::Tick { device, .. } | Event::Recv { device, .. } => self.ends_of(device),
+            _ => 0,
+        }
+    }
+
+    /// How many ends lie below the device in the plan in force and in the staged one.
+    fn ends_of(&self, d: u32) -> usize
+        ensures { result ≡ ends_in self.now d }
+    {
+        if d >= self.topology.devices() {
+            return 0;
+        }
+        let in_force = self
+            .membership
+            .ends_below(self.membership.world().epoch(), d)
+            .len();
+        in_force + self.staged_ends(d)
+    }
+
+    /// How many ends lie below the device in the staged plan, if there is one.
+    fn staged_ends(&self, d: u32) -> usize
+        requires { d < length self.now.net.devices }
+        ensures { result
+            ≡ length (ends_below self.now.membership (self.now.membership.world.epoch + 1) d) }
+    {
+        if !self.membership.world().window().is_open() {
+            return 0;
+        }
+        self.membership
+            .ends_below(self.membership.world().epoch() + 1, d)
+            .len()
+    }
+
+    /// Makes room for so many messages. Only this takes memory.
+    #[inline(always)]
+    pub fn ready(&mut self, alloc: Global, messages: usize) -> Result<(), NoMemory>
+        ensures room { OnOk result (messages ≤ self.new.book.room) }
+        ensures memory { OnErr result (messages ≢ 0) }
+        ensures others { OnlyRoomGrew self.old self.new }
+        ensures sound { IsSound self.new }
+    {
+        match messages {
+            0 => Ok(()),
+            _ => self.book.ready(alloc, messages),
+        }
+    }
+
+    /// An event that is not refused, of which its device told this. What comes of it is written
+    /// into an outcome that the caller lends.
+    pub fn step(&mut self, event: &Event, reply: &Reply, outcome: &mut Outcome)
+        requires accepted { refusal_in self.old event.now ≡ None }
+        requires within { IsTrue (is_within event.now) }
+        requires tells { IsReplyTo event.now reply.now }
+        requires room { most_sent_in self.old event.now ≤ self.old.book.room }
+        ensures after { IsAfter self.old event.now reply.now self.new }
+        ensures comes { outcome.new ≡ outcome_in self.old event.now reply.now }
+        ensures sound { IsSound self.new }
+        ensures stands { (setting : Setting) (steps : List Step) (told : Told)
+            → MatchesTold reply.now told
+            → Stands self.old setting steps
+            → Stands self.new setting (step_of setting steps event.now told ∷ steps) }
+        ensures outcome { (setting : Setting) (steps : List Step) (told : Told)
+            → MatchesTold reply.now told
+            → Stands self.old setting steps
+            → outcome.new ≡ outcome_of (step_of setting steps event.now told) }
+    {
+        let device = event.device();
+        outcome.acted = acts(&self.membership, device);
+        let was_new = is_new(&self.membership, device);
+        deliver(&mut self.book, event, &mut outcome.taken);
+        let sent = send(
+            &self.topology,
+            &self.membership,
+            &mut self.book,
+            event,
+            reply,
+        );
+        outcome.first_sent = sent.first;
+        outcome.sent = sent.count;
+        sweep(&mut self.book, event);
+        self.membership.observe(event, &reply.answers);
+        let is_new_now = is_new(&self.membership, device);
+        outcome.activated = entering(device, was_new, is_new_now);
+        outcome.closed = close(&mut self.membership);
+        outcome.ended = ends(event);
+        note_report(&mut outcome.report, event, reply);
+    }
+}
+
+/// The device, where it entered the staged plan.
+fn entering(device: Option<u32>, was_new: bool, is_new: bool) -> Option<u32>
+    ensures { result ≡ (if is_new && not was_new then device else None) }
+{
+    if is_new && !was_new { device } else { None }
+}
+
+/// Whether the event is the end.
+fn ends(event: &Event) -> bool
+    ensures { result ≡ is_end_event event.now }
+{
+    matches!(event, Event::End { .. })
+}

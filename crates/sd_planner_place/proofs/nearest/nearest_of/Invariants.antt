@@ -1,6 +1,0 @@
-use Rattle.std.proofs.Common.{take}
-use Rattle.sd_planner_place.specs.Nearing.{IsNearest}
-use Rattle.sd_planner_place.proofs.nearest.nearest_of.Given as goal
-
-abbrev pub invariant-loop-neighbour : goal.invariant-loop-neighbour
-invariant-loop-neighbour l = IsNearest l.placement.order (take l.neighbour-index l.neighbours) l.best

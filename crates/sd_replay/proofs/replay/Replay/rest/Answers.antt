@@ -1,0 +1,102 @@
+-- The fleet has made the step, the monitors look at it, and it is noted; nothing is told.
+use Rattle.std.proofs.Common.{◌∙◌, None, refl, sym, ap, subst}
+use Rattle.std.proofs.Math.Logic.{∥∥₁_map}
+use Rattle.sd_sched.specs.declared.Event.TheVariants.{Tick}
+use Rattle.sd_fleet.specs.declared.Outcome.{Outcome}
+use Rattle.sd_fleet.specs.Standing as fleets
+use Rattle.sd_fleet.specs.Stepping.{outcome_resting}
+use Rattle.sd_replay.specs.Replaying.{idle_outcome}
+use Rattle.sd_replay.specs.Troubles.{found_by}
+use Rattle.sd_replay.proofs.Going.{with_fleet, stands_prepared}
+use Rattle.sd_replay.proofs.Happening.{IsDone, has_step, tally_merely, devices_merely, stands_on, run_on}
+use Rattle.sd_replay.proofs.replay.Replay.rest.Given.{Over}
+use Rattle.sd_replay.proofs.replay.Replay.rest.Goals.{After-note}
+use Rattle.sd_replay.proofs.replay.Replay.rest.Goals as goal
+
+pub invariant_of-self : goal.invariant_of-self
+invariant_of-self g c =
+    record {
+      run =
+          ∥∥₁_map c.args.self.now.run
+          (with_fleet g.N.Node g.V.Observer c.args.self.now.fleet c.rest.new.self c.args.self.now.monitors c.args.self.now.event_output
+          c.args.self.now.observer (λ setting run. subst (λ f. fleets.StandsFor g.N.Node f setting run) (sym (c.rest.ensures.same c.if-not-rest.true))));
+    }
+
+pub rest-trouble-requires : goal.rest-trouble-requires
+rest-trouble-requires g c =
+    record {
+      step =
+          ∥∥₁_map c.args.self.now.run
+          (λ has.
+          record {
+            kept = c.args.self.now.fleet.fabric;
+            step =
+                has_step g.N.Node g.V.Observer c.args.self.now.fleet c.args.self.now.monitors c.args.self.now.event_output c.args.self.now.observer
+                c.rest.new.self (Tick c.in-Tick.reference c.in-Tick.device c.in-Tick.counter)
+                (outcome_resting c.args.self.now.fleet.fabric c.in-Tick.device) (c.rest.ensures.accepted c.if-not-rest.false) has;
+          });
+    }
+
+pub note-requires-clause-room : goal.note-requires-clause-room
+note-requires-clause-room g c =
+    tally_merely g.N.Node g.V.Observer c.args.self.now.fleet c.args.self.now.monitors c.args.self.now.event_output c.args.self.now.observer c.rest.new.self
+    (Tick c.in-Tick.reference c.in-Tick.device c.in-Tick.counter) (outcome_resting c.args.self.now.fleet.fabric c.in-Tick.device)
+    (c.rest.ensures.accepted c.if-not-rest.false) c.args.self.now.run
+
+pub note-requires-clause-devices : goal.note-requires-clause-devices
+note-requires-clause-devices g c =
+    devices_merely g.N.Node g.V.Observer c.args.self.now.fleet c.args.self.now.monitors c.args.self.now.event_output c.args.self.now.observer c.rest.new.self
+    (Tick c.in-Tick.reference c.in-Tick.device c.in-Tick.counter) (outcome_resting c.args.self.now.fleet.fabric c.in-Tick.device)
+    (c.rest.ensures.accepted c.if-not-rest.false) (found_by c.rest-trouble.result None c.in-Tick.reference)
+    (c.rest-trouble.ensures.devices c.args.self.now.fleet.fabric) c.args.self.now.run
+
+-- what was done
+done : (g : Over) (c : After-note g)
+    → IsDone g.N.Node g.V.Observer c.args.self.now.fleet c.rest.new.self c.args.self.now.monitors c.rest-trouble.new.self c.args.self.now.event_output
+    c.note.new.self c.args.self.now.observer c.args.self.now.observer (Tick c.in-Tick.reference c.in-Tick.device c.in-Tick.counter)
+    (outcome_resting c.args.self.now.fleet.fabric c.in-Tick.device) (found_by c.rest-trouble.result None c.in-Tick.reference)
+done g c =
+    record {
+      accepts = c.rest.ensures.accepted c.if-not-rest.false;
+      has_seen = c.rest-trouble.ensures.stands c.args.self.now.fleet.fabric;
+      finds = c.rest-trouble.ensures.found c.args.self.now.fleet.fabric;
+      report = refl;
+      topology = c.note.ensures.topology;
+      tally = c.note.ensures.tally;
+      lines = c.note.ensures.lines;
+      ended = c.note.ensures.ended;
+      tells = refl;
+    }
+
+pub invariant_of-self-2 : goal.invariant_of-self-2
+invariant_of-self-2 g c =
+    record {
+      run =
+          ∥∥₁_map c.args.self.now.run
+          (run_on g.N.Node g.V.Observer c.args.self.now.fleet c.rest.new.self c.args.self.now.monitors c.rest-trouble.new.self c.args.self.now.event_output
+          c.note.new.self c.args.self.now.observer c.args.self.now.observer (Tick c.in-Tick.reference c.in-Tick.device c.in-Tick.counter)
+          (outcome_resting c.args.self.now.fleet.fabric c.in-Tick.device) (found_by c.rest-trouble.result None c.in-Tick.reference) (done g c));
+    }
+
+pub returns-then-not-rest-clause-stands : goal.returns-then-not-rest-clause-stands
+returns-then-not-rest-clause-stands g c = λ no setting run.
+    stands_prepared g.N.Node g.V.Observer c.args.self.now.fleet c.rest.new.self c.args.self.now.monitors c.args.self.now.event_output
+    c.args.self.now.observer setting run (λ s r. subst (λ f. fleets.StandsFor g.N.Node f s r) (sym (c.rest.ensures.same c.if-not-rest.true)))
+
+pub returns-clause-accepted : goal.returns-clause-accepted
+unfolding done
+returns-clause-accepted g c = λ yes setting run stands.
+    let accepted = c.rest.ensures.accepted c.if-not-rest.false setting run stands.made in
+    record {
+      stepped =
+          record {
+            next = accepted.next;
+            happens = accepted.happens ∙ sym c.in-Tick.is;
+            stands =
+                stands_on g.N.Node g.V.Observer c.args.self.now.fleet c.rest.new.self c.args.self.now.monitors c.rest-trouble.new.self
+                c.args.self.now.event_output c.note.new.self c.args.self.now.observer c.args.self.now.observer
+                (Tick c.in-Tick.reference c.in-Tick.device c.in-Tick.counter) (outcome_resting c.args.self.now.fleet.fabric c.in-Tick.device)
+                (found_by c.rest-trouble.result None c.in-Tick.reference) (done g c.before) setting run stands;
+          };
+      idle = sym accepted.comes ∙ ap idle_outcome (ap (λ (o : Outcome). o.acted) accepted.comes);
+    }

@@ -1,0 +1,25 @@
+//! How many plans the words may name.
+
+use super::{BASE, shelf_for};
+use crate::kit::{USAGE, run_words};
+use crate::plans::words_of;
+use sd_top::Status;
+use std::test::Fail;
+
+#[test]
+fn one_to_sixty_four_plans(rt: HostRuntime) -> Result<(), Fail> {
+    let alloc = rt.alloc();
+    for (plans, output, status) in [
+        (0, USAGE, Status::Usage),
+        (1, BASE.output, Status::Done),
+        (64, BASE.output, Status::Done),
+        (65, USAGE, Status::Usage),
+    ] {
+        let words = words_of(alloc, "replay", plans)?;
+        let mut shelf = shelf_for(alloc, &BASE, 8192, &[])?;
+        let ran = run_words(alloc, words.as_slice(), &mut shelf, &[])?;
+        assert_eq!(rt; std::str::from_utf8(ran.out.bytes()), Ok(output));
+        assert_eq!(rt; ran.status, status, "{plans} plans");
+    }
+    Ok(())
+}
