@@ -222,7 +222,7 @@ static void check_now(uint32_t number)
 
 static void ask(uint32_t number)
 {
-    struct sundial_report report = {0};
+    struct sundial_clock_report report = {0};
     uint64_t counter = counter_of(&nodes[number]);
     check(sundial_report(&nodes[number].device, counter, &report), "report");
     uint64_t line = recorded(sundial_record_report(&recorder, now, number, counter));
@@ -346,7 +346,7 @@ static void check_parents(void)
 {
     for (uint32_t number = 0; number < DEVICES; number++) {
         const struct sundial_duty *duty = &DUTIES[PLANS - 1][number];
-        struct sundial_parent parent = {0};
+        struct sundial_optional_parent parent = {0};
         uint32_t epoch = 0;
         uint8_t acts = 0;
         check(sundial_parent(&nodes[number].device, &parent), "parent");

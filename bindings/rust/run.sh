@@ -1,6 +1,6 @@
 #!/usr/bin/env bash
 # Tests the bindings for Rust over the library, and beside the example in C: the same schedule has
-# to give the same reports.
+# to give the same reports. Warnings are faults, in the crate and in its pages.
 #
 #     bindings/rust/run.sh LIBRARY [SEED]
 #
@@ -16,10 +16,17 @@ cp -r Cargo.toml build.rs src tests "$work" || exit 1
 "${CC:-cc}" -std=c11 -O2 -I ../../include -o "$work/embed" ../c/embed.c ../c/recorder.c "$library" \
     || exit 1
 "$work/embed" "$seed" "$work/schedule" > "$work/told" || exit 1
+if command -v python3 > /dev/null; then
+    {
+        ../../tools/sundial-duty ../c/topology.toml ../c/plan-1.json ../c/plan-2.json ../c/plan-3.json --form rust
+        cat duties.rs
+    } > "$work/tests/duties.rs" || exit 1
+fi
+export RUSTFLAGS='-D warnings' RUSTDOCFLAGS='-D warnings'
 export SUNDIAL_DEVICE_LIB=${library%/*} SUNDIAL_EXAMPLE=$work
-if cargo test --offline --manifest-path "$work/Cargo.toml" --target-dir "$work/target" \
-    > "$work/tested" 2>&1; then
-    echo "rust: $(grep -c '^test .* ok$' "$work/tested") tests passed"
+where=(--offline --manifest-path "$work/Cargo.toml" --target-dir "$work/target")
+if cargo test "${where[@]}" > "$work/tested" 2>&1 && cargo doc "${where[@]}" >> "$work/tested" 2>&1; then
+    echo "rust: $(grep -c '^test .* ok$' "$work/tested") tests passed, and docs on all"
 else
     cat "$work/tested" >&2
     exit 1

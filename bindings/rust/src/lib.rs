@@ -1,7 +1,14 @@
 //! The core of a sundial device, for plain Rust: a safe wrapper over the proved static library.
 //! `docs/EMBED.md` says how to use it, and what its promise asks of you.
+//!
+//! The crate needs `core` alone: it allocates nothing and asks nothing of a system. All times are in
+//! picoseconds.
+#![no_std]
+#![deny(missing_docs)]
 
 pub mod raw;
+
+use core::fmt;
 
 pub use raw::{Duty, Edge, Message, Rates, BACKUP_ROOT, ORDINARY, ROOT};
 
@@ -32,11 +39,49 @@ pub enum Fault {
     Unknown(u32),
 }
 
+impl fmt::Display for Fault {
+    fn fmt(&self, to: &mut fmt::Formatter<'_>) -> fmt::Result {
+        to.write_str(match self {
+            Fault::NoDevice => "the numbers are those of no device",
+            Fault::NoDuty => "the duty has epoch 0, a role that is none, or a number past its limit",
+            Fault::RatesTooGreat => "the rates are past 100000 parts per million or a grain of 10^12 ps",
+            Fault::CounterFell => "the counter is below one that the device keeps",
+            Fault::CounterTooGreat => "the counter is past 2^60 ps",
+            Fault::ClockTooGreat => "the clock or its eps, set from outside, is past 2^60 ps",
+            Fault::EstimateTooGreat => "the device's own clock or eps is 2^100 ps or more",
+            Fault::StampTooGreat => "the device's own term or round is 2^31 or more",
+            Fault::MessageTooGreat => "the message has a clock, an eps, a term or a round past its limit",
+            Fault::NotRoot => "no duty of a root was given to the device",
+            Fault::Unknown(answer) => return write!(to, "the library answered {answer}"),
+        })
+    }
+}
+
+impl core::error::Error for Fault {}
+
 /// The reference time lies from `clock - eps` to `clock + eps`, in ps.
 #[derive(Clone, Copy, Debug, PartialEq, Eq)]
 pub struct Report {
+    /// What the device takes the reference time for, in ps.
     pub clock: u128,
+    /// By how much that may be off, in ps.
     pub eps: u128,
+}
+
+/// The reference time lies from the one to the other, in ps.
+#[derive(Clone, Copy, Debug, PartialEq, Eq)]
+pub struct Interval {
+    /// The earliest that the reference time can be, in ps.
+    pub earliest: u128,
+    /// The latest that the reference time can be, in ps: the stamp of a transaction.
+    pub latest: u128,
+}
+
+impl Interval {
+    /// Whether the reference time has surely passed the stamp, in ps: the end of a commit wait.
+    pub fn has_passed(self, stamp: u128) -> bool {
+        self.earliest > stamp
+    }
 }
 
 impl Report {
@@ -52,7 +97,12 @@ impl Report {
 
     /// Whether the reference time has surely passed the stamp, in ps: the end of a commit wait.
     pub fn has_passed(self, stamp: u128) -> bool {
-        self.earliest() > stamp
+        self.interval().has_passed(stamp)
+    }
+
+    /// The interval that it allows.
+    pub fn interval(self) -> Interval {
+        Interval { earliest: self.earliest(), latest: self.latest() }
     }
 }
 
@@ -61,8 +111,33 @@ impl Report {
 /// Counters, clocks and eps are in ps. Those that a call takes are at most 2^60, and a counter is
 /// not below one that the device keeps. A call that is not made answers the fault, and changes
 /// nothing.
+///
+/// Two devices are equal where no call tells them apart: a duty or a parent whose flag is 0 may
+/// hold any numbers.
+///
+/// ```
+/// use sundial_device::{Device, Duty, Rates, ROOT};
+///
+/// let duty = Duty { epoch: 1, role: ROOT, period: 100_000_000, ..Duty::default() };
+/// let mut root = Device::start(&duty, 0, 5_000, 10)?;
+/// if let Some(message) = root.tick(100_000_000)? {
+///     // the message goes over each link to a device that has this one as a parent
+///     assert_eq!(message.epoch, 1);
+/// }
+/// let now = root.now(200_000_000)?;
+/// assert!(now.earliest <= 200_005_000 && 200_005_000 <= now.latest);
+/// # Ok::<(), sundial_device::Fault>(())
+/// ```
 #[derive(Clone, Debug)]
 pub struct Device(raw::Device);
+
+impl PartialEq for Device {
+    fn eq(&self, other: &Device) -> bool {
+        plain(&self.0) == plain(&other.0)
+    }
+}
+
+impl Eq for Device {}
 
 impl Device {
     /// A device of the plan in force, which begins for the first time. The clock is within eps of
@@ -146,6 +221,12 @@ impl Device {
         })
     }
 
+    /// The interval in which the reference time lies, as a database asks for it. Faults: those of a
+    /// report.
+    pub fn now(&self, counter: u64) -> Result<Interval, Fault> {
+        Ok(self.report(counter)?.interval())
+    }
+
     /// The number of the device that it follows, if it follows one.
     pub fn parent(&self) -> Result<Option<u32>, Fault> {
         let mut parent = raw::Parent::default();
@@ -166,6 +247,39 @@ impl Device {
         done(unsafe { raw::sundial_epoch(&self.0, &mut epoch) })?;
         Ok(epoch)
     }
+}
+
+/// The device with 0 for all that no call reads, and 1 for each flag that is set.
+fn plain(device: &raw::Device) -> raw::Device {
+    raw::Device {
+        duty: plain_duty(device.has_duty, &device.duty),
+        given: plain_duty(device.has_given, &device.given),
+        has_duty: flag(device.has_duty),
+        has_given: flag(device.has_given),
+        sealed: flag(device.sealed),
+        ..*device
+    }
+}
+
+fn plain_duty(is_there: u8, duty: &Duty) -> Duty {
+    if is_there == 0 {
+        return Duty::default();
+    }
+    Duty {
+        primary: plain_edge(duty.has_primary, duty.primary),
+        backup: plain_edge(duty.has_backup, duty.backup),
+        has_primary: flag(duty.has_primary),
+        has_backup: flag(duty.has_backup),
+        ..*duty
+    }
+}
+
+fn plain_edge(is_there: u8, edge: Edge) -> Edge {
+    if is_there == 0 { Edge::default() } else { edge }
+}
+
+fn flag(byte: u8) -> u8 {
+    u8::from(byte != 0)
 }
 
 fn number(wide: raw::Wide) -> u128 {

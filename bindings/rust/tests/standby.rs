@@ -38,10 +38,17 @@ fn takes_over_after_two_silences() {
     assert_eq!(device.parent(), Ok(Some(2)));
     assert_eq!(device.report(500), Ok(Report { clock: 497, eps: 1_054 }));
     let mut again = Device::restore(device.kept()).unwrap();
+    assert_eq!(again, device);
     let sent = again.tick(620).unwrap().unwrap();
     assert_eq!((sent.stamp.term, sent.stamp.round), (1, 1));
     assert_eq!((sent.clock.low, sent.eps.low), (617, 1_054));
     assert_eq!(again.acts(), Ok(true));
+    assert_ne!(again, device);
+    let now = again.now(700).unwrap();
+    assert_eq!(now, again.report(700).unwrap().interval());
+    assert_eq!((now.earliest, now.latest), (0, 1_751));
+    let later = again.now(5_000).unwrap();
+    assert!(later.has_passed(later.earliest - 1) && !later.has_passed(later.earliest));
 }
 
 #[test]
@@ -52,4 +59,23 @@ fn names_what_is_wrong() {
     kept.mode = 4;
     assert_eq!(Device::restore(kept).err(), Some(Fault::NoDevice));
     assert_eq!(device.commit(100).err(), Some(Fault::NotRoot));
+    let fault: Box<dyn std::error::Error> = Fault::CounterFell.into();
+    assert_eq!(fault.to_string(), "the counter is below one that the device keeps");
+    assert_eq!(Fault::Unknown(77).to_string(), "the library answered 77");
+}
+
+/// What no call reads tells no two devices apart, and what one reads does.
+#[test]
+fn equal_where_no_call_differs() {
+    let device = Device::start(&standby(), 100, 0, 500).unwrap();
+    let mut kept = device.kept();
+    kept.given = standby();
+    kept.has_duty = 7;
+    kept.duty.has_backup = 3;
+    assert_eq!(Device::restore(kept), Ok(device.clone()));
+    kept.has_given = 1;
+    assert_ne!(Device::restore(kept), Ok(device.clone()));
+    kept.has_given = 0;
+    kept.duty.backup.mid += 1;
+    assert_ne!(Device::restore(kept), Ok(device));
 }

@@ -1,0 +1,121 @@
+#!/usr/bin/env bash
+# What the header and the bindings in C are held to beside their example.
+#
+#     bindings/c/checks.sh LIBRARY [SECONDS]
+#
+# LIBRARY is libsd_device_c.a. With each compiler that is there: header and bindings compile
+# without a warning, as C11 and as C++17, and a program in C++ makes every call. Then, where the
+# compiler can: the duties of sundial-duty beside those of fabric.h, clock.h by 8 threads and by 4 processes, the example under the address and undefined-behaviour sanitizers, the fuzzer for SECONDS (3),
+# a program without a C library, and what pkg-config says. What is not there is named and passed by.
+set -u
+library=$(realpath "$1") || exit 2
+seconds=${2:-3}
+cd "$(dirname "$0")" || exit 2
+work=$(mktemp -d) || exit 2
+trap 'rm -rf "$work"' EXIT
+warnings=(-Wall -Wextra -Wpedantic -Wconversion -Wshadow -Werror -I ../../include -I .)
+sanitizers=(-g -O1 -fsanitize=address,undefined -fno-sanitize-recover=all)
+bad=0
+
+fail() {
+    echo "checks: $*" >&2
+    bad=1
+}
+
+there() {
+    command -v "$1" > /dev/null
+}
+
+# Each header by itself, and each source, as this compiler takes them.
+compiled=()
+compile() { # compiler standard language file..
+    local compiler=$1 standard=$2 language=$3 file
+    shift 3
+    for file in "$@"; do
+        case "$file" in
+            *.h) echo "#include \"$file\"" > "$work/alone.c" && source=$work/alone.c ;;
+            *) source=$file ;;
+        esac
+        "$compiler" -std="$standard" -x "$language" -O2 "${warnings[@]}" -c -o "$work/object" "$source" \
+            || fail "$compiler does not compile $file as $standard"
+    done
+    compiled+=("$compiler $standard")
+}
+
+headers=(sundial_device.h recorder.h clock.h)
+for compiler in gcc clang; do
+    there "$compiler" || { echo "checks: no $compiler"; continue; }
+    compile "$compiler" c11 c "${headers[@]}" recorder.c embed.c fuzz.c clock_test.c host/host.c ../../bench/embed/time.c
+done
+for compiler in g++ clang++; do
+    there "$compiler" || { echo "checks: no $compiler"; continue; }
+    compile "$compiler" c++17 c++ "${headers[@]}" recorder.c plus.cc
+    "$compiler" -std=c++17 -O2 "${warnings[@]}" -o "$work/plus" plus.cc -x c++ recorder.c -x none "$library" \
+        && "$work/plus" > "$work/said" || fail "the program that $compiler makes of plus.cc"
+done
+echo "checks: no warning by ${compiled[*]}"
+
+compiler=${CC:-cc}
+if there python3; then
+    ../../tools/sundial-duty topology.toml plan-1.json plan-2.json plan-3.json -o "$work/duties.h" \
+        && "$compiler" -std=c11 -I "$work" "${warnings[@]}" -o "$work/duties" duties.c && "$work/duties" \
+        || fail "the duties that sundial-duty writes"
+else
+    echo "checks: no python3, so sundial-duty was not tried"
+fi
+
+echo 'int main(void) { return 0; }' > "$work/nothing.c"
+if "$compiler" "${sanitizers[@]}" -o "$work/nothing" "$work/nothing.c" 2> "$work/said" && "$work/nothing"; then
+    "$compiler" -std=c11 "${sanitizers[@]}" "${warnings[@]}" -o "$work/embed" embed.c recorder.c "$library" \
+        && "$work/embed" 1 "$work/schedule" > "$work/told" && "$work/embed" 1 "$work/log" log > "$work/told" \
+        && echo "checks: the example under sanitizers, $(tail -1 "$work/told")" || fail "the example under sanitizers"
+    "$compiler" -std=c11 "${sanitizers[@]}" "${warnings[@]}" -o "$work/fuzz" fuzz.c "$library" \
+        || fail "the fuzzer does not compile"
+else
+    echo "checks: $compiler has no sanitizers"
+    "$compiler" -std=c11 -O1 "${warnings[@]}" -o "$work/fuzz" fuzz.c "$library" || fail "the fuzzer does not compile"
+fi
+if "$work/fuzz" "$seconds" > "$work/told"; then
+    tail -1 "$work/told"
+else
+    cat "$work/told" >&2
+    fail "the fuzzer"
+fi
+
+if [ "$(uname -s)" = Linux ]; then
+    "$compiler" -std=c11 -O2 -pthread "${warnings[@]}" -o "$work/clock" clock_test.c "$library" \
+        && "$work/clock" page && "$work/clock" threads 1 && "$work/clock" processes 1 || fail "clock.h"
+    # (a run of nothing tells whether this machine can run what the compiler makes)
+    for sanitizer in thread address,undefined; do
+        if "$compiler" "-fsanitize=$sanitizer" -o "$work/nothing" "$work/nothing.c" 2> "$work/said" && "$work/nothing"; then
+            "$compiler" -std=c11 -O1 -g -pthread "-fsanitize=$sanitizer" -fno-sanitize-recover=all "${warnings[@]}" \
+                -o "$work/clock" clock_test.c "$library" \
+                && "$work/clock" page > "$work/said" && "$work/clock" threads 1 > "$work/said" \
+                && echo "checks: $(cat "$work/said"), under the sanitizer $sanitizer" \
+                || fail "clock.h under the sanitizer $sanitizer"
+        else
+            echo "checks: $compiler has no sanitizer $sanitizer"
+        fi
+    done
+fi
+
+case "$(uname -s) $(uname -m)" in
+    "Linux x86_64")
+        # `begin` is entered as a program is, with the stack on 16 bytes: a call would have it off by 8.
+        "$compiler" -std=c11 -O2 -ffreestanding -fno-stack-protector -mstackrealign -nostdlib -static \
+            -Wl,-e,begin "${warnings[@]}" -o "$work/bare" bare.c "$library" -lgcc \
+            && "$work/bare" && echo "checks: a program with -nostdlib and -lgcc" || fail "the program without a C library" ;;
+esac
+
+if there pkg-config; then
+    ./install.sh "$library" "$work/usr" || fail "install.sh"
+    words=$(PKG_CONFIG_PATH=$work/usr/lib/pkgconfig pkg-config --cflags --libs sundial-device) || fail "pkg-config"
+    # (the words are several)
+    # shellcheck disable=SC2086
+    "$compiler" -x c++ -std=c++17 -o "$work/plus" plus.cc -I "$work/usr/share/sundial" "$work/usr/share/sundial/recorder.c" \
+        -x none $words -lstdc++ && "$work/plus" > "$work/said" && echo "checks: pkg-config says $(wc -w <<< "$words") words, and they link" \
+        || fail "a program by pkg-config's words"
+else
+    echo "checks: no pkg-config"
+fi
+exit "$bad"

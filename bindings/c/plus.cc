@@ -1,0 +1,78 @@
+// The header in C++17: each call of the library once, by a backup root that takes over.
+#include <cstdint>
+#include <cstdio>
+#include <cstdlib>
+
+#include "recorder.h"
+#include "sundial_device.h"
+
+namespace {
+
+void expect(bool holds, const char *what)
+{
+    if (!holds) {
+        std::fprintf(stderr, "plus: %s\n", what);
+        std::exit(1);
+    }
+}
+
+sundial_duty duty_of_backup_root()
+{
+    sundial_duty duty = {};
+    duty.primary = {7, 3, 0, 0};
+    duty.backup = {7, 3, 2, 2};
+    duty.period = 100;
+    duty.wait_first = 300;
+    duty.wait_second = 200;
+    duty.wait = 900;
+    duty.rates = {1000, 200};
+    duty.epoch = 1;
+    duty.role = SUNDIAL_BACKUP_ROOT;
+    duty.has_primary = duty.has_backup = 1;
+    return duty;
+}
+
+} // namespace
+
+int main()
+{
+    sundial_device device = {};
+    sundial_duty duty = duty_of_backup_root();
+    expect(sundial_made(&device) == SUNDIAL_NO_DEVICE, "nothing passes for a device");
+    expect(sundial_start(&device, &duty, 0, 0, 500) == SUNDIAL_DONE, "start");
+
+    sundial_message heard = {{110, 0}, {50, 0}, {1, 0}, 1};
+    sundial_effect effect = {};
+    expect(sundial_receive(&device, 0, &heard, 120, &effect) == SUNDIAL_DONE && effect.sends != 0
+               && effect.message.clock.low == 117 && effect.message.eps.low == 53,
+           "receive");
+    sundial_optional_parent parent = {};
+    expect(sundial_parent(&device, &parent) == SUNDIAL_DONE && parent.has_parent != 0 && parent.parent == 0,
+           "parent");
+    expect(sundial_tick(&device, 420, &effect) == SUNDIAL_DONE && effect.sends == 0, "the move");
+    expect(sundial_tick(&device, 620, &effect) == SUNDIAL_DONE && effect.sends != 0, "the takeover");
+    std::uint8_t acts = 0;
+    expect(sundial_acts(&device, &acts) == SUNDIAL_DONE && acts == 1, "acts");
+
+    duty.epoch = 2;
+    duty.role = SUNDIAL_ROOT;
+    duty.has_primary = duty.has_backup = 0;
+    expect(sundial_give(&device, &duty) == SUNDIAL_DONE, "give");
+    expect(sundial_commit(&device, 630) == SUNDIAL_DONE, "commit");
+    expect(sundial_seal(&device) == SUNDIAL_DONE, "seal");
+    std::uint32_t epoch = 0;
+    expect(sundial_epoch(&device, &epoch) == SUNDIAL_DONE && epoch == 2, "epoch");
+    expect(sundial_fix(&device, 640, 5000, 10) == SUNDIAL_DONE, "fix");
+    sundial_clock_report report = {};
+    expect(sundial_report(&device, 640, &report) == SUNDIAL_DONE && report.clock.low == 5000, "report");
+    sundial_interval now = {};
+    expect(sundial_now(&device, 640, &now) == SUNDIAL_DONE && !sundial_has_passed(&now, {5000, 0})
+               && now.earliest.low <= 4990 && now.latest.low >= 5010,
+           "now");
+    expect(sundial_join(&device, &duty.rates, 700, 5000, 10) == SUNDIAL_DONE, "join");
+
+    sundial_recorder recorder = {};
+    expect(sundial_record_sent(&recorder) == 1, "the recorder");
+    std::puts("plus: every call from C++");
+    return 0;
+}
