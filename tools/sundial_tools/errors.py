@@ -2,9 +2,14 @@
 
 from __future__ import annotations
 
+import contextlib
 import os
+import signal
 import sys
-from typing import Callable, List, Optional
+from types import FrameType
+from typing import Callable, Iterator, List, Optional
+
+from sundial_tools import __version__
 
 
 class ToolError(Exception):
@@ -23,10 +28,45 @@ class ToolError(Exception):
         return f"{place}: {self.reason}" if place else self.reason
 
 
+class Stopped(BaseException):
+    """A signal that ends the process. It is raised, so that what was begun is cleared away first."""
+
+    def __init__(self, number: int) -> None:
+        super().__init__(number)
+        self.number = number
+
+
+def _stop(number: int, _: Optional[FrameType]) -> None:
+    raise Stopped(number)
+
+
+@contextlib.contextmanager
+def _stoppable() -> Iterator[None]:
+    """Within the block SIGTERM and SIGHUP raise. A signal that is ignored, as under nohup, stays ignored."""
+    changed = {}
+    with contextlib.suppress(ValueError):  # (a thread other than the first sets no handlers)
+        for number in signal.SIGTERM, signal.SIGHUP:
+            if signal.getsignal(number) is signal.SIG_DFL:
+                changed[number] = signal.signal(number, _stop)
+    try:
+        yield
+    finally:
+        for number, handler in changed.items():
+            signal.signal(number, handler)
+
+
 def run_tool(name: str, main: Callable[[List[str]], int], words: Optional[List[str]] = None) -> int:
     """Runs `main` over the words of the command and answers the status of the process."""
+    words = sys.argv[1:] if words is None else words
+    if words == ["--version"]:
+        print(f"{name} {__version__}")
+        return 0
     try:
-        return main(sys.argv[1:] if words is None else words)
+        with _stoppable():
+            return main(words)
+    except Stopped as stopped:
+        os.kill(os.getpid(), stopped.number)  # (its handler is the usual one again: the process ends by the signal)
+        return 128 + stopped.number
     except ToolError as fault:
         return _refused(name, str(fault))
     except UnicodeDecodeError as fault:
@@ -42,5 +82,7 @@ def run_tool(name: str, main: Callable[[List[str]], int], words: Optional[List[s
 
 
 def _refused(name: str, reason: str) -> int:
-    print(f"{name}: {reason}", file=sys.stderr)
+    # (what an input brought in may not move the cursor, or make a second line)
+    shown = "".join(sign if sign.isprintable() else sign.encode("unicode_escape").decode() for sign in reason)
+    print(f"{name}: {shown}", file=sys.stderr)
     return 1

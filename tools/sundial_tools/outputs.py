@@ -3,12 +3,17 @@
 from __future__ import annotations
 
 import re
-from typing import Any, Dict, Iterable, Iterator, List, NamedTuple, Optional, Tuple
+from typing import Any, Callable, Dict, Iterable, Iterator, List, NamedTuple, Optional, Tuple
 
 from sundial_tools.errors import ToolError
+from sundial_tools.topology import NAME
 
+# (a carriage return is none: an output that went through another system is not what was printed)
+TEXT = re.compile(r"[ -~]+")
 PREMISES = ("start", "drift", "delay", "tick", "loss", "domain", "renew")
-NUMBER = re.compile(r"0|[1-9][0-9]*")
+VERDICTS = ("inside", "outside")
+# (what is printed is of at most 128 bits)
+NUMBER = re.compile(r"0|[1-9][0-9]{0,39}")
 
 
 class OutputLine(NamedTuple):
@@ -18,11 +23,12 @@ class OutputLine(NamedTuple):
     fields: Dict[str, Any]
 
 
-# Of each form: the fields behind the first word, `n:` a number, `s:` a name, `=` a fixed word, `+` one or more names.
+# Of each form: the fields behind the first word, `n:` a number, `s:` a name, `p:` a premise, `v:` a verdict, `r:` the rest
+# of the line, `=` a fixed word, `+` one or more names.
 _DOMAIN = ("d:domain",)
 _FORMS: Dict[str, List[Tuple[str, Tuple[str, ...]]]] = {
     "report": [("report", ("n:line", "s:device", "n:clock", "n:eps"))],
-    "broken": [("broken", ("n:line", "s:premise"))],
+    "broken": [("broken", ("n:line", "p:premise"))],
     "alarm": [
         ("alarm loop", ("n:line", "=loop", "s:device")),
         ("alarm roots", ("n:line", "=roots", "s:device", "s:other")),
@@ -33,7 +39,7 @@ _FORMS: Dict[str, List[Tuple[str, Tuple[str, ...]]]] = {
     "begin": [("begin", ("n:line", "s:device", "n:stamp"))],
     "waits": [("waits", ("n:begun", "n:ended", "n:disorders"))],
     "done": [("done", ("n:first", "n:second"))],
-    "link": [("link", ("s:link", "n:min", "n:max", "n:count", "s:verdict"))],
+    "link": [("link", ("s:link", "n:min", "n:max", "n:count", "v:verdict"))],
     "bound": [("bound", _DOMAIN + ("s:device", "n:eps"))],
     "nobound": [("nobound", _DOMAIN + ("s:device",))],
     "accepted": [("accepted", ("n:devices", "n:links", "n:domains"))],
@@ -56,9 +62,13 @@ _FORMS: Dict[str, List[Tuple[str, Tuple[str, ...]]]] = {
     ],
 }
 
+_WORDS: Dict[str, Callable[[str], object]] = {"s": NAME.fullmatch, "p": PREMISES.__contains__, "v": VERDICTS.__contains__}
+
 
 def parse_line(text: str) -> Optional[OutputLine]:
     """The printed line without its newline, or None where it is of no form."""
+    if not TEXT.fullmatch(text):
+        return None
     if text.startswith("usage: "):
         return OutputLine("usage", {"text": text})
     words = text.split(" ")
@@ -92,14 +102,18 @@ def _take(sort: str, name: str, rest: List[str], fields: Dict[str, Any]) -> int:
             return 0
         fields[name] = int(rest[0])
         return 1
-    if sort == "s":
+    if sort in _WORDS:
+        if not _WORDS[sort](rest[0]):
+            return 0
         fields[name] = rest[0]
         return 1
     if sort in "dt":
-        if rest[0] not in ("listed", "device", "link") or len(rest) < 2:
+        if rest[0] not in ("listed", "device", "link") or len(rest) < 2 or not NAME.fullmatch(rest[1]):
             return 0
         fields[name] = {"kind": rest[0], "name": rest[1]}
         return 2
+    if sort == "+" and not all(map(NAME.fullmatch, rest)):
+        return 0
     fields[name] = " ".join(rest) if sort == "r" else list(rest)
     return len(rest)
 

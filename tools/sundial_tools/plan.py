@@ -2,12 +2,12 @@
 
 from __future__ import annotations
 
-import json
 from dataclasses import dataclass, field
 from typing import Any, Dict, List, Optional, Tuple
 
 from sundial_tools.errors import ToolError
-from sundial_tools.topology import MOST_BYTES, Topology
+from sundial_tools.json_text import parse_json
+from sundial_tools.topology import MOST_BYTES, Topology, open_bytes
 
 MOST_WAIT = 2**60
 
@@ -51,7 +51,7 @@ class Plan:
 
 
 def read_plan(path: str, topology: Topology) -> Plan:
-    with open(path, "rb") as file:
+    with open_bytes(path) as file:
         text = file.read(MOST_BYTES + 1)
     if len(text) > MOST_BYTES:
         raise ToolError("the plan has more than 2^26 bytes", path)
@@ -59,10 +59,7 @@ def read_plan(path: str, topology: Topology) -> Plan:
 
 
 def parse_plan(text: str, topology: Topology, source: Optional[str] = None) -> Plan:
-    try:
-        said = json.loads(text)
-    except json.JSONDecodeError as fault:
-        raise ToolError(f"no JSON: {fault.msg}", source, fault.lineno) from None
+    said = parse_json(text, source, "no JSON")
     if not isinstance(said, dict):
         raise ToolError("the plan is no JSON object", source)
     return _Reader(topology, source).plan(said)

@@ -3,13 +3,19 @@
 from __future__ import annotations
 
 import re
+import sys
 from typing import Any, Dict, Iterable, Iterator, NamedTuple, Optional, TextIO, Tuple
 
 from sundial_tools.errors import ToolError
 
 MOST_NUMBER = 2**60
 MOST_DEVICE = 2**32 - 1
-NUMBER = re.compile(r"0|[1-9][0-9]*")
+# (a longer one is past every limit)
+NUMBER = re.compile(r"0|[1-9][0-9]{0,39}")
+
+_NUMBER, _DEVICE = "(0|[1-9][0-9]{0,17})", "(0|[1-9][0-9]{0,8})"
+# Nearly all lines of a schedule are of these forms, with numbers below 10^18, and devices below 10^9.
+USUAL = re.compile(f"(tick|ask|recv) {_NUMBER} {_DEVICE} {_NUMBER}(?: {_NUMBER})?")
 
 # The fields of each word, behind REF.
 FIELDS: Dict[str, Tuple[str, ...]] = {
@@ -46,6 +52,10 @@ class Event(NamedTuple):
 
 def event_line(event: Event) -> str:
     """The line of an event, with its newline."""
+    if event.word == "recv":
+        return f"recv {event.ref} {event.device} {event.counter} {event.message}\n"
+    if event.word == "tick":
+        return f"tick {event.ref} {event.device} {event.counter}\n"
     fields = [event.word, str(event.ref)]
     fields += [str(getattr(event, name)) for name in FIELDS[event.word]]
     return " ".join(fields) + "\n"
@@ -53,6 +63,13 @@ def event_line(event: Event) -> str:
 
 def parse_event(line: str, source: Optional[str] = None, number: Optional[int] = None) -> Event:
     """The event of a line without its newline. Raises ToolError where it is none."""
+    usual = USUAL.fullmatch(line)
+    if usual is not None:
+        word, ref, device, counter, message = usual.groups()
+        if message is not None and word == "recv":
+            return Event(word, int(ref), int(device), int(counter), None, None, int(message))
+        if message is None and word != "recv":
+            return Event(word, int(ref), int(device), int(counter))
     words = line.split(" ")
     names = FIELDS.get(words[0])
     if names is None:
@@ -80,4 +97,5 @@ def read_schedule(lines: Iterable[str], source: Optional[str] = None) -> Iterato
 
 
 def open_schedule(path: str) -> TextIO:
-    return open(path, encoding="utf-8", newline="\n")
+    """A schedule in a file, or from standard input for `-`."""
+    return open(sys.stdin.fileno() if path == "-" else path, encoding="utf-8", newline="\n", closefd=path != "-")

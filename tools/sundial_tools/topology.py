@@ -5,10 +5,16 @@ Devices, links and domains have the numbers of their order in the text, from 0. 
 
 from __future__ import annotations
 
+import contextlib
+import os
 import re
+import shutil
+import subprocess
+import sys
+import tempfile
 import tomllib
-from dataclasses import dataclass, field
-from typing import Any, Dict, List, Optional, Tuple
+from dataclasses import dataclass, field, replace
+from typing import Any, BinaryIO, ContextManager, Dict, Iterator, List, Optional, Tuple
 
 from sundial_tools.errors import ToolError
 
@@ -16,6 +22,8 @@ NAME = re.compile(r"[A-Za-z0-9_.-]{1,64}")
 MOST_DEVICES, MOST_LINKS, MOST_DOMAINS, MOST_LISTED = 4096, 32768, 4096, 262144
 MOST_PICOSECONDS = 10**12
 MOST_BYTES = 2**26
+MOST_SECONDS = 300
+VERSION = re.compile(rb"^[ \t]*version[ \t]*=[ \t]*([12])[ \t\r]*(?:#.*)?$", re.MULTILINE)
 Table = Dict[str, Any]
 
 
@@ -87,20 +95,76 @@ class Topology:
     link_numbers: Dict[str, int] = field(compare=False, repr=False)
 
 
+def open_bytes(path: str) -> ContextManager[BinaryIO]:
+    """A file, or standard input for `-`."""
+    if path == "-":
+        return contextlib.nullcontext(sys.stdin.buffer)
+    return open(path, "rb")
+
+
 def read_topology(path: str) -> Topology:
-    """The topology of a file. Raises ToolError where the text is none."""
-    with open(path, "rb") as file:
+    """The topology of a file, or of standard input for `-`, as `sundial` reads it where it is there.
+
+    Raises ToolError where the text is none.
+    """
+    with open_bytes(path) as file:
         text = file.read(MOST_BYTES + 1)
     if len(text) > MOST_BYTES:
         raise ToolError("the topology has more than 2^26 bytes", path)
-    return parse_topology(text.decode("utf-8"), path)
+    program = sundial_program()
+    if program is None:
+        return parse_topology(text.decode("utf-8"), path)
+    migrated = parse_topology(_migrated(program, path, text), path)
+    said = VERSION.search(text)
+    return replace(migrated, version=int(said[1])) if said else migrated
+
+
+def sundial_program() -> Optional[str]:
+    """The program that reads topologies: the one that SUNDIAL names, or `sundial` of the path. An empty SUNDIAL is none."""
+    said = os.environ.get("SUNDIAL")
+    return shutil.which("sundial") if said is None else said or None
+
+
+def _migrated(program: str, path: str, text: bytes) -> str:
+    """What `sundial migrate` makes of a topology: a text of version 2 in the plainest TOML."""
+    try:
+        with _regular(path, text) as name:
+            done = subprocess.run(
+                [program, "migrate", name], stdout=subprocess.PIPE, stderr=subprocess.DEVNULL, timeout=MOST_SECONDS, check=False
+            )
+    except (OSError, subprocess.TimeoutExpired) as fault:
+        raise ToolError(f"{program} migrate, which reads topologies, did not run: {fault}", path) from None
+    said = done.stdout.decode("utf-8", "replace")
+    if said.startswith("input topology "):
+        raise ToolError(f"sundial refuses it: {said.strip()}", path)
+    if done.returncode != 0:
+        raise ToolError(f"{program} migrate ended with status {done.returncode}", path)
+    return said
+
+
+@contextlib.contextmanager
+def _regular(path: str, text: bytes) -> Iterator[str]:
+    """The name of a file with the text: what was read from a pipe cannot be read again."""
+    if os.path.isfile(path):
+        yield path
+        return
+    with tempfile.NamedTemporaryFile(prefix="sundial-") as file:
+        file.write(text)
+        file.flush()
+        yield file.name
 
 
 def parse_topology(text: str, source: Optional[str] = None) -> Topology:
+    """The topology of a text, read by the tools themselves. They read TOML 1.0."""
     try:
         table = tomllib.loads(text)
     except tomllib.TOMLDecodeError as fault:
-        raise ToolError(f"no TOML: {fault}", source) from None
+        reason = f"no TOML: {fault} (the tools read TOML 1.0; with sundial on the path they take what it reads, TOML 1.1)"
+        raise ToolError(reason, source) from None
+    except RecursionError:
+        raise ToolError("arrays and tables are nested too deep", source) from None
+    except ValueError:
+        raise ToolError("a number has too many digits", source) from None
     return _Reader(source).topology(table)
 
 

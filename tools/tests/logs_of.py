@@ -11,13 +11,17 @@ import json
 import pathlib
 import sys
 
-import support  # noqa: F401  (puts the package on the path)
+import support
 
 from sundial_tools.plan import read_plan
-from sundial_tools.record.fleet import Fleet, Refusal
+from sundial_tools.record.fleet import JudgedFleet, Refusal
 from sundial_tools.record.logs import NO_STAMP, NONE, LogEvent
 from sundial_tools.schedule import open_schedule, read_schedule
 from sundial_tools.topology import read_topology
+
+
+# (the import puts the package on the path)
+assert support.TOOLS.is_dir()
 
 
 def logs_of(topology, plans, events):
@@ -30,7 +34,7 @@ def logs_of(topology, plans, events):
 
 def lines_of(topology, plans, events):
     """Each line with whose log it stands in, in the order of the schedule."""
-    fleet = Fleet(topology, plans)
+    fleet = JudgedFleet(topology, plans)
     for line, event in events:
         said = {"event": event.word, "reference_ps": event.ref}
         for key in "counter", "clock", "eps":
@@ -40,7 +44,7 @@ def lines_of(topology, plans, events):
             pass
         device, link, epoch, stamp = NONE if event.device is None else event.device, NONE, NONE, NO_STAMP
         if event.message is not None:
-            device, link, epoch, stamp = fleet.book.key_of(event.message)
+            device, link, epoch, stamp = fleet.book.get(event.message).key
             if event.device not in (None, device):
                 raise ValueError(f"line {line}: message {event.message} goes to {device}")
             said.update(link=topology.links[link].name, epoch=epoch, term=stamp[0], round=stamp[1])

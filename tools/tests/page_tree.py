@@ -1,16 +1,16 @@
 """The tree of a page, for tests that ask what is shown."""
 
 from html.parser import HTMLParser
-from typing import Dict, Iterator, List, Optional
+from typing import Dict, Iterator, List, Optional, Union
 
-EMPTY = ("meta", "br", "input", "link")
+EMPTY = ("meta", "br", "input", "link", "hr")
 
 
 class Node:
     def __init__(self, tag: str, attributes: Dict[str, Optional[str]], parent: "Optional[Node]") -> None:
         self.tag, self.attributes, self.parent = tag, attributes, parent
         self.children: List[Node] = []
-        self.pieces: List[str] = []
+        self.content: List[Union[str, Node]] = []
 
     def __getitem__(self, name: str) -> Optional[str]:
         return self.attributes.get(name)
@@ -21,7 +21,7 @@ class Node:
 
     @property
     def text(self) -> str:
-        return "".join(self.pieces) + "".join(child.text for child in self.children)
+        return "".join(part if isinstance(part, str) else part.text for part in self.content)
 
     @property
     def title(self) -> str:
@@ -49,6 +49,7 @@ class _Builder(HTMLParser):
     def handle_starttag(self, tag, attributes):
         node = Node(tag, dict(attributes), self.at)
         self.at.children.append(node)
+        self.at.content.append(node)
         if tag not in EMPTY:
             self.at = node
 
@@ -58,7 +59,7 @@ class _Builder(HTMLParser):
         self.at = self.at.parent
 
     def handle_data(self, data):
-        self.at.pieces.append(data)
+        self.at.content.append(data)
 
 
 def parse(text: str) -> Node:

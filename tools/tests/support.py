@@ -20,6 +20,8 @@ from sundial_tools.errors import run_tool  # noqa: E402
 
 # The built program: a test that needs it is skipped where there is none.
 PROGRAM = pathlib.Path(os.environ.get("SUNDIAL", TOOLS.parent / "crates" / "sundial" / "out" / "sundial"))
+# (the tools themselves read topologies without it, but where a test says otherwise)
+os.environ["SUNDIAL"] = ""
 needs_sundial = unittest.skipUnless(PROGRAM.is_file(), "the program sundial is not built (SUNDIAL names it)")
 
 

@@ -226,12 +226,19 @@ class Chrony(unittest.TestCase):
                 self.assertEqual((status, len(out.splitlines())), (0, 2))
                 self.assertIn(f"left out: 1, {reason}", err)
 
+    def test_lines_of_chrony_4_6(self):
+        longer = "".join(f"{line},7,7,0,0\n" for line in NTPDATA.read_text().splitlines())
+        with directory() as path:
+            (path / "ntpdata").write_text(longer)
+            self.assertEqual(convert("chrony", path / "ntpdata")[1], convert("chrony", NTPDATA)[1])
+
     def test_bad_lines(self):
         text = NTPDATA.read_text()
         for bad, reason in (
             (text[:-1], "cut short"),
             (text + "506 Cannot talk to daemon\n", "has 1 fields"),
             (text.replace("0.000013803", "13 us"), ":1: '13 us' is no number of seconds"),
+            (text.replace("0.000000030", "abc", 1), ":1: 'abc' is no number of seconds"),
         ):
             with self.subTest(reason), directory() as path:
                 (path / "ntpdata").write_text(bad)
@@ -245,7 +252,7 @@ class Capture(unittest.TestCase):
         with directory() as path:
             sender = threading.Thread(target=_send, args=(str(path / "socket"), first_datagram()))
             sender.start()
-            status, _, err = tool("capture", path / "socket", "--seconds", "0.6", "--output", path / "out")
+            status, _, err = tool("capture", path / "socket", "--seconds", "1.5", "--output", path / "out")
             sender.join()
             self.assertEqual(status, 0, err)
             self.assertEqual((path / "out").read_text(), first_datagram().hex() + "\n")

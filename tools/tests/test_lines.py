@@ -3,9 +3,10 @@
 import csv
 import io
 import json
+import subprocess
 import unittest
 
-from support import DATA, directory, needs_sundial, run, sundial
+from support import DATA, TOOLS, directory, needs_sundial, run, sundial
 from test_record import RENEWAL
 
 from sundial_tools.lines.main import main
@@ -51,8 +52,8 @@ class Lines(unittest.TestCase):
         self.assertEqual((status, err), (0, ""))
         return [json.loads(line) for line in out.splitlines()]
 
-    def renewed(self, text=RENEWED, *more, schedule=RENEWAL):
-        files = {"schedule": schedule, "topology": (DATA / "triangle.toml").read_text()}
+    def renewed(self, text=RENEWED, *more, schedule=RENEWAL, topology=None):
+        files = {"schedule": schedule, "topology": topology or (DATA / "triangle.toml").read_text()}
         return self.convert(text, *more, files=files)
 
     def test_each_form(self):
@@ -143,6 +144,54 @@ class Lines(unittest.TestCase):
                 status, out, err = self.renewed(text, "--csv")
                 self.assertEqual((status, out), (1, ""))
                 self.assertIn(reason, err)
+
+    def test_a_refused_topology_is_told_and_not_read(self):
+        """The topology that `sundial` refused is refused by the tool too: what counts is the verdict."""
+        text = "input topology UnknownKey latency\n"
+        for more in [], ["--csv"]:
+            status, out, err = self.renewed(text, *more, topology="version = 1\nlatency = 5\n")
+            self.assertEqual((status, err), (0, ""))
+        self.assertEqual(self.rows(text)[0]["reason"], "UnknownKey latency")
+        text = "refused plan 1 timing 4 3 5\n"
+        self.assertEqual(self.rows(text, files={"plan": "{", "topology": (DATA / "triangle.toml").read_text(), "schedule": ""})[0]["rule"], 4)
+
+    def test_words_that_are_not_known(self):
+        for text in (
+            "broken 5 clock\n", "alarm 5 fire b\n", "link rb 1 2 3 between\n", "report 5 b/c 1 2\n", "bound listed a+b x 5\n",
+            "refused plan 1 loop listed c cycle x y!\n", "report 22 b 1 2\r\n", "broken 5 start\r\n", "input plan 1 NotJson\r\n",
+            "usage: sundial\r\n", "input topology NoToml \u2028\n",
+        ):
+            with self.subTest(text):
+                status, out, err = self.convert(text)
+                self.assertEqual((status, out), (1, ""))
+                self.assertIn("no line that sundial prints", err)
+
+    def test_a_carriage_return_from_standard_input(self):
+        done = subprocess.run(
+            [TOOLS / "sundial-lines"], input=b"broken 5 start\r\ndone 5 0\r\n", capture_output=True, check=False
+        )
+        self.assertEqual(done.returncode, 1)
+        self.assertIn(b"standard input:1: no line that sundial prints", done.stderr)
+
+    def test_lines_that_no_one_output_has(self):
+        for text, reason in (
+            ("done 1 0\nreport 2 b 1 2\n", "a line behind the last one, which was done"),
+            ("refused plan 1 ancestor device b\ndone 1 0\n", "a line behind the last one, which was refused"),
+            ("report 1 b 1 2\naccepted 1 1 1\n", "does not stand in the output of this command"),
+            ("report 2 b 1 2\nreport 1 b 1 2\n", "the output is out of order: line 1 comes behind line 2"),
+            ("report 1 b 1 2\ndone 5 2\n", "done says 2 reports, and 1 were read"),
+            ("link rb 1 2 3 inside\ndone 5 2\n", "done says 2 links, and 1 were read"),
+            ("bound device r x 5\nbound device r y 5\ndone 1 3\n", "done says 1 domains of 3 members, so 3 lines, and 2 were read"),
+        ):
+            with self.subTest(text):
+                status, out, err = self.convert(text, "--command", "replay")
+                self.assertEqual((status, out), (1, ""))
+                self.assertIn(reason, err)
+        self.assertEqual(len(self.rows("done 7 3\nwaits 3 1 1\n", "--command", "order")), 2)
+
+    def test_plans_need_a_topology_and_a_schedule(self):
+        status, _, err = self.convert("done 1 0\n", "--plan", DATA / "triangle-1.json")
+        self.assertEqual((status, err), (1, "sundial-lines: --plan needs --topology and --schedule\n"))
 
     def test_a_bad_line_of_the_schedule(self):
         for bad, reason in ("ask 215700000 7 215700000", "no device 7"), ("ask 215700000 1 0215", "Number 3"):

@@ -1,20 +1,28 @@
 """sundial-report: what its pages show, asked of the tree of the page, over the examples and over bad inputs."""
 
+import hashlib
 import json
+import os
 import shutil
 import subprocess
 import sys
 import unittest
+from unittest import mock
 
+import case
 from examples import EXAMPLES, outputs
 from page_tree import parse
 from support import TOOLS, directory, run
 
+from sundial_tools.fleet.fleet import Fleet
 from sundial_tools.plan import read_plan
 from sundial_tools.report.effects import Effects, fault_domains
 from sundial_tools.report.main import main
+from sundial_tools.report.replay import Replay
+from sundial_tools.report.replay_view import ReplayView, greatest
 from sundial_tools.report.series import MOST_INTERVALS, MOST_REPORTS, Interval, Peaks, Percentiles, Report, Reports
 from sundial_tools.report.units import exact, human, round_steps
+from sundial_tools.schedule import parse_event
 from sundial_tools.topology import parse_topology, read_topology
 
 HAS_DOT = shutil.which("dot") is not None
@@ -102,16 +110,51 @@ class Trees(unittest.TestCase):
                 self.assertGreater(heights[row.device], heights[row.primary.parent])
             self.assertEqual(len(set(heights.values())), 3)
 
-    def test_colours_are_those_of_the_legend(self):
+    def test_colour_tells_states_and_never_a_domain(self):
         here = EXAMPLES / "fabric"
-        topology = read_topology(str(here / "topology.toml"))
         tree = page(here / "topology.toml", here / "plan.json")
-        legend = {node.text: node.one("i")["style"][len("background:") :] for node in tree.all("span", "domain")}
-        self.assertEqual(set(legend), {domain.name for domain in topology.domains})
-        self.assertEqual(len(set(legend.values())), len(legend))
-        domain_of = {device: domain.name for domain in reversed(topology.domains) for device in domain.devices}
-        for node in tree.all("g", "device"):
-            self.assertEqual(node.all("rect")[0]["fill"], legend[domain_of[int(node["data-device"])]])
+        for node in tree.one("svg", "tree").walk():
+            self.assertNotIn("fill", node.attributes)
+        keys = {node.text for node in tree.all("span", "item")}
+        self.assertLessEqual({"primary", "backup", "R root, B backup root", "moves to its backup"}, keys)
+
+    def test_hops_within_a_row_do_not_hide_each_other(self):
+        """Each such curve goes down to a level of its own, where it meets another one."""
+        rows = [{"device": "m0", "parent": "r", "link": "a0", "backup": "m1", "backup_link": "c0"}]
+        rows += [{"device": f"m{n}", "parent": "r", "link": f"a{n}", "backup": "m0", "backup_link": f"c{n - 1}"} for n in range(1, 7)]
+        plan = {**json.loads((EXAMPLES / "triangle" / "plan.json").read_text()), "root": "r", "backup_root": "m0", "rows": rows}
+        text = "version = 2\nppm = 1\ngrain = 1\nperiod = 9\ntick = 1\nloss = 1\ndepth = 3\nroots = [\"r\", \"m0\"]\n"
+        text += "".join(f'[[device]]\nname = "{name}"\n' for name in ["r"] + [f"m{n}" for n in range(7)])
+        links = [(f"a{n}", "r", f"m{n}") for n in range(7)] + [(f"c{n}", "m0", f"m{n + 1}") for n in range(6)]
+        text += "".join(f'[[link]]\nname = "{name}"\nends = ["{one}", "{two}"]\nmin = 1\nmax = 2\n' for name, one, two in links)
+        with directory() as path:
+            (path / "t.toml").write_text(text)
+            (path / "p.json").write_text(json.dumps(plan))
+            tree = page(path / "t.toml", path / "p.json")
+        curves = [node["d"] for node in tree.all("path", "edge", "backup")]
+        depths = sorted(float(curve.replace("M", "").replace("C", " ").split()[3]) for curve in curves)
+        self.assertEqual(len(depths), 7)
+        self.assertGreaterEqual(min(after - before for before, after in zip(depths, depths[1:])), 12)
+
+    def test_plans_stand_side_by_side_with_what_changed(self):
+        here = EXAMPLES / "fabric"
+        tree = page(here / "topology.toml", here / "plan.json", here / "plan-2.json")
+        self.assertEqual(len(tree.one("div", "side-by-side").all("section", "plan")), 2)
+        facts = [node.text for node in tree.one("section", "changes").all("li")]
+        self.assertIn("The root is spine2 instead of spine1.", facts)
+        self.assertIn("Left out: spine1.", facts)
+        rows = [[cell.text for cell in row.all("td")] for row in tree.one("table", "changes-2").one("tbody").all("tr")]
+        self.assertIn(["leaf1", "spine1 over leaf1-spine1", "spine2 over leaf1-spine2", "spine2 over leaf1-spine2", "spine3 over leaf1-spine3"], rows)
+        first, second = tree.all("section", "plan")
+        self.assertEqual(first.all("path", "changed"), [])
+        changed = {(edge["data-devices"], "primary" in edge.classes) for edge in second.all("path", "changed")}
+        topology = read_topology(str(here / "topology.toml"))
+        before, after = (read_plan(str(here / name), topology) for name in ("plan.json", "plan-2.json"))
+        self.assertEqual(
+            changed,
+            {(str(device), True) for device, row in after.rows.items() if row.primary != before.rows[device].primary}
+            | {(str(device), False) for device, row in after.rows.items() if row.backup and row.backup != before.rows[device].backup},
+        )
 
     def test_the_rows_stand_in_a_table(self):
         here = EXAMPLES / "triangle"
@@ -133,8 +176,30 @@ class Trees(unittest.TestCase):
             topology = parse_topology(topology_text)
             self.check_plan(tree.one("section", "plan"), topology, read_plan(str(path / "plan"), topology))
         self.assertLess(len(tree.all("path", "edge")), 40)
+        (leaves, *_) = sorted(tree.all("details", "group"), key=lambda group: -len(group.all("li")))
+        self.assertEqual(leaves.one("summary").text, "The 254 devices under s0, with the backup s1")
+        self.assertEqual(leaves.all("li")[0].text, "rack2 l2")
         self.assertLessEqual(max(float(node["width"]) for node in tree.all("svg")), 1400)
         self.assertEqual(len(tree.one("table", "by-domain").one("tbody").all("tr")), 257)
+
+
+def large_replay(path, plan_text):
+    """The words for a page of a case of 256 leaves and 32 spines; its output is what the model of the tools says."""
+    topology = parse_topology(case.network_text(256, 32))
+    plan = {**json.loads(plan_text), "wait_first": 1345000000, "wait_second": 1345000000, "wait": 6730000000}
+    (path / "topology").write_text(case.network_text(256, 32))
+    (path / "plan").write_text(json.dumps(plan))
+    plans = [read_plan(str(path / "plan"), topology)]
+    made = case.Case(5, topology, plans, rounds=140)
+    (path / "schedule").write_text(made.schedule())
+    fleet, lines = Fleet(topology, plans), []
+    for number, line in enumerate(made.lines, 1):
+        event = parse_event(line)
+        if event.word == "ask":
+            lines.append("report {} {} {} {}".format(number, topology.devices[event.device].name, *fleet.report(event.device, event.counter)))
+        fleet.happen(event)
+    (path / "output").write_text("\n".join([*lines, f"done {len(made.lines)} {len(lines)}"]) + "\n")
+    return [path / "topology", path / "plan", "--replay", path / "schedule", path / "output"]
 
 
 def large(leaves, spines):
@@ -362,28 +427,43 @@ class Drills(unittest.TestCase):
     def rows(self, name):
         return [[cell.text for cell in row.all("td")] for row in self.tree.one("table", name).one("tbody").all("tr")]
 
-    def test_the_heat_map_has_a_cell_for_each_row_and_device(self):
-        heat = self.tree.one("svg", "heat")
-        rows = heat.all("g", "row")
+    def test_the_map_has_a_cell_for_each_row_and_device(self):
+        heat = self.tree.one("table", "heat")
+        rows = heat.one("tbody").all("tr")
         self.assertEqual(len(rows), len(self.rows("by-domain")))
-        self.assertEqual({len(row.all("rect", "cell")) for row in rows}, {11})
+        self.assertEqual({len(row.all("td", "cell")) for row in rows}, {11})
+        self.assertEqual({len(row.all("th")) for row in rows}, {1})
         alike = {}
         for line in self.lines[:-1]:
             alike.setdefault(f"{line[1]} {line[2]}", []).append(line[4] if line[0] == "bound" else None)
         groups = {tuple(bounds) for bounds in alike.values()}
         self.assertEqual(len(rows), len(groups))
         unbounded = sum(bound is None for bounds in groups for bound in bounds)
-        self.assertEqual(len(heat.all("rect", "cell", "hx")), unbounded)
+        self.assertEqual(len(heat.all("td", "cell", "hx")), unbounded)
 
     def test_the_greatest_come_first(self):
-        most = max(int(line[4]) for line in self.lines if line[0] == "bound")
+        bounds = [int(line[4]) for line in self.lines if line[0] == "bound"]
         for name, column in ("by-domain", 2), ("by-device", 1):
             values = [int(row[column][:-3].replace(",", "")) for row in self.rows(name)]
             self.assertEqual(values, sorted(values, reverse=True))
-            self.assertEqual(values[0], most)
-        first = self.tree.one("svg", "heat").all("g", "row")[0].all("rect", "cell")[0]
-        self.assertIn(f"({most} ps)", first.title)
-        self.assertIn("h8", first.classes)
+            self.assertEqual(values[0], max(bounds))
+        first = self.tree.one("table", "heat").one("tbody").all("td", "cell")[0]
+        self.assertIn(exact(max(bounds)), first["title"])
+        self.assertLessEqual({"a8", "g8"}, set(first.classes))
+
+    def test_two_scales_from_0_and_by_logarithm(self):
+        inputs = self.tree.all("input", "scale")
+        self.assertEqual([(node["type"], node["id"], "checked" in node.attributes) for node in inputs],
+                         [("radio", "scale-linear", True), ("radio", "scale-log", False)])
+        self.assertEqual([node["for"] for node in self.tree.all("label")][:2], ["scale-linear", "scale-log"])
+        bounds = [int(line[4]) for line in self.lines if line[0] == "bound"]
+        for row in self.tree.one("table", "by-device").one("tbody").all("tr"):
+            cell = row.all("td")[1]
+            linear, log = cell.one("i", "bar")["style"].split(";")
+            self.assertEqual(linear, f"--linear:{int(cell['data-value']) / max(bounds):.1%}")
+            self.assertTrue(log.startswith("--log:"))
+        ramps = {node.classes[-1]: node.text for node in self.tree.all("p", "ramp")}
+        self.assertTrue(ramps["linear"].startswith("0 ps "))
 
     def test_each_device_has_its_worst(self):
         worst = {}
@@ -426,38 +506,62 @@ class Drills(unittest.TestCase):
 
 
 class Replays(unittest.TestCase):
-    def lanes(self, tree):
-        return {lane["data-lane"]: int(lane["data-count"]) for lane in tree.all("g", "lane")}
+    def marks(self, tree):
+        """How many marks of each kind stand in the table."""
+        kinds = [row.all("td")[2].text for row in tree.one("table", "marks").one("tbody").all("tr")]
+        return {kind: kinds.count(kind) for kind in kinds}
 
-    def test_each_report_is_a_dot_in_both_charts(self):
+    def test_each_report_is_a_dot_in_both_panels_and_a_row(self):
         for name in "triangle", "fabric":
             with self.subTest(name), directory() as path:
                 tree = whole(name, path)
-                reports = [line for line in outputs(name)[REPLAY].splitlines() if line.startswith("report")]
-                for chart in "eps", "off":
-                    dots = tree.one("svg", "chart", chart).all("circle", "report")
-                    self.assertEqual(sorted(dot.title.split(", at ")[0] for dot in dots), sorted(reports))
-                self.assertEqual(tree.all("circle", "wrong"), [])
+                reports = [line.split() for line in outputs(name)[REPLAY].splitlines() if line.startswith("report")]
+                (linear, log), (off,) = (tree.one("div", "plot", panel).all("svg") for panel in ("eps", "off"))
+                for panel in linear, log, off:
+                    dots = panel.all("path", "dots")
+                    self.assertEqual(sum(int(node["data-count"]) for node in dots), len(reports))
+                    self.assertEqual(sum(node["d"].count("h0") for node in dots), len(reports))
+                    self.assertEqual(panel.all("path", "wrong"), [])
+                rows = [[cell.text for cell in row.all("td")] for row in tree.one("table", "reports").one("tbody").all("tr")]
+                self.assertEqual(
+                    sorted((row[0], row[2], row[3], row[4]) for row in rows),
+                    sorted((line[1], line[2], line[3], exact(int(line[4]))) for line in reports),
+                )
 
     def test_what_happened_is_marked_at_its_line(self):
         with directory() as path:
             tree = whole("triangle", path)
-        self.assertEqual(
-            self.lanes(tree), {"failure": 1, "move": 1, "takeover": 1, "plan": 3, "broken": 0, "alarm": 0}
-        )
+        self.assertEqual(self.marks(tree), {"fail": 1, "move": 1, "takeover": 1, "stage": 1, "commit": 1, "close": 1})
         schedule = (EXAMPLES / "triangle" / "schedule.txt").read_text().splitlines()
         failed = next(place for place, line in enumerate(schedule, 1) if line.startswith("fail"))
-        (mark,) = tree.all("path", "mark", "fail")
+        (mark,) = tree.all("b", "mark", "fail")
         self.assertEqual((mark["data-line"], mark["data-count"]), (str(failed), "1"))
-        moved, taken = (int(tree.one("path", "mark", kind)["data-line"]) for kind in ("move", "takeover"))
+        moved, taken = (int(tree.one("b", "mark", kind)["data-line"]) for kind in ("move", "takeover"))
         self.assertTrue(failed < moved < taken)
         self.assertTrue(schedule[moved - 1].startswith("tick") and schedule[taken - 1].startswith("tick"))
-        self.assertEqual(tree.one("path", "mark", "takeover").title.split(": ")[1], "takeover b")
+        self.assertTrue(tree.one("b", "mark", "takeover")["title"].endswith(": takeover b"))
+
+    def test_each_device_has_a_track_with_its_modes(self):
+        with directory() as path:
+            tree = whole("triangle", path)
+        tracks = {row.one("div", "name").text: row for row in tree.all("div", "track")}
+        self.assertEqual(set(tracks), {"plans, links", "r", "b", "x"})
+        states = {name: {node.classes[-1] for node in row.all("path", "state")} for name, row in tracks.items()}
+        self.assertEqual(states["r"], {"acting"})
+        self.assertEqual(states["b"], {"primary", "waiting", "acting"})
+        said = tracks["b"].one("svg")["aria-label"]
+        self.assertTrue(said.startswith("b: primary from 0 ps to "), said)
+        rows = [[cell.text for cell in row.all("td")] for row in tree.one("table", "spans").one("tbody").all("tr")]
+        self.assertEqual([row[1] for row in rows if row[0] == "r"], ["acting", "down"])
+        for before, after in zip(rows, rows[1:]):
+            if before[0] == after[0]:
+                self.assertEqual(before[3], after[2])
 
     def test_each_device_has_a_line_and_percentiles(self):
         with directory() as path:
             tree = whole("fabric", path)
-        self.assertEqual(len(tree.one("svg", "eps").all("path", "line")), 11)
+        drawn = [device for node in tree.one("div", "eps").all("svg")[0].all("path", "line") for device in node["data-devices"].split()]
+        self.assertEqual(sorted(map(int, drawn)), list(range(11)))
         rows = tree.one("table", "percentiles").one("tbody").all("tr")
         eps = {}
         for line in outputs("fabric")[REPLAY].splitlines():
@@ -472,24 +576,40 @@ class Replays(unittest.TestCase):
             self.assertEqual(int(cells[2]["data-value"]), min(eps[cells[0].text]))
             self.assertEqual(int(cells[6]["data-value"]), max(eps[cells[0].text]))
 
+    def test_lines_that_coincide_are_told(self):
+        peaks = Peaks()
+        for ref in range(0, 1000, 10):
+            for device in 0, 1:
+                peaks.add(device, ref, ref, ref // 2)
+            peaks.add(2, ref, ref, ref)
+        topology = read_topology(str(EXAMPLES / "triangle" / "topology.toml"))
+        view = ReplayView(topology, Replay(peaks=peaks, first=0, last=1000))
+        self.assertEqual(view.lines, [[0, 1], [2]])
+        self.assertEqual(view.colour, {0: 0, 1: 0, 2: 1})
+
+    def test_the_envelope_is_the_greatest_of_all(self):
+        rows = [[Interval(10, 4), None, None, Interval(10, 2)], [None, Interval(5, 5), Interval(9, 1)]]
+        self.assertEqual(greatest(rows), [10, 6, 9, 10])
+
     def test_broken_premises_and_alarms(self):
         command = "sundial replay topology.toml plan.json plan.json schedule.txt"
         with directory() as path:
             tree = replayed("incident", "schedule.txt", command, path, plans=2)
         said = outputs("incident")[command].splitlines()
-        lanes = self.lanes(tree)
-        self.assertEqual(lanes["broken"], sum(line.startswith("broken") for line in said))
-        self.assertEqual(lanes["alarm"], sum(line.startswith("alarm") for line in said))
-        titles = " ".join(mark.title for mark in tree.all("path", "mark"))
-        listed = [
-            [cell.text for cell in row.all("td")][3] for row in tree.one("table", "marks").one("tbody").all("tr")
-        ]
+        marks = self.marks(tree)
+        self.assertEqual(marks["broken"], sum(line.startswith("broken") for line in said))
+        self.assertEqual(marks["alarm"], sum(line.startswith("alarm") for line in said))
+        listed = [[cell.text for cell in row.all("td")] for row in tree.one("table", "marks").one("tbody").all("tr")]
+        bands = " ".join(node["title"] for node in tree.one("div", "bands").all("div", "band") if node["title"])
         for line in said:
             if line.startswith(("broken", "alarm")):
-                self.assertIn(line, titles)
-                self.assertIn(line, listed)
+                self.assertIn(line, bands)
+                self.assertIn(line, [row[3] for row in listed])
+        self.assertEqual(len(tree.all("div", "band", "void")), 1)
+        self.assertIn("spine1 reached leaf over spine1-leaf after 1,900,000 ps", " ".join(row[4] for row in listed))
         wrong = sum(" interval " in line for line in said)
-        self.assertEqual(len(tree.all("circle", "report", "wrong")), 2 * wrong)
+        dots = [node for node in tree.all("path", "dots", "wrong")]
+        self.assertEqual(sum(int(node["data-count"]) for node in dots), 3 * wrong)
 
     def test_outputs_of_order(self):
         for schedule in "schedule.txt", "lying.txt":
@@ -497,8 +617,9 @@ class Replays(unittest.TestCase):
             said = outputs("commit-wait")[command].splitlines()
             with self.subTest(schedule), directory() as path:
                 tree = replayed("commit-wait", schedule, command, path)
-                marks = sum(line.startswith(("alarm", "disorder")) for line in said)
-                self.assertEqual(self.lanes(tree)["alarm"], marks)
+                marks = self.marks(tree)
+                for kind in "alarm", "disorder":
+                    self.assertEqual(marks.get(kind, 0), sum(line.startswith(kind) for line in said))
 
     def test_a_replay_that_ends_at_a_refused_line(self):
         here = EXAMPLES / "triangle"
@@ -554,6 +675,78 @@ class Replays(unittest.TestCase):
                 self.assertFalse((path / "page").exists())
 
 
+class Verdicts(unittest.TestCase):
+    def check(self, tree, kind, word, *texts):
+        section = tree.one("section", "verdict")
+        self.assertEqual((section["data-verdict"], section.one("h2").text), (kind, word))
+        self.assertEqual(tree.one("main").children[0], section)
+        for text in texts:
+            self.assertIn(text, section.text)
+        ids = {node["id"] for node in tree.walk() if node["id"]}
+        for link in section.all("a"):
+            self.assertIn(link["href"][1:], ids)
+        return section
+
+    def test_a_safe_replay(self):
+        with directory() as path:
+            tree = whole("fabric", path)
+        self.check(tree, "safe", "Safe", "No premise broke and no alarm was raised: 732 events", "17 reports", "off by 49% of its eps")
+
+    def test_alarms_after_broken_premises(self):
+        with directory() as path:
+            tree = replayed("incident", "schedule.txt", "sundial replay topology.toml plan.json plan.json schedule.txt", path, plans=2)
+        section = self.check(
+            tree, "alarm", "Alarms", "2 premises broke (tick, delay), the first at line 13, and 2 alarms followed, the first at line 21",
+            "spine2, leaf, spine1 did not tick for 1,410,000,000 ps", "no promise was broken",
+        )
+        self.assertEqual([link.text for link in section.all("a")][:2], ["line 13, at 1.5 ms", "line 21, at 2.9 ms"])
+        self.assertEqual([link["href"] for link in section.all("a")][:2], ["#line-13", "#line-21"])
+
+    def test_broken_premises_alone(self):
+        here = EXAMPLES / "triangle"
+        with directory() as path:
+            (path / "schedule").write_text("start 1001 0 0 0 1000\nend 1001\n")
+            (path / "output").write_text("broken 1 start\ndone 2 0\n")
+            tree = page(here / "topology.toml", here / "plan.json", "--replay", path / "schedule", path / "output")
+        self.check(tree, "broken", "Premises broken", "1 premise broke (start), the first at line 1", "No alarm was raised", "1,001 ps off")
+
+    def test_alarms_that_should_not_be(self):
+        here = EXAMPLES / "triangle"
+        with directory() as path:
+            (path / "schedule").write_text("start 0 0 0 0 1000\nend 1001\n")
+            (path / "output").write_text("alarm 1 roots r b\ndone 2 0\n")
+            tree = page(here / "topology.toml", here / "plan.json", "--replay", path / "schedule", path / "output")
+        self.check(tree, "alarm", "Alarms", "No premise broke", "against what is proved")
+
+    def test_a_refused_plan(self):
+        here = EXAMPLES / "refused"
+        for condition, texts in (
+            ("loop", ["1 plan is refused: condition loop", "follow each other in a ring"]),
+            ("timing", ["Rule 4: wait is 3.499 ms (3,499,299,000 ps) at the least, and has to be at least 3.577 ms (3,576,668,000 ps): 77.37 us are missing"]),
+        ):
+            with self.subTest(condition), directory() as path:
+                (path / "check").write_text(outputs("refused")[f"sundial check topology.toml {condition}.json"])
+                tree = page(here / "topology.toml", here / f"{condition}.json", "--check", path / "check")
+                self.check(tree, "refused", "Refused", *texts)
+                if condition == "loop":
+                    self.assertIn("The way that is marked: l2 follows l3 follows l2.", tree.one("p", "refused").text)
+
+    def test_a_refused_line(self):
+        here = EXAMPLES / "triangle"
+        with directory() as path:
+            (path / "schedule").write_text("start 0 0 0 0 1000\n")
+            (path / "output").write_text("input schedule 2 NoEnd\n")
+            tree = page(here / "topology.toml", here / "plan.json", "--replay", path / "schedule", path / "output")
+        self.check(tree, "refused", "Refused", "input schedule 2 NoEnd", "What came after this line is not known")
+
+    def test_an_accepted_plan_and_nothing_at_all(self):
+        here = EXAMPLES / "triangle"
+        with directory() as path:
+            (path / "check").write_text("accepted 3 3 0\n")
+            self.check(page(here / "topology.toml", here / "plan.json", "--check", path / "check"), "accepted", "Plan accepted")
+        self.check(page(here / "topology.toml", here / "plan.json"), "none", "Nothing was judged", "Give --check, --drill or --replay")
+
+
 class Pages(unittest.TestCase):
     def test_nothing_outside_is_read(self):
         with directory() as path:
@@ -561,11 +754,94 @@ class Pages(unittest.TestCase):
         for node in tree.walk():
             self.assertNotIn(node.tag, ("link", "img", "iframe", "base", "object", "embed"))
             for name, value in node.attributes.items():
-                self.assertNotIn(name, ("src", "href", "action", "onclick"))
+                self.assertNotIn(name, ("src", "action", "onclick"))
                 self.assertNotIn("http", value or "")
+                if name == "href":
+                    self.assertTrue(value.startswith("#"))
         for node in tree.all("style") + tree.all("script"):
-            for word in "http", "url(", "@import", "fetch", "XMLHttp", "import(":
+            for word in "http", "@import", "fetch", "XMLHttp", "import(":
                 self.assertNotIn(word, node.text)
+            self.assertNotIn("url(", node.text.replace("url(#", ""))
+
+    def test_links_lead_to_places_and_places_are_one(self):
+        with directory() as path:
+            tree = whole("fabric", path)
+        ids = [node["id"] for node in tree.walk() if node["id"]]
+        self.assertEqual(len(ids), len(set(ids)))
+        links = [node["href"] for node in tree.one("nav").all("a")]
+        self.assertEqual(links, ["#verdict", "#replay", "#plans", "#drill"])
+        self.assertLessEqual({link[1:] for link in links}, set(ids))
+
+    def test_files_date_and_versions(self):
+        here = EXAMPLES / "fabric"
+        with directory() as path, mock.patch.dict(os.environ, {"SOURCE_DATE_EPOCH": "1000000000"}):
+            tree = whole("fabric", path)
+            again = whole("fabric", path)
+        self.assertEqual(tree.text, again.text)
+        self.assertIn("Made 2001-09-09 01:46 UTC by sundial-report", tree.one("p", "made").text)
+        rows = {row.all("td")[0].text: row for row in tree.one("table", "files").one("tbody").all("tr")}
+        self.assertEqual(
+            list(rows),
+            ["topology, version 1", "plan 1, version 1", "plan 2, version 1", "output of drill", "schedule", "output of replay or order"],
+        )
+        digest = hashlib.sha256((here / "schedule.txt").read_bytes()).hexdigest()
+        self.assertEqual(rows["schedule"].all("td")[3].text, digest[:16])
+
+    def test_who_sees_nothing_hears_all(self):
+        """Pictures have names, what scrolls is reached by the keyboard, and every control has a label."""
+        with directory() as path:
+            tree = whole("fabric", path)
+        for node in tree.all("svg"):
+            if node["aria-hidden"] != "true":
+                self.assertEqual(node["role"], "img")
+                self.assertTrue(node["aria-label"])
+        for node in tree.all("div", "scroll") + tree.all("div", "panels"):
+            self.assertEqual((node["role"], node["tabindex"]), ("region", "0"))
+            self.assertTrue(node["aria-label"])
+        for node in tree.all("button"):
+            self.assertTrue(node["aria-label"])
+        labelled = {node["for"] for node in tree.all("label") if node["for"]}
+        for node in tree.all("input"):
+            self.assertIn(node["id"], labelled)
+        for node in tree.all("select"):
+            self.assertEqual(node.parent.tag, "label")
+        for table in tree.all("table"):
+            for head in table.one("thead").all("th"):
+                self.assertEqual(head["scope"], "col")
+
+    def test_styles_for_dark_forced_colours_print_and_narrow_pages(self):
+        here = EXAMPLES / "triangle"
+        style = page(here / "topology.toml", here / "plan.json").one("style").text
+        for rule in "prefers-color-scheme:dark", "forced-colors:active", "@media print", "max-width:640px", ":focus-visible", "position:sticky":
+            self.assertIn(rule, style)
+
+    def test_what_needs_script_is_hidden_without_it(self):
+        with directory() as path:
+            tree = whole("fabric", path)
+        for node in tree.all("div", "chooser") + tree.all("div", "controls") + tree.all("div", "cursor"):
+            self.assertIn("hidden", node.attributes)
+
+    def test_a_large_replay_is_small_and_quick(self):
+        """256 leaves by 32 spines, with a schedule of some 80,000 lines: at most 5 MB, and few nodes."""
+        topology_text, plan_text, drill_text = large(256, 32)
+        with directory() as path:
+            words = large_replay(path, plan_text)
+            (path / "drill").write_text(drill_text)
+            status, out, err = tool(*words, "--drill", path / "drill")
+        self.assertEqual((status, err), (0, ""))
+        self.assertLess(len(out.encode()), 5_000_000)
+        tree = parse(out)
+        self.check_few(tree)
+        self.assertEqual(tree.one("section", "verdict")["data-verdict"], "safe")
+
+    def check_few(self, tree):
+        shown = [node for node in tree.one("div", "panels").walk()]
+        self.assertLess(len(shown), 1000)
+        self.assertLess(sum(1 for _ in tree.walk()), 40_000)
+        alike = [row for row in tree.all("div", "track") if " +" in row.one("div", "name").text]
+        self.assertTrue(alike)
+        devices = sorted(int(device) for row in tree.all("div", "track") if row["data-devices"] for device in row["data-devices"].split())
+        self.assertEqual(devices, list(range(288)))
 
     def test_names_are_escaped_and_the_heading_too(self):
         here = EXAMPLES / "triangle"
@@ -574,8 +850,10 @@ class Pages(unittest.TestCase):
 
     def test_parts_alone(self):
         with directory() as path:
-            self.assertEqual(len(whole("triangle", path, "--only", "replay").all("section")), 1)
-            self.assertEqual(len(whole("triangle", path, "--only", "drill", "--only", "tree").all("section")), 3)
+            parts = [node.classes[0] for node in whole("triangle", path, "--only", "replay").one("main").children]
+            self.assertEqual(parts, ["verdict", "replay", "sources"])
+            parts = [node.classes[0] for node in whole("triangle", path, "--only", "drill", "--only", "tree").one("main").children]
+            self.assertEqual(parts, ["verdict", "plans", "drill", "sources"])
 
     def test_bad_topologies_and_plans(self):
         here = EXAMPLES / "triangle"

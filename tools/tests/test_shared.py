@@ -1,10 +1,9 @@
 """The modules that all tools share."""
 
 import io
-import os
 import unittest
 
-from support import DATA, directory
+from support import DATA
 
 from sundial_tools import outputs, plan, safe_write, schedule, topology
 from sundial_tools.errors import ToolError, run_tool
@@ -111,17 +110,7 @@ class Outputs(unittest.TestCase):
             list(outputs.read_output(["done 1 1\n", "don"], "file"))
 
 
-class Writing(unittest.TestCase):
-    def test_a_file_is_whole_or_not_there(self):
-        with directory() as path:
-            with safe_write.whole_output(str(path / "good")) as text:
-                text.write("all\n")
-            with self.assertRaises(ToolError), safe_write.whole_output(str(path / "bad")) as text:
-                text.write("half")
-                raise ToolError("no")
-            self.assertEqual(os.listdir(path), ["good"])
-            self.assertEqual((path / "good").read_text(), "all\n")
-
+class Progress(unittest.TestCase):
     def test_progress_shows_on_a_terminal_after_two_seconds(self):
         now = [0.0]
         for terminal, shown in (True, "\r\x1b[Kfile: 8,192 lines\r\x1b[K"), (False, ""):

@@ -1,6 +1,7 @@
 """sundial-topology: from LLDP, from NetBox and from tables, and back."""
 
 import csv
+import hashlib
 import io
 import json
 import shutil
@@ -127,6 +128,118 @@ class Lldp(unittest.TestCase):
         self.assertIn("no device has the role core, of which roots are taken; there are leaf, spine", err)
 
 
+def json0(said):
+    """What lldpcli prints with -f json0 for what it prints with -f json."""
+    def plain(value):
+        return [{"value": value}]
+
+    entries = []
+    for entry in said["lldp"]["interface"]:
+        ((port, told),) = entry.items()
+        chassis = dict(told["chassis"])
+        name, inner = (None, chassis) if "id" in chassis else next(iter(chassis.items()))
+        far = {"id": [told["port"]["id"]], "descr": plain(told["port"].get("descr", ""))}
+        whose = {"id": [inner["id"]], **({"name": plain(name)} if name else {})}
+        entries.append({"name": port, "via": told["via"], "rid": "1", "chassis": [whose], "port": [far]})
+    return {"lldp": [{"interface": entries}]}
+
+
+class LldpOfSites(unittest.TestCase):
+    """What real sites have: the form json0, neighbours without names, dumb switches, CDP and long names."""
+
+    def lldp(self, change=lambda host, entries: None, *more, form=lambda said: said, devices=None):
+        with directory() as path:
+            files = []
+            for host in HOSTS:
+                said = json.loads((NETWORK / "lldp" / f"{host}.json").read_text())
+                change(host, said["lldp"]["interface"])
+                files.append(path / f"{host}.json")
+                files[-1].write_text(json.dumps(form(said)))
+            table = (NETWORK / "devices.csv").read_text() if devices is None else devices
+            (path / "devices.csv").write_text(table)
+            return run("sundial-topology", main, ["lldp", *files, "--devices", path / "devices.csv", *SETTINGS, *more])
+
+    @staticmethod
+    def seen(name, port, via="LLDP"):
+        chassis = {"id": {"type": "mac", "value": "02:00:00:00:00:01"}}
+        return {"via": via, "chassis": {name: chassis} if name else chassis, "port": {"id": {"type": "ifname", "value": port}}}
+
+    def test_json0_gives_the_same(self):
+        self.assertEqual(self.lldp(form=json0), self.lldp())
+        self.assertEqual(self.lldp()[0], 0)
+
+    def test_a_name_that_json_breaks(self):
+        def change(host, entries):
+            if host == "l1":
+                entries.append({"eth9": self.seen('Printer "2nd floor"', "1")})
+
+        status, _, err = self.lldp(change, form=json0)
+        self.assertEqual(status, 1)
+        self.assertIn('l1 sees Printer "2nd floor" on eth9, which is not in the table', err)
+        status, _, err = self.lldp(change, "--ignore-port", "l1:eth9", form=json0)
+        self.assertEqual((status, err), (0, "sundial-topology: left out 1 neighbours on ignored ports\n"))
+
+    def test_a_neighbour_without_a_name(self):
+        def change(host, entries):
+            if host == "l1":
+                entries.append({"eth9": self.seen(None, "1")})
+
+        for form in json0, lambda said: said:
+            status, _, err = self.lldp(change, form=form)
+            self.assertEqual(status, 1)
+            self.assertIn(
+                "the neighbour on eth9 gives no system name (its chassis is 02:00:00:00:00:01): name it there, "
+                "or say --ignore-port l1:eth9, or --ignore-chassis 02:00:00:00:00:01", err,
+            )
+            for more in ("--ignore-port", "l1:eth9"), ("--ignore-chassis", "02:00:00:00:00:01"):
+                self.assertEqual(self.lldp(change, *more, form=form)[1], self.lldp()[1])
+
+    def test_a_dumb_switch(self):
+        def change(host, entries):
+            for end, other in ("l1", "l2"), ("l1", "l3"), ("l2", "l1"), ("l2", "l3"), ("l3", "l1"), ("l3", "l2"):
+                if host == end:
+                    entries.append({"eth9": self.seen(other, "eth9")})
+
+        status, _, err = self.lldp(change)
+        self.assertEqual(status, 1)
+        self.assertIn("l1 sees two devices on eth9: l2 and l3: a switch that hides from LLDP", err)
+        self.assertIn("--ignore-port l1:eth9", err)
+        words = [word for leaf in ("l1", "l2", "l3") for word in ("--ignore-port", f"{leaf}:eth9")]
+        self.assertEqual(self.lldp(change, *words)[1], self.lldp()[1])
+        # one port alone makes no cable of the two others: they are refused as well
+        self.assertEqual(self.lldp(change, *words[:2])[0], 1)
+
+    def test_a_cable_that_is_seen_by_cdp_alone(self):
+        def change(host, entries):
+            if host == "s1":
+                entries.append({"swp7": self.seen("core", "Gi1/1", "CDPv2")})
+                entries.append({"swp1": self.seen("l1", "eth1", "CDPv2")})
+
+        status, out, err = self.lldp(change)
+        self.assertEqual((status, out), (0, self.lldp()[1]))
+        self.assertEqual(err, "sundial-topology: left out 1 neighbours that are seen by CDPv2 alone (the first: s1 swp7)\n")
+
+    def test_long_names_are_shortened_and_told(self):
+        port = "HundredGigabitEthernet1/0/47.with-a-description-that-goes-on"
+
+        def change(host, entries):
+            for entry in entries:
+                for near in list(entry):
+                    told = entry[near]
+                    if host == "s1" and near == "swp1":
+                        entry[port] = entry.pop(near)
+                    if host == "l1" and told["port"]["id"]["value"] == "swp1" and "s1" in told["chassis"]:
+                        told["port"]["id"]["value"] = port
+
+        status, out, err = self.lldp(change)
+        self.assertEqual(status, 0, err)
+        name = parse_topology(out).links[0].name
+        long = "s1-HundredGigabitEthernet1-0-47.with-a-description-that-goes-on-l1-eth1"
+        digest = hashlib.sha256(long.encode()).hexdigest()[:8]
+        self.assertEqual((name, len(name)), (f"{long[:55]}-{digest}", 64))
+        self.assertEqual(err, f"sundial-topology: shortened {long} to {name}\n")
+
+
 class Netbox(unittest.TestCase):
     PATH = NETWORK / "netbox"
 
@@ -168,7 +281,6 @@ class Netbox(unittest.TestCase):
         for kind, change, reason in (
             ("cables", lambda said: said.update(next="https://netbox.example.com/api/dcim/cables/?offset=50"), "one page of several"),
             ("cables", results(lambda entries: entries.pop()), "19 results of 20"),
-            ("cables", results(lambda entries: entries[0].update(b_terminations=[])), "the cable 201 has one end: its side B is empty"),
             ("cables", results(lambda entries: entries[0].pop("a_terminations")), "NetBox 3.3 or later"),
             ("cables", drop, "no cable 201, which the interface spine1 Ethernet1/1 has"),
             ("interfaces", drop, "no interface 101 (spine1 Ethernet1/1), where the cable 201 ends"),
@@ -177,11 +289,121 @@ class Netbox(unittest.TestCase):
             ("devices", results(lambda entries: entries[2].update(role=None)), "has no role or no device_type"),
             ("devices", results(lambda entries: entries[2].update(name="leaf 1")), "'leaf 1'"),
             ("devices", results(lambda entries: entries[2]["device_type"].pop("slug")), "KeyError at 'slug'"),
+            ("cables", results(lambda entries: entries[0].update(id=[201])), "no results with an id, a whole number"),
+            ("devices", results(lambda entries: entries[2].update(id=11)), "the id 11 is there twice"),
+            ("devices", results(lambda entries: entries[2].update(name=None)), "the device 13 has no name"),
         ):
             with self.subTest(reason):
                 status, out, err = self.changed(kind, change)
                 self.assertEqual((status, out), (1, ""))
                 self.assertIn(reason, err)
+
+    def found(self, kind, change, *more):
+        """The topology after a change, and what was said."""
+        status, out, err = self.changed(kind, change, *more)
+        self.assertEqual(status, 0, err)
+        return parse_topology(out), err
+
+    def test_one_bad_cable_does_not_stop_all(self):
+        def end(number, kind="dcim.interface"):
+            return {"object_type": kind, "object_id": number, "object": {"id": number, "name": "x"}}
+
+        for change, said in (
+            ({"b_terminations": []}, "left out 1 cables with one end (the first: cable 201)"),
+            ({"b_terminations": [end(109), end(110)]}, "left out 1 cables with several ends on a side (the first: cable 201)"),
+        ):
+            with self.subTest(said):
+                topology, err = self.found("cables", lambda said, change=change: said["results"][0].update(change))
+                self.assertEqual([link.ends for link in topology.links], [(0, 3), (0, 4), (1, 2), (1, 3), (1, 4)])
+                self.assertIn(said, err)
+        # a cable from a power strip to several power ports
+        strip = {"a_terminations": [end(451, "dcim.poweroutlet")], "b_terminations": [end(450, "dcim.powerport")] * 2}
+        topology, _ = self.found("cables", lambda said: said["results"].append({"id": 999, **strip}) or said.update(count=21))
+        self.assertEqual(len(topology.links), 6)
+
+    def test_what_is_not_in_use_is_no_link(self):
+        def offline(said):
+            said["results"][2]["status"] = {"value": "offline", "label": "Offline"}
+
+        topology, err = self.found("devices", offline)
+        self.assertEqual([device.name for device in topology.devices], ["spine1", "spine2", "leaf2", "leaf3"])
+        self.assertEqual(len(topology.links), 4)
+        self.assertIn("left out 1 devices that are offline (the first: leaf1)", err)
+        self.assertIn("cables of devices that are offline", err)
+        self.assertEqual(len(self.found("devices", offline, "--status", "offline")[0].devices), 5)
+
+        def disabled(said):
+            next(port for port in said["results"] if port["id"] == 101)["enabled"] = False
+
+        topology, err = self.found("interfaces", disabled)
+        self.assertEqual(len(topology.links), 5)
+        self.assertIn("left out 1 cables of interfaces that are disabled (the first: spine1 Ethernet1/1)", err)
+
+        def planned(said):
+            for port in said["results"]:
+                port["connected_endpoints_reachable"] = False
+
+        topology, err = self.found("interfaces", planned)
+        self.assertEqual(len(topology.links), 5)
+        self.assertIn("ways through patch panels with a cable that is not connected (the first: ", err)
+
+    def test_an_ignored_role_drops_no_leaf_without_a_name(self):
+        def unnamed(said):
+            next(entry for entry in said["results"] if entry["name"] == "mgmt1")["name"] = None
+            said["results"][2]["name"] = None
+
+        status, _, err = self.changed("devices", unnamed)
+        self.assertEqual(status, 1)
+        self.assertIn("the device 13 has no name", err)
+
+    def test_racks_and_feeds_that_are_named_alike_stay_apart(self):
+        def racks(said):
+            for place, rack, site in (2, 93, "dc1"), (3, 94, "dc2"):
+                said["results"][place].update(rack={"id": rack, "name": "R9"}, site={"id": 1, "slug": site})
+
+        domains = {domain.name: domain.devices for domain in self.found("devices", racks)[0].domains}
+        self.assertEqual((domains["rack-dc1-R9"], domains["rack-dc2-R9"]), ((2,), (3,)))
+
+        def same_site(said):
+            racks(said)
+            said["results"][3]["site"] = {"id": 1, "slug": "dc1"}
+
+        domains = {domain.name: domain.devices for domain in self.found("devices", same_site)[0].domains}
+        self.assertEqual((domains["rack-R9-id93"], domains["rack-R9-id94"]), ((2,), (3,)))
+
+        def feeds(said):
+            for cable in said["results"]:
+                for end in cable["a_terminations"] + cable["b_terminations"]:
+                    if end["object_type"] == "dcim.powerfeed":
+                        end["object"]["name"] = "Feed 1"
+
+        domains = {domain.name: domain.devices for domain in self.found("cables", feeds)[0].domains}
+        self.assertEqual((domains["feed-Feed-1-id501"], domains["feed-Feed-1-id502"]), ((2,), (3,)))
+
+    def test_a_list_of_several_pages(self):
+        with directory() as path:
+            said = json.loads((self.PATH / "cables.json").read_text())
+            pages = []
+            for place in range(0, 20, 7):
+                pages.append(path / f"cables-{place}.json")
+                page = {**said, "results": said["results"][place : place + 7], "next": "https://there" if place < 14 else None}
+                pages[-1].write_text(json.dumps(page))
+            files = ["--devices", self.PATH / "devices.json", "--interfaces", self.PATH / "interfaces.json"]
+
+            def tool(cables):
+                return run("sundial-topology", main, ["netbox", *files, "--cables", *cables, *SETTINGS, *IGNORED])
+
+            whole = netbox(self.PATH, *IGNORED)
+            self.assertEqual(tool(pages), whole)
+            self.assertEqual(tool(pages[::-1]), whole)
+            for cables, reason in (
+                (pages[:1], "one page of several: the next is https://there. Give all pages, one file each"),
+                (pages[:2], "one page of several"), (pages[1:], "13 results of 20"), (pages + pages[:1], "is there twice"),
+            ):
+                with self.subTest(reason):
+                    status, out, err = tool(cables)
+                    self.assertEqual((status, out), (1, ""))
+                    self.assertIn(reason, err)
 
     def test_a_device_that_no_feed_supplies(self):
         status, _, err = netbox(self.PATH, "--ignore", "pdu-r3", "--ignore", "mgmt1")

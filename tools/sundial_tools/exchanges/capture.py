@@ -4,28 +4,67 @@ from __future__ import annotations
 
 import contextlib
 import os
+import signal
 import socket
 import stat
 import time
-from typing import Iterator, TextIO
+from typing import Iterator, List, Optional, TextIO
 
 from sundial_tools.errors import ToolError
 from sundial_tools.safe_write import Progress
 
 MOST_DATAGRAM = 65536
 LOOK_SECONDS = 0.25
+# How many datagrams a socket holds at most, by far.
+MOST_WAITING = 4096
 
 
 def capture(path: str, seconds: float, output: TextIO) -> int:
-    """Keeps what comes to a new socket at `path` for so many seconds, and answers how many datagrams came."""
+    """Keeps what comes to a new socket at `path` for so many seconds, and answers how many datagrams came.
+
+    Ctrl-C and SIGTERM end it before: what came until then is kept, also what the socket still holds.
+    """
     count, end = 0, time.monotonic() + seconds
-    with _listening(path) as listener, Progress("captured", "datagrams") as progress:
-        while time.monotonic() < end:
-            with contextlib.suppress(socket.timeout):
-                output.write(listener.recv(MOST_DATAGRAM).hex() + "\n")
-                count += 1
-                progress.step()
+    with _asked_to_stop() as asked, _listening(path) as listener, Progress("captured", "datagrams") as progress:
+        while not asked and time.monotonic() < end:
+            count += _keep(_next(listener), output, progress)
+        listener.settimeout(0)
+        for _ in range(MOST_WAITING):
+            if not _keep(_next(listener), output, progress):
+                break
+            count += 1
     return count
+
+
+@contextlib.contextmanager
+def _asked_to_stop() -> Iterator[List[int]]:
+    """The signals that came. They raise nothing here, so that none comes between a datagram and its keeping."""
+    asked: List[int] = []
+    before = {}
+    with contextlib.suppress(ValueError):  # (a thread other than the first sets no handlers)
+        for number in signal.SIGINT, signal.SIGTERM:
+            before[number] = signal.signal(number, lambda came, _: asked.append(came))
+    try:
+        yield asked
+    finally:
+        for number, handler in before.items():
+            signal.signal(number, handler)
+
+
+def _keep(datagram: Optional[bytes], output: TextIO, progress: Progress) -> bool:
+    """Whether there was a datagram to keep."""
+    if datagram is None:
+        return False
+    output.write(datagram.hex() + "\n")
+    progress.step()
+    return True
+
+
+def _next(listener: socket.socket) -> Optional[bytes]:
+    try:
+        return listener.recv(MOST_DATAGRAM)
+    except (socket.timeout, BlockingIOError):
+        return None
 
 
 @contextlib.contextmanager

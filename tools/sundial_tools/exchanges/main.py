@@ -3,6 +3,7 @@
 from __future__ import annotations
 
 import argparse
+import math
 import sys
 from typing import Callable, List, TextIO
 
@@ -12,9 +13,11 @@ from sundial_tools.exchanges.convert import Task, convert_chrony, convert_ptp
 from sundial_tools.exchanges.exchange import MOST_ASYMMETRY
 from sundial_tools.exchanges.peers import Peers
 from sundial_tools.safe_write import whole_output
+from sundial_tools.times import picoseconds
 from sundial_tools.topology import read_topology
 
 DEFAULT_HOLD = 10**9
+MOST_SECONDS = 10**8
 
 
 def main(words: List[str]) -> int:
@@ -26,13 +29,13 @@ def _parser() -> argparse.ArgumentParser:
     parser = argparse.ArgumentParser(
         prog="sundial-exchanges",
         description="Makes an exchanges text for `sundial twoway` from what ptp4l or chrony measured.",
-        epilog="All times are picoseconds. What is left out is said on standard error. See docs/EXCHANGES-FROM-PTP.md.",
+        epilog="All times are picoseconds, or a number with ps, ns, us, ms or s. What is left out is said on standard error. See docs/EXCHANGES-FROM-PTP.md.",
     )
     commands = parser.add_subparsers(required=True, metavar="COMMAND")
     listening = commands.add_parser("capture", help="keep the events that ptp4l sends to its slave_event_monitor")
     listening.add_argument("socket", metavar="SOCKET", help="the path that slave_event_monitor names")
-    listening.add_argument("--seconds", type=float, default=30.0, help="for how long to listen (default: 30)")
-    listening.add_argument("--output", metavar="FILE", help="where the capture goes (default: standard output)")
+    listening.add_argument("--seconds", type=_seconds, default=30.0, help="for how long to listen (default: 30)")
+    listening.add_argument("--output", "-o", metavar="FILE", help="where the capture goes (default: standard output)")
     listening.set_defaults(command=_capture)
     for name, text, command in (
         ("ptp", "exchanges from a capture of ptp4l's events", convert_ptp),
@@ -64,15 +67,26 @@ def _add_conversion(parser: argparse.ArgumentParser, name: str, command: Callabl
         metavar="PS",
         help=f"leave out exchanges whose answer was held longer (default: {DEFAULT_HOLD})",
     )
-    parser.add_argument("--output", metavar="FILE", help="where the exchanges go (default: standard output)")
+    parser.add_argument("--output", "-o", metavar="FILE", help="where the exchanges go (default: standard output)")
     parser.set_defaults(command=lambda said: _convert(said, command))
+
+
+def _seconds(text: str) -> float:
+    try:
+        seconds = float(text)
+    except ValueError:
+        seconds = math.nan
+    if not 0 <= seconds <= MOST_SECONDS:
+        raise argparse.ArgumentTypeError(f"{text!r} is no number of seconds from 0 to {MOST_SECONDS}")
+    return seconds
 
 
 def _number(least: int, most: int) -> Callable[[str], int]:
     def number(text: str) -> int:
-        if not text.isascii() or not text.isdigit() or not least <= int(text) <= most:
-            raise argparse.ArgumentTypeError(f"{text!r} is no whole number from {least} to {most}")
-        return int(text)
+        value = picoseconds(text)
+        if value is None or not least <= value <= most:
+            raise argparse.ArgumentTypeError(f"{text!r} is no time from {least} to {most} ps, as 20000000 or 20us")
+        return value
 
     return number
 

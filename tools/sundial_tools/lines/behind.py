@@ -2,10 +2,13 @@
 
 from __future__ import annotations
 
-from typing import Any, Dict, Iterable, Iterator, Optional, Union
+from typing import Any, Callable, Dict, Iterable, Iterator, Optional, Sequence, Union
 
 from sundial_tools.errors import ToolError
+from sundial_tools.fleet.fleet import Fleet
+from sundial_tools.fleet.who import Watch
 from sundial_tools.outputs import OutputLine
+from sundial_tools.plan import Plan
 from sundial_tools.schedule import FIELDS, Event, parse_event
 from sundial_tools.topology import Topology
 
@@ -16,6 +19,8 @@ class Behind:
     def __init__(self, lines: Iterable[str], source: str) -> None:
         self._lines: Iterator[str] = iter(lines)
         self._source = source
+        # Is shown each line that is passed or reached, with its number.
+        self.reached: Callable[[str, int], None] = lambda text, number: None
         self._number = 0
         self._text = ""
 
@@ -28,14 +33,37 @@ class Behind:
             if text is None:
                 return None
             self._text, self._number = text[:-1] if text.endswith("\n") else text, self._number + 1
+            self.reached(self._text, self._number)
         return self._text
+
+
+class _History:
+    """What the fabric did up to the line that was reached: its event is still to come."""
+
+    def __init__(self, topology: Topology, plans: Sequence[Plan], source: str) -> None:
+        self._fleet, self._source = Fleet(topology, plans), source
+        self.watch = Watch(self._fleet)
+        self._next: Optional[Event] = None
+
+    def reach(self, text: str, number: int) -> None:
+        try:
+            if self._next is not None:
+                self.watch.after(self._next, number - 1, self._fleet.happen(self._next))
+            self._next = parse_event(text, self._source, number)
+            self.watch.before(self._next)
+        except (KeyError, IndexError, TypeError):
+            reason = "no replay of these plans accepts this line, and the output does not refuse it"
+            raise ToolError(reason, self._source, number - 1) from None
 
 
 class Events:
     """Adds REF and the event to the lines that have an N."""
 
-    def __init__(self, schedule: Behind, topology: Optional[Topology], source: str) -> None:
+    def __init__(self, schedule: Behind, topology: Optional[Topology], plans: Sequence[Plan], source: str) -> None:
         self._schedule, self._topology, self._source = schedule, topology, source
+        self._history = None if topology is None or not plans else _History(topology, plans, source)
+        if self._history is not None:
+            schedule.reached = self._history.reach
 
     def add(self, line: OutputLine) -> Dict[str, Any]:
         number = line.fields["line"]
@@ -46,7 +74,17 @@ class Events:
             raise ToolError(f"the schedule has no line {number}: it is not that of this output", self._source)
         event = parse_event(text, self._source, number)
         self._agree(line, event, number)
-        return {"ref": event.ref, "event": self._named(event), **_derived(line, event)}
+        return {"ref": event.ref, "event": self._named(event), **_derived(line, event), **self._who(line, event)}
+
+    def _who(self, line: OutputLine, event: Event) -> Dict[str, Any]:
+        """Who broke a premise, where the plans are known."""
+        if line.kind != "broken" or self._history is None:
+            return {}
+        cause = self._history.watch.explain(line.fields["premise"], event, line.fields["line"])
+        said: Dict[str, Any] = {"devices": list(cause.devices), "links": list(cause.links)}
+        said.update({"allowed": cause.allowed} if cause.allowed is not None else {})
+        said.update({"seen": cause.seen} if cause.seen is not None else {})
+        return {"who": {**said, "text": cause.text}}
 
     def _agree(self, line: OutputLine, event: Event, number: int) -> None:
         """Refuses a schedule that cannot be the one of the output."""

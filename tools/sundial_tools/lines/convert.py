@@ -7,6 +7,7 @@ from typing import Any, Callable, Dict, Iterator, Optional, Protocol
 
 from sundial_tools.errors import ToolError
 from sundial_tools.lines.behind import Behind, Events
+from sundial_tools.lines.order import Order
 from sundial_tools.lines.texts import plan_lines, topology_lines
 from sundial_tools.outputs import OutputLine, read_output
 from sundial_tools.topology import Topology
@@ -50,7 +51,13 @@ class Converter:
             return topology_lines(first + output.read(), source)
         if not first:
             raise ToolError("the output is empty", source)
-        return read_output(itertools.chain([first], output), source)
+        return self._ordered(read_output(itertools.chain([first], output), source), source)
+
+    def _ordered(self, lines: Iterator[OutputLine], source: str) -> Iterator[OutputLine]:
+        order = Order(source)
+        for number, line in enumerate(lines, 1):
+            order.take(line, number)
+            yield line
 
     def _fields(self, line: OutputLine, source: str) -> Dict[str, Any]:
         fields = dict(line.fields)

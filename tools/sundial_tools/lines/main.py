@@ -7,53 +7,83 @@ import contextlib
 import sys
 from typing import Iterator, List, Optional, TextIO
 
+from sundial_tools.errors import ToolError
 from sundial_tools.lines.behind import Behind, Events
 from sundial_tools.lines.convert import DONE, Converter
 from sundial_tools.lines.rows import csv_row, json_row
-from sundial_tools.safe_write import Progress, whole_output
+from sundial_tools.plan import Plan, read_plan
+from sundial_tools.safe_write import FOLLOW, Progress, output_of
 from sundial_tools.schedule import open_schedule
-from sundial_tools.topology import read_topology
+from sundial_tools.topology import Topology, read_topology
 
 
 def main(words: List[str]) -> int:
     options = _parser().parse_args(words)
-    topology = read_topology(options.topology) if options.topology else None
+    if options.plan and not (options.topology and options.schedule):
+        raise ToolError("--plan needs --topology and --schedule")
     with contextlib.ExitStack() as stack:
         progress = stack.enter_context(Progress("sundial-lines"))
         schedule = _behind(stack, options.schedule, progress)
         exchanges = _behind(stack, options.exchanges, progress)
-        output, source = _output(stack, options.output_of_sundial)
-        events = Events(schedule, topology, options.schedule) if schedule is not None else None
-        text = stack.enter_context(whole_output(options.output))
+        file, source = _output(stack, options.output_of_sundial)
+        output = _Counted(file, progress)
+        topology, plans = _inputs(options, output.first)
+        events = Events(schedule, topology, plans, options.schedule) if schedule is not None else None
+        text = stack.enter_context(output_of(options.output, options.follow))
         row = csv_row(text) if options.csv else json_row(text, options.strings)
-        Converter(topology, events, exchanges, options.command).convert(_Counted(output, progress), source, row)
+        Converter(topology, events, exchanges, options.command).convert(output, source, row)
     return 0
+
+
+def _inputs(options: argparse.Namespace, first: str) -> "tuple[Optional[Topology], List[Plan]]":
+    """The topology and the plans. One that the program itself refused is not read: the verdict is what counts."""
+    if options.topology is None or first.startswith("input topology "):
+        return None, []
+    topology = read_topology(options.topology)
+    if first.startswith(("input plan ", "refused plan ")):
+        return topology, []
+    return topology, [read_plan(path, topology) for path in options.plan]
 
 
 def _behind(stack: contextlib.ExitStack, path: Optional[str], progress: Progress) -> Optional[Behind]:
     if path is None:
         return None
-    return Behind(_Counted(stack.enter_context(open_schedule(path)), progress), path)
+    return Behind(_stepped(stack.enter_context(open_schedule(path)), progress), path)
+
+
+def _stepped(lines: TextIO, progress: Progress) -> Iterator[str]:
+    for line in lines:
+        progress.step()
+        yield line
 
 
 def _output(stack: contextlib.ExitStack, path: str) -> "tuple[TextIO, str]":
     if path == "-":
-        return sys.stdin, "standard input"
+        # (with its own ends of lines: a carriage return is no part of what was printed)
+        return stack.enter_context(open(sys.stdin.fileno(), encoding="utf-8", newline="\n", closefd=False)), "standard input"
     return stack.enter_context(open(path, encoding="utf-8", newline="\n")), path
 
 
 class _Counted:
-    """A text whose lines are counted as they are read."""
+    """A text whose lines are counted as they are read. Its first line is known before."""
 
     def __init__(self, text: TextIO, progress: Progress) -> None:
         self._text, self._progress = text, progress
+        self.first = text.readline()
+        self._fresh = True
 
     def __iter__(self) -> Iterator[str]:
+        if self._fresh and self.first:
+            yield self.readline()
         for line in self._text:
             self._progress.step()
             yield line
 
     def readline(self) -> str:
+        self._progress.step()
+        if self._fresh:
+            self._fresh = False
+            return self.first
         return self._text.readline()
 
     def read(self) -> str:
@@ -69,9 +99,14 @@ def _parser() -> argparse.ArgumentParser:
     parser.add_argument("output_of_sundial", nargs="?", default="-", metavar="OUTPUT", help="what the command printed; standard input without it")
     parser.add_argument("--topology", "-t", help="gives devices and links of events their names; needed for plan and renew")
     parser.add_argument("--schedule", "-s", help="gives each line its event and REF")
+    parser.add_argument(
+        "--plan", "-p", action="append", default=[], metavar="PLAN",
+        help="a plan, in the order of the command: says who broke each premise; needs topology and schedule",
+    )
     parser.add_argument("--exchanges", "-e", help="gives a refused line of exchanges its text")
     parser.add_argument("--command", choices=sorted(DONE), help="the command, where only a done line was printed")
     parser.add_argument("--csv", action="store_true", help="CSV in place of JSON lines")
     parser.add_argument("--strings", action="store_true", help="write numbers past 2^53 as strings in JSON lines")
+    parser.add_argument("--follow", "-f", action="store_true", help=FOLLOW)
     parser.add_argument("--output", "-o", metavar="FILE")
     return parser

@@ -18,7 +18,8 @@ _EVENT = (
 _REFUSED = ("plan", "rule", "domain.kind", "domain.name", "at.kind", "at.name", "left", "right", "cycle", "chain")
 _REPLAY = (
     "kind", "line", *_EVENT, "device", "other", "premise", "clock", "eps", "off", "inside", "stamp", "begin", "events",
-    "reports", "begun", "ended", "disorders", "reason", "text", *_REFUSED,
+    "reports", "begun", "ended", "disorders", "reason", "text", *_REFUSED, "who.devices", "who.links", "who.allowed",
+    "who.seen", "who.text",
 )
 # Columns by the kind of the first line. A dot goes into an object.
 _COLUMNS: Dict[str, Tuple[str, ...]] = {
@@ -85,7 +86,7 @@ def _flat(fields: Fields) -> Fields:
     cells: Fields = {}
     for key, value in fields.items():
         if isinstance(value, dict):
-            cells.update((f"{key}.{inner}", cell) for inner, cell in value.items())
+            cells.update((f"{key}.{inner}", cell) for inner, cell in _flat(value).items())
         elif isinstance(value, bool):
             cells[key] = "true" if value else "false"
         else:

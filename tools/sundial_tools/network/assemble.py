@@ -2,17 +2,20 @@
 
 from __future__ import annotations
 
+import hashlib
 import re
 from collections import Counter
 from dataclasses import dataclass
 from typing import Dict, Iterable, List, Sequence, Tuple
 
 from sundial_tools.errors import ToolError
-from sundial_tools.network.found import Found, FoundCable, FoundDevice
+from sundial_tools.network.found import Found, FoundDevice
 from sundial_tools.network.tables import Delays, Oscillators
 from sundial_tools.topology import (
     MOST_DEVICES, MOST_DOMAINS, MOST_LINKS, MOST_LISTED, NAME, Device, Domain, Link, Topology,
 )
+
+MOST_LETTERS, DIGEST = 64, 8
 
 
 @dataclass(frozen=True)
@@ -35,7 +38,7 @@ def assemble(found: Found, oscillators: Oscillators, delays: Delays, settings: S
         raise ToolError(f"two devices have the name {_twice(device.name for device in found.devices)}")
     devices = [_device(number, device, oscillators) for number, device in enumerate(found.devices)]
     numbers = {device.name: device.number for device in devices}
-    links = _links(found.cables, by_name, numbers, delays)
+    links = _links(found, by_name, numbers, delays)
     domains = _domains(found, numbers, links, settings.every_feed)
     _within_limits(devices, links, domains)
     return Topology(
@@ -59,27 +62,30 @@ def _device(number: int, device: FoundDevice, oscillators: Oscillators) -> Devic
     return Device(number, device.name, device.side, ppm, grain)
 
 
-def made_name(parts: Sequence[str], place: str) -> str:
-    """A name for a link or a domain. What no name may have becomes '-'."""
+def made_name(parts: Sequence[str], shortened: Dict[str, str]) -> str:
+    """A name for a link or a domain. What no name may have becomes '-'.
+
+    Of a name of more than 64 letters the first 55 stay, and '-' and 8 digits of its SHA-256 follow.
+    """
     name = "-".join(re.sub(r"[^A-Za-z0-9_.-]", "-", part) for part in parts if part)
-    if not NAME.fullmatch(name):
-        raise ToolError(f"the name {name!r} for {place} has more than 64 letters: give it a name of its own")
-    return name
+    if len(name) <= MOST_LETTERS:
+        return name
+    digest = hashlib.sha256(name.encode()).hexdigest()[:DIGEST]
+    shortened[name] = f"{name[: MOST_LETTERS - DIGEST - 1]}-{digest}"
+    return shortened[name]
 
 
-def _links(
-    cables: Sequence[FoundCable], devices: Dict[str, FoundDevice], numbers: Dict[str, int], delays: Delays
-) -> List[Link]:
+def _links(found: Found, devices: Dict[str, FoundDevice], numbers: Dict[str, int], delays: Delays) -> List[Link]:
     links: List[Link] = []
     places: Dict[str, str] = {}
-    for cable in cables:
+    for cable in found.cables:
         for end in cable.first, cable.second:
             if end not in devices:
                 raise ToolError(f"{cable.place}: the link ends at {end}, and there is no such device")
         if cable.first == cable.second:
             raise ToolError(f"{cable.place}: both ends of the link are at {cable.first}")
         parts = [cable.name] if cable.name else [cable.first, cable.first_port, cable.second, cable.second_port]
-        name = made_name(parts, cable.place)
+        name = made_name(parts, found.shortened)
         if name in places:
             raise ToolError(f"{cable.place}: the link's name {name} is that of {places[name]}")
         places[name] = cable.place
@@ -113,7 +119,7 @@ def _domains(found: Found, numbers: Dict[str, int], links: Sequence[Link], every
     listed += [(("conduit", name), [], things) for name, things in conduits.items()]
     domains: Dict[str, Domain] = {}
     for (kind, given), devices, within in listed:
-        name = made_name((kind, given), f"the {kind} {given}")
+        name = made_name((kind, given), found.shortened)
         if name in domains:
             raise ToolError(f"two domains have the name {name}: the {kind} {given} is one of them")
         domains[name] = Domain(len(domains), name, tuple(devices), tuple(within))

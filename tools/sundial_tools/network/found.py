@@ -4,7 +4,7 @@ from __future__ import annotations
 
 import re
 from dataclasses import dataclass, field
-from typing import Dict, List, Optional, Tuple
+from typing import Dict, Iterator, List, Optional, Tuple
 
 
 @dataclass(frozen=True)
@@ -39,12 +39,25 @@ class Found:
     devices: List[FoundDevice] = field(default_factory=list)
     cables: List[FoundCable] = field(default_factory=list)
     left_out: Dict[str, int] = field(default_factory=dict)
+    first_left_out: Dict[str, str] = field(default_factory=dict)
+    shortened: Dict[str, str] = field(default_factory=dict)
 
-    def leave_out(self, what: str) -> None:
+    def leave_out(self, what: str, place: str = "") -> None:
+        """Counts what is left out. `place` says which one, for the first of its kind."""
         self.left_out[what] = self.left_out.get(what, 0) + 1
+        if place:
+            self.first_left_out.setdefault(what, place)
+
+    def told(self) -> Iterator[str]:
+        """What is said on standard error: what is left out, and names that were shortened."""
+        for what, count in self.left_out.items():
+            first = self.first_left_out.get(what)
+            yield f"left out {count} {what}" + (f" (the first: {first})" if first else "")
+        for name, short in self.shortened.items():
+            yield f"shortened {name} to {short}"
 
 
 def natural(text: str) -> Tuple[Tuple[int, int, str], ...]:
     """A key that orders eth2 before eth10."""
     parts = re.findall(r"[0-9]+|[^0-9]+", text)
-    return tuple((0, int(part), "") if part.isdigit() else (1, 0, part) for part in parts)
+    return tuple((0, len(part.lstrip("0")), part.lstrip("0")) if part[0] in "0123456789" else (1, 0, part) for part in parts)

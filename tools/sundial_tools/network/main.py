@@ -6,11 +6,14 @@ import argparse
 import sys
 from typing import Dict, List
 
+from sundial_tools.network.absent import write_absent
 from sundial_tools.network.assemble import Settings, assemble
 from sundial_tools.network.found import Found
-from sundial_tools.network.lldp import Cables, read_neighbours
+from sundial_tools.network.lint import findings, rate_of
+from sundial_tools.network.lldp import Cables, Ignored, Port, read_neighbours
+from sundial_tools.network.make import add_words as add_words_of_make, made_text
 from sundial_tools.network.names import write_names
-from sundial_tools.network.netbox import Choices, Netbox
+from sundial_tools.network.netbox import IN_USE, Choices, Netbox
 from sundial_tools.network.tables import read_delays, read_devices, read_links, read_oscillators
 from sundial_tools.safe_write import whole_output
 from sundial_tools.times import picoseconds
@@ -24,6 +27,21 @@ def main(words: List[str]) -> int:
         with whole_output(options.output) as text:
             write_names(topology, text)
         return 0
+    if options.source == "lint":
+        found = findings(options.topology, rate_of(options.message_loss))
+        with whole_output(options.output) as text:
+            text.writelines(f"{it}\n" for it in found)
+        return 1 if found else 0
+    if options.source == "make":
+        with whole_output(options.output) as text:
+            text.write(made_text(options))
+        return 0
+    if options.source == "absent":
+        with whole_output(options.output) as text:
+            said = write_absent(options.topology, options.things, options.plan, text)
+        for line in said:
+            print(f"sundial-topology: {line}", file=sys.stderr)
+        return 0
     found = _found(options)
     settings = Settings(
         options.period, options.tick, options.loss, options.depth, tuple(options.root_role), options.every_feed
@@ -31,8 +49,8 @@ def main(words: List[str]) -> int:
     topology = assemble(found, read_oscillators(options.oscillators), read_delays(options.delays), settings)
     with whole_output(options.output) as text:
         text.write(topology_text(topology))
-    for what, count in found.left_out.items():
-        print(f"sundial-topology: left out {count} {what}", file=sys.stderr)
+    for line in found.told():
+        print(f"sundial-topology: {line}", file=sys.stderr)
     return 0
 
 
@@ -40,7 +58,7 @@ def _found(options: argparse.Namespace) -> Found:
     if options.source == "netbox":
         choices = Choices(
             set(options.ignore), set(options.ignore_role), set(options.without_rack), set(options.without_feed),
-            options.no_racks, options.no_feeds, options.side_field,
+            options.no_racks, options.no_feeds, options.side_field, {IN_USE, *options.status},
         )
         return Netbox(options.devices, options.interfaces, options.cables, choices).found()
     found = Found(read_devices(options.devices))
@@ -48,14 +66,24 @@ def _found(options: argparse.Namespace) -> Found:
         found.cables += read_links(options.links)
         return found
     order: Dict[str, int] = {device.name: number for number, device in enumerate(found.devices)}
-    Cables(read_neighbours(options.files), order, set(options.ignore), options.one_sided).into(found)
+    ignored = Ignored(set(options.ignore), set(options.ignore_chassis), set(options.ignore_port))
+    Cables(read_neighbours(options.files, ignored, found), order, ignored, options.one_sided).into(found)
     return found
+
+
+def _port(word: str) -> Port:
+    host, _, port = word.partition(":")
+    if not host or not port:
+        raise argparse.ArgumentTypeError(f"{word!r} is no HOST:PORT, as leaf1:eth9")
+    return host, port
 
 
 def _time(word: str) -> int:
     value = picoseconds(word)
     if value is None or not 1 <= value <= MOST_PICOSECONDS:
-        raise argparse.ArgumentTypeError(f"{word!r} is no time from 1ps to 1s, as 100000000 or 100us")
+        raise argparse.ArgumentTypeError(f"{word!r} is no time from 1ps to 1s, as 100us")
+    if word.isdigit():
+        raise argparse.ArgumentTypeError(f"{word!r} has no unit: write {word}ps, {word}ns or {word}us")
     return value
 
 
@@ -63,20 +91,27 @@ def _parser() -> argparse.ArgumentParser:
     parser = argparse.ArgumentParser(
         prog="sundial-topology",
         description="Makes a topology text of version 2 from the network that is there, and a table of its names.",
-        epilog="Times are picoseconds, or a number with ps, ns, us, ms or s. docs/TOPOLOGY-FROM-A-NETWORK.md has the tables.",
+        epilog="Times of options are a number with ps, ns, us, ms or s. docs/TOPOLOGY-FROM-A-NETWORK.md has the tables.",
     )
-    sources = parser.add_subparsers(dest="source", required=True, metavar="lldp|netbox|tables|names")
-    lldp = sources.add_parser("lldp", help="from lldpcli show neighbors -f json, one file a host, named after it")
+    sources = parser.add_subparsers(dest="source", required=True, metavar="lldp|netbox|tables|names|absent|lint|make")
+    lldp = sources.add_parser("lldp", help="from lldpcli show neighbors -f json0 (or json), one file a host, named after it")
     lldp.add_argument("files", nargs="+", metavar="HOST.json")
     lldp.add_argument("--devices", required=True, help="CSV: name,kind,role,rack,feeds[,side]")
     lldp.add_argument("--one-sided", action="store_true", help="accept what one end sees where the other has no file")
     _add_ignore(lldp)
+    lldp.add_argument("--ignore-chassis", action="append", default=[], metavar="ID", help="leave out neighbours of this chassis id")
+    lldp.add_argument(
+        "--ignore-port", action="append", default=[], type=_port, metavar="HOST:PORT", help="leave out what is seen on this port"
+    )
     tables = sources.add_parser("tables", help="from two CSV tables")
     tables.add_argument("--devices", required=True, help="CSV: name,kind,role,rack,feeds[,side]")
     tables.add_argument("--links", required=True, help="CSV: name,first,second[,medium][,conduits]")
     netbox = sources.add_parser("netbox", help="from the JSON of the REST API of NetBox 3.3 or later")
     for kind in "devices", "interfaces", "cables":
-        netbox.add_argument(f"--{kind}", required=True, help=f"JSON of /api/dcim/{kind}/?limit=0")
+        netbox.add_argument(
+            f"--{kind}", required=True, nargs="+", action="extend", metavar="FILE",
+            help=f"JSON of /api/dcim/{kind}/?limit=0; of a list of several pages all of them",
+        )
     netbox.add_argument("--without-rack", action="append", default=[], metavar="NAME", help="a device of no rack")
     netbox.add_argument("--without-feed", action="append", default=[], metavar="NAME", help="a device of no power feed")
     netbox.add_argument("--no-racks", action="store_true", help="list no racks")
@@ -84,11 +119,28 @@ def _parser() -> argparse.ArgumentParser:
     netbox.add_argument("--side-field", metavar="FIELD", help="the custom field that says root or backup")
     _add_ignore(netbox)
     netbox.add_argument("--ignore-role", action="append", default=[], metavar="ROLE", help="leave devices of this role out")
+    netbox.add_argument(
+        "--status", action="append", default=[], metavar="STATUS", help="take devices of this status too, beside active ones"
+    )
     for source in lldp, tables, netbox:
         _add_settings(source)
     names = sources.add_parser("names", help="the names and numbers of a topology, as CSV")
     names.add_argument("topology")
     names.add_argument("--output", "-o", metavar="FILE")
+    absent = sources.add_parser("absent", help="the absent list of a loss, with all that it cuts off from every candidate for root")
+    absent.add_argument("topology")
+    absent.add_argument(
+        "things", nargs="+", metavar="THING", help="what is lost: a NAME, or listed:NAME, device:NAME or link:NAME where kinds share it"
+    )
+    absent.add_argument("--plan", metavar="PLAN", help="leave out too what this plan leaves out")
+    absent.add_argument("--output", "-o", metavar="FILE")
+    lint = sources.add_parser("lint", help="what looks wrong in a topology; status 1 where something does")
+    lint.add_argument("topology")
+    lint.add_argument(
+        "--message-loss", default="1e-6", metavar="RATE", help="which part of all messages is lost, for what is said of `loss` (default: 1e-6)"
+    )
+    lint.add_argument("--output", "-o", metavar="FILE")
+    add_words_of_make(sources.add_parser("make", help="a network to learn from, with racks, feeds, trays and hosts"), _time)
     return parser
 
 

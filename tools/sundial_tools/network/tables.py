@@ -7,6 +7,7 @@ from dataclasses import dataclass
 from typing import Dict, Iterator, List, Sequence, Tuple
 
 from sundial_tools.errors import ToolError
+from sundial_tools.json_text import whole
 from sundial_tools.network.found import FoundCable, FoundDevice
 from sundial_tools.times import picoseconds
 from sundial_tools.topology import MOST_PICOSECONDS, Bounds
@@ -135,9 +136,10 @@ def read_oscillators(path: str) -> Oscillators:
         if kind in rates:
             raise row.refuse(f"the kind {kind} is there twice")
         ppm = row.need("ppm")
-        if not ppm.isdigit() or int(ppm) > 100000:
+        rate = whole(ppm)
+        if rate is None or rate > 100000:
             raise row.refuse(f"ppm is {ppm!r}, and has to be a whole number from 0 to 100000")
-        rates[kind] = (int(ppm), row.number("grain", 0, MOST_PICOSECONDS))
+        rates[kind] = (rate, row.number("grain", 0, MOST_PICOSECONDS))
     return Oscillators(path, rates)
 
 

@@ -9,8 +9,8 @@ from typing import Iterator, List
 from sundial_tools.errors import ToolError
 from sundial_tools.plain.lines import Replay
 from sundial_tools.plan import read_plan
-from sundial_tools.safe_write import Progress, whole_output
-from sundial_tools.topology import read_topology
+from sundial_tools.safe_write import FOLLOW, Progress, output_of
+from sundial_tools.topology import open_bytes, read_topology
 
 MOST_PLANS = 64
 
@@ -22,14 +22,14 @@ def main(words: List[str]) -> int:
         raise ToolError(f"{len(options.plan)} plans, and a replay takes at most {MOST_PLANS}")
     topology = read_topology(options.topology)
     replay = Replay(topology, [read_plan(path, topology) for path in options.plan])
-    with Progress("sundial-plain-replay") as progress, whole_output(options.output) as text:
+    with Progress("sundial-plain-replay") as progress, output_of(options.output, options.follow) as text:
         for line in replay.lines(_lines(options.schedule, progress)):
             text.write(line + "\n")
     return replay.status
 
 
 def _lines(path: str, progress: Progress) -> Iterator[bytes]:
-    with open(path, "rb") as file:
+    with open_bytes(path) as file:
         for line in file:
             progress.step()
             yield line
@@ -48,5 +48,6 @@ def _parser() -> argparse.ArgumentParser:
         "plan", metavar="PLAN", nargs="+", help="the first is in force at the beginning; each renewal brings in the next"
     )
     parser.add_argument("schedule", metavar="SCHEDULE")
+    parser.add_argument("--follow", "-f", action="store_true", help=FOLLOW)
     parser.add_argument("--output", "-o", metavar="FILE")
     return parser

@@ -101,7 +101,8 @@ def _domain(before: History, event: Event) -> bool:
 
 def _things(domain: Domain) -> Set[Optional[Thing]]:
     """What a listed domain has."""
-    return {("device", it) for it in domain.devices} | {("link", it) for it in domain.links}
+    things: List[Thing] = [("device", it) for it in domain.devices] + [("link", it) for it in domain.links]
+    return set(things)
 
 
 def _renew(before: History, event: Event) -> bool:

@@ -5,7 +5,7 @@ from __future__ import annotations
 import json
 import sys
 from decimal import Context, Decimal
-from typing import Any, Dict, Iterator, NamedTuple, Optional, TextIO, Tuple
+from typing import Any, Callable, Dict, Iterator, NamedTuple, Optional, TextIO, Tuple
 
 from sundial_tools.errors import ToolError
 from sundial_tools.schedule import FIELDS
@@ -20,11 +20,27 @@ OF_A_THING = frozenset(("fail", "mend"))
 NONE = -1
 NO_STAMP = (NONE, NONE)
 EXACT = Context(prec=200)
+DECODER = json.JSONDecoder(parse_float=Decimal)
+# The reader behind it, which does not look for spaces before and behind.
+SCAN: "Callable[[str, int], Tuple[Any, int]]" = getattr(DECODER, "scan_once")
 MOST_DIGITS = 40
+MOST_USUAL = 10**30
 UNITS: Dict[str, Tuple[Tuple[str, int], ...]] = {
     stem: tuple((f"{stem}_{unit}", factor) for unit, factor in PICOSECONDS.items())
     for stem in ("reference", "counter", "clock", "eps")
 }
+
+
+def _decoded(text: str) -> Any:
+    """The value of a line. Nearly all lines are one object and a newline."""
+    if text.startswith("{"):
+        try:
+            value, end = SCAN(text, 0)
+        except StopIteration:
+            return DECODER.decode(text)
+        if text[end:] in ("\n", ""):
+            return value
+    return DECODER.decode(text)
 
 
 class LogEvent(NamedTuple):
@@ -57,12 +73,15 @@ class Log:
     def __init__(self, path: str, topology: Topology) -> None:
         self._path = "standard input" if path == "-" else path
         self._topology = topology
+        # The unit of each time in the line before, and the others: a log keeps its units.
+        self._usual = {stem: units[1] for stem, units in UNITS.items()}
+        self._others = {stem: frozenset(key for key, _ in units if key != units[1][0]) for stem, units in UNITS.items()}
 
     def __iter__(self) -> Iterator[LogEvent]:
         before: Optional[LogEvent] = None
         with self._open() as lines:
             for number, text in enumerate(lines, 1):
-                if not text.strip():
+                if text.isspace():
                     continue
                 event = self._event(text, number)
                 if before is not None and event.ref < before.ref:
@@ -80,7 +99,7 @@ class Log:
 
     def _event(self, text: str, line: int) -> LogEvent:
         try:
-            said = json.loads(text, parse_float=Decimal)
+            said = _decoded(text)
         except json.JSONDecodeError as fault:
             raise self._refuse(f"no JSON, or cut short: {fault.msg} at column {fault.colno}", line) from None
         except (ValueError, ArithmeticError, RecursionError):
@@ -90,6 +109,10 @@ class Log:
         word = said.get("event")
         if not isinstance(word, str) or word not in FIELDS:
             raise self._refuse(f"event is {word!r}, and has to be one of {', '.join(FIELDS)}", line)
+        if word == "tick":
+            device = self._number(said, "device", self._topology.device_numbers, line)
+            ref, counter = self._time(said, "reference", line), self._time(said, "counter", line)
+            return LogEvent(word, ref, device, counter, None, None, NONE, NONE, NO_STAMP, "", NONE, self._path, line)
         times = TIMES[word]
         device, link = self._names(said, word, line)
         epoch, stamp = self._message(said, word, line)
@@ -127,6 +150,9 @@ class Log:
     def _message(self, said: Dict[str, Any], word: str, line: int) -> Tuple[int, Tuple[int, int]]:
         if word not in OF_A_MESSAGE:
             return NONE, NO_STAMP
+        epoch, term, number = said.get("epoch"), said.get("term"), said.get("round")
+        if type(epoch) is type(term) is type(number) is int and epoch >= 0 and term >= 0 and number >= 0:
+            return epoch, (term, number)
         values = []
         for key in "epoch", "term", "round":
             value = said.get(key)
@@ -137,11 +163,19 @@ class Log:
 
     def _time(self, said: Dict[str, Any], stem: str, line: int) -> int:
         """The time of `stem_ns`, or of another unit, in picoseconds."""
+        usual, factor = self._usual[stem]
+        value = said.get(usual)
+        if type(value) is int and value <= MOST_USUAL and self._others[stem].isdisjoint(said):
+            return value * factor
+        return self._unusual_time(said, stem, line)
+
+    def _unusual_time(self, said: Dict[str, Any], stem: str, line: int) -> int:
         found = [(key, factor) for key, factor in UNITS[stem] if key in said]
         if len(found) != 1:
             reason = f"{stem} is there twice" if found else f"{said['event']} needs {stem}_ns (or _ps, _us, _ms, _s)"
             raise self._refuse(reason, line)
-        key, factor = found[0]
+        key, factor = self._usual[stem] = found[0]
+        self._others[stem] = frozenset(other for other, _ in UNITS[stem] if other != key)
         value = said[key]
         if isinstance(value, bool) or not isinstance(value, (int, Decimal)):
             raise self._refuse(f"{key} is {value!r}, and has to be a number", line)

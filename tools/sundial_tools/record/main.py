@@ -11,7 +11,7 @@ from typing import List
 from sundial_tools.plan import read_plan
 from sundial_tools.record.logs import Log
 from sundial_tools.record.recorder import Recorder
-from sundial_tools.safe_write import Progress, whole_output
+from sundial_tools.safe_write import FOLLOW, Progress, output_of
 from sundial_tools.times import picoseconds
 from sundial_tools.topology import read_topology
 
@@ -21,7 +21,7 @@ def main(words: List[str]) -> int:
     topology = read_topology(options.topology)
     plans = [read_plan(path, topology) for path in options.plan]
     _allow_files(len(options.logs))
-    with whole_output(options.output) as text, Progress("sundial-record") as progress:
+    with output_of(options.output, options.follow) as text, Progress("sundial-record") as progress:
         recorder = Recorder(
             topology, plans, text, options.origin, options.counters == "life", not options.no_losses, progress.step
         )
@@ -46,6 +46,8 @@ def _time(word: str) -> int:
     value = picoseconds(word)
     if value is None:
         raise argparse.ArgumentTypeError(f"{word!r} is no time, as 1700000000s or 0")
+    if value and word.isdigit():
+        raise argparse.ArgumentTypeError(f"{word!r} has no unit: write {word}s, or {word}ps")
     return value
 
 
@@ -53,7 +55,7 @@ def _parser() -> argparse.ArgumentParser:
     parser = argparse.ArgumentParser(
         prog="sundial-record",
         description="Makes a schedule of the logs of devices, for sundial replay and sundial order.",
-        epilog="docs/RECORD.md has the form of the logs. Times are picoseconds, or a number with ps, ns, us, ms or s.",
+        epilog="docs/RECORD.md has the form of the logs. A time is a number with ps, ns, us, ms or s.",
     )
     parser.add_argument("topology", metavar="TOPOLOGY")
     parser.add_argument("logs", nargs="+", metavar="LOG", help="JSON lines; each log in the order of its references; - is standard input")
@@ -61,5 +63,6 @@ def _parser() -> argparse.ArgumentParser:
     parser.add_argument("--origin", type=_time, help="what is 0 in the schedule; without it, a whole second before the first reference")
     parser.add_argument("--counters", choices=("keep", "life"), default="keep", help="keep counters, or count from each start and join")
     parser.add_argument("--no-losses", action="store_true", help="write no lose line that the logs do not have")
+    parser.add_argument("--follow", "-f", action="store_true", help=FOLLOW)
     parser.add_argument("--output", "-o", metavar="FILE")
     return parser

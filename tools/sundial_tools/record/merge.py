@@ -17,6 +17,10 @@ RANKS = {
 Head = Tuple[int, int, int, int, LogEvent]
 
 
+def _refuse(event: LogEvent, refusal: Refusal) -> None:
+    raise event.refuse(refusal)
+
+
 class Merge:
     """Offers the first events of all logs. Within a log the order of its lines stays.
 
@@ -34,8 +38,10 @@ class Merge:
     def first_reference(self) -> Optional[int]:
         return self._heads[0][0] if self._heads else None
 
-    def drive(self, offer: Callable[[LogEvent], Optional[Refusal]]) -> None:
-        """Offers each event until all are accepted. Raises ToolError at one that cannot come."""
+    def drive(
+        self, offer: Callable[[LogEvent], Optional[Refusal]], refused: Callable[[LogEvent, Refusal], None] = _refuse
+    ) -> None:
+        """Offers each event until all are accepted. One that cannot come is given to `refused`, which raises or passes it over."""
         aside: List[Head] = []
         first_refusal = Refusal()
         while self._heads:
@@ -51,7 +57,12 @@ class Merge:
                 first_refusal = refusal
             aside.append(head)
             if not self._heads or self._heads[0][0] != head[0]:
-                raise aside[0][-1].refuse(first_refusal)
+                first = aside.pop(0)
+                refused(first[-1], first_refusal)
+                self._advance(first[3])
+                for waiting in aside:
+                    heapq.heappush(self._heads, waiting)
+                aside.clear()
 
     def _advance(self, place: int) -> None:
         event = next(self._logs[place], None)

@@ -6,7 +6,7 @@ from typing import Callable, Dict, Iterable, Optional, Sequence, TextIO
 
 from sundial_tools.errors import ToolError
 from sundial_tools.plan import Plan
-from sundial_tools.record.fleet import Fleet, Refusal
+from sundial_tools.record.fleet import JudgedFleet, Refusal
 from sundial_tools.record.logs import LogEvent
 from sundial_tools.record.merge import Merge
 from sundial_tools.schedule import MOST_NUMBER, Event, event_line
@@ -31,7 +31,7 @@ class Recorder:
         self, topology: Topology, plans: Sequence[Plan], text: TextIO, origin: Optional[int], from_life: bool,
         with_losses: bool, counted: Callable[[], None],
     ) -> None:
-        self._fleet = Fleet(topology, plans)
+        self._fleet = JudgedFleet(topology, plans)
         self._text, self._from_life, self._with_losses, self._counted = text, from_life, with_losses, counted
         self._bases: Dict[int, int] = {}
         self._last: Optional[int] = None
@@ -53,11 +53,11 @@ class Recorder:
     def _offer(self, event: LogEvent) -> Optional[Refusal]:
         if self._ended:
             raise event.refuse("AfterEnd: there was an end before")
-        ref = self._within(event, event.ref - self.origin, "the reference")
-        for lost in self._fleet.lost_before(ref):
-            if self._with_losses:
-                self._say(lost)
-                self.losses += 1
+        ref = event.ref - self.origin
+        if not 0 <= ref <= MOST_NUMBER:
+            self._within(event, ref, "the reference")
+        if self._fleet.book.has_expired(ref):
+            self._lose_before(ref)
         answer = self._fleet.apply(self._placed(event), ref, self._counter(event))
         if isinstance(answer, Refusal):
             return answer
@@ -67,6 +67,12 @@ class Recorder:
         self._counted()
         self._say(answer)
         return None
+
+    def _lose_before(self, ref: int) -> None:
+        for lost in self._fleet.lost_before(ref):
+            if self._with_losses:
+                self._say(lost)
+                self.losses += 1
 
     def _placed(self, event: LogEvent) -> LogEvent:
         """The event with its clock counted from the origin."""

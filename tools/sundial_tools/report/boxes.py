@@ -6,14 +6,16 @@ In a large plan the devices that nobody follows, and that have the same depth, p
 from __future__ import annotations
 
 from dataclasses import dataclass, field
-from typing import Dict, List, Optional, Tuple
+from typing import Dict, FrozenSet, List, Optional, Tuple
 
 from sundial_tools.plan import Plan
 from sundial_tools.topology import Topology
 
 MOST_SINGLE = 40
 LEAST_SHARED = 4
-CELL_WIDTH, CELL_HEIGHT, CHARACTER, PADDING = 40.0, 20.0, 7.2, 7.0
+CELL_WIDTH, CELL_HEIGHT, CHARACTER, PADDING = 44.0, 22.0, 7.2, 8.0
+# A device of a shared box is a small square; its name is told by the mouse, and stands in a list below.
+SQUARE, HEAD = 13.0, 18.0
 
 
 @dataclass
@@ -24,7 +26,7 @@ class Box:
     devices: List[int]
     rank: int
     columns: int
-    cell_width: float
+    cell: float
     x: float = 0.0
     y: float = 0.0
 
@@ -34,12 +36,12 @@ class Box:
 
     @property
     def width(self) -> float:
-        return self.columns * self.cell_width + (2 * PADDING if self.is_shared else 0)
+        return max(self.columns * self.cell + 2 * PADDING, 96.0) if self.is_shared else self.cell
 
     @property
     def height(self) -> float:
         rows = -(-len(self.devices) // self.columns)
-        return rows * CELL_HEIGHT + (2 * PADDING + 14 if self.is_shared else 8)
+        return rows * SQUARE + 2 * PADDING + HEAD if self.is_shared else CELL_HEIGHT + 6
 
 
 @dataclass(frozen=True)
@@ -82,15 +84,19 @@ def depths_of(plan: Plan, members: List[int]) -> Dict[int, int]:
     return {member: depths.get(member, lost) for member in members}
 
 
-def draw(topology: Topology, plan: Plan) -> Drawing:
-    """The boxes and edges of a plan, not yet laid out."""
+def draw(topology: Topology, plan: Plan, alone: FrozenSet[int] = frozenset()) -> Drawing:
+    """The boxes and edges of a plan, not yet laid out. Devices that are `alone` share no box."""
     members = plan.members(topology)
     depths = depths_of(plan, members)
     groups: Dict[Tuple[object, ...], List[int]] = {}
     for member in members:
-        groups.setdefault(_key(plan, member, depths, len(members)), []).append(member)
+        key = (member,) if member in alone else _key(plan, member, depths, len(members))
+        groups.setdefault(key, []).append(member)
+    domain_of = {device: domain.number for domain in reversed(topology.domains) for device in domain.devices}
     boxes: List[Box] = []
     for group in groups.values():
+        # (devices of one rack stand beside each other)
+        group.sort(key=lambda device: (domain_of.get(device, len(topology.domains)), device))
         for devices in [group] if len(group) >= LEAST_SHARED else [[device] for device in group]:
             boxes.append(_box(topology, len(boxes), devices, depths[devices[0]]))
     box_of = {device: box.number for box in boxes for device in box.devices}
@@ -105,12 +111,12 @@ def _key(plan: Plan, device: int, depths: Dict[int, int], members: int) -> Tuple
 
 
 def _box(topology: Topology, number: int, devices: List[int], rank: int) -> Box:
-    longest = max(len(topology.devices[device].name) for device in devices)
-    cell = max(CELL_WIDTH, longest * CHARACTER + 12)
+    if len(devices) == 1:
+        return Box(number, devices, rank, 1, max(CELL_WIDTH, len(topology.devices[devices[0]].name) * CHARACTER + 16))
     columns = 1
-    while len(devices) > 1 and columns * cell < 1.9 * CELL_HEIGHT * len(devices) / columns:
+    while columns * columns < 2.5 * len(devices):
         columns += 1
-    return Box(number, devices, rank, columns, cell)
+    return Box(number, devices, rank, columns, SQUARE)
 
 
 def _edges(plan: Plan, boxes: List[Box], box_of: Dict[int, int]) -> List[Edge]:

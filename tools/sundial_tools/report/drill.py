@@ -3,10 +3,11 @@
 from __future__ import annotations
 
 from dataclasses import dataclass
+from functools import cached_property
 from typing import Dict, Iterable, Iterator, List, Optional, Tuple
 
 from sundial_tools.errors import ToolError
-from sundial_tools.outputs import OutputLine, parse_line
+from sundial_tools.outputs import NUMBER, OutputLine, parse_line
 from sundial_tools.topology import Topology
 
 Bounds = Tuple[Optional[int], ...]
@@ -19,11 +20,11 @@ class Group:
     domains: List[str]
     bounds: Bounds
 
-    @property
+    @cached_property
     def worst(self) -> int:
         return max((bound for bound in self.bounds if bound is not None), default=-1)
 
-    @property
+    @cached_property
     def unbounded(self) -> int:
         return sum(bound is None for bound in self.bounds)
 
@@ -36,11 +37,11 @@ class Drill:
     groups: List[Group]
     domains: int
 
-    @property
+    @cached_property
     def worst(self) -> int:
         return max(group.worst for group in self.groups)
 
-    @property
+    @cached_property
     def least(self) -> int:
         return min(bound for group in self.groups for bound in group.bounds if bound is not None)
 
@@ -75,7 +76,7 @@ class DrillReader:
 
     def _take(self, line: str, number: int) -> None:
         words = line.split(" ")
-        if len(words) == 5 and words[0] == "bound" and words[4].isdigit():
+        if len(words) == 5 and words[0] == "bound" and NUMBER.fullmatch(words[4]):
             self._bound(f"{words[1]} {words[2]}", words[3], int(words[4]), number)
         elif len(words) == 4 and words[0] == "nobound":
             self._bound(f"{words[1]} {words[2]}", words[3], None, number)

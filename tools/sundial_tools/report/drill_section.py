@@ -1,12 +1,12 @@
-"""The part of the page that shows a drill: the widest domains, the widest devices, and a heat map of both."""
+"""The part of the page that shows a drill: a map of domains and devices, and tables of both, the worst first."""
 
 from __future__ import annotations
 
-from typing import List
+from typing import Iterable, List
 
 from sundial_tools.report.drill import Drill, Group, widest_devices
-from sundial_tools.report.heat_map import HeatMap
-from sundial_tools.report.markup import Raw, element
+from sundial_tools.report.heat_map import SHADES, HeatMap
+from sundial_tools.report.markup import Raw, element, folded
 from sundial_tools.report.tables import Cell, names_of, table
 from sundial_tools.report.units import count, exact, human
 from sundial_tools.topology import Topology
@@ -22,55 +22,64 @@ def drill_section(topology: Topology, drill: Drill) -> Raw:
     name = topology.devices[worst[1]].name
     facts = (
         f"{count(drill.domains, 'domain')}, {count(len(drill.devices), 'device')}. The greatest bound is "
-        f"{human(drill.worst)} ({exact(drill.worst)}), that of {name} under {first.domains[0]}."
+        f"{human(drill.worst)} ({exact(drill.worst)}), that of {name} under {first.domains[0]}; the least is {human(drill.least)}."
     )
     return element(
         "section",
-        element("h2", "Drill: the greatest eps when a domain fails"),
+        element("h2", "Drill: the greatest eps when a domain fails", id="drill"),
         element("p", facts, class_="facts"),
-        element("div", heat.svg(), class_="scroll"),
-        element("p", more, class_="note") if more else Raw(""),
-        _by_domain(topology, drill),
-        _by_device(topology, drill),
+        element("div", *_scales(drill), heat.html(), element("p", more, class_="note") if more else Raw(""),
+                _by_domain(topology, drill, heat), _by_device(topology, drill, heat), class_="scaled"),
         class_="drill",
     )
 
 
-def _by_domain(topology: Topology, drill: Drill) -> Raw:
+def _scales(drill: Drill) -> Iterable[Raw]:
+    """The choice of a scale, which needs no script, and what the shades mean on each."""
+    for key, text, is_first in ("linear", "scale from 0", True), ("log", "logarithmic scale", False):
+        yield element("input", type="radio", name="scale", id=f"scale-{key}", class_=f"scale {key}", checked=is_first)
+        yield element("label", text, for_=f"scale-{key}")
+    for key, shade, ends in ("linear", "a", ("0 ps", human(drill.worst))), ("log", "g", (human(drill.least), human(drill.worst))):
+        cells = [element("i", class_=f"cell {shade}{place}") for place in range(SHADES)]
+        yield element("p", ends[0], " ", cells, " ", ends[1], " ", element("i", class_="cell hx"), " no bound", class_=f"ramp {key}")
+
+
+def _bar(bound: int, heat: HeatMap, worst: int) -> Raw:
+    """A bar under the number: as long as its part of the greatest bound, and by logarithm."""
+    linear, log = bound / max(1, worst), max(0.02, heat.share(bound))
+    return element("span", exact(bound), element("i", class_="bar", style=f"--linear:{linear:.1%};--log:{log:.1%}"))
+
+
+def _by_domain(topology: Topology, drill: Drill, heat: HeatMap) -> Raw:
     rows: List[List[Cell]] = []
     for group in drill.groups:
         rows.append(
             [
                 _domains(group),
                 str(len(group.domains)),
-                (exact(group.worst), group.worst) if group.worst >= 0 else "none",
+                (_bar(group.worst, heat, drill.worst), group.worst) if group.worst >= 0 else "none",
                 _widest(topology, drill, group),
                 str(group.unbounded),
             ]
         )
-    return _folded(
-        "The worst eps by domain", "by-domain", ("domain", "domains alike", "worst eps", "of", "without bound"), rows
-    )
+    return _folded("The worst eps by domain", "by-domain", ("domain", "domains alike", "worst eps", "of", "without bound"), rows)
 
 
-def _by_device(topology: Topology, drill: Drill) -> Raw:
+def _by_device(topology: Topology, drill: Drill, heat: HeatMap) -> Raw:
     rows: List[List[Cell]] = []
+    unbounded_by_place = [0] * len(drill.devices)
+    for found in drill.groups:
+        for place in [place for place, bound in enumerate(found.bounds) if bound is None] if found.unbounded else ():
+            unbounded_by_place[place] += len(found.domains)
     for place, device, bound, group in widest_devices(drill):
-        unbounded = sum(len(found.domains) for found in drill.groups if found.bounds[place] is None)
-        rows.append([topology.devices[device].name, (exact(bound), bound), _domains(group), str(unbounded)])
-    return _folded(
-        "The worst eps by device", "by-device", ("device", "worst eps", "under", "domains without bound"), rows
-    )
+        unbounded = unbounded_by_place[place]
+        rows.append([topology.devices[device].name, (_bar(bound, heat, drill.worst), bound), _domains(group), str(unbounded)])
+    return _folded("The worst eps by device", "by-device", ("device", "worst eps", "under", "domains without bound"), rows)
 
 
 def _folded(caption: str, name: str, head: "tuple[str, ...]", rows: List[List[Cell]]) -> Raw:
     """A table that is open where it is short."""
-    return element(
-        "details",
-        element("summary", f"{caption}: {len(rows)} rows, the greatest first"),
-        table(name, head, rows),
-        open=len(rows) <= OPEN_ROWS,
-    )
+    return folded(f"{caption}: {len(rows)} rows, the greatest first", table(name, head, rows), is_open=len(rows) <= OPEN_ROWS)
 
 
 def _domains(group: Group) -> str:

@@ -1,24 +1,26 @@
-"""Where the boxes of a drawn tree stand: by `dot` of graphviz where it is installed, else by rows of our own."""
+"""Where the boxes of a drawn tree stand: by rows of our own, or by `dot` of graphviz."""
 
 from __future__ import annotations
 
 import shutil
 import subprocess
-from typing import Dict, List, Optional, Tuple
+from typing import Dict, List, Tuple
 
 from sundial_tools.report.boxes import Box, Drawing, Edge
 
 POINTS = 72.0
 GAP, RANK_GAP, MARGIN = 18.0, 64.0, 14.0
-# How far a curve between two boxes of one rank goes below them.
-SAG = 34.0
+# How far a curve between two boxes of one rank goes below them, how much further on each level, and at most.
+SAG, LEVEL, MOST_SAG = 16.0, 12.0, 260.0
+# Over how much of the side of a box its hops are spread.
+SPREAD = 0.9
 DOT_SECONDS = 20
 Point = Tuple[float, float]
 
 
-def lay_out(drawing: Drawing, use_dot: Optional[bool] = None) -> None:
-    """Gives each box its place and each edge its route. `use_dot` None takes dot where it is there."""
-    program = shutil.which("dot") if use_dot is not False else None
+def lay_out(drawing: Drawing, use_dot: bool = False) -> None:
+    """Gives each box its place and each edge its route. Rows do where dot is asked for and is not there."""
+    program = shutil.which("dot") if use_dot else None
     if program is None or not _by_dot(drawing, program):
         _by_rows(drawing)
 
@@ -88,43 +90,97 @@ def _point(x: str, y: str, height: float) -> Point:
 
 
 def _by_rows(drawing: Drawing) -> None:
-    """One row a rank, near the middle of the boxes above that it follows, and in their order."""
+    """One row a rank, near the middle of the boxes above that it follows, and in their order.
+
+    Hops between two boxes of one rank go below it, each on a level of its own, so that none hides another.
+    """
     ranks: Dict[int, List[Box]] = {}
     for box in drawing.boxes:
         ranks.setdefault(box.rank, []).append(box)
     above = {edge.boxes[1]: drawing.boxes[edge.boxes[0]] for edge in drawing.edges if edge.kind == "primary"}
     widest = max(map(_row_width, ranks.values()))
+    levels: Dict[int, int] = {}
     top = MARGIN
     for rank in sorted(ranks):
         followed = [above[box.number].x for box in ranks[rank] if box.number in above]
         middle = sum(followed) / len(followed) if followed else MARGIN + widest / 2
         row = sorted(ranks[rank], key=lambda box: (above[box.number].x if box.number in above else 0.0, box.number))
         left = max(MARGIN, min(MARGIN + widest - _row_width(row), middle - _row_width(row) / 2))
+        height = max(box.height for box in row)
         for box in row:
-            box.x, box.y = left + (box.width + GAP) / 2, top + box.height / 2
+            box.x, box.y = left + (box.width + GAP) / 2, top + height - box.height / 2
             left += box.width + GAP
-        top += max(box.height for box in row) + RANK_GAP
-    drawing.width, drawing.height = widest + 2 * MARGIN, top - RANK_GAP + MARGIN + SAG
-    drawing.routes = [_curve(drawing, edge) for edge in drawing.edges]
+        drawing.width, drawing.height = widest + 2 * MARGIN, top + height + MARGIN
+        deepest = _set_levels(drawing, rank, levels)
+        drawing.height += deepest
+        top += height + max(RANK_GAP, deepest + RANK_GAP * 0.7)
+    ports = _ports(drawing)
+    drawing.routes = [
+        _below(drawing, edge, levels[place]) if place in levels else _between(drawing, edge, ports[place, 0], ports[place, 1])
+        for place, edge in enumerate(drawing.edges)
+    ]
     drawing.laid_out_by = "rows"
+
+
+def _set_levels(drawing: Drawing, rank: int, levels: Dict[int, int]) -> float:
+    """Gives each hop within a rank the least level on which it meets no other, short ones first. Answers their depth."""
+    spans: List[Tuple[float, float, float, int]] = []
+    for place, edge in enumerate(drawing.edges):
+        parent, child = (drawing.boxes[number] for number in edge.boxes)
+        if parent.rank == rank == child.rank:
+            spans.append((abs(parent.x - child.x), min(parent.x, child.x), max(parent.x, child.x), place))
+    taken: List[List[Tuple[float, float]]] = []
+    for _, left, right, place in sorted(spans):
+        level = 0
+        while level < len(taken) and any(left <= end and begin <= right for begin, end in taken[level]):
+            level += 1
+        if level == len(taken):
+            taken.append([])
+        taken[level].append((left, right))
+        levels[place] = level
+    return _sag(len(taken) - 1) if taken else 0.0
+
+
+def _sag(level: int) -> float:
+    return min(SAG + LEVEL * level, MOST_SAG)
 
 
 def _row_width(row: List[Box]) -> float:
     return sum(box.width + GAP for box in row)
 
 
-def _curve(drawing: Drawing, edge: Edge) -> List[Point]:
-    """A Bezier curve from the lower side of the parent to the upper side of the child, or below both on one rank."""
+def _ports(drawing: Drawing) -> Dict[Tuple[int, int], float]:
+    """Where a hop between two ranks leaves the side of its parent (0) and of its child (1): spread over the side, in the
+    order of where they lead, so that none hides another."""
+    sides: Dict[Tuple[int, bool], List[Tuple[float, int, int]]] = {}
+    for place, edge in enumerate(drawing.edges):
+        parent, child = (drawing.boxes[number] for number in edge.boxes)
+        if parent.rank != child.rank:
+            is_below = parent.rank < child.rank
+            sides.setdefault((parent.number, is_below), []).append((child.x, place, 0))
+            sides.setdefault((child.number, not is_below), []).append((parent.x, place, 1))
+    ports: Dict[Tuple[int, int], float] = {}
+    for (number, _), ends in sides.items():
+        box = drawing.boxes[number]
+        for order, (_, place, end) in enumerate(sorted(ends), 1):
+            ports[place, end] = box.x + box.width * SPREAD * (order / (len(ends) + 1) - 0.5)
+    return ports
+
+
+def _below(drawing: Drawing, edge: Edge, level: int) -> List[Point]:
+    """A Bezier curve below two boxes of one rank. Its lowest point is at three quarters of its handles."""
     parent, child = (drawing.boxes[number] for number in edge.boxes)
-    # A backup starts beside the middle, so that it does not hide a primary between the same two.
-    aside = 0.0 if edge.kind == "primary" else 6.0
-    if parent.rank == child.rank:
-        # Two devices may be each other's backup: the two curves go down by different lengths.
-        sag = SAG if parent.x < child.x else SAG * 0.6
-        start, end = (parent.x + aside, parent.y + parent.height / 2), (child.x + aside, child.y + child.height / 2)
-        return [start, (start[0], start[1] + sag), (end[0], end[1] + sag), end]
+    towards = 1.0 if parent.x < child.x else -1.0
+    sag = _sag(level) * 4 / 3
+    start = parent.x + towards * 10, parent.y + parent.height / 2
+    end = child.x - towards * 10, child.y + child.height / 2
+    return [start, (start[0] + towards * 6, start[1] + sag), (end[0] - towards * 6, end[1] + sag), end]
+
+
+def _between(drawing: Drawing, edge: Edge, begin: float, end: float) -> List[Point]:
+    """A Bezier curve from the side of the parent to that of the child, which is on another rank."""
+    parent, child = (drawing.boxes[number] for number in edge.boxes)
     down = 1 if parent.rank < child.rank else -1
-    bend = down * RANK_GAP / 2
-    start = parent.x + aside, parent.y + down * parent.height / 2
-    end = child.x + aside, child.y - down * child.height / 2
-    return [start, (start[0], start[1] + bend), (end[0], end[1] - bend), end]
+    top, bottom = parent.y + down * parent.height / 2, child.y - down * child.height / 2
+    bend = (bottom - top) / 2
+    return [(begin, top), (begin, top + bend), (end, bottom - bend), (end, bottom)]

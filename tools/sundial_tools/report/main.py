@@ -3,20 +3,25 @@
 from __future__ import annotations
 
 import argparse
-from typing import Dict, Iterator, List, Optional, TextIO
+import os
+import time
+from typing import Dict, Iterator, List, Optional, TextIO, Tuple
 
+from sundial_tools import __version__
 from sundial_tools.errors import ToolError
 from sundial_tools.outputs import OutputLine, read_output
 from sundial_tools.plan import Plan, read_plan
+from sundial_tools.report.changes import changes_section
 from sundial_tools.report.drill import Drill, DrillReader
 from sundial_tools.report.drill_section import drill_section
-from sundial_tools.report.markup import Raw
-from sundial_tools.report.page import page
+from sundial_tools.report.markup import Raw, element
+from sundial_tools.report.page import contents, page, source, sources_table
 from sundial_tools.report.refusal import Refusal, refusal_of
 from sundial_tools.report.replay import Replay, ReplayReader
 from sundial_tools.report.replay_section import replay_section
 from sundial_tools.report.tree_section import TreeSection
 from sundial_tools.report.units import count, human
+from sundial_tools.report.verdict import verdict
 from sundial_tools.safe_write import Progress, whole_output
 from sundial_tools.schedule import open_schedule
 from sundial_tools.topology import Topology, read_topology
@@ -36,7 +41,7 @@ def main(words: List[str]) -> int:
 def _parser() -> argparse.ArgumentParser:
     parser = argparse.ArgumentParser(
         prog="sundial-report",
-        description="Makes one HTML page of a topology with its plans, a drill and a replay.",
+        description="Makes one HTML page of a topology with its plans, a drill and a replay. It opens with a verdict.",
         epilog="The page needs no network and no other file. See docs/REPORT.md.",
     )
     parser.add_argument("topology", metavar="TOPOLOGY")
@@ -50,54 +55,93 @@ def _parser() -> argparse.ArgumentParser:
         help="a schedule, and what `sundial replay` or `order` printed",
     )
     parser.add_argument("--domain", metavar="DOMAIN", help="show the trees under this domain, as 'listed rack0'")
-    parser.add_argument("--layout", choices=("dot", "rows"), help="who lays out the trees (default: dot where it is)")
+    parser.add_argument("--layout", choices=("rows", "dot"), default="rows", help="who lays out the trees (default: rows)")
     parser.add_argument(
         "--only", metavar="PART", choices=PARTS, action="append", help="only this part: tree, drill or replay"
     )
     parser.add_argument("--title", metavar="TEXT", help="the heading of the page")
-    parser.add_argument("--output", metavar="FILE", help="where the page goes (default: standard output)")
+    parser.add_argument("--output", "-o", metavar="FILE", help="where the page goes (default: standard output)")
     return parser
+
+
+def _today() -> str:
+    """The day and minute on which the page is made. SOURCE_DATE_EPOCH says another one, for pages that are made again."""
+    said = os.environ.get("SOURCE_DATE_EPOCH", "")
+    now = int(said) if said.isascii() and said.isdigit() and len(said) < 12 else time.time()
+    return time.strftime("%Y-%m-%d %H:%M UTC", time.gmtime(now))
 
 
 class _Report:
     def __init__(self, said: argparse.Namespace, topology: Topology, plans: List[Plan]) -> None:
         self._said, self._topology, self._plans = said, topology, plans
         self._refusals: Dict[int, Refusal] = {}
+        self._accepted = False
 
     def page(self) -> str:
         self._check()
         drill, replay = self._drill(), self._replay()
-        sections: List[Raw] = []
+        shown = replay if replay is not None and replay.refused_plan is None else None
+        accepted = self._accepted or drill is not None
+        refusals = [self._refusals[place] for place in sorted(self._refusals)]
+        links: List[Tuple[str, str]] = [("verdict", "Verdict")]
+        sections: List[Raw] = [verdict(refusals, shown, accepted).html()]
+        if shown is not None and self._wants("replay"):
+            links.append(("replay", "Replay"))
+            sections.append(replay_section(self._topology, shown))
         if self._wants("tree"):
-            sections += self._trees()
+            links += [("plans", "Plans" if len(self._plans) > 1 else "Plan")]
+            sections.append(self._trees())
         if drill is not None and self._wants("drill"):
+            links.append(("drill", "Drill"))
             sections.append(drill_section(self._topology, drill))
-        if replay is not None and replay.refused_plan is None and self._wants("replay"):
-            sections.append(replay_section(self._topology, replay))
-        return page(self._said.title or "Sundial: a fabric and its plans", sections, [self._facts()])
+        opening = [self._facts(), contents(links)]
+        return page(self._said.title or "Sundial: a fabric and its plans", opening, [*sections, self._files()])
 
     def _wants(self, part: str) -> bool:
         return not self._said.only or part in self._said.only
 
-    def _facts(self) -> str:
+    def _facts(self) -> Raw:
         topology = self._topology
-        return (
+        text = (
             f"{count(len(topology.devices), 'device')}, {count(len(topology.links), 'link')}, "
             f"{count(len(topology.domains), 'listed domain')}. Period {human(topology.period)}, "
-            f"tick {human(topology.tick)}, loss {topology.loss}, depth {topology.depth}."
+            f"tick {human(topology.tick)}, loss {topology.loss}, depth {topology.depth}. Times are of the reference, in the unit "
+            "that stands with them; ps are picoseconds."
+        )
+        made = f"Made {_today()} by sundial-report {__version__} of {os.path.basename(self._said.topology)}, {count(len(self._plans), 'plan')}"
+        made += f" and {os.path.basename(self._said.replay[0])}." if self._said.replay else "."
+        return Raw(element("p", made, class_="made") + element("p", text, class_="facts"))
+
+    def _files(self) -> Raw:
+        said, sources = self._said, [source(f"topology, version {self._topology.version}", self._said.topology)]
+        sources += [source(f"plan {place}, version 1", path) for place, path in enumerate(said.plans, 1)]
+        for what, path in ("check", said.check), ("drill", said.drill):
+            sources += [source(f"output of {what}", path)] if path else []
+        if said.replay:
+            sources += [source("schedule", said.replay[0]), source("output of replay or order", said.replay[1])]
+        return element("section", element("h2", "Files", id="files"), sources_table(sources, f", {_today()}"), class_="sources")
+
+    def _trees(self) -> Raw:
+        parts: List[Raw] = []
+        for place, plan in enumerate(self._plans, 1):
+            before = self._plans[place - 2] if place > 1 else None
+            parts.append(
+                TreeSection(
+                    self._topology, plan, place, self._refusals.get(place), self._said.domain, self._said.layout == "dot", before
+                ).html()
+            )
+        changes = [
+            changes_section(self._topology, place, *pair) for place, pair in enumerate(zip(self._plans, self._plans[1:]), 1)
+        ]
+        heading = "Plans: who follows whom" if len(parts) > 1 else "Plan: who follows whom"
+        return element(
+            "section", element("h2", heading, id="plans"), element("div", parts, class_="side-by-side"), changes, class_="plans"
         )
 
-    def _trees(self) -> List[Raw]:
-        use_dot = None if self._said.layout is None else self._said.layout == "dot"
-        return [
-            TreeSection(self._topology, plan, place, self._refusals.get(place), self._said.domain, use_dot).html()
-            for place, plan in enumerate(self._plans, 1)
-        ]
-
-    def _refused(self, line: OutputLine, text: str, source: str) -> None:
-        refusal = refusal_of(line, text, self._topology, source)
-        if refusal.plan > len(self._plans):
-            raise ToolError(f"the refusal is of plan {refusal.plan}, and there are {len(self._plans)}", source)
+    def _refused(self, line: OutputLine, text: str, name: str) -> None:
+        refusal = refusal_of(line, text, self._topology, name)
+        if not 1 <= refusal.plan <= len(self._plans):
+            raise ToolError(f"the refusal is of plan {refusal.plan}, and there are {len(self._plans)}", name)
         self._refusals[refusal.plan] = refusal
 
     def _check(self) -> None:
@@ -108,29 +152,33 @@ class _Report:
         for line, text in zip(read_output(lines, self._said.check), lines):
             if line.kind.startswith("refused"):
                 self._refused(line, text[:-1], self._said.check)
-            elif line.kind != "accepted":
+            elif line.kind == "accepted":
+                self._accepted = True
+            else:
                 raise ToolError(f"no line of a check: {text[:80]!r}", self._said.check)
 
     def _drill(self) -> Optional[Drill]:
-        source = self._said.drill
-        if source is None:
+        name = self._said.drill
+        if name is None:
             return None
-        reader = DrillReader(self._topology, source)
-        with open(source, encoding="utf-8", newline="\n") as file, Progress(source) as progress:
+        reader = DrillReader(self._topology, name)
+        with open(name, encoding="utf-8", newline="\n") as file, Progress(name) as progress:
             drill = reader.read(_stepped(file, progress))
         if reader.other is not None:
             line, text = reader.other
             if not line.kind.startswith("refused"):
-                raise ToolError(f"sundial refused its input: {text}", source)
-            self._refused(line, text, source)
+                raise ToolError(f"sundial refused its input: {text}", name)
+            self._refused(line, text, name)
         return drill
 
     def _replay(self) -> Optional[Replay]:
         if self._said.replay is None:
             return None
         schedule, output = self._said.replay
+        with open(output, encoding="utf-8", newline="\n") as lines:
+            with_causes = any(line.startswith("broken ") for line in lines)
         with open_schedule(schedule) as events, open(output, encoding="utf-8", newline="\n") as lines:
-            replay = ReplayReader(self._topology, self._plans, schedule, output).read(events, lines)
+            replay = ReplayReader(self._topology, self._plans, schedule, output, with_causes).read(events, lines)
         if replay.refused_plan is not None:
             self._refused(replay.refused_plan, replay.refused_text, output)
         return replay
@@ -140,3 +188,4 @@ def _stepped(lines: TextIO, progress: Progress) -> Iterator[str]:
     for line in lines:
         progress.step()
         yield line
+

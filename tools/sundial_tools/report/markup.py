@@ -6,8 +6,9 @@ from html import escape
 from typing import Iterable, List, Union
 
 Value = Union[str, int, float, bool, None]
-LEAST_ZOOM = 0.8
-EMPTY = frozenset(("meta", "br", "input", "link"))
+# A picture shrinks so far on a narrow page, and then its region scrolls.
+LEAST_ZOOM = 0.7
+EMPTY = frozenset(("meta", "br", "input", "link", "hr"))
 
 
 class Raw(str):
@@ -52,15 +53,9 @@ def title(text: str) -> Raw:
 
 
 def drawing(
-    name: str,
-    label: str,
-    width: float,
-    height: float,
-    zoom: float,
-    *content: Union[str, Iterable[str]],
-    **more: Value,
+    name: str, label: str, width: float, height: float, zoom: float, *content: Union[str, Iterable[str]], **more: Value
 ) -> Raw:
-    """An svg that shrinks a little on a narrow page, and then scrolls."""
+    """An svg of this size. It stands in a `region`, which scrolls where the page is narrow."""
     return element(
         "svg",
         *content,
@@ -73,3 +68,17 @@ def drawing(
         aria_label=label,
         **more,
     )
+
+
+def region(label: str, *content: Union[str, Iterable[str]], class_: str = "") -> Raw:
+    """A part of the page that scrolls sideways, and that the keyboard reaches."""
+    return element("div", *content, class_=f"scroll {class_}".strip(), role="region", aria_label=label, tabindex=0)
+
+
+def folded(caption: str, *content: Union[str, Iterable[str]], is_open: bool = False, **more: Value) -> Raw:
+    return element("details", element("summary", caption), *content, open=is_open, **more)
+
+
+def joined(parts: Iterable[str]) -> Raw:
+    """Parts of markup as one."""
+    return Raw("".join(parts))

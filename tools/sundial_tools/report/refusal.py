@@ -6,6 +6,7 @@ from typing import Dict, FrozenSet, NamedTuple, Optional, Tuple
 
 from sundial_tools.errors import ToolError
 from sundial_tools.outputs import OutputLine
+from sundial_tools.report.units import exact, human
 from sundial_tools.topology import Topology
 
 MEANING = {
@@ -16,6 +17,16 @@ MEANING = {
     "loop": "While things of the domain fail, these devices may come to follow each other in a ring.",
     "domain": "The domain takes the device's path and its backup together.",
     "reach": "With the domain down, the first of these devices never hears again.",
+}
+
+# Of each rule of timing: the number that is too small, and what mends it.
+LENGTHEN = "Lengthen {} by this and a little for the drift."
+TIMING = {
+    1: ("the period of the topology", "No plan mends this: lengthen the period, or shorten depth or tick."),
+    2: ("wait_first", LENGTHEN.format("wait_first")),
+    3: ("wait_second", LENGTHEN.format("wait_second")),
+    4: ("wait", LENGTHEN.format("wait")),
+    5: ("wait", LENGTHEN.format("wait") + " Or shorten wait_first."),
 }
 
 
@@ -29,9 +40,25 @@ class Refusal(NamedTuple):
     steps: Tuple[int, ...]
     links: FrozenSet[int]
 
+    left: Optional[int] = None
+    right: Optional[int] = None
+    rule: Optional[int] = None
+
     @property
     def meaning(self) -> str:
         return MEANING[self.condition]
+
+    @property
+    def in_words(self) -> str:
+        """A refusal of timing with its numbers: what the rule needs, and what is there."""
+        if self.condition != "timing" or self.left is None or self.right is None:
+            return ""
+        least, mends = TIMING[self.rule or 1]
+        return (
+            f"Rule {self.rule}: {least} is {human(self.left)} ({exact(self.left)}) at the least, and has to be "
+            f"{'more than' if self.rule == 1 else 'at least'} {human(self.right)} ({exact(self.right)}): "
+            f"{human(self.right - self.left)} are missing. {mends}"
+        )
 
 
 def refusal_of(line: OutputLine, text: str, topology: Topology, source: str) -> Refusal:
@@ -49,7 +76,10 @@ def refusal_of(line: OutputLine, text: str, topology: Topology, source: str) -> 
     steps = tuple(_number(topology.device_numbers, name, source) for name in names)
     domain = fields.get("domain")
     place = (domain["kind"], domain["name"]) if domain else None
-    return Refusal(fields["plan"], line.kind.split(" ")[1], text, place, steps, links)
+    return Refusal(
+        fields["plan"], line.kind.split(" ")[1], text, place, steps, links,
+        fields.get("left"), fields.get("right"), fields.get("rule"),
+    )
 
 
 def _number(numbers: Dict[str, int], name: str, source: str) -> int:

@@ -6,10 +6,12 @@ from dataclasses import dataclass, field
 from typing import Dict, Iterable, Iterator, List, NamedTuple, Optional, Sequence, Tuple
 
 from sundial_tools.errors import ToolError
+from sundial_tools.fleet.who import Cause, Watch
 from sundial_tools.outputs import OutputLine, read_output
 from sundial_tools.plan import Plan
-from sundial_tools.report.fleet import Fleet
+from sundial_tools.fleet.fleet import Fleet
 from sundial_tools.report.series import Peaks, Percentiles, Report, Reports
+from sundial_tools.report.tracks import Tracks
 from sundial_tools.safe_write import Progress
 from sundial_tools.schedule import Event, event_line, read_schedule
 from sundial_tools.topology import Topology
@@ -30,6 +32,11 @@ LANE_OF = {
     "disorder": "alarm",
 }
 
+RARE = frozenset(("fail", "mend", "join", "stage", "commit"))
+# The state of a track after what happened, and by the mode of a device.
+STATE_OF = {"move": "backup", "takeover": "acting", "enter": "primary"}
+TRACK_OF = ("primary", "backup", "acting", "waiting")
+
 
 class Mark(NamedTuple):
     """Something that happened at a line of the schedule."""
@@ -38,6 +45,7 @@ class Mark(NamedTuple):
     ref: int
     line: int
     text: str
+    device: Optional[int] = None
 
 
 @dataclass
@@ -56,14 +64,24 @@ class Replay:
     refusal: Optional[str] = None
     refused_plan: Optional[OutputLine] = None
     refused_text: str = ""
+    causes: List[Tuple[Mark, Cause]] = field(default_factory=list)
+    alarms: List[Mark] = field(default_factory=list)
+    wrong: int = 0
+    tracks: Optional[Tracks] = None
 
 
 class ReplayReader:
-    def __init__(self, topology: Topology, plans: Sequence[Plan], schedule: str, output: str) -> None:
+    """`with_causes` says who broke each premise: needed where the output has such lines."""
+
+    def __init__(
+        self, topology: Topology, plans: Sequence[Plan], schedule: str, output: str, with_causes: bool = True
+    ) -> None:
         self._topology, self._schedule, self._output = topology, schedule, output
         self._names = [device.name for device in topology.devices]
         self._fleet = Fleet(topology, plans)
-        self._replay = Replay()
+        self._watch = Watch(self._fleet) if with_causes else None
+        self._tracks = Tracks(topology)
+        self._replay = Replay(tracks=self._tracks)
         self._lines: Iterator[Tuple[int, OutputLine]] = iter(())
         self._next: Optional[Tuple[int, OutputLine]] = None
         self._text_read = ""
@@ -79,10 +97,12 @@ class ReplayReader:
         with Progress(self._schedule) as progress:
             for number, event in read_schedule(schedule, self._schedule):
                 if self._stops_at(number):
-                    return self._replay
+                    break
                 self._event(number, event)
                 progress.step()
-        self._ends()
+        if self._replay.refusal is None:
+            self._ends()
+        self._tracks.end(self._replay.last)
         return self._replay
 
     def _kept(self, output: Iterable[str]) -> Iterator[str]:
@@ -107,41 +127,55 @@ class ReplayReader:
         return True
 
     def _event(self, number: int, event: Event) -> None:
-        for kind, value in ("device", event.device), (event.thing, event.number):
-            most = {"device": len(self._names), "link": len(self._topology.links)}.get(kind or "", 0)
-            if value is not None and value >= most:
-                raise ToolError(f"the topology has no {kind} {value}", self._schedule, number)
+        device, counter = event.device, event.counter
+        if (device is not None and device >= len(self._names)) or event.thing is not None:
+            self._known(number, event)
         replay = self._replay
         if event.ref < replay.last:
             raise self._not_accepted(number, event)
         replay.events, replay.last = number, event.ref
         if replay.first is None:
             replay.first = event.ref
-        said = None
-        if event.counter is not None and event.device is not None:
-            said = self._fleet.report(event.device, event.counter)
-        if event.word in ("fail", "mend", "join", "stage", "commit"):
-            self._mark(event.word, number, event.ref, self._text(event))
+        said = self._fleet.report(device, counter) if counter is not None and device is not None else None
+        if event.word in RARE:
+            self._mark(event.word, number, event.ref, self._text(event), event.device if event.thing != "device" else event.number)
         try:
+            if self._watch is not None:
+                self._watch.before(event)
+                self._explain(number, event)
             happened = self._fleet.happen(event)
+            if self._watch is not None:
+                self._watch.after(event, number, happened)
         except (KeyError, IndexError):
             raise self._not_accepted(number, event) from None
-        self._drawn(event, said)
-        for kind, device in happened:
-            if kind in LANE_OF:
-                text = "the window closes" if device is None else f"{kind} {self._names[device]}"
-                self._mark(kind, number, event.ref, text)
-        self._told(number, event, said)
+        if counter is not None:
+            self._drawn(event, said, happened)
+        if happened or event.word not in ("tick", "recv", "ask"):
+            self._track(event, happened)
+        if happened in LANE_OF:
+            closes = event.device is None or happened == "close"
+            text = "the window closes" if closes else f"{happened} {self._names[event.device or 0]}"
+            self._mark(happened, number, event.ref, text, None if closes else event.device)
+        if event.word == "ask" or (self._next is not None and self._next[1].fields.get("line") == number):
+            self._told(number, event, said)
+
+    def _known(self, number: int, event: Event) -> None:
+        for kind, value in ("device", event.device), (event.thing, event.number):
+            most = {"device": len(self._names), "link": len(self._topology.links)}.get(kind or "", 0)
+            if value is not None and value >= most:
+                raise ToolError(f"the topology has no {kind} {value}", self._schedule, number)
 
     def _not_accepted(self, number: int, event: Event) -> ToolError:
         reason = f"no replay accepts this line here, and {self._output} does not refuse it: {event_line(event)[:-1]}"
         return ToolError(reason, self._schedule, number)
 
-    def _drawn(self, event: Event, said: Optional[Tuple[int, int]]) -> None:
+    def _drawn(self, event: Event, said: Optional[Tuple[int, int]], happened: str) -> None:
         """Keeps the eps before and after an event for the curve of its device."""
         if event.counter is None or event.device is None:
             return
-        after = self._fleet.report(event.device, event.counter)
+        after = said
+        if happened in ("accept", "enter") or event.word in ("start", "join", "fix"):
+            after = self._fleet.report(event.device, event.counter)
         if after is not None:
             before = after if said is None or event.word in ("start", "join") else said
             self._replay.peaks.add(event.device, event.ref, before[1], after[1])
@@ -153,11 +187,35 @@ class ReplayReader:
             return f"{event.word} {event.thing} {name}"
         return event.word if event.device is None else f"{event.word} {self._names[event.device]}"
 
-    def _mark(self, kind: str, line: int, ref: int, text: str) -> None:
-        lane = LANE_OF[kind]
+    def _mark(self, kind: str, line: int, ref: int, text: str, device: Optional[int] = None) -> Mark:
+        lane, mark = LANE_OF[kind], Mark(kind, ref, line, text, device)
         self._replay.mark_counts[lane] += 1
         if len(self._replay.marks[lane]) < MOST_MARKS:
-            self._replay.marks[lane].append(Mark(kind, ref, line, text))
+            self._replay.marks[lane].append(mark)
+        return mark
+
+    def _track(self, event: Event, happened: str) -> None:
+        """Keeps the modes of devices over time."""
+        word, device, tracks = event.word, event.device, self._tracks
+        if happened == "accept" and device is not None:
+            tracks.heard(device, event.ref)
+        elif happened in STATE_OF and device is not None:
+            tracks.set(device, STATE_OF[happened], event.ref)
+        elif word in ("start", "join", "commit") and device is not None:
+            tracks.set(device, TRACK_OF[self._fleet.devices[device].mode], event.ref)
+        elif word == "fail" and event.thing == "device" and event.number is not None:
+            tracks.set(event.number, "down", event.ref)
+
+    def _explain(self, number: int, event: Event) -> None:
+        """Who breaks a premise with this event, which comes next. The line that says so is the next of the output."""
+        if self._watch is None or self._next is None or self._next[1].fields.get("line") != number:
+            return
+        if self._next[1].kind == "broken":
+            premise = self._next[1].fields["premise"]
+            mark = self._mark("broken", number, event.ref, f"broken {number} {premise}", event.device)
+            self._replay.causes.append((mark, self._watch.explain(premise, event, number)))
+            self._advance()
+            self._explain(number, event)
 
     def _told(self, number: int, event: Event, said: Optional[Tuple[int, int]]) -> None:
         """The lines of the output that belong to this line of the schedule."""
@@ -174,7 +232,8 @@ class ReplayReader:
             elif line.kind == "broken":
                 self._mark("broken", number, event.ref, f"broken {number} {line.fields['premise']}")
             elif line.kind.startswith("alarm"):
-                self._mark("alarm", number, event.ref, _alarm(line))
+                device = self._topology.device_numbers.get(line.fields["device"])
+                self._replay.alarms.append(self._mark("alarm", number, event.ref, _alarm(line), device))
             elif line.kind == "disorder":
                 self._mark("disorder", number, event.ref, f"disorder {number} {line.fields['begin']}")
             self._advance()
@@ -190,6 +249,7 @@ class ReplayReader:
         if said != (clock, eps):
             raise self._wrong(f"the report is not that of these plans and this schedule: {said} was expected")
         report = Report(number, event.device, event.ref, clock, eps)
+        self._replay.wrong += report.is_wrong
         self._replay.reports.add(report)
         self._replay.percentiles.setdefault(event.device, Percentiles()).add(eps)
         worst = self._replay.worst_off.get(event.device)

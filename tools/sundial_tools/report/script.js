@@ -1,8 +1,9 @@
 "use strict";
 (function () {
-  function each(list, act) { Array.prototype.forEach.call(list, act); }
+  function all(root, what) { return Array.prototype.slice.call(root.querySelectorAll(what)); }
+  function numbers(text) { return (text || "").split(" ").filter(Boolean).map(Number); }
 
-  // Tables: a click on a head sorts by its column, numbers by their value; a second click turns the order.
+  // Tables: the button of a head sorts by its column, numbers by their value; a second press turns the order.
   function valueOf(row, column) {
     var cell = row.cells[column];
     if (cell.dataset.value !== undefined) return Number(cell.dataset.value);
@@ -12,33 +13,48 @@
   function sortBy(table, column, head) {
     var down = head.getAttribute("aria-sort") !== "descending";
     var body = table.tBodies[0], rows = Array.prototype.slice.call(body.rows);
+    rows = rows.map(function (row) { return [valueOf(row, column), row]; });
     rows.sort(function (a, b) {
-      var x = valueOf(a, column), y = valueOf(b, column);
+      var x = a[0], y = b[0];
       var order = typeof x === "number" && typeof y === "number" ? x - y : String(x).localeCompare(String(y), undefined, { numeric: true });
       return down ? -order : order;
     });
-    rows.forEach(function (row) { body.appendChild(row); });
-    each(table.tHead.rows[0].cells, function (other) { other.removeAttribute("aria-sort"); });
+    rows.forEach(function (row) { body.appendChild(row[1]); });
+    all(table, "thead th").forEach(function (other) { other.removeAttribute("aria-sort"); });
     head.setAttribute("aria-sort", down ? "descending" : "ascending");
   }
-  each(document.querySelectorAll("table.sortable"), function (table) {
-    table.classList.add("sorts");
-    each(table.tHead.rows[0].cells, function (head, column) {
-      head.addEventListener("click", function () { sortBy(table, column, head); });
+  all(document, "table.sortable").forEach(function (table) {
+    all(table, "thead th").forEach(function (head, column) {
+      var button = document.createElement("button");
+      button.type = "button";
+      button.textContent = head.textContent;
+      button.title = "Sort by " + head.textContent;
+      head.textContent = "";
+      head.appendChild(button);
+      button.addEventListener("click", function () { sortBy(table, column, head); });
     });
   });
 
+  // A link to a place within what is folded opens it.
+  function openTarget() {
+    var target = location.hash.length > 1 && document.getElementById(decodeURIComponent(location.hash.slice(1)));
+    for (var at = target; at; at = at.parentElement) if (at.tagName === "DETAILS") at.open = true;
+    if (target) target.scrollIntoView({ block: "center" });
+  }
+  window.addEventListener("hashchange", openTarget);
+  openTarget();
+  window.addEventListener("beforeprint", function () { all(document, "details.files,details.group").forEach(function (one) { one.open = true; }); });
+
   // Trees: a domain is chosen, and its devices and edges are marked.
   var STATES = ["failed", "moves", "cut", "silent", "acts"], EDGES = ["failed", "taken", "left"];
-  function numbers(text) { return text.split(" ").map(Number); }
   function show(section, said) {
     var states = said ? said[1] : {}, links = said ? said[2] : [];
     section.querySelector(".effect").textContent = said ? said[0] : "";
-    each(section.querySelectorAll("g.device"), function (group) {
+    all(section, "g.device").forEach(function (group) {
       var device = Number(group.dataset.device);
       STATES.forEach(function (state) { group.classList.toggle(state, (states[state] || []).indexOf(device) >= 0); });
     });
-    each(section.querySelectorAll("path.edge"), function (edge) {
+    all(section, "path.edge").forEach(function (edge) {
       EDGES.forEach(function (state) { edge.classList.remove(state); });
       if (!said) return;
       var devices = numbers(edge.dataset.devices), moves = states.moves || [];
@@ -49,33 +65,146 @@
       else if (moving.length === devices.length) edge.classList.add("left");
     });
   }
-  each(document.querySelectorAll("section.plan"), function (section) {
-    var effects = JSON.parse(section.querySelector("script.effects").textContent);
-    var choice = section.querySelector("select.domains");
-    section.querySelector(".chooser").hidden = false;
-    choice.addEventListener("change", function () { show(section, effects[choice.value]); });
-    each(section.querySelectorAll("g.device"), function (group) {
-      group.addEventListener("mouseenter", function () { dimOthers(section, Number(group.dataset.device)); });
-      group.addEventListener("mouseleave", function () { dimOthers(section, null); });
-    });
-  });
   function dimOthers(section, device) {
-    each(section.querySelectorAll("path.edge"), function (edge) {
+    all(section, "path.edge").forEach(function (edge) {
       var near = device === null || Number(edge.dataset.parent) === device || numbers(edge.dataset.devices).indexOf(device) >= 0;
       edge.classList.toggle("dim", !near);
     });
   }
-
-  // Replay: a device of the legend or of the table is lifted out.
-  each(document.querySelectorAll("section.replay"), function (section) {
-    each(section.querySelectorAll(".legend .device"), function (item) {
-      item.addEventListener("mouseenter", function () { lift(section, item.dataset.device); });
-      item.addEventListener("mouseleave", function () { lift(section, null); });
+  all(document, "section.plan").forEach(function (section) {
+    var effects = JSON.parse(section.querySelector("script.effects").textContent);
+    var choice = section.querySelector("select.domains");
+    section.querySelector(".chooser").hidden = false;
+    choice.addEventListener("change", function () { show(section, effects[choice.value]); });
+    all(section, "g.device").forEach(function (group) {
+      group.addEventListener("mouseenter", function () { dimOthers(section, Number(group.dataset.device)); });
+      group.addEventListener("mouseleave", function () { dimOthers(section, null); });
     });
   });
-  function lift(section, device) {
-    each(section.querySelectorAll(".line,.report"), function (mark) {
-      mark.classList.toggle("dim", device !== null && mark.dataset.device !== device);
-    });
+
+  // Replay: zoom, a cursor over all panels, and lines that are lifted out.
+  var UNITS = [[1e12, "s"], [1e9, "ms"], [1e6, "us"], [1e3, "ns"], [1, "ps"]];
+  function unitOf(value) {
+    for (var i = 0; i < UNITS.length; i++) if (Math.abs(value) >= UNITS[i][0]) return UNITS[i];
+    return UNITS[UNITS.length - 1];
   }
+  function human(value, digits) {
+    var unit = unitOf(value);
+    return String(Number((value / unit[0]).toPrecision(digits || 5))) + " " + unit[1];
+  }
+  all(document, "section.replay").forEach(function (section) {
+    var panels = section.querySelector(".panels");
+    if (!panels) return;
+    var first = Number(panels.dataset.first), span = Number(panels.dataset.last) - first;
+    var data = JSON.parse(section.querySelector("script.lines-data").textContent);
+    var controls = section.querySelector(".controls"), shown = section.querySelector("output.shown");
+    var cursor = section.querySelector(".cursor"), over = document.createElement("div");
+    var from = 0, zoom = 1, at = null;
+    over.className = "at";
+    panels.appendChild(over);
+    over.appendChild(cursor);
+    controls.hidden = false;
+
+    function ticks() {
+      var size = unitOf(first + span)[0], name = unitOf(first + span)[1];
+      var low = (first + from * span) / size, high = (first + (from + 1 / zoom) * span) / size;
+      var rough = (high - low) / Math.max(2, Math.min(8, panels.clientWidth / 130)), step = Math.pow(10, Math.floor(Math.log10(rough)));
+      [1, 2, 5, 10].some(function (factor) { if (step * factor >= rough) { step *= factor; return true; } return false; });
+      var places = [];
+      for (var i = Math.ceil(low / step); i * step <= high && places.length < 40; i++) places.push(i * step);
+      all(panels, ".ticks").forEach(function (axis) {
+        axis.textContent = "";
+        places.forEach(function (place) {
+          var tick = document.createElement("span");
+          tick.style.setProperty("--x", (place * size - first) / span);
+          tick.textContent = Number(place.toPrecision(12)) + " " + name;
+          axis.appendChild(tick);
+        });
+      });
+    }
+    // Between two of its events the eps of a device grows evenly; before its first and behind its last it is not known.
+    function epsAt(line, place) {
+      if (place < 0 || place >= line.eps.length) return "unknown";
+      if (line.eps[place] !== null) return human(line.eps[place], 4);
+      var before = place, behind = place;
+      while (before >= 0 && line.eps[before] === null) before--;
+      while (behind < line.eps.length && line.eps[behind] === null) behind++;
+      if (before < 0 || behind === line.eps.length) return "unknown";
+      var begin = line.last[before];
+      return human(begin + (line.eps[behind] - begin) * (place - before) / (behind - before), 4);
+    }
+    function say() {
+      var text = human(first + from * span) + " to " + human(first + (from + 1 / zoom) * span);
+      if (at !== null) {
+        var ref = first + at * span, place = Math.floor((ref - data.begin) / data.step);
+        text = "at " + human(ref, 9) + ": " + data.lines.map(function (line) {
+          return line.name + " " + epsAt(line, place);
+        }).join(", ");
+      }
+      shown.textContent = text;
+    }
+    function set(begin, factor) {
+      zoom = Math.min(100000, Math.max(1, factor));
+      from = Math.min(1 - 1 / zoom, Math.max(0, begin));
+      panels.style.setProperty("--from", from);
+      panels.style.setProperty("--zoom", zoom);
+      ticks();
+      say();
+    }
+    function around(middle, factor) { set(middle - (middle - from) * zoom / Math.min(100000, Math.max(1, zoom * factor)), zoom * factor); }
+    var acts = {
+      in: function () { around(at === null ? from + 0.5 / zoom : at, 2); },
+      out: function () { around(at === null ? from + 0.5 / zoom : at, 0.5); },
+      left: function () { set(from - 0.25 / zoom, zoom); },
+      right: function () { set(from + 0.25 / zoom, zoom); },
+      all: function () { set(0, 1); }
+    };
+    var keys = { "+": "in", "=": "in", "-": "out", ArrowLeft: "left", ArrowRight: "right", "0": "all" };
+    all(controls, "button").forEach(function (button) {
+      button.addEventListener("click", function () { at = null; cursor.hidden = true; acts[button.dataset.zoom](); });
+    });
+    panels.addEventListener("keydown", function (event) {
+      var act = keys[event.key];
+      if (!act || event.ctrlKey || event.metaKey || event.altKey) return;
+      event.preventDefault();
+      acts[act]();
+    });
+    function placeOf(event) {
+      var box = over.getBoundingClientRect(), part = (event.clientX - box.left) / box.width;
+      return part < 0 || part > 1 ? null : from + part / zoom;
+    }
+    panels.addEventListener("pointermove", function (event) {
+      at = placeOf(event);
+      if (drag !== null && event.buttons & 1) {
+        set(drag.from - (event.clientX - drag.x) / over.clientWidth / zoom, zoom);
+        at = placeOf(event);
+      }
+      cursor.hidden = at === null;
+      if (at !== null) cursor.style.setProperty("--x", at);
+      say();
+    });
+    panels.addEventListener("pointerleave", function () { at = null; cursor.hidden = true; say(); });
+    var drag = null;
+    panels.addEventListener("pointerdown", function (event) { drag = event.button === 0 ? { x: event.clientX, from: from } : null; });
+    window.addEventListener("pointerup", function () { drag = null; });
+    panels.addEventListener("wheel", function (event) {
+      if (!event.ctrlKey) return;
+      event.preventDefault();
+      around(placeOf(event) === null ? from + 0.5 / zoom : placeOf(event), event.deltaY < 0 ? 1.25 : 0.8);
+    }, { passive: false });
+    window.addEventListener("resize", ticks);
+    set(0, 1);
+
+    function lift(devices) {
+      all(panels, ".line,.dots").forEach(function (mark) {
+        var own = numbers(mark.dataset.devices);
+        mark.classList.toggle("dim", devices !== null && !own.some(function (device) { return devices.indexOf(device) >= 0; }));
+      });
+    }
+    all(section, ".legend .device").forEach(function (item) {
+      var devices = numbers(item.dataset.devices);
+      ["mouseenter", "focus"].forEach(function (kind) { item.addEventListener(kind, function () { lift(devices); }); });
+      ["mouseleave", "blur"].forEach(function (kind) { item.addEventListener(kind, function () { lift(null); }); });
+    });
+  });
 })();

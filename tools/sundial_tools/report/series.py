@@ -34,12 +34,14 @@ class Peaks:
         while place >= MOST_INTERVALS:
             self._halve()
             place = (ref - self.first) // self.step
-        intervals = self.of.setdefault(device, [])
+        intervals = self.of.get(device)
+        if intervals is None:
+            intervals = self.of[device] = []
         if place >= len(intervals):
             intervals.extend([None] * (place + 1 - len(intervals)))
         known = intervals[place]
-        peak = max(before, after) if known is None else max(known.peak, before, after)
-        intervals[place] = Interval(peak, after)
+        peak = before if before > after else after
+        intervals[place] = Interval(peak if known is None or peak > known.peak else known.peak, after)
 
     def _halve(self) -> None:
         self.step *= 2

@@ -5,7 +5,7 @@ from __future__ import annotations
 import re
 from typing import Iterable, List, Sequence, Union
 
-from sundial_tools.report.markup import Raw, element
+from sundial_tools.report.markup import Raw, element, region
 from sundial_tools.topology import Topology
 
 MOST_NAMES = 8
@@ -15,19 +15,22 @@ Cell = Union[str, Raw, "tuple[str, int]"]
 
 def table(name: str, head: Sequence[str], rows: Iterable[Sequence[Cell]]) -> Raw:
     """A cell that is a pair has its text and the number that it is sorted by."""
-    heads = element("tr", [element("th", text, scope="col") for text in head])
+    rows = list(rows)
+    numeric = [bool(rows) and _is_number(rows[0][column]) for column in range(len(head))]
+    heads = element("tr", [element("th", text, scope="col", class_="number" if right else None) for text, right in zip(head, numeric)])
     body = [element("tr", [_cell(cell) for cell in row]) for row in rows]
-    return element(
-        "div",
-        element("table", element("thead", heads), element("tbody", body), class_=f"sortable {name}"),
-        class_="scroll",
-    )
+    whole = element("table", element("thead", heads), element("tbody", body), class_=f"sortable {name}")
+    return region(f"Table: {name.replace('-', ' ')}", whole, class_="table")
 
 
 def _cell(cell: Cell) -> Raw:
     if isinstance(cell, tuple):
         return element("td", cell[0], class_="number", data_value=cell[1])
-    return element("td", cell, class_="number" if NUMBER.fullmatch(cell) else None)
+    return element("td", cell, class_="number" if _is_number(cell) else None)
+
+
+def _is_number(cell: Cell) -> bool:
+    return isinstance(cell, tuple) or NUMBER.fullmatch(cell) is not None
 
 
 def names_of(topology: Topology, devices: Sequence[int]) -> str:

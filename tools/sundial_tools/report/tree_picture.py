@@ -1,61 +1,58 @@
-"""The picture of a plan: devices by rank, primaries solid, backups dashed, domains by colour."""
+"""The picture of a plan: devices by rank, primaries solid, backups dashed. Colour and outline tell states alone."""
 
 from __future__ import annotations
 
-from typing import Dict, List, Optional, Set, Tuple
+from typing import Dict, FrozenSet, List, Optional, Set, Tuple
 
 from sundial_tools.plan import Plan
-from sundial_tools.report.boxes import CELL_HEIGHT, PADDING, Box, Drawing, Edge
-from sundial_tools.report.colours import domain_colours
+from sundial_tools.report.boxes import HEAD, PADDING, SQUARE, Box, Drawing, Edge
 from sundial_tools.report.effects import Effect
 from sundial_tools.report.markup import Raw, drawing, element, title
 from sundial_tools.report.refusal import Refusal
 from sundial_tools.topology import Topology
 
 Point = Tuple[float, float]
-PLAIN = "#eceff3"
 # A small tree is drawn larger, as long as it stays so wide.
-MOST_ZOOM, WIDE = 1.5, 800.0
+MOST_ZOOM, WIDE = 1.4, 760.0
 
 
 class TreePicture:
-    """Draws one plan. `effect` is the domain under which it is shown, `refusal` what it is marked by."""
+    """Draws one plan. `effect` is the domain under which it is shown, `refusal` what it is marked by, `changed` the hops
+    that the plan before did not have."""
 
     def __init__(
-        self, topology: Topology, plan: Plan, drawing: Drawing, effect: Optional[Effect], refusal: Optional[Refusal]
+        self, topology: Topology, plan: Plan, drawing: Drawing, effect: Optional[Effect], refusal: Optional[Refusal],
+        changed: FrozenSet[Tuple[str, int]] = frozenset(),
     ) -> None:
         self._topology, self._plan, self._drawing = topology, plan, drawing
-        self._effect, self._refusal = effect, refusal
-        colours = domain_colours(len(topology.domains))
-        self._device_domains: Dict[int, List[int]] = {}
-        self._link_domains: Dict[int, List[int]] = {}
+        self._effect, self._refusal, self._changed = effect, refusal, changed
+        self._domains: Dict[int, List[str]] = {}
         for domain in topology.domains:
             for device in domain.devices:
-                self._device_domains.setdefault(device, []).append(domain.number)
-            for link in domain.links:
-                self._link_domains.setdefault(link, []).append(domain.number)
-        self._colour = colours
-        self._ring = self._ring_hops()
+                self._domains.setdefault(device, []).append(domain.name)
+        self._ring = ring_hops(plan, refusal)
+        self._steps = {device: place for place, device in enumerate(refusal.steps, 1)} if refusal else {}
 
     def svg(self, label: str) -> Raw:
         width, height = self._drawing.width, self._drawing.height
         zoom = max(1.0, min(MOST_ZOOM, WIDE / width))
-        edges = [self._edge(edge, route) for edge, route in zip(self._drawing.edges, self._drawing.routes)]
+        drawn = [(edge, self._edge_states(edge), route) for edge, route in zip(self._drawing.edges, self._drawing.routes)]
+        # What is refused is drawn last, over all others, at its full length.
+        drawn.sort(key=lambda one: "breach" in one[1])
+        edges = [self._edge(*one) for one in drawn]
         boxes = [self._box(box) for box in self._drawing.boxes]
-        return drawing("tree", label, width, height, zoom, edges, boxes, data_layout=self._drawing.laid_out_by)
+        states = "tree breached" if self._ring else "tree"
+        return drawing(states, label, width, height, zoom, edges, boxes, data_layout=self._drawing.laid_out_by)
 
-    def _edge(self, edge: Edge, route: List[Point]) -> Raw:
-        classes = ["edge", edge.kind] + self._edge_states(edge)
-        domains = {self._link_domains.get(link, [-1])[0] for link in edge.links}
-        # The edge of a shared box has a colour where all of its links have the same.
-        domain = domains.pop() if len(domains) == 1 else -1
-        colour = f"stroke:{_darker(self._colour[domain])}" if domain >= 0 else None
+    # Edges
+
+    def _edge(self, edge: Edge, states: List[str], route: List[Point]) -> Raw:
         return element(
             "path",
             title(self._edge_title(edge)),
-            class_=" ".join(classes),
+            class_=" ".join(["edge", edge.kind] + states),
             d=_path(route),
-            style=colour,
+            marker_start="url(#arrow)" if "breach" in states else None,
             data_parent=edge.parent,
             data_devices=" ".join(map(str, edge.devices)),
             data_links=" ".join(map(str, edge.links)),
@@ -67,15 +64,16 @@ class TreePicture:
             link = self._topology.links[edge.links[0]]
             bounds = link.towards(edge.devices[0])
             device = self._topology.devices[edge.devices[0]].name
-            return f"{edge.kind} of {device}: {parent} over {link.name}, {bounds.min} to {bounds.max} ps"
+            return f"{edge.kind} of {device}: {parent} over {link.name}, {bounds.min:,} to {bounds.max:,} ps"
         return f"{edge.kind} of {len(edge.devices)} devices: {parent}"
 
     def _edge_states(self, edge: Edge) -> List[str]:
         states = []
-        if self._ring & {(edge.kind, device) for device in edge.devices}:
+        hops = {(edge.kind, device) for device in edge.devices}
+        if self._ring & hops or (self._refusal is not None and self._refusal.links.intersection(edge.links)):
             states.append("breach")
-        if self._refusal is not None and self._refusal.links.intersection(edge.links):
-            states.append("breach")
+        if self._changed & hops:
+            states.append("changed")
         effect = self._effect
         if effect is not None:
             moving = {move.device for move in effect.moves if move.hop is not None}.intersection(edge.devices)
@@ -87,63 +85,41 @@ class TreePicture:
                 states.append("left")
         return states
 
-    def _ring_hops(self) -> Set[Tuple[str, int]]:
-        """The hops of the cycle or chain of a refusal: of which kind, and of which device."""
-        hops: Set[Tuple[str, int]] = set()
-        if self._refusal is None or len(self._refusal.steps) < 2 and self._refusal.condition != "loop":
-            return hops
-        steps = self._refusal.steps
-        following = steps[1:] + steps[:1] if self._refusal.condition == "loop" else steps[1:]
-        for device, parent in zip(steps, following):
-            row = self._plan.rows.get(device)
-            if row is None:
-                continue
-            backup_first = self._refusal.condition == "reach" and row.backup is not None
-            if (
-                row.backup is not None
-                and row.backup.parent == parent
-                and (backup_first or row.primary.parent != parent)
-            ):
-                hops.add(("backup", device))
-            elif row.primary.parent == parent:
-                hops.add(("primary", device))
-        return hops
+    # Boxes
 
     def _box(self, box: Box) -> Raw:
         left, top = box.x - box.width / 2, box.y - box.height / 2
         if not box.is_shared:
             return self._device(box.devices[0], left, top, box.width, box.height)
+        names = [self._topology.devices[device].name for device in box.devices]
         parts: List[Raw] = [
             element("rect", class_="shared", x=left, y=top, width=box.width, height=box.height, rx=7),
-            element("text", f"{len(box.devices)} devices", class_="count", x=left + PADDING, y=top + 14),
+            element("text", f"{len(names)} devices", class_="count", x=left + PADDING, y=top + 16),
         ]
         for place, device in enumerate(box.devices):
             row, column = divmod(place, box.columns)
-            parts.append(
-                self._device(
-                    device,
-                    left + PADDING + column * box.cell_width + 1,
-                    top + PADDING + 14 + row * CELL_HEIGHT + 1,
-                    box.cell_width - 2,
-                    CELL_HEIGHT - 2,
-                )
-            )
+            parts.append(self._square(device, left + PADDING + column * SQUARE, top + PADDING + HEAD + row * SQUARE))
         return element("g", parts, class_="box")
 
+    def _square(self, device: int, left: float, top: float) -> Raw:
+        rect = element("rect", x=left + 1, y=top + 1, width=SQUARE - 2, height=SQUARE - 2, rx=2)
+        return element("g", title(self._device_title(device)), rect, class_=self._classes(device), data_device=device)
+
     def _device(self, device: int, left: float, top: float, width: float, height: float) -> Raw:
-        domains = self._device_domains.get(device, [])
-        fill = self._colour[domains[0]] if domains else PLAIN
-        name = self._topology.devices[device].name
         parts = [
             title(self._device_title(device)),
-            element("rect", x=left, y=top, width=width, height=height, rx=4, fill=fill),
-            element("text", name, x=left + width / 2, y=top + height / 2 + 4),
+            element("rect", x=left, y=top, width=width, height=height, rx=5),
+            element("text", self._topology.devices[device].name, x=left + width / 2, y=top + height / 2 + 4.5),
         ]
         role = {self._plan.root: "R", self._plan.backup_root: "B"}.get(device)
         if role is not None:
-            parts.append(element("circle", class_="badge", cx=left + width, cy=top, r=8))
-            parts.append(element("text", role, class_="badge", x=left + width, y=top + 3.5))
-        return element("g", parts, class_=" ".join(["device"] + self._device_states(device)), data_device=device)
+            parts.append(_badge(role, "role", left + width, top))
+        if device in self._steps and len(self._steps) > 1:
+            parts.append(_badge(str(self._steps[device]), "step", left, top))
+        return element("g", parts, class_=self._classes(device), data_device=device)
+
+    def _classes(self, device: int) -> str:
+        return " ".join(["device"] + self._device_states(device))
 
     def _device_states(self, device: int) -> List[str]:
         states = []
@@ -153,11 +129,8 @@ class TreePicture:
             states.append("backup-root")
         if self._refusal is not None and device in self._refusal.steps:
             states.append("breach")
-        effect = self._effect
-        if effect is not None:
-            for state, devices in effect_states(effect).items():
-                if device in devices:
-                    states.append(state)
+        if self._effect is not None:
+            states += [state for state, devices in effect_states(self._effect).items() if device in devices]
         return states
 
     def _device_title(self, device: int) -> str:
@@ -172,8 +145,40 @@ class TreePicture:
             parts.append(f"primary {names[row.primary.parent].name} over {links[row.primary.link].name}")
             if row.backup is not None:
                 parts.append(f"backup {names[row.backup.parent].name} over {links[row.backup.link].name}")
-        domains = [self._topology.domains[number].name for number in self._device_domains.get(device, ())]
+        domains = self._domains.get(device, ())
         return ", ".join(parts) + (f" (domain {' '.join(domains)})" if domains else "")
+
+
+def definitions() -> Raw:
+    """What the pictures of all plans share: the arrow of a refusal, and the hatching of what has failed."""
+    arrow = element(
+        "marker", element("path", d="M0 0L8 4L0 8Z"), id="arrow", viewBox="0 0 8 8", refX="7", refY="4",
+        markerWidth="9", markerHeight="9", orient="auto-start-reverse", markerUnits="userSpaceOnUse",
+    )
+    hatch = element(
+        "pattern", element("path", d="M-2 2L2 -2M0 8L8 0M6 10L10 6"), id="hatch", width="8", height="8",
+        patternUnits="userSpaceOnUse",
+    )
+    return element("svg", element("defs", arrow, hatch), width="0", height="0", class_="defs", aria_hidden="true")
+
+
+def ring_hops(plan: Plan, refusal: Optional[Refusal]) -> Set[Tuple[str, int]]:
+    """The hops of the cycle or chain of a refusal: of which kind, and of which device."""
+    hops: Set[Tuple[str, int]] = set()
+    if refusal is None or (len(refusal.steps) < 2 and refusal.condition != "loop"):
+        return hops
+    steps = refusal.steps
+    following = steps[1:] + steps[:1] if refusal.condition == "loop" else steps[1:]
+    for device, parent in zip(steps, following):
+        row = plan.rows.get(device)
+        if row is None:
+            continue
+        backup_first = refusal.condition == "reach" and row.backup is not None
+        if row.backup is not None and row.backup.parent == parent and (backup_first or row.primary.parent != parent):
+            hops.add(("backup", device))
+        elif row.primary.parent == parent:
+            hops.add(("primary", device))
+    return hops
 
 
 def effect_states(effect: Effect) -> Dict[str, Set[int]]:
@@ -187,11 +192,12 @@ def effect_states(effect: Effect) -> Dict[str, Set[int]]:
     }
 
 
+def _badge(text: str, kind: str, x: float, y: float) -> Raw:
+    return element(
+        "g", element("circle", cx=x, cy=y, r=8.5), element("text", text, x=x, y=y + 3.8), class_=f"badge {kind}",
+    )
+
+
 def _path(route: List[Point]) -> str:
     first, rest = route[0], route[1:]
     return f"M{first[0]:.1f} {first[1]:.1f}C" + " ".join(f"{x:.1f} {y:.1f}" for x, y in rest)
-
-
-def _darker(colour: str) -> str:
-    parts = [int(colour[place : place + 2], 16) for place in (1, 3, 5)]
-    return "#" + "".join(f"{part * 62 // 100:02x}" for part in parts)

@@ -8,30 +8,32 @@ from typing import Any, Dict, Iterator, List, Optional, Tuple
 from sundial_tools.errors import ToolError
 from sundial_tools.plan import Plan
 from sundial_tools.report.boxes import Drawing, depths_of, draw
-from sundial_tools.report.colours import domain_colours
+from sundial_tools.report.changes import changes
 from sundial_tools.report.effects import Effect, Effects, fault_domains
 from sundial_tools.report.layout import lay_out
-from sundial_tools.report.markup import Raw, element
+from sundial_tools.report.markup import Raw, element, folded, joined, region
 from sundial_tools.report.refusal import Refusal
 from sundial_tools.report.tables import names_of, table
 from sundial_tools.report.tree_picture import TreePicture, effect_states
 from sundial_tools.report.units import count, human
 from sundial_tools.topology import Topology
 
-MOST_LEGEND = 24
+LEGEND = (
+    ("hop", "primary"),
+    ("hop dashed", "backup"),
+    ("root", "R root, B backup root"),
+    ("failed", "failed, with --domain or the choice"),
+    ("moves", "moves to its backup"),
+    ("cut", "cut off, or never hears again"),
+)
 
 
 class TreeSection:
-    """One plan of the page, the `place`th of its command from 1."""
+    """One plan of the page, the `place`th of its command from 1. `before` is the plan before it."""
 
     def __init__(
-        self,
-        topology: Topology,
-        plan: Plan,
-        place: int,
-        refusal: Optional[Refusal],
-        domain: Optional[str],
-        use_dot: Optional[bool],
+        self, topology: Topology, plan: Plan, place: int, refusal: Optional[Refusal], domain: Optional[str], use_dot: bool,
+        before: Optional[Plan] = None,
     ) -> None:
         self._topology, self._plan, self._place, self._refusal = topology, plan, place, refusal
         effects = Effects(topology, plan)
@@ -39,7 +41,8 @@ class TreeSection:
         if domain is None and refusal is not None and refusal.domain is not None:
             domain = " ".join(refusal.domain)
         self._chosen = self._choose(domain)
-        self._drawing: Drawing = draw(topology, plan)
+        self._changed = changes(before, plan).hops if before is not None else frozenset()
+        self._drawing: Drawing = draw(topology, plan, frozenset(refusal.steps) if refusal is not None else frozenset())
         lay_out(self._drawing, use_dot)
 
     def _choose(self, label: Optional[str]) -> Optional[Effect]:
@@ -51,16 +54,21 @@ class TreeSection:
         raise ToolError(f"there is no fault domain {label!r}: write listed, device or link and a name")
 
     def html(self) -> Raw:
-        picture = TreePicture(self._topology, self._plan, self._drawing, self._chosen, self._refusal)
-        caption = f"Plan {self._place}: the tree"
+        picture = TreePicture(self._topology, self._plan, self._drawing, self._chosen, self._refusal, self._changed)
+        heading = f"Plan {self._place}"
+        label = (
+            f"The tree of plan {self._place}, {count(len(self._plan.rows) + 1, 'device')}. "
+            "The table of rows below says the same"
+        )
         return element(
             "section",
-            element("h2", caption),
+            element("h3", heading, id=f"plan-{self._place}"),
             self._refused(),
             self._facts(),
             self._chooser(),
-            element("div", picture.svg(caption), class_="scroll"),
+            region(f"Picture of plan {self._place}", picture.svg(label), class_="picture"),
             self._legend(),
+            self._groups(),
             self._moves(),
             self._rows(),
             class_="plan",
@@ -68,15 +76,15 @@ class TreeSection:
         )
 
     def _refused(self) -> Raw:
-        if self._refusal is None:
+        refusal = self._refusal
+        if refusal is None:
             return Raw("")
+        names = [self._topology.devices[device].name for device in refusal.steps]
+        way = names + names[:1] if refusal.condition == "loop" else names
+        steps = f" The way that is marked: {' follows '.join(way)}." if len(way) > 1 else ""
         return element(
-            "p",
-            element("code", self._refusal.text),
-            " ",
-            self._refusal.meaning,
-            class_="refused",
-            data_condition=self._refusal.condition,
+            "p", element("code", refusal.text), " ", refusal.meaning, f" {refusal.in_words}" if refusal.in_words else "", steps,
+            class_="refused", data_condition=refusal.condition,
         )
 
     def _facts(self) -> Raw:
@@ -89,8 +97,9 @@ class TreeSection:
             f"{devices[plan.backup_root].name}. Waits: first {human(plan.wait_first)}, second "
             f"{human(plan.wait_second)}, others {human(plan.wait)}."
         )
-        if any(absent):
-            text += f" Left out: {count(absent[0], 'device')}, {count(absent[1], 'link')}."
+        left_out = [count(number, thing) for number, thing in zip(absent, ("device", "link")) if number]
+        if left_out:
+            text += f" Left out: {', '.join(left_out)}."
         return element("p", text, class_="facts")
 
     def _chooser(self) -> Raw:
@@ -98,13 +107,31 @@ class TreeSection:
         options = [element("option", "nothing fails", value="")]
         for number, effect in self._choices():
             options.append(element("option", effect.domain.label, value=number, selected=effect is self._chosen))
-        choice = element("label", "Under the domain ", element("select", options, class_="domains"))
-        said = element("p", self._sentence(self._chosen) if self._chosen else "", class_="effect")
+        choice = element("label", "Show what fails with ", element("select", options, class_="domains"))
+        said = element("p", self._sentence(self._chosen) if self._chosen else "", class_="effect", aria_live="polite")
         return Raw(
             element("div", choice, class_="chooser", hidden=True)
             + said
             + element("script", Raw(self._data()), type="application/json", class_="effects")
         )
+
+    def _groups(self) -> Raw:
+        """The devices of each shared box by name, those of one rack together."""
+        domain_of = {device: domain.name for domain in reversed(self._topology.domains) for device in domain.devices}
+        parts = []
+        for box in self._drawing.boxes:
+            if not box.is_shared:
+                continue
+            by_domain: Dict[str, List[str]] = {}
+            for device in box.devices:
+                by_domain.setdefault(domain_of.get(device, "in no listed domain"), []).append(self._topology.devices[device].name)
+            row = self._plan.rows[box.devices[0]]
+            parents = f"under {self._topology.devices[row.primary.parent].name}"
+            if row.backup is not None:
+                parents += f", with the backup {self._topology.devices[row.backup.parent].name}"
+            items = [element("li", element("b", domain), " ", ", ".join(names)) for domain, names in by_domain.items()]
+            parts.append(folded(f"The {len(box.devices)} devices {parents}", element("ul", items, class_="names"), class_="group"))
+        return joined(parts)
 
     def _choices(self) -> Iterator[Tuple[int, Effect]]:
         """The domains that can be chosen: all but links under which nobody moves."""
@@ -141,30 +168,11 @@ class TreeSection:
         return names_of(self._topology, devices)
 
     def _legend(self) -> Raw:
-        domains = self._topology.domains
-        items: List[Raw] = [
-            element("span", element("i", class_="key " + key), text, class_="item")
-            for key, text in (
-                ("primary", "primary"),
-                ("backup", "backup"),
-                ("root", "R root, B backup root"),
-                ("failed", "failed"),
-                ("moves", "moves to its backup"),
-                ("cut", "cut off, or never hears again"),
-                ("breach", "where the plan is refused"),
-            )
-        ]
-        for domain, colour in list(zip(domains, domain_colours(len(domains))))[:MOST_LEGEND]:
-            items.append(
-                element(
-                    "span",
-                    element("i", class_="key", style=f"background:{colour}"),
-                    domain.name,
-                    class_="item domain",
-                )
-            )
-        if len(domains) > MOST_LEGEND:
-            items.append(element("span", f"and {len(domains) - MOST_LEGEND} domains more", class_="item"))
+        items = [element("span", element("i", class_=f"key {key}"), text, class_="item") for key, text in LEGEND]
+        if self._refusal is not None:
+            items.append(element("span", element("i", class_="key hop breach"), "where the plan is refused", class_="item"))
+        if self._changed:
+            items.append(element("span", element("i", class_="key hop changed"), "not in the plan before", class_="item"))
         return element("p", items, class_="legend")
 
     def _moves(self) -> Raw:
@@ -174,9 +182,8 @@ class TreeSection:
                 rows.append(self._move_row(effect))
         still = len(self._effects) - len(rows)
         head = ("domain", "who moves", "where", "acts as root", "cut off", "never hears again")
-        return element(
-            "details",
-            element("summary", f"Who moves where, under each of {len(rows)} domains"),
+        return folded(
+            f"Who moves where, under each of {len(rows)} domains",
             element("p", f"Under {count(still, 'other domain')} nobody moves."),
             table("moves", head, rows),
         )
@@ -211,4 +218,4 @@ class TreeSection:
                     hops[2:] = devices[row.backup.parent].name, links[row.backup.link].name
             rows.append([devices[member].name, str(depths[member])] + hops)
         head = ("device", "depth", "primary", "over", "backup", "over")
-        return element("details", element("summary", f"The rows of {len(rows)} devices"), table("rows", head, rows))
+        return folded(f"The rows of {len(rows)} devices", table("rows", head, rows))

@@ -18,10 +18,21 @@ def unit_of(picoseconds: int) -> Tuple[int, str]:
 def human(picoseconds: int) -> str:
     """Up to four digits and a unit: 3.203 us."""
     size, name = unit_of(picoseconds)
+    return f"{in_unit(picoseconds, size)} {name}"
+
+
+def in_unit(picoseconds: int, size: int) -> str:
+    """Up to four digits of a unit that is told elsewhere: 3.203."""
     value = picoseconds / size
-    digits = max(0, 4 - len(str(int(abs(value)))))
-    text = f"{value:.{digits}f}"
-    return f"{text.rstrip('0').rstrip('.') if '.' in text else text} {name}"
+    text = f"{value:.{max(0, 4 - len(str(int(abs(value)))))}f}"
+    return text.rstrip("0").rstrip(".") if "." in text else text
+
+
+def clear(picoseconds: int) -> str:
+    """All digits in the unit that fits, up to nine of them: 3.0019 ms. A longer number stands in picoseconds."""
+    size, name = unit_of(picoseconds)
+    text = f"{picoseconds // size}.{abs(picoseconds) % size:0{len(str(size)) - 1}d}".rstrip("0").rstrip(".") if size > 1 else str(picoseconds)
+    return f"{text} {name}" if len(text) <= 10 and picoseconds >= 0 else exact(picoseconds)
 
 
 def exact(picoseconds: int) -> str:

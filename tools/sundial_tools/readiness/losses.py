@@ -1,0 +1,131 @@
+"""Each loss of a fabric: who may move, how wide reports get, and whether what is left can be planned again."""
+
+from __future__ import annotations
+
+import os
+import subprocess
+import tempfile
+from concurrent.futures import ThreadPoolExecutor
+from typing import Callable, Dict, Iterator, List, NamedTuple, Optional, Tuple
+
+from sundial_tools.errors import ToolError
+from sundial_tools.outputs import parse_line
+from sundial_tools.plan import Plan
+from sundial_tools.things import Named, all_named, left_without
+from sundial_tools.topology import Topology
+from sundial_tools.why.said import epath, things_of, way
+
+DONE, REFUSED = 0, 1
+
+
+class Bound(NamedTuple):
+    """The greatest bound of a domain, the device that has it, and how many members have none."""
+
+    eps: Optional[int]
+    device: Optional[str]
+    without: int
+
+
+class Loss(NamedTuple):
+    """`cut_off` are devices that no candidate for root reaches any more. `refusal` is empty where `renew` plans again."""
+
+    named: Named
+    takes_over: bool
+    moving: Tuple[str, ...]
+    bound: Bound
+    cut_off: Tuple[str, ...]
+    refusal: str
+    next_roots: Tuple[str, ...]
+
+    def row(self) -> Dict[str, object]:
+        """The loss as a JSON object. Times are picoseconds."""
+        return {
+            "kind": self.named.kind, "name": self.named.name, "takes_over": self.takes_over, "moving": list(self.moving),
+            "bound_ps": self.bound.eps, "bound_device": self.bound.device, "without_bound": self.bound.without,
+            "cut_off": list(self.cut_off), "planned_again": not self.refusal, "refusal": self.refusal or None,
+            "next_root": self.next_roots[0] if self.next_roots else None,
+            "next_backup_root": self.next_roots[1] if self.next_roots else None,
+        }
+
+
+class Losses:
+    """Asks the program. `files` are the paths of the topology and of the plan."""
+
+    def __init__(self, program: str, topology: Topology, plan: Plan, files: Tuple[str, str], base: int, hold: int) -> None:
+        self._program, self._topology, self._plan, self._files = program, topology, plan, files
+        self._words = str(base), str(hold)
+
+    def all(self, step: Callable[[], None]) -> Iterator[Loss]:
+        """Each loss, in the order of the checker. As many run at once as there are processors."""
+        bounds = self._bounds()
+        with tempfile.TemporaryDirectory() as folder, ThreadPoolExecutor(os.cpu_count() or 1) as pool:
+            named = all_named(self._topology)
+            paths = [os.path.join(folder, str(place)) for place in range(len(named))]
+            for one, (cut_off, refusal, roots) in zip(named, pool.map(self._renewed, named, paths)):
+                step()
+                takes_over, moving = moved(self._topology, self._plan, one)
+                yield Loss(one, takes_over, moving, bounds.get(one.text, Bound(None, None, 0)), cut_off, refusal, roots)
+
+    def _bounds(self) -> Dict[str, Bound]:
+        found: Dict[str, Bound] = {}
+        words = [self._program, "drill", *self._files, *self._words]
+        said = ""
+        with subprocess.Popen(words, stdout=subprocess.PIPE, encoding="ascii") as running:
+            assert running.stdout is not None
+            for text in running.stdout:
+                said = text.strip()
+                line = parse_line(said)
+                if line is not None and line.kind in ("bound", "nobound"):
+                    domain = line.fields["domain"]
+                    key = f"{domain['kind']} {domain['name']}"
+                    found[key] = _wider(found.get(key, Bound(None, None, 0)), line.fields.get("eps"), line.fields["device"])
+        if running.returncode != DONE:
+            raise ToolError(f"{self._program} drill ended with status {running.returncode}: {said}")
+        return found
+
+    def _renewed(self, named: Named, path: str) -> Tuple[Tuple[str, ...], str, Tuple[str, ...]]:
+        """What the loss cuts off, why it cannot be planned again (empty where it can), and the roots of the next plan."""
+        plan = self._plan
+        left = left_without(self._topology, {*named.devices, *plan.absent_devices}, {*named.links, *plan.absent_links})
+        cut_off = tuple(self._topology.devices[it].name for it in left.cut_off)
+        if not left.roots:
+            return cut_off, "no candidate for root is left", ()
+        with open(path, "w", encoding="ascii") as text:
+            text.write(left.absent_text(self._topology))
+        done = subprocess.run([self._program, "renew", *self._files, path], stdout=subprocess.PIPE, check=False)
+        os.unlink(path)
+        said = done.stdout.decode("ascii", "replace").strip()
+        if done.returncode == REFUSED:
+            return cut_off, said.removeprefix("refused plan 1 "), ()
+        if done.returncode != DONE:
+            raise ToolError(f"{self._program} renew ended with status {done.returncode}: {said[:200]}")
+        return cut_off, "", _roots_of(said)
+
+
+def _wider(known: Bound, eps: Optional[int], device: str) -> Bound:
+    if eps is None:
+        return known._replace(without=known.without + 1)
+    return known._replace(eps=eps, device=device) if known.eps is None or eps > known.eps else known
+
+
+def _roots_of(plan: str) -> Tuple[str, ...]:
+    names = []
+    for key in "root", "backup_root":
+        _, found, rest = plan.partition(f'"{key}":"')
+        names.append(rest.partition('"')[0] if found else "")
+    return tuple(names)
+
+
+def moved(topology: Topology, plan: Plan, named: Named) -> Tuple[bool, Tuple[str, ...]]:
+    """Whether the backup root loses both of its ways or the root fails, and the devices that may move to their backups."""
+    taken = {("device", it) for it in named.devices} | {("link", it) for it in named.links}
+    names: List[str] = []
+    for number in plan.members(topology):
+        row = plan.rows.get(number)
+        if row is None or row.backup is None or ("device", number) in taken:
+            continue
+        hops = way(plan, number) if number == plan.backup_root else epath(plan, number)
+        if things_of(hops) & taken:
+            names.append(topology.devices[number].name)
+    takes_over = plan.root in named.devices and plan.backup_root not in named.devices
+    return takes_over, tuple(names)

@@ -1,0 +1,77 @@
+"""The words of sundial-readiness."""
+
+from __future__ import annotations
+
+import argparse
+import json
+from typing import Iterable, Iterator, List, TextIO
+
+from sundial_tools.errors import ToolError
+from sundial_tools.plan import read_plan
+from sundial_tools.readiness.losses import Loss, Losses
+from sundial_tools.safe_write import Progress, whole_output
+from sundial_tools.topology import read_topology, sundial_program
+from sundial_tools.whatif.wishes import time_of
+
+TICKS = 3
+COLUMNS = ("loss", "moving", "greatest eps", "at", "cut off", "planned again")
+
+
+def main(words: List[str]) -> int:
+    options = _parser().parse_args(words)
+    program = sundial_program()
+    if program is None:
+        raise ToolError("this asks sundial: put it on the path, or name it in the variable SUNDIAL")
+    topology = read_topology(options.topology)
+    plan = read_plan(options.plan, topology)
+    hold = plan.wait_first + plan.wait_second + TICKS * topology.tick if options.hold is None else time_of(options.hold)
+    losses = Losses(program, topology, plan, (options.topology, options.plan), time_of(options.base), hold)
+    with Progress("sundial-readiness", "losses") as progress, whole_output(options.output) as text:
+        found = list(losses.all(progress.step))
+        if options.json:
+            text.writelines(json.dumps(loss.row()) + "\n" for loss in found)
+        else:
+            _write_table([it for it in found if it.refusal] if options.refused else found, text)
+            text.write(f"{sum(not it.refusal for it in found)} of {len(found)} losses can be planned again\n")
+    return 0
+
+
+def _write_table(losses: Iterable[Loss], text: TextIO) -> None:
+    rows = [COLUMNS, *(tuple(_cells(it)) for it in losses)]
+    widths = [max(len(row[column]) for row in rows) for column in range(len(COLUMNS))]
+    if len(rows) > 1:
+        for row in rows:
+            text.write("  ".join(f"{cell:<{width}}" for cell, width in zip(row, widths)).rstrip() + "\n")
+
+
+def _cells(loss: Loss) -> Iterator[str]:
+    yield loss.named.text
+    yield (f"{len(loss.moving)}, takes over" if loss.takes_over else str(len(loss.moving)))
+    yield "none" if loss.bound.eps is None else f"{loss.bound.eps / 10**6:,.3f} us"
+    yield loss.bound.device or ""
+    yield _few(loss.cut_off)
+    yield f"no: {loss.refusal}" if loss.refusal else f"yes: {', '.join(loss.next_roots)}"
+
+
+def _few(names: "tuple[str, ...]") -> str:
+    return ", ".join(names[:3]) + (f" and {len(names) - 3} more" if len(names) > 3 else "") if names else "-"
+
+
+def _parser() -> argparse.ArgumentParser:
+    parser = argparse.ArgumentParser(
+        prog="sundial-readiness",
+        description="Takes each listed domain, each device and each link away in turn, and says who may move, how wide reports "
+        "get, and whether what is left can be planned again.",
+        epilog="It asks sundial drill once, and sundial renew for each loss. What a loss cuts off from every candidate for root is "
+        "left out too, as sundial-topology absent does. The two roots of the next plan stand behind yes.",
+    )
+    parser.add_argument("topology", metavar="TOPOLOGY")
+    parser.add_argument("plan", metavar="PLAN", help="the plan in force; what it leaves out stays out")
+    parser.add_argument("--base", default="1us", metavar="TIME", help="BASE of the drill (default: 1us)")
+    parser.add_argument(
+        "--hold", metavar="TIME", help="HOLD of the drill (default: both waits of the backup root, and three ticks)"
+    )
+    parser.add_argument("--refused", action="store_true", help="only losses after which nothing can be planned")
+    parser.add_argument("--json", action="store_true", help="JSON lines, one a loss, with all names; times in picoseconds")
+    parser.add_argument("--output", "-o", metavar="FILE")
+    return parser

@@ -1,0 +1,78 @@
+"""What changes from one plan to the next: roots, who is left out, and the hops of devices."""
+
+from __future__ import annotations
+
+from typing import FrozenSet, List, NamedTuple, Optional, Tuple
+
+from sundial_tools.plan import Hop, Plan
+from sundial_tools.report.markup import Raw, element, folded
+from sundial_tools.report.tables import names_of, table
+from sundial_tools.report.units import count, human
+from sundial_tools.topology import Topology
+
+OPEN_ROWS = 20
+
+
+class Changes(NamedTuple):
+    """`hops` are the hops that are new in the later plan: primary or backup, and the device."""
+
+    devices: Tuple[int, ...]
+    hops: FrozenSet[Tuple[str, int]]
+
+
+def changes(before: Plan, after: Plan) -> Changes:
+    hops = set()
+    for device, row in after.rows.items():
+        old = before.rows.get(device)
+        if old is None or old.primary != row.primary:
+            hops.add(("primary", device))
+        if row.backup is not None and (old is None or old.backup != row.backup):
+            hops.add(("backup", device))
+    devices = set(after.rows) | set(before.rows)
+    moved = {device for device in devices if before.rows.get(device) != after.rows.get(device)}
+    return Changes(tuple(sorted(moved)), frozenset(hops))
+
+
+def changes_section(topology: Topology, place: int, before: Plan, after: Plan) -> Raw:
+    found = changes(before, after)
+    rows = [[topology.devices[device].name, *_hops(topology, before, device), *_hops(topology, after, device)] for device in found.devices]
+    head = ("device", f"primary in plan {place}", "its backup", f"primary in plan {place + 1}", "its backup")
+    caption = f"Rows that change: {len(rows)} of {len(set(before.rows) | set(after.rows))}"
+    return element(
+        "section",
+        element("h3", f"What changes from plan {place} to plan {place + 1}", id=f"changes-{place + 1}"),
+        element("ul", [element("li", fact) for fact in _facts(topology, before, after)]),
+        folded(caption, table(f"changes-{place + 1}", head, rows), is_open=len(rows) <= OPEN_ROWS) if rows else Raw(""),
+        class_="changes",
+    )
+
+
+def _facts(topology: Topology, before: Plan, after: Plan) -> List[str]:
+    names = [device.name for device in topology.devices]
+    facts = []
+    for what, old, new in ("root", before.root, after.root), ("backup root", before.backup_root, after.backup_root):
+        facts.append(f"The {what} stays {names[new]}." if old == new else f"The {what} is {names[new]} instead of {names[old]}.")
+    out, back = set(after.absent_devices) - set(before.absent_devices), set(before.absent_devices) - set(after.absent_devices)
+    if out:
+        facts.append(f"Left out: {names_of(topology, sorted(out))}.")
+    if back:
+        facts.append(f"Taken in: {names_of(topology, sorted(back))}.")
+    links = len(set(after.absent_links) - set(before.absent_links)), len(set(before.absent_links) - set(after.absent_links))
+    for what, number in zip(("Left out", "Taken in"), links):
+        if number:
+            facts.append(f"{what}: {count(number, 'link')}.")
+    for key in "wait_first", "wait_second", "wait":
+        if getattr(before, key) != getattr(after, key):
+            facts.append(f"{key} is {human(getattr(after, key))} instead of {human(getattr(before, key))}.")
+    return facts
+
+
+def _hops(topology: Topology, plan: Plan, device: int) -> Tuple[str, str]:
+    row = plan.rows.get(device)
+    if row is None:
+        return ("root" if device == plan.root else "left out", "")
+    return _hop(topology, row.primary), _hop(topology, row.backup)
+
+
+def _hop(topology: Topology, hop: Optional[Hop]) -> str:
+    return "none" if hop is None else f"{topology.devices[hop.parent].name} over {topology.links[hop.link].name}"

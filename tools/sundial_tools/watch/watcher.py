@@ -1,0 +1,455 @@
+"""Watches logs that grow: record, replay and lines as one pipeline, that goes on where it was stopped."""
+
+from __future__ import annotations
+
+import contextlib
+import fcntl
+import itertools
+import json
+import os
+import pickle
+import re
+import threading
+import time
+from typing import Any, Callable, Dict, Iterator, List, NamedTuple, Optional, Sequence, Tuple
+
+from sundial_tools.cut.opening import Opening
+from sundial_tools.cut.parts import Translation
+from sundial_tools.errors import ToolError
+from sundial_tools.fleet.device import ACTING
+from sundial_tools.outputs import parse_line
+from sundial_tools.plan import Plan
+from sundial_tools.record.fleet import Refusal
+from sundial_tools.record.logs import NONE, NO_STAMP, LogEvent
+from sundial_tools.record.merge import Merge
+from sundial_tools.record.recorder import MOST_EVENTS, origin_before
+from sundial_tools.schedule import Event, event_line, parse_event
+from sundial_tools.topology import Topology
+from sundial_tools.watch.feed import Feed, Hooks
+from sundial_tools.watch.metrics import Metrics, write_renamed
+from sundial_tools.watch.replaying import Replaying
+from sundial_tools.watch.tail import Bad, Place, Tail
+
+MOST_REFS = 1 << 18
+PART = re.compile(r"part-(\d{4,})\.(start|journal|txt|told)")
+OWN = "-"
+
+
+class Options(NamedTuple):
+    """`replay` is the program with its word. Times are picoseconds of the references."""
+
+    topology: str
+    plans: List[str]
+    logs: List[str]
+    state: str
+    replay: List[str]
+    origin: Optional[int]
+    from_life: bool
+    horizon: int
+    ask: Optional[int]
+    every: int
+    keep: int
+    follow: Callable[[str], None]
+
+
+class Watch(Hooks):
+    """`step` reads what came and tells it."""
+
+    def __init__(self, topology: Topology, plans: Sequence[Plan], options: Options) -> None:
+        self._topology, self._options = topology, options
+        self.metrics = Metrics(topology)
+        self._lock = threading.Lock()
+        self._feed = Feed(topology, plans, options.origin, options.from_life, self)
+        self._journal: List[str] = []
+        self._fed: List[str] = []
+        self._refs: Dict[int, int] = {}
+        self._asked: Dict[int, int] = {}
+        self._prefix, self._restoring = OWN, False
+        self._part, self._first_line, self._opening = 1, 1, None  # type: int, int, Optional[Opening]
+        self._opening_lines = self._skip = self._passed = self._told_line = 0
+        self._translation: Optional[Translation] = None
+        self._greatest: Optional[int] = None
+        self._files: List[int] = []
+        self._tails: List[Tail] = []
+        os.makedirs(options.state, exist_ok=True)
+        self._held = os.open(self._file("lock"), os.O_RDWR | os.O_CREAT, 0o600)
+        try:
+            self._go_on()
+        except BaseException:
+            self._close()
+            raise
+
+    def _go_on(self) -> None:
+        """Takes up what earlier runs left."""
+        options, topology = self._options, self._topology
+        self._hold()
+        places = self._resume()
+        self._tails = [
+            Tail(path, topology, self._file(f"spool-{number}"), Place()) for number, path in enumerate(options.logs)
+        ]
+        for tail, (place, ref) in zip(self._tails, places):
+            tail.move_to(place, ref)
+        self._begin()
+        self._restore()
+        self._greatest = max((tail.told for tail in self._tails if tail.told is not None), default=None)
+
+    # One step
+
+    def step(self, is_last: bool = False) -> bool:
+        """Reads on, and tells what can be told. `is_last`: what was read is told, though earlier events may come.
+
+        Answers whether anything came.
+        """
+        # (what was written before the latest line that was known is read now)
+        known, came = self._greatest or 0, False
+        for number, tail in enumerate(self._tails):
+            bad, some = tail.more(self._feed.last)
+            came = came or some
+            for one in bad:
+                self._pass_over(number, one)
+        lasts = [tail.last for tail in self._tails if tail.last is not None]
+        if lasts:
+            self._greatest = max(lasts) if self._greatest is None else max(self._greatest, *lasts)
+            least = min(self._complete(tail, known) for tail in self._tails)
+            self._tell_below(self._greatest + 1 if is_last else least)
+        self._flush()
+        return came
+
+    def _complete(self, tail: Tail, known: int) -> int:
+        """Below which reference the log brings nothing more. One that is silent is waited for up to the horizon."""
+        last = -1 if tail.last is None else tail.last
+        return max(last, known - self._options.horizon) if tail.at_end else last
+
+    @property
+    def ended(self) -> bool:
+        return self._feed.ended
+
+    def finish(self) -> int:
+        """The recording has ended: the status of the replay."""
+        status = self._replaying.finish()
+        self._close()
+        return status
+
+    def pause(self) -> int:
+        """All that was read is told. A later run goes on behind it. Answers the status of the replay so far."""
+        self._feed_replay(f"end {self._feed.schedule_last}\n")
+        return self.finish()
+
+    def stop(self) -> None:
+        """Lets all go. What was told stays, and a later run goes on behind it."""
+        self._replaying.kill()
+        self._close()
+
+    def _close(self) -> None:
+        for file in self._files:
+            os.close(file)
+        self._files = []
+        for tail in self._tails:
+            tail.close()
+        os.close(self._held)
+
+    def _tell_below(self, ref: int) -> None:
+        batches = [
+            [one.event for one in itertools.takewhile(lambda one: one.event.ref < ref, tail.waiting)] for tail in self._tails
+        ]
+        if not any(batches):
+            return
+        if self._feed.events == 0:
+            self._set_origin(min(batch[0].ref for batch in batches if batch))
+        self._place_of = {id(event): number for number, batch in enumerate(batches) for event in batch}
+        Merge(batches, self._feed.fleet.message_of).drive(self._offer, self._refused)
+
+    def _set_origin(self, first: int) -> None:
+        if self._options.origin is None:
+            self._feed.origin = origin_before(first)
+        else:
+            self._feed.origin = self._options.origin
+        self._settings["origin"] = self._feed.origin
+        write_renamed(self._file("settings.json"), json.dumps(self._settings, indent=1) + "\n")
+
+    def _offer(self, event: LogEvent) -> Optional[Refusal]:
+        number = self._place_of[id(event)]
+        place = self._tails[number].waiting[0].place
+        raw = event.counter if event.word in ("start", "join") else ""
+        self._prefix = f"{number}:{place.offset}:{place.line}:{raw}"
+        try:
+            refusal = self._feed.offer(event)
+        except ToolError as fault:
+            if fault.line is None:
+                raise
+            self._refused(event, Refusal(fault.reason))
+            return None
+        finally:
+            self._prefix = OWN
+        if refusal is None:
+            self._taken(number)
+            if event.word == "tick" and self._options.ask is not None:
+                self._ask(event)
+        return refusal
+
+    def _refused(self, event: LogEvent, refusal: Refusal) -> None:
+        number = self._place_of[id(event)]
+        self._pass_over(number, Bad(self._tails[number].waiting[0].place, str(refusal)))
+        self._taken(number)
+
+    def _taken(self, number: int) -> None:
+        for bad in self._tails[number].take().bad:
+            self._pass_over(number, bad)
+
+    def _ask(self, tick: LogEvent) -> None:
+        """Asks a device that ticks, where its latest report is old."""
+        asked = self._asked.get(tick.device)
+        if asked is None or tick.ref - self._feed.origin - asked >= (self._options.ask or 0):
+            self._feed.offer(LogEvent(
+                "ask", tick.ref, tick.device, tick.counter, None, None, NONE, NONE, NO_STAMP, "", NONE, tick.source, tick.line
+            ))
+
+    # What the feed tells
+
+    def is_due(self, line: int, ref: int) -> bool:
+        return not self._restoring and line - self._first_line >= self._options.every
+
+    def coming(self, event: Event) -> None:
+        line = self._feed.fleet.line
+        count = self._opening_lines + line - self._first_line + 1
+        if count >= MOST_EVENTS:
+            whys = "; ".join(f"{why} ({times} times)" for why, times in self._feed.fleet.cutter.refused.most_common(3))
+            raise ToolError(f"part {self._part} has 2^26 events, which is as many as a replay takes, and no right cut came: {whys}")
+        if not self._restoring:
+            self._journal.append(f"{self._prefix} {event_line(event)}")
+        said = event if self._translation is None else self._translation.of(event)
+        self._fed.append(event_line(said))
+        self._refs[line] = event.ref
+        if len(self._refs) > MOST_REFS:
+            for old in list(itertools.islice(self._refs, MOST_REFS // 2)):
+                del self._refs[old]
+        if event.word == "ask" and event.device is not None:
+            self._asked[event.device] = event.ref
+
+    def found(self, event: Event) -> None:
+        prefix, self._prefix = self._prefix, OWN
+        self.coming(event)
+        self._prefix = prefix
+
+    def happened(self, done: str) -> None:
+        self.metrics.happened(done)
+
+    def cut(self, opening: Opening) -> None:
+        """A part ends, and the next one begins with the opening."""
+        self._flush()
+        self._feed_replay(f"end {self._feed.schedule_last}\n")
+        self._replaying.finish()
+        self._part, self._first_line, self._opening = self._part + 1, self._feed.fleet.line, opening
+        self._save()
+        for file in self._files:
+            os.close(file)
+        self._files, self._skip, self._passed = [], 0, 0
+        for name in os.listdir(self._options.state):
+            found = PART.fullmatch(name)
+            if found and int(found[1]) <= self._part - self._options.keep:
+                os.unlink(self._file(name))
+        self._begin()
+
+    # Files
+
+    def _file(self, name: str) -> str:
+        return os.path.join(self._options.state, name)
+
+    def _part_file(self, kind: str, part: Optional[int] = None) -> str:
+        return self._file(f"part-{part or self._part:04}.{kind}")
+
+    def _hold(self) -> None:
+        """Takes the state for this process alone, and compares the inputs with those of earlier runs."""
+        try:
+            fcntl.flock(self._held, fcntl.LOCK_EX | fcntl.LOCK_NB)
+        except BlockingIOError:
+            raise ToolError("another sundial-watch works there", self._options.state) from None
+        options = self._options
+        said: Dict[str, Any] = {"logs": options.logs, "counters": "life" if options.from_life else "keep"}
+        for key, path in [("topology", options.topology), *((f"plan {place}", it) for place, it in enumerate(options.plans, 1))]:
+            with open(path, encoding="utf-8") as file:
+                said[key] = file.read()
+        self._settings, before = said, {}
+        with contextlib.suppress(FileNotFoundError), open(self._file("settings.json"), encoding="utf-8") as file:
+            before = json.load(file)
+        for key, value in said.items():
+            # (plans that came since then are new ones behind those that were there)
+            if before and before.get(key, value) != value:
+                raise ToolError(f"{key} was another one when this state was begun", self._options.state)
+        if any(key not in said for key in before if key != "origin"):
+            raise ToolError("a plan is missing with which this state was begun", self._options.state)
+        if "origin" in before:
+            self._feed.origin = said["origin"] = before["origin"]
+        write_renamed(self._file("settings.json"), json.dumps(said, indent=1) + "\n")
+
+    def _save(self) -> None:
+        feed = self._feed
+        hooks, feed.fleet.hooks = feed.fleet.hooks, None
+        kept = (
+            feed.fleet, feed.state(), self.metrics, self._asked, self._first_line, self._opening, [(it.done, it.told) for it in self._tails]
+        )
+        try:
+            data = pickle.dumps(kept)
+        finally:
+            feed.fleet.hooks = hooks
+        with open(self._file("start.new"), "wb") as file:
+            file.write(data)
+        os.replace(self._file("start.new"), self._part_file("start"))
+
+    def _resume(self) -> List[Tuple[Place, Optional[int]]]:
+        """Takes up the part that was begun last. Answers how far the logs were read when it began."""
+        found = [int(it[1]) for it in map(PART.fullmatch, os.listdir(self._options.state)) if it and it[2] == "start"]
+        if not found:
+            return []
+        self._part = max(found)
+        with open(self._part_file("start"), "rb") as file:
+            fleet, state, self.metrics, self._asked, self._first_line, self._opening, places = pickle.load(file)
+        self._feed.resume(state, fleet)
+        return list(places)
+
+    def _begin(self) -> None:
+        """Begins the replay of the part, and opens its files."""
+        opening = self._opening
+        first_plan = opening.epoch if opening else 1
+        self._files = [
+            os.open(self._part_file(kind), os.O_RDWR | os.O_CREAT | os.O_APPEND, 0o666) for kind in ("journal", "told")
+        ]
+        self._files.append(os.open(self._part_file("txt"), os.O_WRONLY | os.O_CREAT | os.O_TRUNC, 0o666))
+        self._translation = Translation(self._feed.fleet.fleet, opening, None) if opening else None
+        events = opening.events() if opening else []
+        self._opening_lines = len(events)
+        self._heard = 0
+        options = self._options
+        self._replaying = Replaying(
+            [*options.replay, options.topology, *options.plans[first_plan - 1:], "/dev/stdin"], self._heard_line
+        )
+        if events:
+            self._feed_replay("".join(map(event_line, events)))
+
+    def _restore(self) -> None:
+        """Takes the events of the part that earlier runs told."""
+        rows = [json.loads(line) for line in _whole_lines(self._files[1])]
+        self._restoring = True
+        told_passed = sum(row["kind"] == "passed over" for row in rows)
+        self._skip = len(rows) - told_passed
+        for row in rows:
+            self.metrics.tell(row)
+            self._told_line = row["line"] if row["kind"] == "report" else self._told_line
+        passed = 0
+        self._feed.fleet.begins = self._opening is not None
+        for text in _whole_lines(self._files[0]):
+            prefix, _, said = text.partition(" ")
+            number, place, raw = _read_prefix(prefix)
+            if said.startswith("!"):
+                self._tails[number or 0].move_to(place, None)
+                passed += 1
+                if passed > told_passed:
+                    self._tell(self._passing(number or 0, Bad(place, said[1:])))
+            else:
+                event = parse_event(said)
+                self._feed.restore(event, raw)
+                if number is not None:
+                    self._tails[number].move_to(place, event.ref + self._feed.origin)
+            if len(self._fed) > 4096:
+                self._flush()
+        self._passed = passed
+        self._flush()
+        self._restoring = False
+
+    def _flush(self) -> None:
+        """What is told comes into the journal before the replay knows of it."""
+        if self._journal:
+            _write(self._files[0], "".join(self._journal))
+            self._journal = []
+        if self._fed:
+            text, self._fed = "".join(self._fed), []
+            self._feed_replay(text)
+
+    def _feed_replay(self, text: str) -> None:
+        _write(self._files[2], text)
+        self._replaying.feed(text)
+
+    # What is told
+
+    def _pass_over(self, number: int, bad: Bad) -> None:
+        self._journal.append(f"{number}:{bad.place.offset}:{bad.place.line}: !{bad.reason}\n")
+        self._flush()
+        self._tell(self._passing(number, bad))
+
+    def _passing(self, number: int, bad: Bad) -> Dict[str, Any]:
+        return {"kind": "passed over", "log": self._options.logs[number], "line": bad.place.line, "reason": bad.reason}
+
+    def _heard_line(self, text: str) -> None:
+        """A line of the replay. Those that an earlier run told are passed over."""
+        line = parse_line(text)
+        if line is None or line.kind.startswith(("refused", "input")):
+            raise ToolError(f"the replay says: {text}")
+        if line.kind == "done":
+            return
+        number = line.fields["line"]
+        in_opening = number <= self._opening_lines
+        whole = self._first_line + (0 if in_opening else number - self._opening_lines - 1)
+        if whole >= self._feed.fleet.line:
+            return  # (of an `end` that no log has)
+        self._heard += 1
+        if self._heard <= self._skip:
+            return
+        ref = self._refs.get(whole)
+        row = {"kind": line.kind, **line.fields, "line": whole, "part": self._part}
+        row["ref"] = line.fields["ref"] if line.kind == "alarm interval" else ref
+        if in_opening:
+            row["opening"] = True
+        self._tell(row)
+        if line.kind == "report":
+            self._told_line = whole
+
+    def _tell(self, row: Dict[str, Any]) -> None:
+        text = json.dumps(row, separators=(",", ":"))
+        with self._lock:
+            _write(self._files[1], text + "\n")
+            self.metrics.tell(row)
+            self._options.follow(text)
+
+    def metrics_text(self) -> str:
+        feed, fleet = self._feed, self._feed.fleet.fleet
+        names = [device.name for device in self._topology.devices]
+        greatest = self._greatest or 0
+        with self._lock:
+            return self.metrics.text({
+                "told_ref": feed.schedule_last if feed.events else None, "events": feed.events, "part": self._part,
+                "part_events": self._opening_lines + feed.fleet.line - self._first_line, "told_line": self._told_line,
+                "epoch": fleet.in_force, "window": int(bool(fleet.staged)), "roots": [names[it] for it in self._topology.roots],
+                "acting": [names[it] for it, state in fleet.up.items() if state.mode == ACTING],
+                "failed": {"device": len(fleet.failed_devices), "link": len(fleet.failed_links)},
+                "logs": {tail.path: greatest - tail.last if tail.last is not None else greatest for tail in self._tails},
+                "lag": max(0, greatest - feed.last) if feed.last is not None else 0, "time": time.time(),
+            })
+
+
+def _read_prefix(prefix: str) -> Tuple[Optional[int], Place, Optional[int]]:
+    if prefix == OWN:
+        return None, Place(), None
+    number, offset, line, raw = prefix.split(":")
+    return int(number), Place(int(offset), int(line)), int(raw) if raw else None
+
+
+def _whole_lines(file: int) -> Iterator[str]:
+    """The lines of a file that was written to its end. A last line that is torn is taken away."""
+    with os.fdopen(os.dup(file), "r", encoding="utf-8", newline="\n") as text:
+        text.seek(0)
+        whole = 0
+        torn = False
+        for line in text:
+            if line.endswith("\n"):
+                whole += len(line.encode("utf-8"))
+                yield line[:-1]
+            else:
+                torn = True
+    if torn:
+        os.ftruncate(file, whole)
+
+
+def _write(file: int, text: str) -> None:
+    data = memoryview(text.encode("utf-8"))
+    while data:
+        data = data[os.write(file, data):]

@@ -1,0 +1,1 @@
+"""The tool sundial-why: what a printed line means, in words."""

@@ -1,0 +1,166 @@
+"""The words of sundial-why."""
+
+from __future__ import annotations
+
+import argparse
+import contextlib
+import sys
+from typing import Dict, Iterator, List, Optional, Sequence
+
+from sundial_tools.errors import ToolError
+from sundial_tools.outputs import OutputLine, parse_line
+from sundial_tools.plan import Plan, parse_plan
+from sundial_tools.safe_write import whole_output
+from sundial_tools.topology import Topology, parse_topology
+from sundial_tools.why.broken import Replayed
+from sundial_tools.why.course import Course
+from sundial_tools.why.inputs import plan_reason, topology_reason
+from sundial_tools.why.refused import Refused
+from sundial_tools.why.said import domain_of, failing, time
+from sundial_tools.why.schedules import Exchanges
+from sundial_tools.why.schedules import Refused as RefusedLine
+from sundial_tools.why.texts import JsonText, Text, TomlText, is_exchanges, is_plan
+
+
+class Why:
+    """The files of a command, and what its lines mean over them."""
+
+    def __init__(self, topology: str, others: Sequence[str], absent: Optional[str]) -> None:
+        self.toml = TomlText(Text(topology))
+        self.plan_texts = [JsonText(Text(path)) for path in others if is_plan(path)]
+        self.absent = JsonText(Text(absent)) if absent else None
+        lines = [path for path in others if not is_plan(path)]
+        if len(lines) > 1:
+            raise ToolError(f"two schedules, {lines[0]} and {lines[1]}: name one")
+        self.topology = self._topology()
+        self.plans = self._plans()
+        self.exchanges = Exchanges(lines[0], self.topology) if lines and is_exchanges(lines[0]) else None
+        is_schedule = bool(lines) and self.exchanges is None and self.topology is not None
+        whole = self.plans if len(self.plans) == len(self.plan_texts) else []
+        self.course = Course(lines[0], self.topology, whole) if is_schedule and self.topology else None
+
+    def _topology(self) -> Optional[Topology]:
+        try:
+            return parse_topology(self.toml.text.text)
+        except ToolError:
+            return None
+
+    def _plans(self) -> List[Plan]:
+        found: List[Plan] = []
+        for text in self.plan_texts:
+            try:
+                found += [parse_plan(text.text.text, self.topology)] if self.topology else []
+            except ToolError:
+                break
+        return found
+
+    def say(self, line: OutputLine) -> Iterator[str]:
+        first = line.kind.split(" ")[0]
+        if first == "input":
+            yield from self._input(line)
+        elif first == "refused":
+            yield from self._refused(line)
+        elif first in ("report", "broken", "alarm") and self.topology:
+            says = Replayed(self.topology, self.course)
+            yield from getattr(says, first)(line)
+        elif first in ("bound", "nobound") and self.topology:
+            yield from self._bound(line)
+        else:
+            yield from _plain(line)
+
+    def _input(self, line: OutputLine) -> Iterator[str]:
+        what, reason = line.kind.split(" ")[1], line.fields["reason"].split(" ")
+        if what == "topology":
+            yield from topology_reason(reason, self.toml)
+        elif what == "absent" and self.absent:
+            yield from plan_reason(reason, self.absent, self.topology)
+        elif what == "plan" and 1 <= line.fields["plan"] <= len(self.plan_texts):
+            yield from plan_reason(reason, self.plan_texts[line.fields["plan"] - 1], self.topology)
+        elif what == "schedule" and self.course:
+            yield from RefusedLine(self.course).say(line.fields["line"], reason)
+        elif what == "exchanges" and self.exchanges:
+            yield from self.exchanges.say(line.fields["line"], reason)
+        else:
+            yield f"The {what} is refused. Name its file for more{' by --absent' if what == 'absent' else ''}."
+
+    def _refused(self, line: OutputLine) -> Iterator[str]:
+        number = line.fields["plan"]
+        if self.topology is None:
+            yield "The plan is refused. The topology cannot be read here, so nothing more can be said."
+            return
+        plan = self.plans[number - 1] if 1 <= number <= len(self.plans) else None
+        try:
+            yield from Refused(self.topology, plan).say(line)
+        except KeyError:
+            yield "The line names a thing that the topology does not have: it is not the topology of this output."
+
+    def _bound(self, line: OutputLine) -> Iterator[str]:
+        assert self.topology
+        try:
+            domain = failing(self.topology, domain_of(line)).text
+        except KeyError:
+            yield "The line names a domain that the topology does not have: it is not the topology of this output."
+            return
+        name = line.fields["device"]
+        if line.kind == "bound":
+            yield f"While {domain} is down, no report of {name} is off by more than {time(line.fields['eps'])}."
+        elif ("device", self.topology.device_numbers.get(name)) in failing(self.topology, domain_of(line)).things:
+            yield f"{name} is down itself with {domain}."
+        else:
+            yield f"While {domain} is down there is no bound for {name}: it does not hear a root again, or may hear one over more than `depth` + 1 links."
+            yield f"Change: a link of {name} that {domain} leaves; or a greater `depth`."
+
+
+def _plain(line: OutputLine) -> Iterator[str]:
+    """What a line says that needs no file."""
+    said = line.fields
+    texts: Dict[str, str] = {
+        "accepted": "The plan is accepted: {devices} devices, {links} links, {domains} things that may fail by themselves.",
+        "case": "{events} events, {reports} reports, none off by more than {eps} ps; {broken} broken premises, {alarms} alarms.",
+        "done": "The work ended. Of a replay: {first} events and {second} reports; of twoway, lines and links; of a drill, domains and devices.",
+        "begin": "A transaction of {device} begins with the timestamp {stamp} ps.",
+        "ended": "The transaction of line {begin} ends here: its timestamp is surely past.",
+        "disorder": "The transaction of line {begin} ended before this one began, and has no lesser timestamp. A clock was wrong: look for a `broken` line of start, drift or delay.",
+        "waits": "{begun} transactions began, {ended} ended, {disorders} were out of order.",
+        "link": "By {count} recorded, both delays of {link} lie from {min} to {max} ps. They are {verdict} the bounds of the topology.",
+        "report": "{device} says: the time is {clock} ps, and off by at most {eps} ps.",
+        "broken": "The network did not keep what it promised: `{premise}`.",
+        "usage": "The words are not those of a command. Change: see the line for the words of each; there are no options.",
+    }
+    text = texts.get(line.kind)
+    yield text.format(**said) if text else "Name a topology that can be read for more."
+
+
+def main(words: List[str]) -> int:
+    options = _parser().parse_args(words)
+    why = Why(options.topology, options.others, options.absent)
+    with contextlib.ExitStack() as stack:
+        source = sys.stdin if options.lines == "-" else stack.enter_context(open(options.lines, encoding="utf-8", newline="\n"))
+        text = stack.enter_context(whole_output(options.output))
+        unknown = 0
+        for line in source:
+            bare = line.rstrip("\n")
+            parsed = parse_line(bare)
+            text.write(bare + "\n")
+            if parsed is None:
+                unknown += bool(bare)
+                text.write("    (no line that sundial prints)\n")
+                continue
+            for said in why.say(parsed):
+                text.write(f"    {said}\n")
+    return 1 if unknown else 0
+
+
+def _parser() -> argparse.ArgumentParser:
+    parser = argparse.ArgumentParser(
+        prog="sundial-why",
+        description="Says in words what lines of sundial mean over its files: which names, which line of a text, and what to change.",
+        epilog="Pipe what sundial printed into it: sundial check t.toml p.json | sundial-why t.toml p.json. "
+        "A file that begins with a brace, or whose name ends in .json, is a plan. docs/TROUBLESHOOTING.md has each kind of line.",
+    )
+    parser.add_argument("topology", metavar="TOPOLOGY")
+    parser.add_argument("others", metavar="FILE", nargs="*", help="the plans of the command in their order, and its schedule or exchanges")
+    parser.add_argument("--lines", "-l", metavar="FILE", default="-", help="what sundial printed; standard input without it")
+    parser.add_argument("--absent", "-a", metavar="FILE", help="the absent text of a renew")
+    parser.add_argument("--output", "-o", metavar="FILE", help="where to write; standard output without it")
+    return parser

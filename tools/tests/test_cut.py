@@ -1,0 +1,128 @@
+"""sundial-cut: the lines of the parts are those of the whole."""
+
+import os
+import unittest
+from unittest import mock
+
+from support import PROGRAM, TOOLS, directory, needs_sundial, run, sundial
+
+import histories
+from histories import PLANS, TRIANGLE, History
+from test_follow import Fed
+
+from sundial_tools.cut.joined import joined
+from sundial_tools.cut.main import Cutting, Wish, main
+from sundial_tools.plain.lines import Replay
+from sundial_tools.topology import parse_topology
+
+
+def plain(topology, plans, lines):
+    return list(Replay(topology, plans).lines(line.encode() for line in lines))
+
+
+class Cut(unittest.TestCase):
+    def parts(self, made, wish):
+        """Each part with the lines of its replay."""
+        with directory() as path:
+            rows = []
+            cutting = Cutting(made.topology, made.plans, wish, str(path), rows.append)
+            cutting.run(iter(made.lines), "schedule")
+            return [
+                (row, plain(made.topology, made.plans[row.first_plan - 1:], (path / row.file).read_text().splitlines()))
+                for row in rows
+            ]
+
+    def test_the_lines_of_the_parts_are_those_of_the_whole(self):
+        cuts, ways, words = 0, set(), set()
+        for number in range(6):
+            made = History(number, rounds=50, bad=40 if number % 3 == 0 else None)
+            whole = plain(made.topology, made.plans, made.lines)
+            self.assertTrue(whole[-1].startswith("done "), whole[-1])
+            for wish in (Wish(every=1), Wish(at=(histories.STEP * 20, histories.STEP * 41)), Wish(every=90, moves=True)):
+                with self.subTest(number, wish=wish):
+                    parts = self.parts(made, wish)
+                    self.assertEqual(joined(parts)[1], whole)
+                    self.assertEqual(sum(row.lines for row, _ in parts), len(made.lines))
+                    cuts += len(parts) - 1
+                    ways |= {row.way for row, _ in parts}
+            words |= {line.split()[0] for line in whole}
+        self.assertGreater(cuts, 60)
+        self.assertEqual((ways, words), ({"whole", "marks"}, {"report", "broken", "done"}))
+
+    def test_a_round_is_told_again_where_receipts_spread(self):
+        text = TRIANGLE.read_text().replace("tick = 90000000", "tick = 2000000").replace("max = 1000000", "max = 9000000")
+        ways = set()
+        for number in 4, 6:
+            made = History(number, rounds=30, topology=parse_topology(text))
+            whole = plain(made.topology, made.plans, made.lines)
+            parts = self.parts(made, Wish(every=1))
+            self.assertEqual(joined(parts)[1], whole)
+            ways |= {row.way for row, _ in parts}
+        self.assertIn("round", ways)
+
+    def test_late_times_are_moved(self):
+        made = History(4)
+        late = 2**60 - 100 * histories.STEP
+        made.events = [
+            it._replace(ref=it.ref + late, clock=None if it.clock is None else it.clock + late, counter=None if it.counter is None else it.counter + late)
+            for it in made.events
+        ]
+        whole = plain(made.topology, made.plans, made.lines)
+        parts = self.parts(made, Wish(every=60, moves=True))
+        self.assertGreater(min(row.moved for row, _ in parts[1:]), 2**58)
+        self.assertEqual(joined(parts)[1], whole)
+
+    def test_status(self):
+        row = self.parts(History(1), Wish())[0][0]
+        for told, status in ((["report 1 r 1 1", "done 9 1"], 0), (["broken 2 tick", "done 9 0"], 7), (["input schedule 3 TimeFalls"], 3)):
+            self.assertEqual(joined([(row, told)])[0], status)
+        later = row._replace(first_line=101, opening=4)
+        lines = joined([(row, ["broken 2 tick"]), (later, ["broken 3 tick", "broken 6 loss", "input schedule 9 TimeFalls"]), (later, [])])
+        self.assertEqual(lines, (3, ["broken 2 tick", "broken 102 loss", "input schedule 105 TimeFalls"]))
+
+
+class Words(unittest.TestCase):
+    def test_where_no_cut_is_right_it_says_why(self):
+        made = History(2)
+        stops = next(place for place, it in enumerate(made.events) if it.word == "stage")
+        with directory() as path:
+            (path / "schedule").write_text("".join(made.lines[stops - 8:stops]))
+            status, _, err = run("sundial-cut", main, [TRIANGLE, *PLANS, path / "schedule"])
+            self.assertEqual(status, 1)
+            self.assertIn("schedule:1: no replay of these plans accepts this line", err)
+            (path / "schedule").write_text("".join(made.lines))
+            status, out, err = run("sundial-cut", main, [TRIANGLE, *PLANS, path / "schedule"])
+            self.assertEqual((status, out), (0, ""))
+            self.assertRegex(err, r"^sundial-cut: \d+ right cuts; what a cut keeps is tested, not proved\n")
+            self.assertIn("emissions: a window is open\n", err)
+
+    def test_parts_and_their_table(self):
+        made = History(2)
+        with directory() as path:
+            with Fed(TOOLS / "sundial-cut", TRIANGLE, *PLANS, "-", "--every", "100", "-o", path / "parts") as tool:
+                for line in made.lines:
+                    tool.feed(line)
+                self.assertEqual(tool.end(), (0, ""))
+            rows = [line.split("\t") for line in (path / "parts" / "parts.tsv").read_text().splitlines()]
+            self.assertEqual(rows[0][:5], ["file", "first plan", "opening lines", "first line", "lines"])
+            self.assertEqual(sorted(it.name for it in (path / "parts").iterdir()), [row[0] for row in rows[1:]] + ["parts.tsv"])
+            first = int(rows[2][3])
+            self.assertEqual((path / "parts" / rows[1][0]).read_text().splitlines()[:first - 1], [it.strip() for it in made.lines[:first - 1]])
+
+    @needs_sundial
+    def test_run_prints_the_lines_of_the_whole(self):
+        made = History(3, rounds=300, bad=280)
+        with directory() as path, mock.patch.dict(os.environ, {"SUNDIAL": str(PROGRAM.resolve())}):
+            (path / "schedule").write_text("".join(made.lines))
+            whole = sundial("replay", TRIANGLE, *PLANS, path / "schedule")
+            status, out, err = run("sundial-cut", main, [TRIANGLE, *PLANS, path / "schedule", "--every", "50", "--run"])
+            self.assertEqual((status, out), whole)
+            self.assertNotIn("left out", err)
+
+    def test_run_needs_the_program(self):
+        err = run("sundial-cut", main, [TRIANGLE, *PLANS, "schedule", "--run"])[2]
+        self.assertIn("--run needs sundial", err)
+
+
+if __name__ == "__main__":
+    unittest.main()

@@ -1,0 +1,348 @@
+"""sundial-watch: what is told while logs grow, also by a watch that is killed and begun anew."""
+
+import contextlib
+import json
+import os
+import random
+import re
+import signal
+import subprocess
+import time
+import unittest
+from unittest import mock
+
+import support
+from support import TOOLS, directory, run
+
+import logs_of
+from histories import PLANS, STEP, TRIANGLE, History
+from test_cut import plain
+
+from sundial_tools.record.main import main as record
+from sundial_tools.errors import ToolError
+from sundial_tools.plain.lines import Replay
+from sundial_tools.plain.refusals import refusal
+from sundial_tools.plan import read_plan
+from sundial_tools.schedule import parse_event
+from sundial_tools.topology import read_topology
+from sundial_tools.watch import watcher
+from sundial_tools.watch.main import main
+from sundial_tools.watch.watcher import Options, Watch
+
+# The program where it is built, and else the tools' own replay.
+PROGRAM = support.PROGRAM.resolve() if support.PROGRAM.is_file() else TOOLS / "tests" / "plain_sundial.py"
+SECOND = 10**12
+NAMES = ("r", "b", "x", "fabric")
+KILLS = int(os.environ.get("SUNDIAL_KILLS", "3"))
+
+
+class Crash(Exception):
+    """The process ends here."""
+
+
+class Played:
+    """A replay in this process. What it has to say comes late, and is lost in a crash."""
+
+    draw = random.Random(3)
+
+    def __init__(self, words, told):
+        topology = read_topology(words[2])
+        self._replay = Replay(topology, [read_plan(path, topology) for path in words[3:-1]])
+        self._told, self._number, self._due = told, 0, []
+
+    def feed(self, text):
+        for line in text.splitlines():
+            event = parse_event(line)
+            self._number += 1
+            reason = refusal(self._replay.history, event)
+            if reason:
+                raise AssertionError(f"{self._number} {line}: {reason}")
+            self._due += self._replay._taken(self._number, event)
+            while self._due and self.draw.random() < 0.5:
+                self._told(self._due.pop(0))
+
+    def finish(self):
+        while self._due:
+            self._told(self._due.pop(0))
+        return self._replay.status
+
+    def kill(self):
+        self._due = []
+
+
+class Fabric:
+    """A history, as the lines of its logs in the order in which they are written."""
+
+    def __init__(self, path, made):
+        self.path, self.made = path, made
+        self.lines = [
+            (whose, json.dumps(said) + "\n") for whose, said in logs_of.lines_of(made.topology, made.plans, enumerate(made.events, 1))
+        ]
+        self.logs = [str(path / f"{name}.jsonl") for name in NAMES]
+        self.state = path / "state"
+        for log in self.logs:
+            open(log, "w").close()
+
+    def write(self, lines):
+        for whose, text in lines:
+            with open(self.path / f"{whose}.jsonl", "a") as log:
+                log.write(text)
+
+    def rows(self):
+        """What was told, over all parts."""
+        files = sorted(self.state.glob("part-*.told"))
+        return [json.loads(line) for file in files for line in file.read_text().splitlines()]
+
+    def whole(self):
+        """The schedule of all logs and the lines of its replay, without the last one."""
+        words = [TRIANGLE, *self.logs, "--origin", "0s"]
+        for plan in PLANS:
+            words += ["--plan", plan]
+        status, out, err = run("sundial-record", record, words)
+        assert status == 0, err
+        return out, plain(self.made.topology, self.made.plans, out.splitlines())[:-1]
+
+    def options(self, **changes):
+        plans = [str(plan) for plan in PLANS]
+        said = Options(str(TRIANGLE), plans, self.logs, str(self.state), [str(PROGRAM), "replay"], 0, False, SECOND, None, 10**6, 3, lambda _: None)
+        return said._replace(**changes)
+
+    def watch(self, **changes):
+        return Watch(self.made.topology, self.made.plans, self.options(**changes))
+
+    def once(self, last=True, **changes):
+        """Tells all that the logs have. Not with `last`: what a later event of another log could come before waits."""
+        watch = self.watch(**changes)
+        try:
+            while watch.step():
+                pass
+            if last:
+                watch.step(is_last=True)
+            watch.metrics_text()
+            status = watch.finish() if watch.ended else watch.pause()
+        except BaseException:
+            watch.stop()
+            raise
+        return status, watch.metrics_text()
+
+
+def line_of(row):
+    if row["kind"] == "report":
+        return f"report {row['line']} {row['device']} {row['clock']} {row['eps']}"
+    if row["kind"] == "broken":
+        return f"broken {row['line']} {row['premise']}"
+    return " ".join([row["kind"].split()[0], str(row["line"]), row["kind"].split()[1], *(str(row[it]) for it in ("device", "other") if it in row)])
+
+
+class Told(unittest.TestCase):
+    def setUp(self):
+        self.path = self.enterContext(directory())
+        self.enterContext(mock.patch.object(watcher, "Replaying", Played))
+
+    def fabric(self, *words, **more):
+        return Fabric(self.path, History(*words, **more))
+
+    def test_logs_that_grow_in_pieces_over_many_runs(self):
+        fabric = self.fabric(3, rounds=40)
+        draw, rest = random.Random(1), list(fabric.lines)
+        while rest:
+            count = draw.randint(20, 90)
+            fabric.write(rest[:count])
+            del rest[:count]
+            status, _ = fabric.once(every=60, keep=100)
+            self.assertEqual(status, 0)
+        schedule, lines = fabric.whole()
+        self.assertEqual(list(map(line_of, fabric.rows())), lines)
+        journals = "".join(file.read_text() for file in sorted(fabric.state.glob("part-*.journal")))
+        self.assertEqual("".join(line.split(" ", 1)[1] for line in journals.splitlines(keepends=True)), schedule)
+        self.assertGreater(len(list(fabric.state.glob("part-*.start"))), 1)
+
+    def test_a_torn_line_waits_for_its_end(self):
+        fabric = self.fabric(2, rounds=12)
+        fabric.write(fabric.lines[:-1])
+        whose, last = fabric.lines[-1]
+        fabric.write([(whose, last[:20])])
+        fabric.once()
+        before = fabric.rows()
+        fabric.write([(whose, last[20:])])
+        fabric.once()
+        self.assertEqual(fabric.rows(), before)
+        self.assertEqual((fabric.state / "part-0001.journal").read_text().split()[-2:], ["end", str(fabric.made.events[-1].ref)])
+
+    def test_a_log_that_stops_is_waited_for_up_to_the_horizon(self):
+        fabric = self.fabric(2, rounds=40)
+        silent = [one for one in fabric.lines if one[0] != "x" or json.loads(one[1])["reference_ps"] < 5 * STEP]
+        fabric.write(one for one in silent if '"recv"' not in one[1] and '"lose"' not in one[1] and '"end"' not in one[1])
+        watch = fabric.watch(horizon=10 * STEP)
+        while watch.step():
+            pass
+        watch.step()
+        text = watch.metrics_text()
+        watch.pause()
+        told = {(row["kind"], row.get("premise")) for row in fabric.rows()}
+        self.assertIn(("broken", "tick"), told)
+        behind = float(re.search(r'sundial_log_behind_seconds\{log="[^"]*/x.jsonl"\} (.*)', text)[1])
+        self.assertGreater(behind, 30 * STEP / SECOND)
+
+    def test_lines_that_cannot_come_are_passed_over_and_told(self):
+        fabric = self.fabric(2, rounds=12)
+        wrong = json.loads(next(text for whose, text in fabric.lines if whose == "x" and '"tick"' in text))
+        middle = len(fabric.lines) // 2
+        fabric.write(fabric.lines[:middle])
+        for more in (json.dumps({**wrong, "reference_ps": 1}), "{", json.dumps({**wrong, "device": "y"})):
+            fabric.write([("x", more + "\n")])
+        fabric.write(fabric.lines[middle:])
+        for _ in range(2):
+            fabric.once()
+            rows = fabric.rows()
+            passed = [row for row in rows if row["kind"] == "passed over"]
+            self.assertEqual([row["reason"].split(":")[0] for row in passed], ["out of order", "no JSON, or cut short", "there is no device y in the topology"])
+            self.assertEqual({row["log"] for row in passed}, {fabric.logs[2]})
+            self.assertEqual(list(map(line_of, (row for row in rows if row["kind"] != "passed over"))), plain(fabric.made.topology, fabric.made.plans, fabric.made.lines)[:-1])
+
+    def test_an_event_that_comes_too_late(self):
+        fabric = self.fabric(2, rounds=12)
+        fabric.write(one for one in fabric.lines if one[0] != "x" and '"end"' not in one[1])
+        fabric.once()
+        fabric.write(one for one in fabric.lines if one[0] == "x")
+        fabric.once()
+        reasons = [row["reason"] for row in fabric.rows() if row["kind"] == "passed over" and row["log"] == fabric.logs[2]]
+        self.assertGreater(sum(reason.startswith("late: ") for reason in reasons), 5)
+
+    def test_a_fifo_is_kept_before_it_is_told(self):
+        fabric = self.fabric(2, rounds=12)
+        os.unlink(fabric.logs[2])
+        os.mkfifo(fabric.logs[2])
+        held = os.open(fabric.logs[2], os.O_RDWR)
+        text = "".join(text for whose, text in fabric.lines if whose == "x")
+        os.write(held, text[:1000].encode())
+        fabric.write(one for one in fabric.lines if one[0] != "x" and one[0] != "fabric")
+        watch = fabric.watch()
+        watch.step()
+        watch.stop()
+        os.write(held, text[1000:].encode())
+        fabric.write(one for one in fabric.lines if one[0] == "fabric")
+        fabric.once()
+        os.close(held)
+        self.assertEqual((fabric.state / "spool-2").read_text(), text)
+        self.assertEqual(list(map(line_of, fabric.rows())), plain(fabric.made.topology, fabric.made.plans, fabric.made.lines)[:-1])
+
+    def test_what_stands_in_the_metrics(self):
+        fabric = self.fabric(9, rounds=50, bad=40)
+        fabric.write(fabric.lines)
+        status, text = fabric.once(ask=5 * STEP)
+        rows = fabric.rows()
+        self.assertEqual(status, 7)
+        values = dict(line.rsplit(" ", 1) for line in text.splitlines() if not line.startswith("#"))
+        reports = [row for row in rows if row["kind"] == "report" and row["device"] == "b"]
+        self.assertGreater(len(reports), 8)
+        self.assertAlmostEqual(float(values['sundial_eps_seconds{device="b"}']) * SECOND, reports[-1]["eps"], delta=1)
+        self.assertAlmostEqual(float(values['sundial_eps_greatest_seconds{device="b"}']) * SECOND, max(row["eps"] for row in reports), delta=1)
+        self.assertEqual(values['sundial_broken_total{premise="delay"}'], "1")
+        self.assertEqual(values["sundial_alarms_total{kind=\"interval\"}"], str(sum(row["kind"] == "alarm interval" for row in rows)))
+        self.assertEqual((values["sundial_epoch"], values['sundial_acting{device="r"}'], values['sundial_acting{device="b"}']), ("2", "1", "0"))
+        self.assertEqual(values['sundial_failed{thing="link"}'], str(len(fabric.made.fleet.failed_links)))
+        self.assertGreater(int(values["sundial_rounds_total"]), 15)
+        for line in text.splitlines():
+            self.assertRegex(line, r'^(# (HELP|TYPE) sundial_\w+ \S.*|sundial_\w+(\{\w+="[^"]*"\})? -?[0-9.e+-]+)$')
+        self.assertEqual(fabric.once(ask=5 * STEP)[1].split("# HELP sundial_told")[0], text.split("# HELP sundial_told")[0])
+
+    def test_a_crash_at_any_write(self):
+        """Each write may stop within, and each new name may be missing. The lines are those of one run."""
+        draw, write, replace = random.Random(11), watcher._write, os.replace
+        for number, crashes in (9, 25), (7, 25):
+            with directory() as path:
+                fabric = Fabric(path, History(number, rounds=50, bad=45 if number == 9 else None))
+                rest, count, crashed = list(fabric.lines), 0, 0
+
+                def torn(file, text):
+                    if left[0] < len(text):
+                        write(file, text[:left[0]])
+                        raise Crash()
+                    left[0] -= len(text)
+                    write(file, text)
+
+                def renamed(old, new):
+                    if left[0] < 40:
+                        raise Crash()
+                    replace(old, new)
+
+                while rest or count < crashes:
+                    fabric.write(rest[:30])
+                    del rest[:30]
+                    count += 1
+                    left = [draw.randint(0, 3000)]
+                    with mock.patch.object(watcher, "_write", torn), mock.patch.object(os, "replace", renamed):
+                        with contextlib.suppress(Crash):
+                            crashed += 1
+                            fabric.once(every=50, keep=100, last=not rest)
+                            crashed -= 1
+                fabric.once(every=50, keep=100)
+                self.assertGreater(crashed, 12)
+                self.assertGreater(len(list(fabric.state.glob("part-*.start"))), 1)
+                self.judge(fabric)
+
+    def judge(self, fabric):
+        """What was told is what one replay of all logs says. A part names a premise anew."""
+        _, lines = fabric.whole()
+        firsts, told = {}, []
+        for row in fabric.rows():
+            self.assertNotEqual(row["kind"], "passed over")
+            if row["kind"] != "broken" or (firsts.setdefault(row["premise"], row["line"]) == row["line"] and "opening" not in row):
+                told.append(line_of(row))
+        self.assertEqual(told, lines)
+
+    def test_what_is_refused(self):
+        fabric = self.fabric(2, rounds=12)
+        fabric.write(fabric.lines)
+        watch = fabric.watch()
+        with self.assertRaisesRegex(ToolError, "another sundial-watch works there"):
+            fabric.watch()
+        watch.stop()
+        with self.assertRaisesRegex(ToolError, "logs was another one when this state was begun"):
+            fabric.watch(logs=fabric.logs[:3])
+        with open(fabric.logs[0], "w"), self.assertRaisesRegex(ToolError, "has become shorter"):
+            watch = fabric.watch()
+            watch._tails[0].move_to(watch._tails[0].done._replace(offset=5), None)
+            try:
+                watch.step()
+            finally:
+                watch.stop()
+        self.assertIn("needs sundial on the path", run("sundial-watch", main, [TRIANGLE, "log", "--plan", PLANS[0], "-o", self.path / "s"])[2])
+
+
+class Killed(unittest.TestCase):
+    def test_nothing_is_lost_or_told_twice(self):
+        draw = random.Random(int(os.environ.get("SUNDIAL_SEED", "5")))
+        with directory() as path:
+            fabric = Fabric(path, History(9, rounds=60, bad=55))
+            words = [str(TOOLS / "sundial-watch"), str(TRIANGLE), *fabric.logs, "--plan", str(PLANS[0]), "--plan", str(PLANS[1])]
+            words += ["-o", str(fabric.state), "--every", "40", "--keep", "100", "--origin", "0s", "--horizon", "1ns"]
+            rest, grew = list(fabric.lines), 0
+            for _ in range(KILLS):
+                process = subprocess.Popen(words, env={**os.environ, "SUNDIAL": str(PROGRAM)}, stderr=subprocess.DEVNULL)
+                before, wished = self.told(fabric), draw.randint(0, 1500)
+                count = draw.randint(1, max(2, 2 * len(fabric.lines) // KILLS))
+                whose, torn = (rest[count] if count < len(rest) else ("x", ""))
+                fabric.write([*rest[:count], (whose, torn[:7])])
+                rest = [(whose, torn[7:]), *rest[count + 1:]] if count < len(rest) else []
+                end = time.monotonic() + 120
+                while time.monotonic() < end and self.told(fabric) <= before + wished:
+                    time.sleep(0.001)
+                time.sleep(draw.choice((0, 0.01, 0.05)))
+                self.assertIsNone(process.poll())
+                process.send_signal(signal.SIGKILL)
+                process.wait()
+                grew += self.told(fabric) > before
+            fabric.write(rest)
+            fabric.once(every=40, keep=100, horizon=1000)
+            self.assertGreater(grew, 0)
+            Told.judge(self, fabric)
+
+    @staticmethod
+    def told(fabric):
+        return sum(file.stat().st_size for file in fabric.state.glob("part-*.journal"))
+
+
+if __name__ == "__main__":
+    unittest.main()

@@ -1,0 +1,188 @@
+"""sundial-why: lines of sundial in words, over the files of examples and over files with one fault each."""
+
+import unittest
+
+from examples import EXAMPLES, outputs
+from support import directory, run
+
+from sundial_tools.why.main import main
+
+TRIANGLE, REFUSED, INCIDENT = EXAMPLES / "triangle", EXAMPLES / "refused", EXAMPLES / "incident"
+ROW = '[[device]]\nname = "{}"\n'
+
+
+class Why(unittest.TestCase):
+    def why(self, text, *words, files=None):
+        """What is said of lines. Files that are given as texts lie in a folder of their own, under their names."""
+        with directory() as path:
+            (path / "lines").write_text(text)
+            for name, content in (files or {}).items():
+                (path / name).write_bytes(content if isinstance(content, bytes) else content.encode())
+            named = [path / word if word in (files or {}) else word for word in words]
+            status, out, err = run("sundial-why", main, [*named, "--lines", path / "lines"])
+            return status, out.replace(str(path) + "/", ""), err
+
+    def says(self, part, text, *words, files=None):
+        status, out, err = self.why(text, *words, files=files)
+        self.assertEqual((status, err), (0, ""))
+        self.assertIn(part, out)
+        return out
+
+    # Refused plans
+
+    def refused(self, part, line, plan, topology="topology.toml"):
+        out = self.says(part, line + "\n", REFUSED / topology, REFUSED / plan)
+        self.assertEqual(out.splitlines()[0], line)
+        self.assertIn("    Change: ", out)
+
+    def test_each_condition(self):
+        self.refused("shares no domain with it, and could be its backup", "refused plan 1 structure 6 device s2", "structure.json")
+        self.refused("s2 - b2 - l2 - b2 - s2", "refused plan 1 ancestor device s2", "ancestor.json")
+        self.refused("It has the link b2.", "refused plan 1 root listed tray at link b2", "root.json", "tray-root.toml")
+        self.refused("l2 moves to l3 over c", "refused plan 1 loop device s1 cycle l2 l3", "loop.json")
+        self.refused("such as l2 over c", "refused plan 1 domain listed tray device l3", "domain.json", "tray-domain.toml")
+        self.refused("l3 follows s1 over a3, and has no backup", "refused plan 1 reach device s1 chain l3", "reach.json")
+
+    def test_timing_names_the_wait_and_the_least_that_is_enough(self):
+        self.refused("a `wait` of at least 3577384477 ps", "refused plan 1 timing 4 3499299000 3576668000", "timing.json")
+
+    def test_structure_6_without_a_plan_names_the_domain_that_is_shared(self):
+        text = (EXAMPLES / "fabric/topology.toml").read_text()
+        feed = text.index('name = "feed-a"')
+        text = text[:feed] + text[feed:].replace('"spine1"', '"spine1", "leaf4", "leaf5", "leaf6", "leaf7", "leaf8"', 1)
+        out = self.says("shares the domain feed-a", "refused plan 1 structure 6 device spine2\n", "t.toml", files={"t.toml": text})
+        self.assertIn("There are 3 more ways.", out)
+
+    def test_a_line_of_another_topology(self):
+        self.says("not the topology of this output", "refused plan 1 ancestor device nobody\n", TRIANGLE / "topology.toml")
+
+    # Topologies and plans
+
+    def topology(self, part, line, change):
+        text = (TRIANGLE / "topology.toml").read_text()
+        for old, new in change.items():
+            self.assertIn(old, text)
+            text = text.replace(old, new, 1)
+        return self.says(part, f"input topology {line}\n", "t.toml", files={"t.toml": text})
+
+    def test_a_topology_names_the_line_and_the_nearest_name(self):
+        out = self.topology("t.toml, line 22: `ends` of link 1, rb1 has 'R'", "UnknownName link.ends 1", {'ends = ["r", "b"]': 'ends = ["R", "b"]'})
+        self.assertIn("did you mean 'r'?", out)
+        self.topology("t.toml, line 3: `ppm` is 100001. It has to be 0 to 100000", "Range ppm 0", {"ppm = 200": "ppm = 100001"})
+        self.topology("is a text in quotes ('200'), and has to be a whole number", "WrongKind ppm 0", {"ppm = 200": 'ppm = "200"'})
+        self.topology("'rb1' stands twice", "TwiceNamed link.name 2", {'name = "rb2"': 'name = "rb1"'})
+        self.topology("there is no `max` of link 1, rb1", "Missing link.max 1", {"max = 1000000\n": ""})
+        self.topology("line 3, column", "NotToml", {"ppm = 200": "ppm ="})
+
+    def test_a_byte_order_mark_is_named(self):
+        text = b"\xef\xbb\xbf" + (TRIANGLE / "topology.toml").read_bytes()
+        self.says("byte order mark", "input topology NotToml\n", "t.toml", files={"t.toml": text})
+
+    def plan(self, part, line, old, new):
+        text = (TRIANGLE / "plan.json").read_text()
+        self.assertIn(old, text)
+        return self.says(part, f"input plan 1 {line}\n", TRIANGLE / "topology.toml", "p.json", files={"p.json": text.replace(old, new, 1)})
+
+    def test_a_plan_names_line_and_column(self):
+        out = self.plan("has 'rb9', and there is no link", "UnknownName rows.link 1", '"link":"rb1"', '"link":"rb9"')
+        self.assertIn("p.json, line 1, column 124: `link` of row 1, that of b", out)
+        self.plan("p.json, line 1, column 69", "NotJson", '"rows"', "rows")
+        self.plan("there is no `wait`", "Missing wait 0", '"wait":', '"weight":')
+
+    def test_a_refusal_in_the_file_of_a_plan(self):
+        files = {"p.json": "refused plan 1 structure 6 device b\n"}
+        self.says("printed in place of a plan", "input plan 1 NotJson\n", TRIANGLE / "topology.toml", "p.json", files=files)
+
+    def test_an_absent_text(self):
+        files = {"gone.json": '{"absent_devices": ["R"], "absent_links": []}'}
+        line = "input absent UnknownName absent_devices 0\n"
+        with directory() as path:
+            (path / "gone.json").write_text(files["gone.json"])
+            self.says("did you mean 'r'?", line, TRIANGLE / "topology.toml", TRIANGLE / "plan.json", "--absent", path / "gone.json")
+
+    # Schedules
+
+    def schedule(self, part, number, reason, text, plans=("plan.json", "plan-2.json")):
+        words = [TRIANGLE / "topology.toml", *(TRIANGLE / it for it in plans), "s.txt"]
+        return self.says(part, f"input schedule {number} {reason}\n", *words, files={"s.txt": text})
+
+    def test_the_form_of_a_line(self):
+        self.schedule("Windows line end (CRLF)", 1, "Number 5", "start 0 0 0 0 500\r\nend 0\r\n")
+        self.schedule("a space stands at the end of the line", 1, "FieldCount", "start 0 0 0 0 500 \n")
+        self.schedule("two spaces stand side by side", 1, "FieldCount", "start 0  0 0 0 500\n")
+        self.schedule("devices and links have numbers", 1, "Number 2", "start 0 r 0 0 500\n")
+        self.schedule("a leading zero", 1, "Number 1", "start 00 0 0 0 500\n")
+        self.schedule("words have small letters", 1, "UnknownWord", "Start 0 0 0 0 500\n")
+        self.schedule("did you mean 'start'?", 1, "UnknownWord", "strat 0 0 0 0 500\n")
+        self.schedule("the line is empty", 1, "UnknownWord", "\n")
+        self.schedule("the recording was cut off", 2, "NoEnd", "start 0 0 0 0 500\n")
+
+    def test_each_cause_of_window_order(self):
+        begin = "start 0 0 0 0 500\nstart 0 1 0 0 500\nstart 0 2 0 0 500\n"
+        window = begin + "stage 5\n"
+        self.schedule("line 4 opened is still open", 5, "WindowOrder", window + "stage 6\n")
+        self.schedule("There was no `stage` before", 4, "WindowOrder", begin + "give 5 1\n")
+        self.schedule("plan 2, is b, and x commits", 5, "WindowOrder", window + "commit 6 2 5\n")
+        self.schedule("b holds no duty of the staged plan", 5, "WindowOrder", window + "commit 6 1 5\n")
+        self.schedule("has no `commit` yet", 5, "WindowOrder", window + "seal 6 2\n")
+        committed = window + "give 6 1\ncommit 7 1 7\n"
+        self.schedule("had its `commit` at line 6", 7, "WindowOrder", committed + "give 8 2\n")
+        self.schedule("x does not follow the staged plan yet", 7, "WindowOrder", committed + "seal 8 2\n")
+
+    def test_an_event_that_is_refused(self):
+        begin = "start 0 0 0 0 500\n"
+        self.schedule("numbered from 0 to 2", 2, "UnknownDevice", begin + "tick 5 3 5\n")
+        self.schedule("2 ps before that of line 2", 3, "TimeFalls", begin + "tick 5 0 5\nask 3 0 5\n")
+        self.schedule("r showed 5 at line 2, and 4 here", 3, "CounterFalls", begin + "tick 5 0 5\nask 5 0 4\n")
+        self.schedule("r failed at line 2", 3, "DeadDevice", begin + "fail 5 device 0\ntick 6 0 6\n")
+        self.schedule("r began at line 1 already", 2, "StartedTwice", begin + "start 5 0 5 5 5\n")
+        self.schedule("b is not up", 2, "NotStarted", begin + "tick 5 1 5\n")
+        self.schedule("0 were sent so far", 2, "UnknownMessage", begin + "lose 5 1\n")
+        self.schedule("The command names 1 plans", 2, "NoPlanLeft", begin + "stage 5\n", plans=("plan.json",))
+
+    def test_a_message_that_was_told_already(self):
+        lines = (TRIANGLE / "schedule.txt").read_text().splitlines(keepends=True)
+        at = next(at for at, line in enumerate(lines) if line.startswith("recv"))
+        text = "".join([*lines[: at + 1], lines[at]])
+        self.schedule(f"was told already, at line {at + 1}", at + 2, "SpentMessage", text)
+
+    # Replays, drills and exchanges
+
+    def test_an_incident(self):
+        words = [INCIDENT / it for it in ("topology.toml", "plan.json", "plan.json", "schedule.txt")]
+        text = next(text for command, text in outputs("incident").items() if "schedule.txt" in command and text.startswith("report 12"))
+        out = self.says("spine2, leaf, spine1 did not tick for 1,410,000,000 ps (since line 5)", text, *words)
+        self.assertIn("spine2 took over at line 21", out)
+        self.assertIn("reached leaf over spine1-leaf after 1,900,000 ps", out)
+        self.assertIn("off by 1200000 ps (1.2 us): wrong", out)
+
+    def test_a_lying_clock(self):
+        words = [EXAMPLES / "lying-clock" / it for it in ("topology.toml", "plan.json", "broken.txt")]
+        self.says("7,000 ps apart", "broken 9 drift\n", *words)
+
+    def test_lines_without_files_beside_the_topology(self):
+        topology = TRIANGLE / "topology.toml"
+        self.says("no report of x is off by more than 5048333 ps (5.048 us)", "bound device r x 5048333\n", topology)
+        self.says("r is down itself", "nobound device r r\n", topology)
+        self.says("3 devices, 6 links, 9 things", "accepted 3 6 9\n", topology)
+        self.says("The words are not those of a command", "usage: sundial solo SCHEDULE\n", topology)
+
+    def test_a_line_of_exchanges(self):
+        files = {"e.txt": "exchange 9 0 0 0 5000000 6000000 2400000\nend\n"}
+        self.says("There is no link 9", "input exchanges 1 UnknownLink\n", TRIANGLE / "topology.toml", "e.txt", files=files)
+        files = {"e.txt": "exchange 0 0 0 5 5000000 6000000 2\nend\n"}
+        self.says("T4 2 is less than T1 5", "input exchanges 1 Backwards\n", TRIANGLE / "topology.toml", "e.txt", files=files)
+
+    def test_a_line_that_sundial_does_not_print(self):
+        status, out, _ = self.why("hello\n", TRIANGLE / "topology.toml")
+        self.assertEqual((status, out), (1, "hello\n    (no line that sundial prints)\n"))
+
+    def test_two_schedules_are_refused(self):
+        schedule = TRIANGLE / "schedule.txt"
+        status, _, err = self.why("", TRIANGLE / "topology.toml", schedule, schedule)
+        self.assertEqual(status, 1)
+        self.assertIn("two schedules", err)
+
+
+if __name__ == "__main__":
+    unittest.main()
