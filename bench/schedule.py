@@ -13,12 +13,13 @@ import heapq
 import json
 import random
 import sys
+from typing import Dict, Iterable, List, Optional, Tuple
 
 PERIOD, STEP, LEAST, GREATEST = 100_000_000, 50_000_000, 400_000, 1_000_000
 PRIMARY, BACKUP, ACTING = range(3)
 
 
-def print_network(leaves, spines):
+def print_network(leaves: int, spines: int) -> None:
     print(f"version = 1\nppm = 200\ngrain = 1000\nperiod = {PERIOD}\ntick = 60000000\nloss = 1\ndepth = 3")
     print("roots = [" + ", ".join(f'"s{spine}"' for spine in range(spines)) + "]")
     for name in [f"s{spine}" for spine in range(spines)] + [f"l{leaf}" for leaf in range(leaves)]:
@@ -31,9 +32,11 @@ def print_network(leaves, spines):
         print(f'[[domain]]\nname = "rack{leaf}"\ndevices = ["l{leaf}"]\nlinks = [{links}]')
 
 
-def names_of(topology):
+def names_of(topology: Iterable[str]) -> Tuple[Dict[str, int], Dict[str, int]]:
     """The numbers of devices and of links, by name."""
-    devices, links, kind = {}, {}, None
+    devices: Dict[str, int] = {}
+    links: Dict[str, int] = {}
+    kind: Optional[Dict[str, int]] = None
     for line in topology:
         if line.startswith("[["):
             kind = {"[[device]]\n": devices, "[[link]]\n": links}.get(line)
@@ -43,14 +46,15 @@ def names_of(topology):
 
 
 class Plan:
-    def __init__(self, file, devices, links):
+    def __init__(self, file: str, devices: Dict[str, int], links: Dict[str, int]) -> None:
         with open(file, encoding="utf-8") as text:
             said = json.load(text)
         self.root, self.backup_root = devices[said["root"]], devices[said["backup_root"]]
         self.first, self.second, self.wait = said["wait_first"], said["wait_second"], said["wait"]
-        self.primary, self.backup = {}, {}
+        self.primary: Dict[int, int] = {}
+        self.backup: Dict[int, int] = {}
         # whom a device sends to: links ascending, with the device at the other end
-        self.ends = [[] for _ in devices]
+        self.ends: List[List[Tuple[int, int]]] = [[] for _ in devices]
         for row in said["rows"]:
             device = devices[row["device"]]
             for table, parent, link in (self.primary, "parent", "link"), (self.backup, "backup", "backup_link"):
@@ -62,15 +66,16 @@ class Plan:
 
 
 class Device:
-    def __init__(self, number, rate, plan):
-        self.number, self.rate, self.plan, self.given = number, rate, plan, None
+    def __init__(self, number: int, rate: int, plan: Plan) -> None:
+        self.number, self.rate, self.plan = number, rate, plan
+        self.given: Optional[Plan] = None
         self.mode = ACTING if number == plan.root else PRIMARY
         self.sealed, self.stamp, self.heard, self.sent, self.up = True, (0, 0), 0, 0, True
 
-    def counter(self, reference):
+    def counter(self, reference: int) -> int:
         return reference - 150 * reference // 1_000_000 + self.rate * reference // 1_000_000
 
-    def ticks(self, counter):
+    def ticks(self, counter: int) -> bool:
         """Whether it sends."""
         plan = self.plan
         if self.mode == ACTING:
@@ -91,39 +96,47 @@ class Device:
             self.mode = BACKUP
         return False
 
-    def takes(self, counter, plan, link, stamp):
+    def takes(self, counter: int, plan: Plan, link: int, stamp: Tuple[int, int]) -> bool:
         """Whether it accepts the message, and so sends."""
         if self.given is plan and plan.primary.get(self.number) == link:
             self.plan, self.given, self.mode, self.sealed = plan, None, PRIMARY, False
         else:
-            edge = {PRIMARY: self.plan.primary, BACKUP: self.plan.backup, ACTING: {}}[self.mode].get(self.number)
+            edges: Dict[int, Dict[int, int]] = {PRIMARY: self.plan.primary, BACKUP: self.plan.backup, ACTING: {}}
+            edge = edges[self.mode].get(self.number)
             if self.plan is not plan or edge != link or stamp <= self.stamp:
                 return False
         self.stamp, self.heard = stamp, counter
         return True
 
-    def commits(self, counter):
+    def commits(self, counter: int) -> None:
+        assert self.given is not None
         self.plan, self.given, self.sealed = self.given, None, False
         if self.mode != ACTING:
             self.mode, self.stamp, self.sent = ACTING, (self.stamp[0] + 1, 0), counter
 
 
+# When a message arrives, its number, its receiver and link, and the plan and stamp with which it was sent.
+Flight = Tuple[int, int, int, int, Plan, Tuple[int, int]]
+
+
 class Schedule:
-    def __init__(self, plans, devices):
+    def __init__(self, plans: List[Plan], devices: int) -> None:
         self.draw = random.Random(1)
         self.devices = [Device(number, self.draw.randrange(301), plans[0]) for number in range(devices)]
-        self.plans, self.followed, self.waiting, self.messages, self.lines = plans, plans[:1], [], 0, []
+        self.plans, self.followed, self.messages = plans, plans[:1], 0
+        self.waiting: List[Flight] = []
+        self.lines: List[str] = []
 
-    def say(self, line):
+    def say(self, line: str) -> None:
         self.lines.append(line)
         if len(self.lines) == 65536:
             self.flush()
 
-    def flush(self):
+    def flush(self) -> None:
         sys.stdout.write("\n".join(self.lines) + "\n")
         self.lines.clear()
 
-    def send(self, device, reference):
+    def send(self, device: Device, reference: int) -> None:
         if device.plan not in self.followed:
             return
         for link, end in device.plan.ends[device.number]:
@@ -132,7 +145,7 @@ class Schedule:
                 moment = reference + LEAST + self.draw.randrange(GREATEST - LEAST + 1)
                 heapq.heappush(self.waiting, (moment, self.messages, end, link, device.plan, device.stamp))
 
-    def receive_until(self, reference):
+    def receive_until(self, reference: int) -> None:
         while self.waiting and self.waiting[0][0] <= reference:
             moment, number, end, link, plan, stamp = heapq.heappop(self.waiting)
             device = self.devices[end]
@@ -142,7 +155,7 @@ class Schedule:
                 if device.takes(counter, plan, link, stamp):
                     self.send(device, moment)
 
-    def lose_one(self, reference):
+    def lose_one(self, reference: int) -> None:
         for place, (moment, number, end, *_) in enumerate(self.waiting):
             if self.devices[end].up:
                 self.say(f"lose {reference} {number}")
@@ -151,10 +164,10 @@ class Schedule:
                 heapq.heapify(self.waiting)
                 return
 
-    def up(self):
+    def up(self) -> List[Device]:
         return [device for device in self.devices if device.up]
 
-    def round(self, place, is_last):
+    def round(self, place: int, is_last: bool) -> None:
         reference = STEP * place
         if place == 21:
             self.receive_until(reference - STEP // 2)
@@ -171,7 +184,7 @@ class Schedule:
         for device in self.up() if is_last else self.draw.sample(self.up(), 1) if place % 10 == 0 else []:
             self.say(f"ask {reference} {device.number} {device.counter(reference)}")
 
-    def renew(self, place, reference):
+    def renew(self, place: int, reference: int) -> None:
         if place == 150:
             self.say(f"stage {reference}")
             self.followed = self.plans
@@ -187,7 +200,7 @@ class Schedule:
                 device.sealed = True
             self.followed = self.plans[1:]
 
-    def print(self, rounds):
+    def print(self, rounds: int) -> None:
         for device in self.devices:
             self.say(f"start 0 {device.number} 0 0 {500 if device.number == self.plans[0].root else 1000000}")
         for place in range(1, rounds + 1):
@@ -196,7 +209,7 @@ class Schedule:
         self.flush()
 
 
-def main(words):
+def main(words: List[str]) -> None:
     if words[0] == "--network":
         print_network(int(words[1]), int(words[2]))
         return
