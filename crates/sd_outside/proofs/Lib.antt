@@ -1,4 +1,5 @@
 pub mod Files
+pub mod Reasons
 pub mod Written
 pub mod Cutting
 pub mod Printing

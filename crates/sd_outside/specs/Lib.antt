@@ -1,5 +1,6 @@
 pub mod Causes
 pub mod Counts
+pub mod Reasons
 pub mod LastFaults
 pub mod Prefixes
 pub mod Pieces

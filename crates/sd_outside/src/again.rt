@@ -1,14 +1,15 @@
 //! Calls of the system. One that a signal interrupted is made again; it is no fault. Each other
 //! failure is answered with the system's reason.
-ghost use Rattle.std.specs.Prelude.{◌≡◌, ◌<◌, ◌≤◌, ◌↔◌, length, IsTrue, IfOk, OnOk, OnErr};
+ghost use Rattle.std.specs.Prelude.{◌≡◌, ◌<◌, ◌≤◌, ◌↔◌, length, IsTrue, IfOk, IfErr, OnOk, OnErr};
 ghost use Rattle.std.specs.IoError.{error_kind};
 ghost use Rattle.std.specs.Io.{ReadsAtMost};
 ghost use Rattle.std.specs.Io.KnownBytes.{Appends, ReadConsumes, WriteAppends};
+ghost use Rattle.sd_outside.specs.Reasons.{FailsFor, WriteFails, WriteFailsFor};
 ghost use Rattle.sd_outside.specs.Prefixes.{WritesPrefix};
 
-use std::io::{ErrorKind, Read, Write};
-use std::rt::Files;
-use std::{fs, io};
+use crate::system::{SystemFile, SystemFiles, SystemWriter};
+use std::io;
+use std::io::ErrorKind;
 
 /// Whether the call that gave this error is to be made again.
 fn is_interrupted(error: &io::Error) -> bool
@@ -18,9 +19,13 @@ fn is_interrupted(error: &io::Error) -> bool
 }
 
 /// Opens a file for reading.
-pub(crate) fn open_file<R: Files>(files: &R, name: &str) -> io::Result<R::File> {
+#[tactic(auto, using(crate::proofs::Reasons::interruptions_more, crate::proofs::Reasons::fails_at_once, crate::proofs::Reasons::fails_at_last))]
+pub(crate) fn open_file<F: SystemFiles>(files: &mut F, name: &str) -> io::Result<F::File>
+    ensures reason { IfErr result (λ reason. FailsFor
+        (λ old e new. F.refuses old name.now e new) files.old reason files.new) }
+{
     for _ in 0..u64::MAX {
-        match fs::open(files, name) {
+        match files.open_once(name) {
             Ok(file) => return Ok(file),
             Err(error) => {
                 if !is_interrupted(&error) {
@@ -29,16 +34,18 @@ pub(crate) fn open_file<R: Files>(files: &R, name: &str) -> io::Result<R::File> 
             }
         }
     }
-    Err(io::Error::from(ErrorKind::Interrupted))
+    files.open_once(name)
 }
 
 /// Reads once.
-pub(crate) fn read_once<S: Read>(source: &mut S, buf: &mut [u8]) -> io::Result<usize>
+#[tactic(auto, using(crate::proofs::Reasons::interruptions_more, crate::proofs::Reasons::fails_at_once, crate::proofs::Reasons::fails_at_last))]
+pub(crate) fn read_file<S: SystemFile>(source: &mut S, buf: &mut [u8]) -> io::Result<usize>
     ensures bound { ReadsAtMost result buf.new }
-    ensures bytes { ReadConsumes (S.remaining source.old) (S.remaining source.new) result buf.new }
+    ensures bytes { ReadConsumes (S.left source.old) (S.left source.new) result buf.new }
+    ensures reason { IfErr result (λ reason. FailsFor S.fails source.old reason source.new) }
 {
     for _ in 0..u64::MAX {
-        match source.read(buf) {
+        match source.read_once(buf) {
             Ok(count) => return Ok(count),
             Err(error) => {
                 if !is_interrupted(&error) {
@@ -47,17 +54,32 @@ pub(crate) fn read_once<S: Read>(source: &mut S, buf: &mut [u8]) -> io::Result<u
             }
         }
     }
-    Err(io::Error::from(ErrorKind::Interrupted))
+    source.read_once(buf)
+}
+
+/// Writes by one call, at least one byte.
+fn write_some<W: SystemWriter>(writer: &mut W, bytes: &[u8]) -> io::Result<usize>
+    ensures some { IfOk result (λ n. (0 < n) × (n ≤ length bytes.now)) }
+    ensures bytes { WriteAppends (W.taken writer.old) (W.taken writer.new) result bytes.now }
+    ensures reason { IfErr result
+        (λ reason. WriteFails W.answers bytes.now writer.old reason writer.new) }
+{
+    match writer.write_once(bytes) {
+        Ok(0) => Err(io::Error::from(ErrorKind::WriteZero)),
+        answer => answer,
+    }
 }
 
 /// Writes once, at least one byte.
-fn write_once<W: Write>(writer: &mut W, bytes: &[u8]) -> io::Result<usize>
+#[tactic(auto, using(crate::proofs::Reasons::interruptions_more, crate::proofs::Reasons::fails_at_once, crate::proofs::Reasons::fails_at_last))]
+fn write_again<W: SystemWriter>(writer: &mut W, bytes: &[u8]) -> io::Result<usize>
     ensures some { IfOk result (λ n. (0 < n) × (n ≤ length bytes.now)) }
-    ensures bytes { WriteAppends (W.contents writer.old) (W.contents writer.new) result bytes.now }
+    ensures bytes { WriteAppends (W.taken writer.old) (W.taken writer.new) result bytes.now }
+    ensures reason { IfErr result (λ reason. FailsFor
+        (WriteFails W.answers bytes.now) writer.old reason writer.new) }
 {
     for _ in 0..u64::MAX {
-        match writer.write(bytes) {
-            Ok(0) => return Err(io::Error::from(ErrorKind::WriteZero)),
+        match write_some(writer, bytes) {
             Ok(count) => return Ok(count),
             Err(error) => {
                 if !is_interrupted(&error) {
@@ -66,18 +88,20 @@ fn write_once<W: Write>(writer: &mut W, bytes: &[u8]) -> io::Result<usize>
             }
         }
     }
-    Err(io::Error::from(ErrorKind::Interrupted))
+    write_some(writer, bytes)
 }
 
 /// Writes all bytes, in as many calls as that takes. A call that takes none of them has failed.
-pub(crate) fn write_whole<W: Write>(writer: &mut W, bytes: &[u8]) -> io::Result<()>
-    ensures all { OnOk result (Appends (W.contents writer.old) (W.contents writer.new) bytes.now) }
+pub(crate) fn write_whole<W: SystemWriter>(writer: &mut W, bytes: &[u8]) -> io::Result<()>
+    ensures all { OnOk result (Appends (W.taken writer.old) (W.taken writer.new) bytes.now) }
     ensures front { OnErr result
-        (WritesPrefix (W.contents writer.old) (W.contents writer.new) bytes.now) }
+        (WritesPrefix (W.taken writer.old) (W.taken writer.new) bytes.now) }
+    ensures reason { IfErr result
+        (λ reason. WriteFailsFor W.answers bytes.now reason writer.new) }
 {
     let mut done = 0;
     while done < bytes.len() {
-        done += write_once(writer, &bytes[done..])?;
+        done += write_again(writer, &bytes[done..])?;
     }
     Ok(())
 }
@@ -85,6 +109,7 @@ pub(crate) fn write_whole<W: Write>(writer: &mut W, bytes: &[u8]) -> io::Result<
 #[cfg(test)]
 mod tests {
     use super::*;
+    use std::io::Read;
 
     /// Its first call is interrupted, its second gives a byte and its third fails.
     #[derive(Drop)]
@@ -107,8 +132,8 @@ mod tests {
     fn reads_on_after_an_interruption(rt: HostRuntime) {
         let mut source = Limping { calls: 0 };
         let mut buf = [0; 4];
-        assert_eq!(rt; read_once(&mut source, &mut buf).ok(), Some(1));
-        let reason = read_once(&mut source, &mut buf).err();
+        assert_eq!(rt; read_file(&mut source, &mut buf).ok(), Some(1));
+        let reason = read_file(&mut source, &mut buf).err();
         assert_eq!(rt; reason.map(|e| e.kind()), Some(ErrorKind::UnexpectedEof));
     }
 }

@@ -4,14 +4,15 @@ ghost use Rattle.std.specs.Io.{ReadsAtMost};
 ghost use Rattle.std.specs.Io.KnownBytes.{ReadConsumes, IsAtEnd};
 ghost use Rattle.sd_outside.specs.Causes.{HasCause, raised};
 ghost use Rattle.sd_outside.specs.Counts.{faults_after};
+ghost use Rattle.sd_outside.specs.Reasons.{FailsFor, FileFails};
 ghost use Rattle.sd_outside.specs.LastFaults.{KeepsFault};
 ghost use Rattle.sd_outside.specs.Rests.{RestIs};
 
-use crate::again::{open_file, read_once};
+use crate::again::{open_file, read_file};
 use crate::shelf::{Failed, Shelf};
+use crate::system::SystemFiles;
 use std::io;
 use std::marker::Model;
-use std::rt::Files;
 
 /// A call on a file that failed.
 #[derive(Clone, Copy, Debug)]
@@ -24,34 +25,36 @@ pub struct LastFault {
 
 /// The files of the system, under their paths. It tells nothing of what they hold.
 #[derive(Drop)]
-pub struct FileShelf<'r, R: Files> {
-    files: &'r R,
-    file: Option<R::File>,
+pub struct FileShelf<F: SystemFiles> {
+    files: F,
+    file: Option<F::File>,
     /// How many times `begin` was called, which is the number of the file that it named last.
     begins: u64,
     last_fault: Option<LastFault>,
     faults: u64,
 }
 
-impl<'r, R: Files> Model for FileShelf<'r, R> {
+impl<F: SystemFiles> Model for FileShelf<F> {
     ghost use Rattle.std.specs.Prelude.{is_some, option_and_then};
     ghost use Rattle.sd_outside.specs.System.{Opened};
 
-    ghost Value = { Opened };
+    ghost Value = { Opened F F.File };
 
     ghost view = { λ s. record {
+      files = s.files;
+      file = s.file;
       begun = is_some s.file;
-      left = option_and_then R.File.Read.remaining s.file;
+      left = option_and_then F.File.SystemFile.left s.file;
       begins = s.begins;
       last_fault = s.last_fault;
       faults = s.faults;
     } };
 }
 
-impl<'r, R: Files> FileShelf<'r, R> {
-    pub fn new(files: &'r R) -> FileShelf<'r, R>
-        ensures faults { ⟦<FileShelf<'r, R> as Shelf>⟧.faults result ≡ 0 }
-        ensures begun { ⟦<FileShelf<'r, R> as Shelf>⟧.begun result ≡ false }
+impl<F: SystemFiles> FileShelf<F> {
+    pub fn new(files: F) -> FileShelf<F>
+        ensures faults { ⟦<FileShelf<F> as Shelf>⟧.faults result ≡ 0 }
+        ensures begun { ⟦<FileShelf<F> as Shelf>⟧.begun result ≡ false }
         ensures begins { result.begins ≡ 0 }
         ensures last_fault { result.last_fault ≡ None }
     {
@@ -73,6 +76,8 @@ impl<'r, R: Files> FileShelf<'r, R> {
 
     /// Keeps why a call on the file failed that `begin` named last.
     fn fail(&mut self, reason: io::Error) -> Failed
+        ensures files { self.new.files ≡ self.old.files }
+        ensures file { self.new.file ≡ self.old.file }
         ensures begun { self.new.begun ≡ self.old.begun }
         ensures left { self.new.left ≡ self.old.left }
         ensures begins { self.new.begins ≡ self.old.begins }
@@ -90,7 +95,7 @@ impl<'r, R: Files> FileShelf<'r, R> {
     }
 }
 
-impl<'r, R: Files> Shelf for FileShelf<'r, R> {
+impl<F: SystemFiles> Shelf for FileShelf<F> {
     ghost serves = { λ s name. true };
 
     ghost begun = { λ s. s.begun };
@@ -108,11 +113,13 @@ impl<'r, R: Files> Shelf for FileShelf<'r, R> {
         ensures cause { HasCause self.old.faults self.new.faults result }
         ensures faults { self.new.faults ≡ faults_after self.old.faults result }
         ensures begins { self.new.begins ≡ raised self.old.begins }
-        ensures last_fault { KeepsFault self.new.begins self.old.last_fault self.new.last_fault
-            result }
+        ensures last_fault { KeepsFault
+            (λ reason. FailsFor (λ old e new. F.refuses old name.now e new)
+            self.old.files reason self.new.files)
+            self.new.begins self.old.last_fault self.new.last_fault result }
     {
         self.begins = self.begins.saturating_add(1);
-        match open_file(self.files, name) {
+        match open_file(&mut self.files, name) {
             Ok(file) => {
                 self.file = Some(file);
                 Ok(())
@@ -134,11 +141,12 @@ impl<'r, R: Files> Shelf for FileShelf<'r, R> {
         ensures cause { HasCause self.old.faults self.new.faults result }
         ensures faults { self.new.faults ≡ faults_after self.old.faults result }
         ensures begins { self.new.begins ≡ self.old.begins }
-        ensures last_fault { KeepsFault self.new.begins self.old.last_fault self.new.last_fault
-            result }
+        ensures last_fault { KeepsFault
+            (λ reason. FileFails F.File.SystemFile.fails self.old.file reason self.new.file)
+            self.new.begins self.old.last_fault self.new.last_fault result }
     {
         let count = match &mut self.file {
-            Some(file) => read_once(file, buf),
+            Some(file) => read_file(file, buf),
             None => unreachable!(),
         };
         match count {
@@ -152,11 +160,11 @@ impl<'r, R: Files> Shelf for FileShelf<'r, R> {
 mod tests {
     use super::*;
     use std::fs;
-    use std::io::ErrorKind;
+    use std::io::{ErrorKind, Read};
     use std::test::Fail;
 
     /// Which file the last fault was of, and its kind.
-    fn seen<R: Files>(shelf: &FileShelf<'_, R>) -> Option<(u64, ErrorKind)> {
+    fn seen<F: SystemFiles>(shelf: &FileShelf<F>) -> Option<(u64, ErrorKind)> {
         let LastFault { file, reason } = shelf.last_fault()?;
         Some((file, reason.kind()))
     }
@@ -188,6 +196,51 @@ mod tests {
         assert_eq!(rt; seen(&shelf), Some((3, ErrorKind::IsADirectory)));
         fs::remove_dir(&rt, "file_shelf_test")?;
         assert_eq!(rt; shelf.faults, 2);
+        Ok(())
+    }
+
+    /// A file in which nothing stands.
+    #[derive(Drop)]
+    struct Nothing;
+
+    impl Read for Nothing {
+        fn read(&mut self, _buf: &mut [u8]) -> io::Result<usize> {
+            Ok(0)
+        }
+    }
+
+    /// A system whose first and third openings are interrupted. The second and the fourth fail.
+    #[derive(Drop)]
+    struct Refusing {
+        calls: u32,
+    }
+
+    impl SystemFiles for Refusing {
+        type File = Nothing;
+
+        ghost refuses = { λ old name reason new. Unit {0} };
+
+        fn open_once(&mut self, _name: &str) -> io::Result<Nothing> {
+            self.calls = self.calls.saturating_add(1);
+            match self.calls {
+                2 => Err(io::Error::from(ErrorKind::NotFound)),
+                4 => Err(io::Error::from(ErrorKind::PermissionDenied)),
+                5 => Ok(Nothing),
+                _ => Err(io::Error::from(ErrorKind::Interrupted)),
+            }
+        }
+    }
+
+    #[test]
+    fn opens_again_and_keeps_the_last_reason(rt: HostRuntime) -> Result<(), Fail> {
+        let mut shelf = FileShelf::new(Refusing { calls: 0 });
+        assert_eq!(rt; shelf.begin("a"), Err(Failed));
+        assert_eq!(rt; seen(&shelf), Some((1, ErrorKind::NotFound)));
+        assert_eq!(rt; shelf.begin("a"), Err(Failed));
+        assert_eq!(rt; seen(&shelf), Some((2, ErrorKind::PermissionDenied)));
+        shelf.begin("b")?;
+        assert_eq!(rt; shelf.read(&mut [0; 4])?, 0);
+        assert_eq!(rt; seen(&shelf), Some((2, ErrorKind::PermissionDenied)));
         Ok(())
     }
 }

@@ -13,6 +13,7 @@ mod room;
 mod shelf;
 mod sink;
 mod std_sink;
+mod system;
 mod texts;
 
 pub use file_shelf::{FileShelf, LastFault};
@@ -23,3 +24,4 @@ pub use no_fault::{NoFaultShelf, NoFaultSink};
 pub use shelf::{Failed, Shelf};
 pub use sink::Sink;
 pub use std_sink::StdSink;
+pub use system::{SystemFile, SystemFiles, SystemWriter};

@@ -1,6 +1,7 @@
 //! A writer of the system as a sink.
 ghost use Rattle.std.specs.Prelude.{◌≡◌, None, OnOk, OnErr};
 ghost use Rattle.std.specs.Io.KnownBytes.{Appends};
+ghost use Rattle.sd_outside.specs.Reasons.{WriteFailsFor};
 ghost use Rattle.sd_outside.specs.Causes.{HasCause};
 ghost use Rattle.sd_outside.specs.Counts.{faults_after};
 ghost use Rattle.sd_outside.specs.LastFaults.{KeepsReason};
@@ -10,29 +11,33 @@ ghost use Rattle.sd_outside.specs.Prefixes.{WritesPrefix};
 use crate::again::write_whole;
 use crate::shelf::Failed;
 use crate::sink::Sink;
+use crate::system::SystemWriter;
 use std::io;
-use std::io::Write;
 use std::marker::Model;
 
 /// A writer of the system, as standard output. It tells nothing of what it holds. It never
 /// flushes, so the writer is one that keeps nothing back.
 #[derive(Drop)]
-pub struct StdSink<W: Write> {
+pub struct StdSink<W: SystemWriter> {
     writer: W,
     last_fault: Option<io::Error>,
     faults: u64,
 }
 
-impl<W: Write> Model for StdSink<W> {
+impl<W: SystemWriter> Model for StdSink<W> {
     ghost use Rattle.sd_outside.specs.System.{Counted};
 
-    ghost Value = { Counted };
+    ghost Value = { Counted W };
 
-    ghost view = { λ s.
-        record { taken = W.contents s.writer; last_fault = s.last_fault; faults = s.faults } };
+    ghost view = { λ s. record {
+      writer = s.writer;
+      taken = W.taken s.writer;
+      last_fault = s.last_fault;
+      faults = s.faults;
+    } };
 }
 
-impl<W: Write> StdSink<W> {
+impl<W: SystemWriter> StdSink<W> {
     pub fn new(writer: W) -> StdSink<W>
         ensures faults { ⟦<StdSink<W> as Sink>⟧.faults result ≡ 0 }
         ensures last_fault { result.last_fault ≡ None }
@@ -52,7 +57,7 @@ impl<W: Write> StdSink<W> {
     }
 }
 
-impl<W: Write> Sink for StdSink<W> {
+impl<W: SystemWriter> Sink for StdSink<W> {
     ghost written = { λ s. None };
 
     ghost faults = { λ s. s.faults };
@@ -66,7 +71,9 @@ impl<W: Write> Sink for StdSink<W> {
 
         ensures cause { HasCause self.old.faults self.new.faults result }
         ensures faults { self.new.faults ≡ faults_after self.old.faults result }
-        ensures last_fault { KeepsReason self.old.last_fault self.new.last_fault result }
+        ensures last_fault { KeepsReason
+            (λ reason. WriteFailsFor W.answers bytes.now reason self.new.writer)
+            self.old.last_fault self.new.last_fault result }
     {
         match write_whole(&mut self.writer, bytes) {
             Ok(()) => Ok(()),
@@ -82,10 +89,10 @@ impl<W: Write> Sink for StdSink<W> {
 #[cfg(test)]
 mod tests {
     use super::*;
-    use std::io::{Error, ErrorKind};
+    use std::io::{Error, ErrorKind, Write};
     use std::test::Fail;
 
-    /// Takes two bytes a call. The first call is interrupted, and the fourth fails.
+    /// Takes two bytes a call. The first call is interrupted; the fourth and the sixth fail.
     #[derive(Drop)]
     struct Limping {
         calls: u32,
@@ -98,6 +105,7 @@ mod tests {
             match self.calls {
                 1 => Err(Error::from(ErrorKind::Interrupted)),
                 4 => Err(Error::from(ErrorKind::BrokenPipe)),
+                6 => Err(Error::from(ErrorKind::StorageFull)),
                 _ => {
                     let count = bytes.len().min(2);
                     self.taken.extend_from_slice(&bytes[..count])?;
@@ -126,6 +134,10 @@ mod tests {
         sink.write(b"f")?;
         assert_eq!(rt; sink.writer.taken.as_slice(), b"abcf".as_slice());
         assert_eq!(rt; sink.faults, 1);
+        assert_eq!(rt; sink.write(b"g"), Err(Failed));
+        let reason = sink.last_fault();
+        assert_eq!(rt; reason.map(|e| e.kind()), Some(ErrorKind::StorageFull));
+        assert_eq!(rt; sink.faults, 2);
         Ok(())
     }
 }

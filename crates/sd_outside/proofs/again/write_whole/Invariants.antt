@@ -6,7 +6,7 @@ use Rattle.sd_outside.proofs.again.write_whole.Given as goal
 abbrev pub invariant-loop-done : goal.invariant-loop-done
 invariant-loop-done g l = record {
   within : l.done ≤ length l.bytes;
-  added : Appends (g.W.Write.contents l.initial.writer) (g.W.Write.contents l.writer) (take l.done l.bytes);
+  added : Appends (g.W.SystemWriter.taken l.initial.writer) (g.W.SystemWriter.taken l.writer) (take l.done l.bytes);
 }
 
 abbrev pub decreases-loop-done : goal.decreases-loop-done
