@@ -19,7 +19,9 @@
  *   - counter: one for each device, which never falls between its start and its end. Read it anew
  *              for each call. A fall below a counter that the device keeps is answered by
  *              COUNTER_FELL; a smaller one goes unseen.
- *   - limits:  counters, and clocks and uncertainties that you set, are at most 2^60 ps (13 days).
+ *   - limits:  a counter of 64 bits ends after 213 days. Call sundial_rebase before, and the device
+ *              goes on. A clock of 64 bits counts 213 days since its origin; the calls that end in
+ *              _wide take one that counts 4 * 10^10 years.
  *   - struct:  these calls alone change it. One that is no device, or has a number past its limit,
  *              is answered by NO_DEVICE; another change within the limits goes unseen.
  *   - message: it arrives as it was sent, over the link that it was sent over, and nobody forges
@@ -47,9 +49,24 @@
  *
  * Answers. Each call answers SUNDIAL_DONE exactly where it could be made. Every other answer
  * names what was wrong, and then the call has changed nothing. Where several things were wrong, it
- * names one of them. Pointers are not null, aligned, to initialised memory, and to different
- * objects. One device is in one call at a time; different devices may be called from different
- * threads.
+ * names one of them.
+ *
+ * Memory and threads. Pointers are not null, aligned, and to initialised memory. No object that a
+ * call may write overlaps another object of that call. Calls on different devices may run at once.
+ * So may calls on one device that take it as `const`. A call that changes a device runs alone on it.
+ *
+ * A message counts once. A device accepts only a message that is newer than all it accepted before,
+ * so a duplicate is answered by SUNDIAL_DONE, changes nothing and sends nothing. One case differs: a
+ * message of a plan whose duty was given and not yet taken up makes the device take up that duty,
+ * however old its stamp. So give each duty once, and do not restore an old device.
+ *
+ * A restored device is the latest. Keep the struct after each call and before you send what the
+ * call sent, with a checksum: sundial_made finds few wrong bits. A device whose latest struct or
+ * whose counter is lost goes on only by sundial_join.
+ *
+ * What ends. Nothing does within a lifetime: a root sends 2^62 rounds, 146000 years at a period of
+ * 1 us. Terms end at 2^31: 68 years, if a device takes over or commits anew each second. Plans end at
+ * 2^32 - 1.
  */
 #ifndef SUNDIAL_DEVICE_H
 #define SUNDIAL_DEVICE_H
@@ -78,15 +95,14 @@ enum {
      * fix, of the latest message that it accepted, of its latest move to its backup parent, of its
      * latest sending as root, or of a commit that made it root */
     SUNDIAL_COUNTER_FELL = 4,
-    /* the counter is over 2^60 */
-    SUNDIAL_COUNTER_TOO_GREAT = 5,
-    /* the clock or its eps, set from outside, is over 2^60 */
+    /* the clock or its eps, set from outside, is 2^100 or more. (5 is no answer any more: every
+     * counter is taken.) */
     SUNDIAL_CLOCK_TOO_GREAT = 6,
     /* the device's own clock or eps is 2^100 or more */
     SUNDIAL_ESTIMATE_TOO_GREAT = 7,
-    /* the device's own term or round is 2^31 or more */
+    /* the device's own term is 2^31 or more, or, at a tick, its round 2^62 or more */
     SUNDIAL_STAMP_TOO_GREAT = 8,
-    /* the message's clock or eps is 2^100 or more, or its term or round 2^31 or more */
+    /* the message's clock or eps is 2^100 or more, its term 2^31 or more, or its round 2^62 or more */
     SUNDIAL_MESSAGE_TOO_GREAT = 9,
     /* no duty of a root was given to the device */
     SUNDIAL_NOT_ROOT = 10
@@ -138,7 +154,7 @@ struct sundial_duty {
 };
 
 /* The age of a message: how often a device began to act as root, and how often that root has sent
- * since. Each is below 2^31 in a message that is received. */
+ * since. In a message that is received the term is below 2^31 and the round below 2^62. */
 struct sundial_stamp {
     uint64_t round;
     uint32_t term;
@@ -249,18 +265,32 @@ SUNDIAL_ASSERT(offsetof(struct sundial_device, sealed) == 299);
  * Faults: NO_DEVICE. */
 uint32_t sundial_made(const struct sundial_device *device);
 
-/* A device of the plan in force begins, for the first time (event `start`). The counter, the clock
- * and its eps are in ps, each from 0 to 2^60. The clock is within eps of the reference time. The
- * old struct has to be initialised, with anything.
- * Faults: NO_DUTY, COUNTER_TOO_GREAT, CLOCK_TOO_GREAT. */
+/* A device of the plan in force begins, for the first time (event `start`). The clock is within eps
+ * of the reference time. The old struct has to be initialised, with anything. A device that was down
+ * must not start again: a root would act beside the backup root. It joins.
+ * Faults: NO_DUTY. */
 uint32_t sundial_start(struct sundial_device *device, const struct sundial_duty *duty,
                        uint64_t counter, uint64_t clock, uint64_t eps);
 
+/* The same, for a clock and an eps of 128 bits, each below 2^100.
+ * Faults: NO_DUTY, CLOCK_TOO_GREAT. */
+uint32_t sundial_start_wide(struct sundial_device *device, const struct sundial_duty *duty,
+                            uint64_t counter, const struct sundial_wide *clock,
+                            const struct sundial_wide *eps);
+
 /* A device begins, or begins anew, while a new plan is brought in: it has no duty until it commits
- * or hears of that plan (event `join`). Numbers and old struct are as for a start.
- * Faults: RATES_TOO_GREAT, COUNTER_TOO_GREAT, CLOCK_TOO_GREAT. */
+ * or hears of that plan (event `join`). Call it between the stage of the plan and its seals, and
+ * then give the device its duty in it. Until it takes that up it follows nobody, sends nothing and
+ * reports its own clock. Numbers and old struct are as for a start.
+ * Faults: RATES_TOO_GREAT. */
 uint32_t sundial_join(struct sundial_device *device, const struct sundial_rates *rates,
                       uint64_t counter, uint64_t clock, uint64_t eps);
+
+/* The same, for a clock and an eps of 128 bits, each below 2^100.
+ * Faults: RATES_TOO_GREAT, CLOCK_TOO_GREAT. */
+uint32_t sundial_join_wide(struct sundial_device *device, const struct sundial_rates *rates,
+                           uint64_t counter, const struct sundial_wide *clock,
+                           const struct sundial_wide *eps);
 
 /* Tells it its duty in the next plan, which it keeps beside the present one (event `give`). A later
  * give replaces it.
@@ -268,8 +298,8 @@ uint32_t sundial_join(struct sundial_device *device, const struct sundial_rates 
 uint32_t sundial_give(struct sundial_device *device, const struct sundial_duty *duty);
 
 /* Takes up the given duty at once, as the root of the next plan (event `commit`). The counter is in
- * ps, from those that the device keeps to 2^60.
- * Faults: NO_DEVICE, COUNTER_FELL, COUNTER_TOO_GREAT, STAMP_TOO_GREAT, NOT_ROOT. */
+ * ps, and not below those that the device keeps.
+ * Faults: NO_DEVICE, COUNTER_FELL, STAMP_TOO_GREAT, NOT_ROOT. */
 uint32_t sundial_commit(struct sundial_device *device, uint64_t counter);
 
 /* From now on it may move to its backup parent and take over (event `seal`). A device that goes
@@ -279,26 +309,45 @@ uint32_t sundial_seal(struct sundial_device *device);
 
 /* Sets the clock from outside (event `fix`). The counter is as for a commit. The clock and its eps
  * are as for a start.
- * Faults: NO_DEVICE, COUNTER_FELL, COUNTER_TOO_GREAT, CLOCK_TOO_GREAT. */
+ * Faults: NO_DEVICE, COUNTER_FELL. */
 uint32_t sundial_fix(struct sundial_device *device, uint64_t counter, uint64_t clock, uint64_t eps);
+
+/* The same, for a clock and an eps of 128 bits, each below 2^100.
+ * Faults: NO_DEVICE, COUNTER_FELL, CLOCK_TOO_GREAT. */
+uint32_t sundial_fix_wide(struct sundial_device *device, uint64_t counter,
+                          const struct sundial_wide *clock, const struct sundial_wide *eps);
 
 /* The device's own timer (event `tick`): it sends its report as root, takes over, moves to its
  * backup parent, or does nothing. The counter is as for a commit.
- * Faults: NO_DEVICE, COUNTER_FELL, COUNTER_TOO_GREAT, ESTIMATE_TOO_GREAT, STAMP_TOO_GREAT. */
+ * Faults: NO_DEVICE, COUNTER_FELL, ESTIMATE_TOO_GREAT, STAMP_TOO_GREAT. */
 uint32_t sundial_tick(struct sundial_device *device, uint64_t counter,
                       struct sundial_effect *effect);
 
 /* A message came over the link of this number (event `recv`). Where the device does not accept it,
  * the answer is still SUNDIAL_DONE, nothing changes and nothing is sent. The counter is as for a
  * commit.
- * Faults: those of a tick, and MESSAGE_TOO_GREAT. */
+ * Faults: NO_DEVICE, COUNTER_FELL, MESSAGE_TOO_GREAT. */
 uint32_t sundial_receive(struct sundial_device *device, uint32_t link,
                          const struct sundial_message *message, uint64_t counter,
                          struct sundial_effect *effect);
 
+/* Lowers the counters that the device keeps by as much as it can, and writes by how much. It is no
+ * event: messages carry no counter, and nobody else notices. From then on give each call the
+ * counter less the sum of all that was lowered. The counter is as for a commit.
+ *
+ * No later call then answers or sends anything else, and no report differs. There is one condition.
+ * A duty that a commit takes up has the ppm that the device has now, or the clock was set (by a fix
+ * or by an accepted message) between the rebase and that commit.
+ *
+ * What is left of the counter is less than the greatest of these: a microsecond; where the device
+ * acts as root, the time since it sent; where it waits for a silence, the time since it heard or
+ * moved. Call it a few times a year, or whenever the counter passes a limit of your own.
+ * Faults: NO_DEVICE, COUNTER_FELL, ESTIMATE_TOO_GREAT. */
+uint32_t sundial_rebase(struct sundial_device *device, uint64_t counter, uint64_t *lowered);
+
 /* What the device takes the reference time for while its counter shows this, and by how much it may
  * be off, in ps (event `ask`). The counter is as for a commit.
- * Faults: NO_DEVICE, COUNTER_FELL, COUNTER_TOO_GREAT, ESTIMATE_TOO_GREAT. */
+ * Faults: NO_DEVICE, COUNTER_FELL, ESTIMATE_TOO_GREAT. */
 uint32_t sundial_report(const struct sundial_device *device, uint64_t counter,
                         struct sundial_clock_report *report);
 

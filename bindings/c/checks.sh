@@ -5,7 +5,7 @@
 #
 # LIBRARY is libsd_device_c.a. With each compiler that is there: header and bindings compile
 # without a warning, as C11 and as C++17, and a program in C++ makes every call. Then, where the
-# compiler can: the duties of sundial-duty beside those of fabric.h, clock.h by 8 threads and by 4 processes, the example under the address and undefined-behaviour sanitizers, the fuzzer for SECONDS (3),
+# compiler can: the duties of sundial-duty beside those of fabric.h, a device for years, clock.h by 8 threads and by 4 processes, the example under the address and undefined-behaviour sanitizers, the fuzzer for SECONDS (3),
 # a program without a C library, and what pkg-config says. What is not there is named and passed by.
 set -u
 library=$(realpath "$1") || exit 2
@@ -45,7 +45,7 @@ compile() { # compiler standard language file..
 headers=(sundial_device.h recorder.h clock.h)
 for compiler in gcc clang; do
     there "$compiler" || { echo "checks: no $compiler"; continue; }
-    compile "$compiler" c11 c "${headers[@]}" recorder.c embed.c fuzz.c clock_test.c host/host.c ../../bench/embed/time.c
+    compile "$compiler" c11 c "${headers[@]}" recorder.c embed.c fuzz.c years.c clock_test.c host/host.c ../../bench/embed/time.c
 done
 for compiler in g++ clang++; do
     there "$compiler" || { echo "checks: no $compiler"; continue; }
@@ -81,6 +81,9 @@ else
     cat "$work/told" >&2
     fail "the fuzzer"
 fi
+
+"$compiler" -std=c11 -O2 "${warnings[@]}" -o "$work/years" years.c "$library" && "$work/years" 1 \
+    || fail "a device for years"
 
 if [ "$(uname -s)" = Linux ]; then
     "$compiler" -std=c11 -O2 -pthread "${warnings[@]}" -o "$work/clock" clock_test.c "$library" \

@@ -7,7 +7,8 @@
  * prints a line for each report, as `sundial replay` prints it, and writes the schedule of all that
  * happened, or with `log` a log of the same. `drift` lets one oscillator run too fast from the
  * middle on, `tick` lets one device miss its ticks for a while. Without these two each report has
- * to contain the reference time. */
+ * to contain the reference time. Where SEED is even each device is rebased before each of its ticks,
+ * and nothing else differs. */
 #include <inttypes.h>
 #include <stdio.h>
 #include <stdlib.h>
@@ -43,6 +44,7 @@ struct node {
     uint64_t millionths; /* how far it advances since then in 1000000 ps of the reference time */
     uint64_t changed_at; /* a reference time: that of its begin at first */
     uint64_t next_tick;
+    uint64_t lowered; /* by how much rebases lowered its counter, in all */
     int is_up;
 };
 
@@ -51,7 +53,7 @@ static struct flight flights[FLIGHTS];
 static uint64_t now, reports, word;
 static struct sundial_recorder recorder;
 static int is_down[LINKS]; /* which links have failed */
-static int is_fast, is_late, is_faulty, has_lost;
+static int is_fast, is_late, is_faulty, has_lost, rebases;
 
 static void stop(const char *why)
 {
@@ -94,6 +96,13 @@ static uint64_t counter_of(const struct node *node)
     uint64_t since = now - node->changed_at;
     return node->first + since / 1000000 * node->millionths
            + since % 1000000 * node->millionths / 1000000;
+}
+
+/* The counter as its device knows it: lowered by what rebases lowered it. The recorder is told the
+ * counter itself, which never falls. */
+static uint64_t lowered(const struct node *node, uint64_t counter)
+{
+    return counter - node->lowered;
 }
 
 /* A clock that is off by at most this many ps. */
@@ -173,12 +182,21 @@ static void join(uint32_t number)
     recorded(sundial_record_join(&recorder, now, number, counter, clock, EPS));
 }
 
+static void rebase(struct node *node, uint64_t counter)
+{
+    uint64_t by = 0;
+    check(sundial_rebase(&node->device, lowered(node, counter), &by), "rebase");
+    node->lowered += by;
+}
+
 static void tick(uint32_t number)
 {
     struct sundial_effect effect = {0};
     struct node *node = &nodes[number];
     uint64_t counter = counter_of(node);
-    check(sundial_tick(&node->device, counter, &effect), "tick");
+    if (rebases)
+        rebase(node, counter);
+    check(sundial_tick(&node->device, lowered(node, counter), &effect), "tick");
     recorded(sundial_record_tick(&recorder, now, number, counter));
     send_on(number, &effect);
     node->next_tick = now + TICK / 2 + chance(TICK / 2);
@@ -201,7 +219,7 @@ static void receive(struct flight *flight)
                                      flight->number));
         return;
     }
-    check(sundial_receive(&node->device, flight->link, &flight->message, counter, &effect),
+    check(sundial_receive(&node->device, flight->link, &flight->message, lowered(node, counter), &effect),
           "receive");
     recorded(sundial_record_receive(&recorder, now, number, counter, flight->link, &flight->message,
                                     flight->number));
@@ -213,7 +231,7 @@ static void check_now(uint32_t number)
 {
     struct sundial_interval interval = {0};
     struct sundial_wide at = {now, 0};
-    check(sundial_now(&nodes[number].device, counter_of(&nodes[number]), &interval), "now");
+    check(sundial_now(&nodes[number].device, lowered(&nodes[number], counter_of(&nodes[number])), &interval), "now");
     if (sundial_has_passed(&interval, at))
         stop("the earliest time is too late");
     if (interval.latest.high == 0 && interval.latest.low < now)
@@ -224,7 +242,7 @@ static void ask(uint32_t number)
 {
     struct sundial_clock_report report = {0};
     uint64_t counter = counter_of(&nodes[number]);
-    check(sundial_report(&nodes[number].device, counter, &report), "report");
+    check(sundial_report(&nodes[number].device, lowered(&nodes[number], counter), &report), "report");
     uint64_t line = recorded(sundial_record_report(&recorder, now, number, counter));
     reports++;
     printf("report %" PRIu64 " %s %" PRIu64 " %" PRIu64 "\n", line, NAMES[number],
@@ -247,7 +265,7 @@ static void fix(uint32_t number)
 {
     struct node *node = &nodes[number];
     uint64_t counter = counter_of(node), clock = clock_within(ROOT_EPS);
-    check(sundial_fix(&node->device, counter, clock, ROOT_EPS), "fix");
+    check(sundial_fix(&node->device, lowered(node, counter), clock, ROOT_EPS), "fix");
     recorded(sundial_record_fix(&recorder, now, number, counter, clock, ROOT_EPS));
     ask(number);
 }
@@ -285,7 +303,7 @@ static void go_over(uint32_t plan)
         recorded(sundial_record_give(&recorder, now, number));
     }
     uint64_t counter = counter_of(&nodes[S1]);
-    check(sundial_commit(&nodes[S1].device, counter), "commit");
+    check(sundial_commit(&nodes[S1].device, lowered(&nodes[S1], counter)), "commit");
     recorded(sundial_record_commit(&recorder, now, S1, counter));
 }
 
@@ -404,7 +422,9 @@ int main(int count, char **words)
         fprintf(stderr, "embed SEED SCHEDULE [log|drift|tick]\n");
         return 2;
     }
-    word = strtoull(words[1], NULL, 10) * 2 + 1;
+    uint64_t seed = strtoull(words[1], NULL, 10);
+    rebases = seed % 2 == 0;
+    word = seed * 2 + 1;
     FILE *schedule = fopen(words[2], "w");
     if (schedule == NULL) {
         perror(words[2]);

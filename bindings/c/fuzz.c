@@ -21,7 +21,7 @@
 
 #include "sundial_device.h"
 
-enum { ANSWERS = 11, CALLS = 13 };
+enum { ANSWERS = 11, CALLS = 17 };
 
 static const uint64_t FEWEST = 200000; /* calls, on a machine that is busy too */
 
@@ -29,9 +29,11 @@ static const struct {
     const char *name;
     unsigned answers; /* bit n is set where the header lists the answer n */
 } CALL[CALLS] = {
-    {"made", 0x003},   {"start", 0x065},  {"join", 0x069},  {"give", 0x007}, {"commit", 0x533},
-    {"seal", 0x003},   {"fix", 0x073},    {"tick", 0x1b3},  {"receive", 0x3b3}, {"report", 0x0b3},
-    {"parent", 0x003}, {"acts", 0x003},   {"epoch", 0x003},
+    {"made", 0x003},       {"start", 0x005},     {"join", 0x009},     {"give", 0x007},
+    {"commit", 0x513},     {"seal", 0x003},      {"fix", 0x013},      {"tick", 0x193},
+    {"receive", 0x213},    {"start_wide", 0x045}, {"join_wide", 0x049}, {"fix_wide", 0x053},
+    {"rebase", 0x093},     {"report", 0x093},    {"parent", 0x003},   {"acts", 0x003},
+    {"epoch", 0x003},
 };
 
 static uint64_t word, calls, seed;
@@ -55,7 +57,8 @@ static int one_in(uint64_t many)
 static uint64_t number(void)
 {
     static const uint64_t LIMIT[] = {0, 1, 3, 1000, 100000, UINT64_C(1000000000000), UINT64_C(1) << 31,
-                                     UINT64_C(1) << 36, UINT64_C(1) << 60, UINT64_MAX};
+                                     UINT64_C(1) << 36, UINT64_C(1) << 60, UINT64_C(1) << 62,
+                                     UINT64_MAX};
     uint64_t near = LIMIT[(chance() >> 32) % (sizeof LIMIT / sizeof LIMIT[0])];
     switch ((chance() >> 32) % 8) {
     case 0: return chance();
@@ -133,7 +136,7 @@ static struct sundial_duty duty(void)
 
 static struct sundial_stamp stamp(void)
 {
-    struct sundial_stamp made = {below(UINT64_C(1) << 31), (uint32_t)below(UINT64_C(1) << 31)};
+    struct sundial_stamp made = {below(UINT64_C(1) << 62), (uint32_t)below(UINT64_C(1) << 31)};
     return made;
 }
 
@@ -194,9 +197,12 @@ struct rooms {
     struct sundial_duty *duty;
     struct sundial_rates *rates;
     struct sundial_message *message;
+    struct sundial_wide *clock;
+    struct sundial_wide *eps;
     struct sundial_effect *effect;
     struct sundial_clock_report *report;
     struct sundial_optional_parent *parent;
+    uint64_t *lowered;
     uint8_t *acts;
     uint32_t *epoch;
 };
@@ -218,16 +224,20 @@ static uint32_t made_of(const struct rooms *at, const struct numbers *n)
     case 6: return sundial_fix(at->device, n->counter, n->clock, n->eps);
     case 7: return sundial_tick(at->device, n->counter, at->effect);
     case 8: return sundial_receive(at->device, n->link, at->message, n->counter, at->effect);
-    case 9: return sundial_report(at->device, n->counter, at->report);
-    case 10: return sundial_parent(at->device, at->parent);
-    case 11: return sundial_acts(at->device, at->acts);
+    case 9: return sundial_start_wide(at->device, at->duty, n->counter, at->clock, at->eps);
+    case 10: return sundial_join_wide(at->device, at->rates, n->counter, at->clock, at->eps);
+    case 11: return sundial_fix_wide(at->device, n->counter, at->clock, at->eps);
+    case 12: return sundial_rebase(at->device, n->counter, at->lowered);
+    case 13: return sundial_report(at->device, n->counter, at->report);
+    case 14: return sundial_parent(at->device, at->parent);
+    case 15: return sundial_acts(at->device, at->acts);
     default: return sundial_epoch(at->device, at->epoch);
     }
 }
 
 static int changes_device(void)
 {
-    return call >= 1 && call <= 8;
+    return call >= 1 && call <= 12;
 }
 
 /* The counter: most often where a device of these counters takes it. */
@@ -245,16 +255,16 @@ static uint64_t counter_for(const struct sundial_device *device)
 static void copy_all(unsigned char *to, const struct rooms *at)
 {
 #define COPY(field) memcpy(to, at->field, sizeof *at->field), to += sizeof *at->field
-    COPY(device), COPY(duty), COPY(rates), COPY(message), COPY(effect), COPY(report), COPY(parent);
-    COPY(acts), COPY(epoch);
+    COPY(device), COPY(duty), COPY(rates), COPY(message), COPY(clock), COPY(eps), COPY(effect);
+    COPY(report), COPY(parent), COPY(lowered), COPY(acts), COPY(epoch);
 #undef COPY
 }
 
 static void put_back(const unsigned char *from, const struct rooms *at)
 {
 #define COPY(field) memcpy(at->field, from, sizeof *at->field), from += sizeof *at->field
-    COPY(device), COPY(duty), COPY(rates), COPY(message), COPY(effect), COPY(report), COPY(parent);
-    COPY(acts), COPY(epoch);
+    COPY(device), COPY(duty), COPY(rates), COPY(message), COPY(clock), COPY(eps), COPY(effect);
+    COPY(report), COPY(parent), COPY(lowered), COPY(acts), COPY(epoch);
 #undef COPY
 }
 
@@ -262,7 +272,7 @@ enum {
     ALL = sizeof(struct sundial_device) + sizeof(struct sundial_duty) + sizeof(struct sundial_rates)
           + sizeof(struct sundial_message) + sizeof(struct sundial_effect)
           + sizeof(struct sundial_clock_report) + sizeof(struct sundial_optional_parent)
-          + sizeof(uint8_t) + sizeof(uint32_t)
+          + 2 * sizeof(struct sundial_wide) + sizeof(uint64_t) + sizeof(uint8_t) + sizeof(uint32_t)
 };
 
 static void one_call(const struct rooms *at)
@@ -275,6 +285,8 @@ static void one_call(const struct rooms *at)
     *at->duty = duty();
     *at->rates = rates();
     *at->message = message();
+    *at->clock = wide();
+    *at->eps = wide();
     n.counter = counter_for(at->device);
     n.clock = number();
     n.eps = number();
@@ -290,7 +302,8 @@ static void one_call(const struct rooms *at)
         say("it answered a fault, and changed something");
     if (!changes_device() && memcmp(before, after, sizeof *at->device) != 0)
         say("it changed a device that is const");
-    size_t given = sizeof *at->device, taken = sizeof *at->duty + sizeof *at->rates + sizeof *at->message;
+    size_t given = sizeof *at->device, taken = sizeof *at->duty + sizeof *at->rates + sizeof *at->message
+                                            + sizeof *at->clock + sizeof *at->eps;
     if (memcmp(before + given, after + given, taken) != 0)
         say("it changed what it was given to read");
     if (answer == SUNDIAL_DONE && sundial_made(at->device) != SUNDIAL_DONE)
@@ -317,7 +330,7 @@ static int missing(void)
 {
     int none = 0;
     for (int i = 0; i < CALLS; i++) {
-        printf("%-8s", CALL[i].name);
+        printf("%-10s", CALL[i].name);
         for (int answer = 0; answer < ANSWERS; answer++) {
             if ((CALL[i].answers >> answer & 1) == 0)
                 continue;
@@ -343,8 +356,9 @@ int main(int count, char **words)
         signal(signals[i], faulted);
     struct rooms at = {
         room(sizeof *at.device), room(sizeof *at.duty),   room(sizeof *at.rates),
-        room(sizeof *at.message), room(sizeof *at.effect), room(sizeof *at.report),
-        room(sizeof *at.parent), room(sizeof *at.acts),   room(sizeof *at.epoch),
+        room(sizeof *at.message), room(sizeof *at.clock), room(sizeof *at.eps),
+        room(sizeof *at.effect), room(sizeof *at.report), room(sizeof *at.parent),
+        room(sizeof *at.lowered), room(sizeof *at.acts),  room(sizeof *at.epoch),
     };
     while (seconds() - begun < wanted || (wanted >= 3 && calls < FEWEST))
         for (int i = 0; i < 4096; i++)

@@ -69,7 +69,18 @@ int main()
     expect(sundial_now(&device, 640, &now) == SUNDIAL_DONE && !sundial_has_passed(&now, {5000, 0})
                && now.earliest.low <= 4990 && now.latest.low >= 5010,
            "now");
+    std::uint64_t lowered = 0;
+    expect(sundial_rebase(&device, 650, &lowered) == SUNDIAL_DONE && lowered == 620
+               && sundial_report(&device, 650 - lowered, &report) == SUNDIAL_DONE && report.clock.low == 5010,
+           "rebase");
     expect(sundial_join(&device, &duty.rates, 700, 5000, 10) == SUNDIAL_DONE, "join");
+
+    sundial_wide clock = {5000, 1}, eps = {10, 0};
+    expect(sundial_start_wide(&device, &duty, 700, &clock, &eps) == SUNDIAL_DONE, "start_wide");
+    expect(sundial_fix_wide(&device, 700, &clock, &eps) == SUNDIAL_DONE, "fix_wide");
+    expect(sundial_join_wide(&device, &duty.rates, 700, &clock, &eps) == SUNDIAL_DONE
+               && sundial_report(&device, 700, &report) == SUNDIAL_DONE && report.clock.high == 1,
+           "join_wide");
 
     sundial_recorder recorder = {};
     expect(sundial_record_sent(&recorder) == 1, "the recorder");

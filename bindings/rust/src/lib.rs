@@ -23,15 +23,14 @@ pub enum Fault {
     RatesTooGreat,
     /// The counter is below one that the device keeps.
     CounterFell,
-    /// The counter is past 2^60 ps.
-    CounterTooGreat,
-    /// The clock or its eps, set from outside, is past 2^60 ps.
+    /// The clock or its eps, set from outside, is 2^100 ps or more.
     ClockTooGreat,
     /// The device's own clock or eps is 2^100 ps or more.
     EstimateTooGreat,
-    /// The device's own term or round is 2^31 or more.
+    /// The device's own term is 2^31 or more, or its round 2^62 or more.
     StampTooGreat,
-    /// The message's clock or eps is 2^100 ps or more, or its term or round 2^31 or more.
+    /// The message's clock or eps is 2^100 ps or more, its term 2^31 or more, or its round 2^62 or
+    /// more.
     MessageTooGreat,
     /// No duty of a root was given to the device.
     NotRoot,
@@ -46,10 +45,9 @@ impl fmt::Display for Fault {
             Fault::NoDuty => "the duty has epoch 0, a role that is none, or a number past its limit",
             Fault::RatesTooGreat => "the rates are past 100000 parts per million or a grain of 10^12 ps",
             Fault::CounterFell => "the counter is below one that the device keeps",
-            Fault::CounterTooGreat => "the counter is past 2^60 ps",
-            Fault::ClockTooGreat => "the clock or its eps, set from outside, is past 2^60 ps",
+            Fault::ClockTooGreat => "the clock or its eps, set from outside, is 2^100 ps or more",
             Fault::EstimateTooGreat => "the device's own clock or eps is 2^100 ps or more",
-            Fault::StampTooGreat => "the device's own term or round is 2^31 or more",
+            Fault::StampTooGreat => "the device's own term is 2^31 or more, or its round 2^62 or more",
             Fault::MessageTooGreat => "the message has a clock, an eps, a term or a round past its limit",
             Fault::NotRoot => "no duty of a root was given to the device",
             Fault::Unknown(answer) => return write!(to, "the library answered {answer}"),
@@ -108,9 +106,8 @@ impl Report {
 
 /// A device: plain numbers, which may be copied and kept.
 ///
-/// Counters, clocks and eps are in ps. Those that a call takes are at most 2^60, and a counter is
-/// not below one that the device keeps. A call that is not made answers the fault, and changes
-/// nothing.
+/// Counters, clocks and eps are in ps. A counter is not below one that the device keeps, and a clock
+/// and its eps are below 2^100. A call that is not made answers the fault, and changes nothing.
 ///
 /// Two devices are equal where no call tells them apart: a duty or a parent whose flag is 0 may
 /// hold any numbers.
@@ -141,18 +138,36 @@ impl Eq for Device {}
 
 impl Device {
     /// A device of the plan in force, which begins for the first time. The clock is within eps of
-    /// the reference time. Faults: `NoDuty`, `CounterTooGreat`, `ClockTooGreat`.
+    /// the reference time. Faults: `NoDuty`.
     pub fn start(duty: &Duty, counter: u64, clock: u64, eps: u64) -> Result<Device, Fault> {
         let mut device = raw::Device::default();
         done(unsafe { raw::sundial_start(&mut device, duty, counter, clock, eps) })?;
         Ok(Device(device))
     }
 
+    /// The same, with a clock and an eps of 128 bits. Faults: `NoDuty`, `ClockTooGreat`.
+    pub fn start_wide(duty: &Duty, counter: u64, clock: u128, eps: u128) -> Result<Device, Fault> {
+        let mut device = raw::Device::default();
+        done(unsafe {
+            raw::sundial_start_wide(&mut device, duty, counter, &wide(clock), &wide(eps))
+        })?;
+        Ok(Device(device))
+    }
+
     /// A device that begins, or begins anew, while a new plan is brought in. The clock is within eps
-    /// of the reference time. Faults: `RatesTooGreat`, `CounterTooGreat`, `ClockTooGreat`.
+    /// of the reference time. Faults: `RatesTooGreat`.
     pub fn join(rates: &Rates, counter: u64, clock: u64, eps: u64) -> Result<Device, Fault> {
         let mut device = raw::Device::default();
         done(unsafe { raw::sundial_join(&mut device, rates, counter, clock, eps) })?;
+        Ok(Device(device))
+    }
+
+    /// The same, with a clock and an eps of 128 bits. Faults: `RatesTooGreat`, `ClockTooGreat`.
+    pub fn join_wide(rates: &Rates, counter: u64, clock: u128, eps: u128) -> Result<Device, Fault> {
+        let mut device = raw::Device::default();
+        done(unsafe {
+            raw::sundial_join_wide(&mut device, rates, counter, &wide(clock), &wide(eps))
+        })?;
         Ok(Device(device))
     }
 
@@ -173,7 +188,7 @@ impl Device {
     }
 
     /// It takes up the given duty at once, as the root of the next plan. Faults: `CounterFell`,
-    /// `CounterTooGreat`, `StampTooGreat`, `NotRoot`.
+    /// `StampTooGreat`, `NotRoot`.
     pub fn commit(&mut self, counter: u64) -> Result<(), Fault> {
         done(unsafe { raw::sundial_commit(&mut self.0, counter) })
     }
@@ -183,14 +198,28 @@ impl Device {
         done(unsafe { raw::sundial_seal(&mut self.0) })
     }
 
-    /// Sets the clock from outside, within eps of the reference time. Faults: `CounterFell`,
-    /// `CounterTooGreat`, `ClockTooGreat`.
+    /// Sets the clock from outside, within eps of the reference time. Faults: `CounterFell`.
     pub fn fix(&mut self, counter: u64, clock: u64, eps: u64) -> Result<(), Fault> {
         done(unsafe { raw::sundial_fix(&mut self.0, counter, clock, eps) })
     }
 
+    /// The same, with a clock and an eps of 128 bits. Faults: `CounterFell`, `ClockTooGreat`.
+    pub fn fix_wide(&mut self, counter: u64, clock: u128, eps: u128) -> Result<(), Fault> {
+        done(unsafe { raw::sundial_fix_wide(&mut self.0, counter, &wide(clock), &wide(eps)) })
+    }
+
+    /// It lowers the counters that it keeps by as much as it can, and answers by how much. From then
+    /// on each call takes the counter less the sum of all that was lowered, and answers as it would
+    /// have. The header has the one condition, on the ppm of a commit. Faults: `CounterFell`,
+    /// `EstimateTooGreat`.
+    pub fn rebase(&mut self, counter: u64) -> Result<u64, Fault> {
+        let mut lowered = 0;
+        done(unsafe { raw::sundial_rebase(&mut self.0, counter, &mut lowered) })?;
+        Ok(lowered)
+    }
+
     /// Its own timer: what it sends to each device below, if it sends. Faults: `CounterFell`,
-    /// `CounterTooGreat`, `EstimateTooGreat`, `StampTooGreat`.
+    /// `EstimateTooGreat`, `StampTooGreat`.
     pub fn tick(&mut self, counter: u64) -> Result<Option<Message>, Fault> {
         let mut effect = raw::Effect::default();
         done(unsafe { raw::sundial_tick(&mut self.0, counter, &mut effect) })?;
@@ -198,7 +227,7 @@ impl Device {
     }
 
     /// A message that came over this link: what it sends on, if it accepts it. A message that it does
-    /// not accept is no fault. Faults: those of a tick, and `MessageTooGreat`.
+    /// not accept is no fault. Faults: `CounterFell`, `MessageTooGreat`.
     pub fn receive(
         &mut self,
         link: u32,
@@ -210,8 +239,7 @@ impl Device {
         Ok(sent(&effect))
     }
 
-    /// What it takes the reference time for. Faults: `CounterFell`, `CounterTooGreat`,
-    /// `EstimateTooGreat`.
+    /// What it takes the reference time for. Faults: `CounterFell`, `EstimateTooGreat`.
     pub fn report(&self, counter: u64) -> Result<Report, Fault> {
         let mut report = raw::Report::default();
         done(unsafe { raw::sundial_report(&self.0, counter, &mut report) })?;
@@ -286,6 +314,11 @@ fn number(wide: raw::Wide) -> u128 {
     u128::from(wide.high) << 64 | u128::from(wide.low)
 }
 
+fn wide(number: u128) -> raw::Wide {
+    // (its two halves)
+    raw::Wide { low: number as u64, high: (number >> 64) as u64 }
+}
+
 fn sent(effect: &raw::Effect) -> Option<Message> {
     (effect.sends != 0).then_some(effect.message)
 }
@@ -297,7 +330,6 @@ fn done(answer: u32) -> Result<(), Fault> {
         2 => Fault::NoDuty,
         3 => Fault::RatesTooGreat,
         4 => Fault::CounterFell,
-        5 => Fault::CounterTooGreat,
         6 => Fault::ClockTooGreat,
         7 => Fault::EstimateTooGreat,
         8 => Fault::StampTooGreat,

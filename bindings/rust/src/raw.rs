@@ -184,8 +184,24 @@ extern "C" {
     pub fn sundial_made(device: &Device) -> u32;
     /// A device of the plan in force begins.
     pub fn sundial_start(device: &mut Device, duty: &Duty, counter: u64, clock: u64, eps: u64) -> u32;
+    /// The same, with a clock and an eps of 128 bits.
+    pub fn sundial_start_wide(
+        device: &mut Device,
+        duty: &Duty,
+        counter: u64,
+        clock: &Wide,
+        eps: &Wide,
+    ) -> u32;
     /// A device begins while a new plan is brought in.
     pub fn sundial_join(device: &mut Device, rates: &Rates, counter: u64, clock: u64, eps: u64) -> u32;
+    /// The same, with a clock and an eps of 128 bits.
+    pub fn sundial_join_wide(
+        device: &mut Device,
+        rates: &Rates,
+        counter: u64,
+        clock: &Wide,
+        eps: &Wide,
+    ) -> u32;
     /// Its duty in the next plan.
     pub fn sundial_give(device: &mut Device, duty: &Duty) -> u32;
     /// It takes up the given duty as root.
@@ -194,6 +210,8 @@ extern "C" {
     pub fn sundial_seal(device: &mut Device) -> u32;
     /// Sets its clock from outside.
     pub fn sundial_fix(device: &mut Device, counter: u64, clock: u64, eps: u64) -> u32;
+    /// The same, with a clock and an eps of 128 bits.
+    pub fn sundial_fix_wide(device: &mut Device, counter: u64, clock: &Wide, eps: &Wide) -> u32;
     /// Its own timer.
     pub fn sundial_tick(device: &mut Device, counter: u64, effect: &mut Effect) -> u32;
     /// A message came over this link.
@@ -204,6 +222,8 @@ extern "C" {
         counter: u64,
         effect: &mut Effect,
     ) -> u32;
+    /// It lowers the counters that it keeps.
+    pub fn sundial_rebase(device: &mut Device, counter: u64, lowered: &mut u64) -> u32;
     /// What it takes the reference time for.
     pub fn sundial_report(device: &Device, counter: u64, report: &mut Report) -> u32;
     /// Whom it follows.

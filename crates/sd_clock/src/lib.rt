@@ -1,8 +1,9 @@
 //! Estimates of the reference time, and the reports that are made of them.
 #![tactic(auto)]
 
-ghost use Rattle.std.specs.Prelude.{◌≡◌, ◌<◌, ◌≤◌, ◌^◌};
+ghost use Rattle.std.specs.Prelude.{◌≡◌, ◌<◌, ◌≤◌, ◌^◌, ℕ};
 ghost use Rattle.sd_clock.specs.Estimates.{estimate_at, corrected as corrected_estimate, report_of};
+ghost use Rattle.sd_clock.specs.Advances.{advanced};
 
 #[cfg(test)]
 mod tests;
@@ -30,6 +31,9 @@ pub struct Estimate {
     pub at: u64,
 }
 
+/// A microsecond, in ps.
+const MICROSECOND: u64 = 1_000_000;
+
 impl Estimate {
     /// The estimate that a start, a join or a fix sets.
     pub fn set(clock: u64, eps: u64, counter: u64) -> Estimate
@@ -55,6 +59,25 @@ impl Estimate {
         Report {
             clock: self.clock + u128::from(elapsed),
             eps: self.base + u128::from(rates.grain) + u128::from(grow(rates.ppm, elapsed)),
+        }
+    }
+
+    /// The estimate moved on to this counter, by whole microseconds: it reports the same from there
+    /// on.
+    #[tactic(auto, using(crate::proofs::Advance::advanced_reports))]
+    pub fn advance(&self, rates: Rates, now: u64) -> Estimate
+        requires later { self.now.at ≤ now }
+        requires clock { self.now.clock < 2 ^ 100 }
+        requires eps { self.now.base < 2 ^ 100 }
+        ensures advanced { result ≡ advanced rates self.now now }
+        ensures reports { (counter : ℕ) → now ≤ counter
+            → report_of rates result counter ≡ report_of rates self.now counter }
+    {
+        let microseconds = (now - self.at) / MICROSECOND;
+        Estimate {
+            clock: self.clock + u128::from(MICROSECOND * microseconds),
+            base: self.base + u128::from(rates.ppm) * u128::from(microseconds),
+            at: self.at + MICROSECOND * microseconds,
         }
     }
 }

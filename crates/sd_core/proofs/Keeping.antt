@@ -80,12 +80,26 @@ acting_turn r counter turn is acts =
     acting_turns r.duty r.sent counter turn
     (subst (λ (mode : Mode). turn_of (record r { mode = mode }) counter ≡ turn) (mode_acting (follows_a_plan r) r.mode acts) is)
 
+-- a tick keeps the soundness
+pub turn_sound : (r : Registers) (counter : ℕ) (turn : Turn) → turn_of r counter ≡ turn → IsSound r → IsSound (turned r counter turn).0
+turn_sound r counter Emit is sound = record { duty = sound.duty; given = sound.given; rates = sound.rates; idle = sound.idle }
+turn_sound r counter TakeOver is sound =
+    record {
+      duty = sound.duty;
+      given = sound.given;
+      rates = sound.rates;
+      idle = λ none. let h : Stay ≡ TakeOver = no_turn r counter TakeOver is none in cc;
+    }
+turn_sound r counter Move is sound =
+    record { duty = sound.duty; given = sound.given; rates = sound.rates; idle = λ none. let h : Stay ≡ Move = no_turn r counter Move is none in cc }
+turn_sound r counter Stay is sound = sound
+
 pub turn_keeps : (r : Registers) (counter : ℕ) (turn : Turn) → turn_of r counter ≡ turn → IsSound r → floor_in r ≤ counter → counter ≤ 2 ^ 60
     → TickKeeps r counter (turned r counter turn)
 turn_keeps r counter Emit is sound due few =
     let bounds = reported r counter sound.rates few in
     record {
-      sound = record { duty = sound.duty; given = sound.given; rates = sound.rates; idle = sound.idle };
+      sound = turn_sound r counter Emit is sound;
       given = refl;
       answers = λ acts. record { parent = refl; acts = refl; epoch = refl; sealed = refl };
       floor = omega (arith, due);
@@ -96,12 +110,7 @@ turn_keeps r counter Emit is sound due few =
 turn_keeps r counter TakeOver is sound due few =
     let bounds = reported r counter sound.rates few in
     record {
-      sound = record {
-        duty = sound.duty;
-        given = sound.given;
-        rates = sound.rates;
-        idle = λ none. let h : Stay ≡ TakeOver = no_turn r counter TakeOver is none in cc;
-      };
+      sound = turn_sound r counter TakeOver is sound;
       given = refl;
       answers = λ acts. absurd (acting_turn r counter TakeOver is acts);
       floor = omega (arith, due);
@@ -111,7 +120,7 @@ turn_keeps r counter TakeOver is sound due few =
     }
 turn_keeps r counter Move is sound due few =
     record {
-      sound = record { duty = sound.duty; given = sound.given; rates = sound.rates; idle = λ none. let h : Stay ≡ Move = no_turn r counter Move is none in cc };
+      sound = turn_sound r counter Move is sound;
       given = refl;
       answers = λ acts. absurd (acting_turn r counter Move is acts);
       floor = omega (arith, due);
@@ -135,6 +144,10 @@ pub tick_keeps : (old r new : Registers) (result : Effect) (counter : ℕ) → r
     → IsSound r → floor_in old ≤ counter → counter ≤ 2 ^ 60 → TickKeeps old counter (new, result)
 tick_keeps old r new result counter same after sends sound due few =
     rw (after, sends, same) (turn_keeps old counter (turn_of old counter) refl (subst IsSound same sound) due few)
+
+-- the soundness alone, for every counter
+pub tick_sound : (old r new : Registers) (counter : ℕ) → r ≡ old → new ≡ (called r (Tick counter)).0 → IsSound r → IsSound new
+tick_sound old r new counter same after sound = rw after (turn_sound r counter (turn_of r counter) refl sound)
 
 -- the edges within the limits of duties within the limits
 over_fits : (link : ℕ) (edge : Option Edge) → IfSome edge IsEdge → IfSome (option_and_then (over_link link) edge) IsEdge

@@ -6,6 +6,7 @@ pub mod Rules
 pub mod Limits
 pub mod Standing
 pub mod Planless
+pub mod Rebases
 -- Handed on: what crates above name of those below.
 pub use Rattle.sd_clock.specs as Clock
 pub use Rattle.sd_plan.specs.Topo as Topo

@@ -20,7 +20,7 @@ use std::marker::Model;
 /// ```
 #[derive(Drop)]
 pub struct Device {
-    registers: Registers,
+    pub(crate) registers: Registers,
 }
 
 impl Model for Device {
@@ -101,13 +101,13 @@ impl Node for Device {
 
     fn start(duty: Duty, counter: u64, clock: u64, eps: u64) -> Self {
         Device {
-            registers: Registers::started(duty, counter, clock, eps),
+            registers: Registers::started(duty, counter, u128::from(clock), u128::from(eps)),
         }
     }
 
     fn join(rates: Rates, counter: u64, clock: u64, eps: u64) -> Self {
         Device {
-            registers: Registers::joined(rates, counter, clock, eps),
+            registers: Registers::joined(rates, counter, u128::from(clock), u128::from(eps)),
         }
     }
 

@@ -4,9 +4,11 @@
 
 mod device;
 mod node;
+mod rebases;
 mod receipts;
 mod registers;
 mod turns;
+mod years;
 
 pub use device::Device;
 pub use node::Node;

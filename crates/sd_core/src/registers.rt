@@ -1,6 +1,7 @@
 //! What a device keeps, and how the calls that bring no message and no tick change it.
 ghost use Rattle.std.specs.Prelude.{◌≡◌, ◌≤◌, ◌<◌, ◌^◌, Some};
 ghost use Rattle.sd_plan.specs.Topo.Limits.{IsRates};
+ghost use Rattle.sd_clock.specs.Estimates.{estimate_at};
 
 use sd_clock::{Estimate, Report};
 use sd_msg::Stamp;
@@ -58,7 +59,7 @@ impl Registers {
     ghost use Rattle.sd_core.specs.Rules.{made, epoch_in, edge_in, report_in, floor_in, ceiling_in, with_duty, committed};
 
     /// Those of a device that starts with its duty.
-    pub(crate) fn started(duty: Duty, counter: u64, clock: u64, eps: u64) -> Registers
+    pub(crate) fn started(duty: Duty, counter: u64, clock: u128, eps: u128) -> Registers
         ensures { result ≡ made (Started duty counter clock eps) }
     {
         Registers {
@@ -72,13 +73,13 @@ impl Registers {
             stamp: FIRST,
             last: counter,
             sent: counter,
-            estimate: Estimate::set(clock, eps, counter),
+            estimate: set_to(clock, eps, counter),
             rates: duty.rates,
         }
     }
 
     /// Those of a device that joins without a duty.
-    pub(crate) fn joined(rates: Rates, counter: u64, clock: u64, eps: u64) -> Registers
+    pub(crate) fn joined(rates: Rates, counter: u64, clock: u128, eps: u128) -> Registers
         ensures { result ≡ made (Joined rates counter clock eps) }
     {
         Registers {
@@ -89,7 +90,7 @@ impl Registers {
             stamp: FIRST,
             last: counter,
             sent: counter,
-            estimate: Estimate::set(clock, eps, counter),
+            estimate: set_to(clock, eps, counter),
             rates,
         }
     }
@@ -154,5 +155,16 @@ impl Registers {
         self.given = None;
         self.sealed = false;
         self.rates = duty.rates;
+    }
+}
+
+/// The estimate that a start, a join or a fix sets.
+pub(crate) fn set_to(clock: u128, eps: u128, counter: u64) -> Estimate
+    ensures { result ≡ estimate_at clock eps counter }
+{
+    Estimate {
+        clock,
+        base: eps,
+        at: counter,
     }
 }

@@ -25,7 +25,7 @@ pub enum Turn {
 
 impl Registers {
     ghost use Rattle.sd_core.specs.Calls.{Tick};
-    ghost use Rattle.sd_core.specs.Rules.{floor_in, ceiling_in, height_in, turn_of, turn_with, called, reporting};
+    ghost use Rattle.sd_core.specs.Rules.{floor_in, ceiling_in, turn_of, turn_with, called, reporting};
 
     /// What a tick at this counter does.
     fn turn(&self, counter: u64) -> Turn
@@ -66,7 +66,8 @@ impl Registers {
     pub(crate) fn tick(&mut self, counter: u64) -> Effect
         requires floor { floor_in self.old ≤ counter }
         requires ceiling { ceiling_in self.old < 2 ^ 100 }
-        requires height { height_in self.old < 2 ^ 31 }
+        requires round { self.old.stamp.round < 2 ^ 62 }
+        requires term { self.old.stamp.term < 2 ^ 31 }
         requires rates { IsRates self.old.rates }
         ensures registers { self.new ≡ (called self.old (Tick counter)).0 }
         ensures effect { result ≡ (called self.old (Tick counter)).1 }
@@ -113,7 +114,7 @@ impl Registers {
 }
 
 /// How long a device hears nothing before it moves to its backup parent, if it ever does.
-fn wait_to_move(duty: &Duty) -> Option<u64>
+pub(crate) fn wait_to_move(duty: &Duty) -> Option<u64>
     ensures { result ≡ silence_of duty.now }
 {
     match duty.role {

@@ -1,5 +1,5 @@
 -- What the answers of the exports say, and what a call makes of a struct.
-use Rattle.std.specs.Prelude.{◌≡◌, ◌≢◌, ◌↔◌, ◌⊎◌, ℕ, Some}
+use Rattle.std.specs.Prelude.{◌≡◌, ◌≢◌, ◌≤◌, ◌+◌, ◌↔◌, ◌⊎◌, ℕ, Some, List}
 use Rattle.sd_plan.specs.declared.Duty.{Duty}
 use Rattle.sd_core.specs.declared.Effect.{Effect}
 use Rattle.sd_core.specs.declared.registers.Registers.{Registers}
@@ -10,6 +10,7 @@ use Rattle.sd_core.specs.Limits.{IsDuty}
 use Rattle.sd_core.specs.Rules.{called, made}
 use Rattle.sd_core.specs.Lives.{past_of, longer}
 use Rattle.sd_core.specs.Standing.{StandsFor, alone}
+use Rattle.sd_core.specs.Rebases.{rebased, lowering, AnswersAlike, StandsLowered}
 use Rattle.sd_device_c.specs.declared.plain.PlainDevice.{PlainDevice}
 use Rattle.sd_device_c.specs.declared.faults.Fault.{Fault}
 use Rattle.sd_device_c.specs.declared.faults.Fault.TheVariants.{NoDevice, NoDuty}
@@ -46,11 +47,11 @@ MayCall device call = Pays device (λ fault r. Owes fault r call)
 abbrev pub HasFault : PlainDevice → Call → Fault → Type 0
 HasFault device call fault = Fails fault device (λ f r. Owes f r call)
 
--- the struct holds a device that may report at this counter
+-- the struct holds a device that may report or be rebased at this counter
 abbrev pub MayReport : PlainDevice → ℕ → Type 0
 MayReport device counter = Pays device (λ fault r. OwesToReport fault r counter)
 
--- the fault is one of a report at this counter
+-- the fault is one of a report or a rebase at this counter
 abbrev pub HasReportFault : PlainDevice → ℕ → Fault → Type 0
 HasReportFault device counter fault = Fails fault device (λ f r. OwesToReport f r counter)
 
@@ -73,6 +74,14 @@ pub record IsCalled (old : PlainDevice) (call : Call) (new : PlainDevice) (effec
 pub record IsMade (making : Making) (new : PlainDevice) : Type 0 where
   pub registers : Holds new (made making)
   pub told : StandsIn new (alone making)
+
+-- the device was rebased at this counter by this much: it answers as before to all later calls, and for its whole life
+pub record IsRebased (old : PlainDevice) (now : ℕ) (new : PlainDevice) (by : ℕ) : Type 0 where
+  pub registers : (r : Registers) → Holds old r → Holds new (rebased r now)
+  pub lowered : (r : Registers) → Holds old r → by ≡ lowering r now
+  pub later : (r : Registers) → Holds old r → (later : List Call) → AnswersAlike by now later r (rebased r now)
+  pub told : (r : Registers) → Holds old r → (before at : ℕ) (life : Life) → StandsLowered before at r life → at ≤ now + before
+      → StandsLowered (before + by) (now + before) (rebased r now) life
 
 -- what is told of the device: by its registers, and by its life
 pub record IsToldOf {T : Type 0} (device : PlainDevice) (by_rules : Registers → T) (by_words : Past → T) (told : T) : Type 0 where

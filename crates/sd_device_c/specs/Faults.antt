@@ -1,15 +1,14 @@
 -- The answers that name a fault.
 use Rattle.std.specs.Prelude.{ℕ}
 use Rattle.sd_device_c.specs.declared.faults.Fault.{Fault}
-use Rattle.sd_device_c.specs.declared.faults.Fault.TheVariants.{NoDevice, NoDuty, RatesTooGreat, CounterFell, CounterTooGreat, ClockTooGreat, EstimateTooGreat, StampTooGreat, MessageTooGreat, NotRoot}
+use Rattle.sd_device_c.specs.declared.faults.Fault.TheVariants.{NoDevice, NoDuty, RatesTooGreat, CounterFell, ClockTooGreat, EstimateTooGreat, StampTooGreat, MessageTooGreat, NotRoot}
 
--- the code of a fault
+-- the code of a fault; 5 is none any more
 abbrev pub code_of : Fault → ℕ
 code_of NoDevice = 1
 code_of NoDuty = 2
 code_of RatesTooGreat = 3
 code_of CounterFell = 4
-code_of CounterTooGreat = 5
 code_of ClockTooGreat = 6
 code_of EstimateTooGreat = 7
 code_of StampTooGreat = 8

@@ -3,30 +3,31 @@ use Rattle.std.specs.Prelude.{◌≡◌, ℕ, ◌≤◌, ◌<◌, ◌^◌, Some,
 use Rattle.sd_plan.specs.Topo.Limits.{IsRates}
 use Rattle.sd_plan.specs.declared.Role.TheVariants as role
 use Rattle.sd_msg.specs.declared.Message.{Message}
+use Rattle.sd_msg.specs.declared.Stamp.{Stamp}
 use Rattle.sd_core.specs.declared.registers.Registers.{Registers}
 use Rattle.sd_core.specs.Calls.{Making, Started, Joined, Call, Tick, Receive, Fix, Give, Commit}
-use Rattle.sd_core.specs.Words.{counter_of, making_counter}
-use Rattle.sd_core.specs.Rules.{floor_in, ceiling_in, height_in}
+use Rattle.sd_core.specs.Words.{counter_of}
+use Rattle.sd_core.specs.Rules.{floor_in, ceiling_in}
 use Rattle.sd_core.specs.Limits.{IsDuty}
 use Rattle.sd_device_c.specs.declared.faults.Fault.{Fault}
-use Rattle.sd_device_c.specs.declared.faults.Fault.TheVariants.{NoDuty, RatesTooGreat, CounterFell, CounterTooGreat, ClockTooGreat, EstimateTooGreat, StampTooGreat, MessageTooGreat, NotRoot}
+use Rattle.sd_device_c.specs.declared.faults.Fault.TheVariants.{NoDuty, RatesTooGreat, CounterFell, ClockTooGreat, EstimateTooGreat, StampTooGreat, MessageTooGreat, NotRoot}
 
 -- a message that a device may be given
 pub record IsModest (message : Message) : Type 0 where
   pub clock : message.clock < 2 ^ 100
   pub eps : message.eps < 2 ^ 100
   pub term : message.stamp.term < 2 ^ 31
-  pub round : message.stamp.round < 2 ^ 31
+  pub round : message.stamp.round < 2 ^ 62
 
--- a counter that does not fall, within the limit
-pub record IsTimely (r : Registers) (counter : ℕ) : Type 0 where
-  pub floor : floor_in r ≤ counter
-  pub limit : counter ≤ 2 ^ 60
+-- a stamp that can be counted on
+pub record IsCountable (stamp : Stamp) : Type 0 where
+  pub term : stamp.term < 2 ^ 31
+  pub round : stamp.round < 2 ^ 62
 
 -- a clock and its uncertainty, set from outside
 pub record IsSetting (clock eps : ℕ) : Type 0 where
-  pub clock_fits : clock ≤ 2 ^ 60
-  pub eps_fits : eps ≤ 2 ^ 60
+  pub clock_fits : clock < 2 ^ 100
+  pub eps_fits : eps < 2 ^ 100
 
 -- a duty that is given is within the limits
 abbrev pub OwesDuty : Call → Type 0
@@ -38,17 +39,15 @@ abbrev pub OwesSetting : Call → Type 0
 OwesSetting (Fix counter clock eps) = IsSetting clock eps
 OwesSetting _ = Unit {0}
 
--- the estimate is used by a tick and a receipt
+-- the estimate is used by a tick
 abbrev pub OwesEstimate : Registers → Call → Type 0
 OwesEstimate r (Tick counter) = ceiling_in r < 2 ^ 100
-OwesEstimate r (Receive link message counter) = ceiling_in r < 2 ^ 100
 OwesEstimate r _ = Unit {0}
 
--- the stamp is counted on by a tick and a commit
+-- the stamp is counted on by a tick, and its term by a commit
 abbrev pub OwesStamp : Registers → Call → Type 0
-OwesStamp r (Tick counter) = height_in r < 2 ^ 31
-OwesStamp r (Receive link message counter) = height_in r < 2 ^ 31
-OwesStamp r (Commit counter) = height_in r < 2 ^ 31
+OwesStamp r (Tick counter) = IsCountable r.stamp
+OwesStamp r (Commit counter) = r.stamp.term < 2 ^ 31
 OwesStamp r _ = Unit {0}
 
 -- a message that is received is within the limits
@@ -65,7 +64,6 @@ OwesRoot r _ = Unit {0}
 abbrev pub Owes : Fault → Registers → Call → Type 0
 Owes NoDuty r call = OwesDuty call
 Owes CounterFell r call = IfSome (counter_of call) (λ counter. floor_in r ≤ counter)
-Owes CounterTooGreat r call = IfSome (counter_of call) (λ counter. counter ≤ 2 ^ 60)
 Owes ClockTooGreat r call = OwesSetting call
 Owes EstimateTooGreat r call = OwesEstimate r call
 Owes StampTooGreat r call = OwesStamp r call
@@ -73,10 +71,9 @@ Owes MessageTooGreat r call = OwesMessage call
 Owes NotRoot r call = OwesRoot r call
 Owes _ r call = Unit {0}
 
--- what a report at this counter owes
+-- what a report and a rebase at this counter owe
 abbrev pub OwesToReport : Fault → Registers → ℕ → Type 0
 OwesToReport CounterFell r counter = floor_in r ≤ counter
-OwesToReport CounterTooGreat r counter = counter ≤ 2 ^ 60
 OwesToReport EstimateTooGreat r counter = ceiling_in r < 2 ^ 100
 OwesToReport _ r counter = Unit {0}
 
@@ -95,15 +92,14 @@ abbrev pub OwesFirstSetting : Making → Type 0
 OwesFirstSetting (Started duty counter clock eps) = IsSetting clock eps
 OwesFirstSetting (Joined rates counter clock eps) = IsSetting clock eps
 
--- a start or a join at this counter, with this clock and its uncertainty
-abbrev pub SetsTo : Making → (counter clock eps : ℕ) → Type 0
-SetsTo (Started duty at first base) counter clock eps = (at ≡ counter) × (first ≡ clock) × (base ≡ eps)
-SetsTo (Joined rates at first base) counter clock eps = (at ≡ counter) × (first ≡ clock) × (base ≡ eps)
+-- a start or a join with this clock and its uncertainty
+abbrev pub SetsTo : Making → (clock eps : ℕ) → Type 0
+SetsTo (Started duty counter first base) clock eps = (first ≡ clock) × (base ≡ eps)
+SetsTo (Joined rates counter first base) clock eps = (first ≡ clock) × (base ≡ eps)
 
 -- what a start or a join owes
 abbrev pub OwesToMake : Fault → Making → Type 0
 OwesToMake NoDuty making = OwesFirstDuty making
 OwesToMake RatesTooGreat making = OwesRates making
-OwesToMake CounterTooGreat making = making_counter making ≤ 2 ^ 60
 OwesToMake ClockTooGreat making = OwesFirstSetting making
 OwesToMake _ making = Unit {0}

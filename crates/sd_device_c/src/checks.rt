@@ -4,29 +4,29 @@ ghost use Rattle.sd_plan.specs.Topo.Limits.{IsRates};
 ghost use Rattle.sd_plan.specs.declared.Role.TheVariants as role;
 ghost use Rattle.sd_core.specs.Calls.{Making, Call, Tick, Receive, Fix, Commit};
 ghost use Rattle.sd_core.specs.Words.{counter_of};
-ghost use Rattle.sd_core.specs.Rules.{ceiling_in, height_in};
+ghost use Rattle.sd_core.specs.Rules.{floor_in, ceiling_in};
 ghost use Rattle.sd_core.specs.Limits.{IsDuty};
 ghost use Rattle.sd_device_c.specs.Plain.{Holds, duty_from};
-ghost use Rattle.sd_device_c.specs.Owed.{Owes, OwesToReport, OwesToMake, SetsTo, IsTimely, IsModest, IsSetting};
+ghost use Rattle.sd_device_c.specs.Owed.{Owes, OwesToReport, OwesToMake, SetsTo, IsCountable, IsModest, IsSetting};
 ghost use Rattle.sd_device_c.specs.Answers.{IsDevice, IsNoDuty};
 
 use crate::faults::Fault;
-use crate::limits::{ceiling, floor, height, is_duty, is_rates, is_sound};
+use crate::limits::{ceiling, floor, is_duty, is_rates, is_sound};
 use crate::plain::{PlainDevice, PlainDuty};
 use crate::reading;
 use sd_core::Registers;
-use sd_msg::Message;
+use sd_msg::{Message, Stamp};
 use sd_num::Rates;
 use sd_plan::{Duty, Role};
 
-/// The greatest counter, and the greatest clock and uncertainty that are set from outside, in ps.
-const MOST_SET: u64 = 1 << 60;
-
-/// The clocks and uncertainties of messages and of estimates lie below this, in ps.
+/// Clocks and uncertainties lie below this, in ps.
 const CLOCKS: u128 = 1 << 100;
 
-/// Terms and rounds lie below this.
-const COUNTS: u64 = 1 << 31;
+/// Terms lie below this.
+const TERMS: u32 = 1 << 31;
+
+/// Rounds lie below this.
+const ROUNDS: u64 = 1 << 62;
 
 /// The registers of the device that the struct holds.
 #[inline(always)]
@@ -53,10 +53,10 @@ pub(crate) fn held_duty(plain: &PlainDuty) -> Result<Duty, Fault>
     }
 }
 
-/// The counter does not fall, and is within its limit.
+/// The counter does not fall.
 #[inline(always)]
 pub(crate) fn check_counter(registers: &Registers, counter: u64) -> Result<(), Fault>
-    ensures ok { OnOk result (IsTimely registers.now counter) }
+    ensures ok { OnOk result (floor_in registers.now ≤ counter) }
     ensures err { IfErr result (λ fault. (call : Call) → counter_of call ≡ Some counter
         → Owes fault registers.now call → ⊥) }
     ensures report { IfErr result (λ fault. OwesToReport fault registers.now counter → ⊥) }
@@ -64,30 +64,35 @@ pub(crate) fn check_counter(registers: &Registers, counter: u64) -> Result<(), F
     if counter < floor(registers) {
         return Err(Fault::CounterFell);
     }
-    if counter > MOST_SET {
-        return Err(Fault::CounterTooGreat);
-    }
     Ok(())
 }
 
 #[inline(always)]
 pub(crate) fn check_tick(registers: &Registers, counter: u64) -> Result<(), Fault>
-    ensures timely { OnOk result (IsTimely registers.now counter) }
+    ensures timely { OnOk result (floor_in registers.now ≤ counter) }
     ensures ceiling { OnOk result (ceiling_in registers.now < 2 ^ 100) }
-    ensures height { OnOk result (height_in registers.now < 2 ^ 31) }
+    ensures stamp { OnOk result (IsCountable registers.now.stamp) }
     ensures err { IfErr result (λ fault. Owes fault registers.now (Tick counter) → ⊥) }
 {
     check_counter(registers, counter)?;
     if ceiling(registers) >= CLOCKS {
         return Err(Fault::EstimateTooGreat);
     }
-    if height(registers) >= COUNTS {
-        return Err(Fault::StampTooGreat);
+    if is_countable(&registers.stamp) {
+        Ok(())
+    } else {
+        Err(Fault::StampTooGreat)
     }
-    Ok(())
 }
 
-/// What a tick owes, and a message within its limits.
+#[inline(always)]
+fn is_countable(stamp: &Stamp) -> bool
+    ensures { IsTrue result ↔ IsCountable stamp.now }
+{
+    stamp.term < TERMS && stamp.round < ROUNDS
+}
+
+/// A counter that does not fall, and a message within its limits.
 #[inline(always)]
 pub(crate) fn check_receipt(
     registers: &Registers,
@@ -95,14 +100,12 @@ pub(crate) fn check_receipt(
     message: &Message,
     counter: u64,
 ) -> Result<(), Fault>
-    ensures timely { OnOk result (IsTimely registers.now counter) }
-    ensures ceiling { OnOk result (ceiling_in registers.now < 2 ^ 100) }
-    ensures height { OnOk result (height_in registers.now < 2 ^ 31) }
+    ensures timely { OnOk result (floor_in registers.now ≤ counter) }
     ensures message { OnOk result (IsModest message.now) }
     ensures err { IfErr result (λ fault.
         Owes fault registers.now (Receive link message.now counter) → ⊥) }
 {
-    check_tick(registers, counter)?;
+    check_counter(registers, counter)?;
     if is_modest(message) {
         Ok(())
     } else {
@@ -116,18 +119,18 @@ fn is_modest(message: &Message) -> bool
 {
     message.clock < CLOCKS
         && message.eps < CLOCKS
-        && u64::from(message.stamp.term) < COUNTS
-        && message.stamp.round < COUNTS
+        && message.stamp.term < TERMS
+        && message.stamp.round < ROUNDS
 }
 
 #[inline(always)]
 pub(crate) fn check_fix(
     registers: &Registers,
     counter: u64,
-    clock: u64,
-    eps: u64,
+    clock: u128,
+    eps: u128,
 ) -> Result<(), Fault>
-    ensures timely { OnOk result (IsTimely registers.now counter) }
+    ensures timely { OnOk result (floor_in registers.now ≤ counter) }
     ensures setting { OnOk result (IsSetting clock eps) }
     ensures err { IfErr result (λ fault. Owes fault registers.now (Fix counter clock eps) → ⊥) }
 {
@@ -140,22 +143,22 @@ pub(crate) fn check_fix(
 }
 
 #[inline(always)]
-fn is_setting(clock: u64, eps: u64) -> bool
+fn is_setting(clock: u128, eps: u128) -> bool
     ensures { IsTrue result ↔ IsSetting clock eps }
 {
-    clock <= MOST_SET && eps <= MOST_SET
+    clock < CLOCKS && eps < CLOCKS
 }
 
 #[inline(always)]
 pub(crate) fn check_commit(registers: &Registers, counter: u64) -> Result<(), Fault>
-    ensures timely { OnOk result (IsTimely registers.now counter) }
-    ensures height { OnOk result (height_in registers.now < 2 ^ 31) }
+    ensures timely { OnOk result (floor_in registers.now ≤ counter) }
+    ensures term { OnOk result (registers.now.stamp.term < 2 ^ 31) }
     ensures root { OnOk result
         (option_map (λ duty. duty.role) registers.now.given ≡ Some role.Root) }
     ensures err { IfErr result (λ fault. Owes fault registers.now (Commit counter) → ⊥) }
 {
     check_counter(registers, counter)?;
-    if height(registers) >= COUNTS {
+    if registers.stamp.term >= TERMS {
         return Err(Fault::StampTooGreat);
     }
     if is_given_root(&registers.given) {
@@ -172,9 +175,10 @@ fn is_given_root(given: &Option<Duty>) -> bool
     matches!(given, Some(duty) if duty.role == Role::Root)
 }
 
+/// What a report and a rebase owe.
 #[inline(always)]
 pub(crate) fn check_report(registers: &Registers, counter: u64) -> Result<(), Fault>
-    ensures timely { OnOk result (IsTimely registers.now counter) }
+    ensures timely { OnOk result (floor_in registers.now ≤ counter) }
     ensures ceiling { OnOk result (ceiling_in registers.now < 2 ^ 100) }
     ensures err { IfErr result (λ fault. OwesToReport fault registers.now counter → ⊥) }
 {
@@ -187,15 +191,11 @@ pub(crate) fn check_report(registers: &Registers, counter: u64) -> Result<(), Fa
 }
 
 #[inline(always)]
-pub(crate) fn check_start(counter: u64, clock: u64, eps: u64) -> Result<(), Fault>
-    ensures counter { OnOk result (counter ≤ 2 ^ 60) }
-    ensures setting { OnOk result (IsSetting clock eps) }
-    ensures err { IfErr result (λ fault. (making : Making) → SetsTo making counter clock eps
+pub(crate) fn check_setting(clock: u128, eps: u128) -> Result<(), Fault>
+    ensures ok { OnOk result (IsSetting clock eps) }
+    ensures err { IfErr result (λ fault. (making : Making) → SetsTo making clock eps
         → OwesToMake fault making → ⊥) }
 {
-    if counter > MOST_SET {
-        return Err(Fault::CounterTooGreat);
-    }
     if is_setting(clock, eps) {
         Ok(())
     } else {

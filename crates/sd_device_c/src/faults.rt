@@ -17,15 +17,14 @@ pub(crate) enum Fault {
     RatesTooGreat,
     /// The counter lies below one that the device keeps.
     CounterFell,
-    /// The counter is past 2^60 ps.
-    CounterTooGreat,
-    /// The clock or the uncertainty of a start, a join or a fix is past 2^60 ps.
+    /// The clock or the uncertainty of a start, a join or a fix is 2^100 ps or more.
     ClockTooGreat,
     /// The device's own clock or uncertainty is 2^100 ps or more.
     EstimateTooGreat,
-    /// The term or the round that the device keeps is 2^31 or more.
+    /// The term that the device keeps is 2^31 or more, or its round 2^62 or more.
     StampTooGreat,
-    /// The message's clock or uncertainty is 2^100 ps or more, or its term or round 2^31 or more.
+    /// The message's clock or uncertainty is 2^100 ps or more, its term 2^31 or more, or its round
+    /// 2^62 or more.
     MessageTooGreat,
     /// No duty of a root was given to the device.
     NotRoot,
@@ -41,7 +40,6 @@ impl Fault {
             Fault::NoDuty => 2,
             Fault::RatesTooGreat => 3,
             Fault::CounterFell => 4,
-            Fault::CounterTooGreat => 5,
             Fault::ClockTooGreat => 6,
             Fault::EstimateTooGreat => 7,
             Fault::StampTooGreat => 8,

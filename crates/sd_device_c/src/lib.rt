@@ -12,6 +12,7 @@ mod makings;
 mod plain;
 mod queries;
 mod reading;
+mod rebases;
 mod steps;
 #[cfg(test)]
 mod tests;

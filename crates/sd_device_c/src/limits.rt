@@ -1,7 +1,7 @@
 //! Whether what a struct says is within the limits.
 ghost use Rattle.std.specs.Prelude.{◌≡◌, ◌↔◌, IsTrue, IfSome};
 ghost use Rattle.sd_plan.specs.Topo.Limits.{IsRates};
-ghost use Rattle.sd_core.specs.Rules.{floor_in, ceiling_in, height_in};
+ghost use Rattle.sd_core.specs.Rules.{floor_in, ceiling_in};
 ghost use Rattle.sd_core.specs.Limits.{IsDuty, IsEdge, IsSound};
 
 use sd_core::{Mode, Registers};
@@ -74,12 +74,4 @@ pub(crate) fn ceiling(registers: &Registers) -> u128
     ensures { result ≡ ceiling_in registers.now }
 {
     registers.estimate.clock.max(registers.estimate.base)
-}
-
-/// The greater of the kept term and round.
-#[inline(always)]
-pub(crate) fn height(registers: &Registers) -> u64
-    ensures { result ≡ height_in registers.now }
-{
-    u64::from(registers.stamp.term).max(registers.stamp.round)
 }

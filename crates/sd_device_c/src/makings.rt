@@ -2,15 +2,15 @@
 ghost use Rattle.std.specs.Prelude.{◌≡◌, ◌≢◌, Some, OnOk, IfOk, IfErr};
 ghost use Rattle.sd_plan.specs.declared.Duty.{Duty};
 ghost use Rattle.sd_core.specs.Calls.{Started, Joined};
-ghost use Rattle.sd_device_c.specs.Plain.{duty_from, rates_from};
+ghost use Rattle.sd_device_c.specs.Plain.{wide_from, duty_from, rates_from};
 ghost use Rattle.sd_device_c.specs.Answers.{IsAnswerFor, MayStart, HasStartFault, MayJoin, HasJoinFault, IsMade, IsDevice, IsNoDevice};
 
-use crate::checks::{check_rates, check_start, held, held_duty};
+use crate::checks::{check_rates, check_setting, held, held_duty};
 use crate::faults::{DONE, Fault};
-use crate::plain::{PlainDevice, PlainDuty, PlainRates};
+use crate::plain::{PlainDevice, PlainDuty, PlainRates, PlainWide};
 use crate::reading;
 use crate::writing::plain_device;
-use sd_core::{Device, Node};
+use sd_core::Device;
 
 /// Whether the struct holds a device that was made.
 #[unsafe(no_mangle)]
@@ -39,7 +39,32 @@ pub extern "C" fn sundial_start(
     ensures made { result ≡ 0 → (first : Duty) → duty_from duty.now ≡ Some first
         → IsMade (Started first counter clock eps) device.new }
 {
-    match start(duty, counter, clock, eps) {
+    match start(duty, counter, u128::from(clock), u128::from(eps)) {
+        Ok(made) => {
+            *device = made;
+            DONE
+        }
+        Err(fault) => fault.code(),
+    }
+}
+
+/// The same, with a clock and an uncertainty of 128 bits.
+#[unsafe(no_mangle)]
+pub extern "C" fn sundial_start_wide(
+    device: &mut PlainDevice,
+    duty: &PlainDuty,
+    counter: u64,
+    clock: &PlainWide,
+    eps: &PlainWide,
+) -> u32
+    ensures answer { let clock = wide_from clock.now in let eps = wide_from eps.now in
+        IsAnswerFor result (MayStart duty.now counter clock eps)
+        (HasStartFault duty.now counter clock eps) }
+    ensures same { result ≢ 0 → device.new ≡ device.old }
+    ensures made { result ≡ 0 → (first : Duty) → duty_from duty.now ≡ Some first
+        → IsMade (Started first counter (wide_from clock.now) (wide_from eps.now)) device.new }
+{
+    match start(duty, counter, reading::wide(*clock), reading::wide(*eps)) {
         Ok(made) => {
             *device = made;
             DONE
@@ -49,15 +74,15 @@ pub extern "C" fn sundial_start(
 }
 
 #[inline(always)]
-fn start(duty: &PlainDuty, counter: u64, clock: u64, eps: u64) -> Result<PlainDevice, Fault>
+fn start(duty: &PlainDuty, counter: u64, clock: u128, eps: u128) -> Result<PlainDevice, Fault>
     ensures may { OnOk result (MayStart duty.now counter clock eps) }
     ensures ok { IfOk result (λ made. (first : Duty) → duty_from duty.now ≡ Some first
         → IsMade (Started first counter clock eps) made) }
     ensures err { IfErr result (HasStartFault duty.now counter clock eps) }
 {
     let first = held_duty(duty)?;
-    check_start(counter, clock, eps)?;
-    let node = Device::start(first, counter, clock, eps);
+    check_setting(clock, eps)?;
+    let node = Device::started(first, counter, clock, eps);
     Ok(plain_device(&node.registers()))
 }
 
@@ -77,7 +102,32 @@ pub extern "C" fn sundial_join(
     ensures made { result ≡ 0
         → IsMade (Joined (rates_from rates.now) counter clock eps) device.new }
 {
-    match join(rates, counter, clock, eps) {
+    match join(rates, counter, u128::from(clock), u128::from(eps)) {
+        Ok(made) => {
+            *device = made;
+            DONE
+        }
+        Err(fault) => fault.code(),
+    }
+}
+
+/// The same, with a clock and an uncertainty of 128 bits.
+#[unsafe(no_mangle)]
+pub extern "C" fn sundial_join_wide(
+    device: &mut PlainDevice,
+    rates: &PlainRates,
+    counter: u64,
+    clock: &PlainWide,
+    eps: &PlainWide,
+) -> u32
+    ensures answer { let clock = wide_from clock.now in let eps = wide_from eps.now in
+        IsAnswerFor result (MayJoin rates.now counter clock eps)
+        (HasJoinFault rates.now counter clock eps) }
+    ensures same { result ≢ 0 → device.new ≡ device.old }
+    ensures made { let clock = wide_from clock.now in let eps = wide_from eps.now in
+        result ≡ 0 → IsMade (Joined (rates_from rates.now) counter clock eps) device.new }
+{
+    match join(rates, counter, reading::wide(*clock), reading::wide(*eps)) {
         Ok(made) => {
             *device = made;
             DONE
@@ -87,14 +137,14 @@ pub extern "C" fn sundial_join(
 }
 
 #[inline(always)]
-fn join(rates: &PlainRates, counter: u64, clock: u64, eps: u64) -> Result<PlainDevice, Fault>
+fn join(rates: &PlainRates, counter: u64, clock: u128, eps: u128) -> Result<PlainDevice, Fault>
     ensures may { OnOk result (MayJoin rates.now counter clock eps) }
     ensures ok { IfOk result (IsMade (Joined (rates_from rates.now) counter clock eps)) }
     ensures err { IfErr result (HasJoinFault rates.now counter clock eps) }
 {
     let rates = reading::rates(*rates);
     check_rates(&rates)?;
-    check_start(counter, clock, eps)?;
-    let node = Device::join(rates, counter, clock, eps);
+    check_setting(clock, eps)?;
+    let node = Device::joined(rates, counter, clock, eps);
     Ok(plain_device(&node.registers()))
 }

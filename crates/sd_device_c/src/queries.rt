@@ -46,7 +46,7 @@ fn report_of(device: &PlainDevice, counter: u64) -> Result<PlainReport, Fault>
     let registers = held(device)?;
     check_report(&registers, counter)?;
     let node = Device::with_registers(registers);
-    Ok(plain_report(node.report(counter)))
+    Ok(plain_report(node.report_at(counter)))
 }
 
 /// The device that it follows, if it follows one.

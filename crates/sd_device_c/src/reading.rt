@@ -15,7 +15,7 @@ use sd_plan::{Duty, Edge, Role};
 const TWO_64: u128 = 1 << 64;
 
 #[inline(always)]
-fn wide(plain: PlainWide) -> u128
+pub(crate) fn wide(plain: PlainWide) -> u128
     ensures { result ≡ wide_from plain }
 {
     u128::from(plain.high) * TWO_64 + u128::from(plain.low)

@@ -3,12 +3,12 @@ ghost use Rattle.std.specs.Prelude.{◌≡◌, ◌≢◌, Some, OnOk, IfOk, IfEr
 ghost use Rattle.sd_plan.specs.declared.Duty.{Duty};
 ghost use Rattle.sd_core.specs.declared.Effect.TheVariants.{Quiet};
 ghost use Rattle.sd_core.specs.Calls.{Tick, Receive, Fix, Give, Commit, Seal};
-ghost use Rattle.sd_device_c.specs.Plain.{message_from, effect_from, duty_from};
+ghost use Rattle.sd_device_c.specs.Plain.{wide_from, message_from, effect_from, duty_from};
 ghost use Rattle.sd_device_c.specs.Answers.{IsAnswerFor, MayCall, HasFault, IsCalled, MayGive, HasGiveFault, IsDevice};
 
 use crate::checks::{check_commit, check_fix, check_receipt, check_tick, held, held_duty};
 use crate::faults::{DONE, Fault};
-use crate::plain::{PlainDevice, PlainDuty, PlainEffect, PlainMessage};
+use crate::plain::{PlainDevice, PlainDuty, PlainEffect, PlainMessage, PlainWide};
 use crate::reading;
 use crate::writing::{plain_device, plain_effect};
 use sd_core::{Device, Node};
@@ -47,7 +47,7 @@ fn tick(device: &PlainDevice, counter: u64) -> Result<(PlainDevice, PlainEffect)
     let registers = held(device)?;
     check_tick(&registers, counter)?;
     let mut node = Device::with_registers(registers);
-    let effect = node.on_tick(counter);
+    let effect = node.tick(counter);
     Ok((plain_device(&node.registers()), plain_effect(effect)))
 }
 
@@ -91,7 +91,7 @@ fn receive(
     let registers = held(device)?;
     check_receipt(&registers, link, message, counter)?;
     let mut node = Device::with_registers(registers);
-    let effect = node.on_message(link, *message, counter);
+    let effect = node.receive(link, message, counter);
     Ok((plain_device(&node.registers()), plain_effect(effect)))
 }
 
@@ -104,7 +104,30 @@ pub extern "C" fn sundial_fix(device: &mut PlainDevice, counter: u64, clock: u64
     ensures same { result ≢ 0 → device.new ≡ device.old }
     ensures called { result ≡ 0 → IsCalled device.old (Fix counter clock eps) device.new Quiet }
 {
-    match fix(device, counter, clock, eps) {
+    match fix(device, counter, u128::from(clock), u128::from(eps)) {
+        Ok(after) => {
+            *device = after;
+            DONE
+        }
+        Err(fault) => fault.code(),
+    }
+}
+
+/// The same, with a clock and an uncertainty of 128 bits.
+#[unsafe(no_mangle)]
+pub extern "C" fn sundial_fix_wide(
+    device: &mut PlainDevice,
+    counter: u64,
+    clock: &PlainWide,
+    eps: &PlainWide,
+) -> u32
+    ensures answer { let call = Fix counter (wide_from clock.now) (wide_from eps.now) in
+        IsAnswerFor result (MayCall device.old call) (HasFault device.old call) }
+    ensures same { result ≢ 0 → device.new ≡ device.old }
+    ensures called { let call = Fix counter (wide_from clock.now) (wide_from eps.now) in
+        result ≡ 0 → IsCalled device.old call device.new Quiet }
+{
+    match fix(device, counter, reading::wide(*clock), reading::wide(*eps)) {
         Ok(after) => {
             *device = after;
             DONE
@@ -114,7 +137,7 @@ pub extern "C" fn sundial_fix(device: &mut PlainDevice, counter: u64, clock: u64
 }
 
 #[inline(always)]
-fn fix(device: &PlainDevice, counter: u64, clock: u64, eps: u64) -> Result<PlainDevice, Fault>
+fn fix(device: &PlainDevice, counter: u64, clock: u128, eps: u128) -> Result<PlainDevice, Fault>
     ensures may { OnOk result (MayCall device.now (Fix counter clock eps)) }
     ensures ok { IfOk result (λ after. IsCalled device.now (Fix counter clock eps) after Quiet) }
     ensures err { IfErr result (HasFault device.now (Fix counter clock eps)) }
@@ -122,7 +145,7 @@ fn fix(device: &PlainDevice, counter: u64, clock: u64, eps: u64) -> Result<Plain
     let registers = held(device)?;
     check_fix(&registers, counter, clock, eps)?;
     let mut node = Device::with_registers(registers);
-    node.on_fix(counter, clock, eps);
+    node.fix(counter, clock, eps);
     Ok(plain_device(&node.registers()))
 }
 
@@ -185,7 +208,7 @@ fn commit(device: &PlainDevice, counter: u64) -> Result<PlainDevice, Fault>
     let registers = held(device)?;
     check_commit(&registers, counter)?;
     let mut node = Device::with_registers(registers);
-    node.on_commit(counter);
+    node.commit(counter);
     Ok(plain_device(&node.registers()))
 }
 

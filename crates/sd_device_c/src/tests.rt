@@ -1,11 +1,12 @@
 //! A backup root from its start to its takeover, beside values worked out by hand, and faults.
 use super::faults::{DONE, Fault};
-use super::makings::{sundial_made, sundial_start};
+use super::makings::{sundial_made, sundial_start, sundial_start_wide};
 use super::plain::{
     PlainDevice, PlainDuty, PlainEdge, PlainEffect, PlainEstimate, PlainMessage, PlainParent,
     PlainRates, PlainReport, PlainStamp, PlainWide,
 };
 use super::queries::{sundial_acts, sundial_epoch, sundial_parent, sundial_report};
+use super::rebases::sundial_rebase;
 use super::steps::{sundial_receive, sundial_tick};
 
 const ZERO: PlainWide = PlainWide { low: 0, high: 0 };
@@ -138,10 +139,55 @@ fn names_what_is_wrong(rt: HostRuntime) {
         sundial_tick(&mut device, 99, &mut effect),
         Fault::CounterFell.code()
     );
-    assert_eq!(rt;
-        sundial_tick(&mut device, (1 << 60) + 1, &mut effect),
-        Fault::CounterTooGreat.code()
-    );
     let tampered = PlainDevice { mode: 4, ..device };
     assert_eq!(rt; sundial_made(&tampered), Fault::NoDevice.code());
+}
+
+/// The root of the first plan.
+const ROOT: PlainDuty = PlainDuty {
+    role: 0,
+    has_primary: 0,
+    has_backup: 0,
+    ..STANDBY
+};
+
+/// A counter shortly before its end.
+const LATE: u64 = u64::MAX - 1_000;
+
+#[test]
+fn goes_on_for_years(rt: HostRuntime) {
+    let mut root = UNMADE;
+    let mut effect = QUIET;
+    let clock = PlainWide { low: 5, high: 1 };
+    assert_eq!(rt;
+        sundial_start_wide(&mut root, &ROOT, LATE, &clock, &wide(500)),
+        DONE
+    );
+    let stamp = PlainStamp {
+        round: 1 << 31,
+        term: 0,
+    };
+    let mut root = PlainDevice { stamp, ..root };
+    assert_eq!(rt; sundial_tick(&mut root, LATE + 100, &mut effect), DONE);
+    let sent = PlainMessage {
+        clock: PlainWide { low: 105, high: 1 },
+        ..message(0, (1 << 31) + 1, 0, 1_501)
+    };
+    assert_eq!(rt; effect, sends(sent));
+    let mut lowered = 0;
+    assert_eq!(rt; sundial_rebase(&mut root, LATE + 150, &mut lowered), DONE);
+    assert_eq!(rt; (lowered, root.sent, root.last), (LATE, 100, 150));
+    let mut report = PlainReport {
+        clock: ZERO,
+        eps: ZERO,
+    };
+    assert_eq!(rt; sundial_report(&root, 190, &mut report), DONE);
+    assert_eq!(rt;
+        (report.clock, report.eps),
+        (PlainWide { low: 195, high: 1 }, wide(1_501))
+    );
+    assert_eq!(rt; sundial_tick(&mut root, 199, &mut effect), DONE);
+    assert_eq!(rt; effect, QUIET);
+    assert_eq!(rt; sundial_tick(&mut root, 200, &mut effect), DONE);
+    assert_eq!(rt; effect.message.stamp.round, (1 << 31) + 2);
 }
