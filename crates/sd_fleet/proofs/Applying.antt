@@ -1,15 +1,20 @@
 -- What a fleet stands for before any event, and after one that is accepted or refused.
-use Rattle.std.specs.Prelude.{◌≡◌, ◌≢◌, ℕ, zero, suc, ◌+◌, ◌<◌, Bool, true, false, List, [], ◌∷◌, ◌++◌, length, replicate, Option, Some, None, IsTrue, IfSome, refl}
-use Rattle.std.proofs.Common.{sym, ◌∙◌, ap, subst, inl, inr, add-one}
+use Rattle.std.specs.Prelude.{◌≡◌, ◌≢◌, ℕ, zero, suc, ◌+◌, ◌^◌, ◌<◌, ◌≤◌, Bool, true, false, List, [], ◌∷◌, ◌++◌, length, replicate, Option, Some, None, option_map, IsTrue, IfSome, refl}
+use Rattle.std.proofs.Common.{arith, sym, ◌∙◌, ap, subst, inl, inr, add-one}
 use Rattle.sd_topo.specs.Network.{Network, Each}
 use Rattle.sd_msg.specs.declared.Flight.{Flight}
+use Rattle.std.proofs.lemmas.Option.{same_Some}
+use Rattle.sd_num.specs.Lists.{map_or}
+use Rattle.sd_plan.specs.declared.Duty.{Duty}
+use Rattle.sd_plan.specs.Tables.{TableRow}
 use Rattle.sd_core.specs.declared.node.Node.{Ghosts}
+use Rattle.sd_fleet.specs.FleetState.membership.Plans.{row_numbered}
 use Rattle.sd_sched.specs.declared.Event.{Event}
 use Rattle.sd_sched.specs.declared.Event.TheVariants as event
 use Rattle.sd_fleet.specs.History.declared.ApplyFault.{ApplyFault}
 use Rattle.sd_fleet.specs.History.declared.ApplyFault.TheVariants.{Memory}
 use Rattle.sd_fleet.specs.History.World.{Setting}
-use Rattle.sd_fleet.specs.History.Steps.{Told, Step, step_of, act_by}
+use Rattle.sd_fleet.specs.History.Steps.{Step}
 use Rattle.sd_fleet.specs.History.Steps as steps
 use Rattle.sd_fleet.specs.History.Nodes.{NodeStep, IsRun, steps_of, node_in}
 use Rattle.sd_fleet.proofs.FleetState.world.Answers.{up_stands}
@@ -19,7 +24,7 @@ use Rattle.sd_fleet.specs.declared.Reply.{Reply}
 use Rattle.sd_fleet.specs.declared.Outcome.{Outcome}
 use Rattle.sd_fleet.specs.Registers.{Registers}
 use Rattle.sd_fleet.specs.Causes.{refusal_in}
-use Rattle.sd_fleet.specs.Doing.{act_in, MatchesTold, may_send}
+use Rattle.sd_fleet.specs.Doing.{act_in, with_duty, may_send}
 use Rattle.sd_fleet.specs.Room.{most_sent_in}
 use Rattle.sd_fleet.specs.Outcomes.{outcome_of}
 use Rattle.sd_fleet.specs.FabricStanding.{Stands}
@@ -30,16 +35,14 @@ use Rattle.sd_fleet.proofs.Admitted.{device_known}
 use Rattle.sd_sched.specs.Events.{device_of}
 use Rattle.sd_sched.specs.Spelled.{is_within}
 use Rattle.sd_fleet.proofs.Refused.{refusal_is}
-use Rattle.sd_fleet.proofs.FabricActing.{act_is}
 use Rattle.sd_fleet.specs.declared.nodes.CallContext.{CallContext}
 use Rattle.sd_fleet.specs.Nodes.{node_at, CanAct, Acts}
-use Rattle.sd_fleet.specs.Calling.{IsMessage}
+use Rattle.sd_fleet.specs.Calling.{IsNode, IsMessage}
 use Rattle.sd_fleet.specs.Bounds.{context_of, AreNodes}
 use Rattle.sd_fleet.specs.Standing.{IsFault}
 use Rattle.sd_fleet.proofs.Acting.{can_act}
 use Rattle.sd_fleet.proofs.Going.{length_acts}
 use Rattle.sd_fleet.proofs.Crewing.{nodes_after, nodes_roomy}
-use Rattle.sd_fleet.proofs.Following.{Shows, shows, next, goes_on, nodes_stand}
 
 -- Before any event
 
@@ -151,12 +154,32 @@ pub length_done : {N : Type 0} (g : Ghosts N) (nodes given after : List (Option 
     → Acts g given a context reply after → length after ≡ length nodes
 length_done g nodes given after context a reply same acts = length_acts g given after a context reply acts ∙ ap length same
 
-done : {N : Type 0} (g : Ghosts N) (r : Registers) (e : Event) (nodes given after : List (Option N)) (context : CallContext) (a : Act) (reply : Reply)
+pub done : {N : Type 0} (g : Ghosts N) (r : Registers) (e : Event) (nodes given after : List (Option N)) (context : CallContext) (a : Act) (reply : Reply)
     → given ≡ nodes → context ≡ context_of r e → a ≡ act_in r e
     → Acts g given a context reply after → Acts g nodes (act_in r e) (context_of r e) reply after
 done g r e nodes given after context a reply same at is acts =
     subst (λ ns. Acts g ns (act_in r e) (context_of r e) reply after) same
     (subst (λ (m : CallContext). Acts g given (act_in r e) m reply after) at (subst (λ (x : Act). Acts g given x context reply after) is acts))
+
+-- what the device of an event of this kind can be asked
+pub can_as : {N : Type 0} (g : Ghosts N) (r : Registers) (e kind : Event) (nodes : List (Option N)) (context : CallContext) → e ≡ kind
+    → context ≡ context_of r e → AreNodes g r nodes → IsSound r → refusal_in r e ≡ None → IsTrue (is_within e) → CanAct g nodes context (act_in r kind)
+can_as g r e kind nodes context is at are_nodes sound accepted within =
+    can_do g r e nodes nodes context (act_in r kind) refl at (ap (act_in r) (sym is)) are_nodes sound accepted within
+
+-- the act with the duty of a member
+pub with_its_duty : (r : Registers) (epoch d : ℕ) (f : Duty → Act) (duty : Duty)
+    → option_map (λ row. row.duty) (row_numbered r.membership.plans epoch d) ≡ Some duty → f duty ≡ with_duty r epoch d f
+with_its_duty r epoch d f duty has = by (row_numbered r.membership.plans epoch d) has
+  where
+    by : (o : Option TableRow) → option_map (λ row. row.duty) o ≡ Some duty → f duty ≡ map_or o steps.Passes (λ row. f row.duty)
+    by None has' = cc
+    by (Some row) has' = ap f (sym (same_Some row.duty duty has'))
+
+-- the numbers of a node that was just made
+pub numbers_made : {N : Type 0} (g : Ghosts N) (counter : ℕ) (n : N) → g.floor n ≤ counter → g.ceiling n ≤ 2 ^ 60 → g.height n ≡ 0 → (events : ℕ)
+    → IsNode g (events + 1) counter n
+numbers_made g counter n floor ceiling height events = record { floor = floor; ceiling = omega (arith, ceiling); height = omega (arith, height) }
 
 pub nodes_next : {N : Type 0} (g : Ghosts N) (r new : Registers) (e : Event) (nodes given after left : List (Option N)) (context : CallContext) (a : Act)
     (reply : Reply) → given ≡ nodes → context ≡ context_of r e → a ≡ act_in r e
@@ -174,26 +197,3 @@ pub record GoesOn {N : Type 0} (g : Ghosts N) (new : Registers) (left : List (Op
   pub is_run : IsRun g setting (step ∷ run)
   pub stands : Stands new setting (steps_of (step ∷ run))
   pub nodes : (d : ℕ) → d < length setting.net.devices → node_at left d ≡ node_in (step ∷ run) d
-
-pub accepted_next : {N : Type 0} (g : Ghosts N) (r new : Registers) (e : Event) (nodes given after left : List (Option N)) (context : CallContext) (a : Act)
-    (reply : Reply) (outcome : Outcome) (setting : Setting) (run : List (NodeStep N))
-    → given ≡ nodes → a ≡ act_in r e → Acts g given a context reply after → left ≡ after → length nodes ≡ length r.net.devices → refusal_in r e ≡ None
-    → IsRun g setting run → Stands r setting (steps_of run) → ((d : ℕ) → d < length setting.net.devices → node_at nodes d ≡ node_in run d)
-    → ((told : Told) → MatchesTold reply told → Stands new setting (step_of setting (steps_of run) e told ∷ steps_of run))
-    → ((told : Told) → MatchesTold reply told → outcome ≡ outcome_of (step_of setting (steps_of run) e told))
-    → GoesOn g new left setting run e outcome
-accepted_next g r new e nodes given after left context a reply outcome setting run same is acts ends places accepted earlier stands kept stepped comes =
-    let shown : Shows g given after (act_by setting (steps_of run) e) reply =
-    subst (λ (x : steps.Act). Shows g given after x reply) (act_is setting r (steps_of run) stands e accepted)
-    (shows g given after (act_in r e) context reply (subst (λ (x : Act). Acts g given x context reply after) is acts))
-    in
-    let size : length given ≡ length setting.net.devices = ap length same ∙ places ∙ ap (λ (n : Network). length n.devices) stands.net in
-    let before : (d : ℕ) → d < length setting.net.devices → node_at given d ≡ node_in run d = λ d within. ap (λ ns. node_at ns d) same ∙ kept d within in
-    record {
-      step = next g setting run r e reply given after earlier stands size before accepted shown;
-      happens = refl;
-      comes = comes shown.told shown.says;
-      is_run = goes_on g setting run r e reply given after earlier stands size before accepted shown;
-      stands = stepped shown.told shown.says;
-      nodes = λ d within. ap (λ ns. node_at ns d) ends ∙ nodes_stand g setting run r e reply given after earlier stands size before accepted shown d within;
-    }

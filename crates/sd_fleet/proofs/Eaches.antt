@@ -1,5 +1,5 @@
 -- What holds of each element of a list, by place.
-use Rattle.std.specs.Prelude.{◌≡◌, suc, Bool, true, false, List, [], ◌∷◌, ◌++◌, filter, refl, if◌then◌else◌}
+use Rattle.std.specs.Prelude.{suc, Bool, true, false, List, [], ◌∷◌, ◌++◌, filter, refl, if◌then◌else◌}
 use Rattle.sd_topo.specs.Network.{Each}
 use Rattle.sd_plan.proofs.Shared.{each_more}
 

@@ -39,6 +39,7 @@ use Rattle.sd_fleet.specs.Sound.{IsSound}
 use Rattle.sd_fleet.specs.Stepping.{CanDeliver, membership_after, IsAfter}
 use Rattle.sd_fleet.proofs.Admitted.{device_known, link_known, message_known, message_unspent, message_ours, events_left}
 use Rattle.sd_fleet.proofs.Adding.{length-over}
+use Rattle.sd_fleet.proofs.Replies.{sent_quiet}
 
 -- What is named is known
 
@@ -179,15 +180,6 @@ either_plan r epoch d = by (nat_eq epoch r.world.epoch) refl
     by false other = second (nat_eq epoch (staged_number r)) refl other
 
 module _ (r : Registers) (e : Event) (reply : Reply) where
-  quiet_none : reply.effect ≡ Quiet → sent_in r e reply ≡ []
-  quiet_none quiet = ap (λ x. map_or (device_of e) [] (λ d. map_or reply.answers [] (λ (a : AnswerSummary). sent_by r (reference_of e) d a.epoch x))) quiet
-      ∙ by (device_of e) reply.answers
-    where
-      by : (o : Option ℕ) (a : Option AnswerSummary) → ◌≡◌ {A = List Flight} (map_or o [] (λ d. map_or a [] (λ (x : AnswerSummary). []))) []
-      by None a = refl
-      by (Some d) None = refl
-      by (Some d) (Some a) = refl
-
   -- no more than there are links
   pub sent_few : IsSound r → length (sent_in r e reply) ≤ length r.net.links
   sent_few sound = by (device_of e) reply.answers
@@ -216,7 +208,7 @@ module _ (r : Registers) (e : Event) (reply : Reply) where
 pub sent_room : (r : Registers) (e : Event) (reply : Reply) → refusal_in r e ≡ None → IsReplyTo e reply → length (sent_in r e reply) ≤ most_sent_in r e
 sent_room r (event.Tick ref d c) reply accepted tells = sent_named r (event.Tick ref d c) reply d (device_known r (event.Tick ref d c) accepted d refl)
 sent_room r (event.Recv ref d c n) reply accepted tells = sent_named r (event.Recv ref d c n) reply d (device_known r (event.Recv ref d c n) accepted d refl)
-sent_room r e reply accepted tells = let none : length (sent_in r e reply) ≡ 0 = ap length (quiet_none r e reply (tells.effect refl)) in omega arith
+sent_room r e reply accepted tells = let none : length (sent_in r e reply) ≡ 0 = ap length (sent_quiet r e reply (tells.effect refl)) in omega arith
 
 -- Soundness
 

@@ -26,6 +26,7 @@ use Rattle.sd_fleet.proofs.FleetState.membership.Observing.{other_answers}
 use Rattle.sd_core.specs.Calls.{Making}
 use Rattle.sd_core.specs.Calls as calls
 use Rattle.sd_core.specs.Calls.{Call}
+use Rattle.sd_core.specs.Words.{making_counter}
 use Rattle.sd_fleet.specs.History.Steps as steps
 use Rattle.sd_fleet.specs.declared.Reply.{Reply}
 use Rattle.sd_fleet.specs.Registers.{Registers}
@@ -34,7 +35,7 @@ use Rattle.sd_fleet.specs.Causes.{refusal_in}
 use Rattle.sd_fleet.specs.Doing.{act_in, receipt}
 use Rattle.sd_fleet.specs.Stepping.{membership_after, flights_after}
 use Rattle.sd_fleet.proofs.Admitted.{device_known, message_known, message_unspent, counter_rises, started_member, given_member}
-use Rattle.sd_fleet.specs.Calling.{IsNode, GivenAfter, counter_made, reading_after}
+use Rattle.sd_fleet.specs.Calling.{IsNode, GivenAfter, reading_after}
 use Rattle.sd_fleet.specs.Nodes.{node_at, MakesAt, CallsAt, Acts}
 use Rattle.sd_fleet.specs.Bounds.{context_of, IsKept, AreNodes}
 use Rattle.sd_fleet.proofs.Acting.{flight_found, row_there}
@@ -104,7 +105,7 @@ module _ {N : Type 0} (g : Ghosts N) (old : Registers) (e : Event) (reply : Repl
 
   -- a device that is made
   kept_made : (d : ℕ) (m : Making) → d < length old.net.devices → device_of e ≡ Some d → MakesAt g nodes d m reply after
-      → reading_at next.membership.world d ≡ counter_made m
+      → reading_at next.membership.world d ≡ making_counter m
       → (n : N) → node_at after d ≡ Some n → IsKept g next d n
   kept_made d m within named made reads n at =
       let there : node_at after d ≡ Some made.node = some_at nodes after d made.node (subst (λ (k : ℕ). d < k) (sym are_nodes.places) within) made.placed in

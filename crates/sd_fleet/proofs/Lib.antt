@@ -26,6 +26,8 @@ pub mod Applying
 pub mod Reporting
 pub mod Stepping
 pub mod NodeRests
+pub mod Hearing
+pub mod NodeHears
 pub mod Devices
 pub mod Shared
 -- Handed on: what crates above name of those below.

@@ -5,6 +5,7 @@ use Rattle.sd_msg.specs.Clock.declared.Report.{Report}
 use Rattle.sd_core.specs.declared.node.Node.{Ghosts}
 use Rattle.sd_sched.specs.declared.Event.{Event}
 use Rattle.sd_sched.specs.declared.Event.TheVariants as event
+use Rattle.sd_sched.specs.Events.{is_ask}
 use Rattle.sd_fleet.specs.FleetState.membership.Memberships as membership
 use Rattle.sd_topo.specs.Network.{Network}
 use Rattle.sd_fleet.specs.History.Steps.{Act}
@@ -27,9 +28,9 @@ limited events report few clock eps = record { clock = omega (arith, few, clock)
 
 module _ {N : Type 0} (g : Ghosts N) (nodes after : List (Option N)) (context : CallContext) (reply : Reply) (few : context.events ≤ 2 ^ 26) where
   asked : (d counter : ℕ) → AsksAt g nodes d counter context reply → IfSome reply.report IsLimited
-  asked d counter asks =
-      subst (λ (o : Option Report). IfSome o IsLimited) (sym (ap (λ (x : Reply). x.report) asks.replied))
-      (limited context.events asks.report few asks.clock asks.eps)
+  asked d counter is_ask =
+      subst (λ (o : Option Report). IfSome o IsLimited) (sym (ap (λ (x : Reply). x.report) is_ask.replied))
+      (limited context.events is_ask.report few is_ask.clock is_ask.eps)
 
   -- what is told of the report of an ask
   pub report_limited : (r : Registers) (e : Event) → Acts g nodes (act_in r e) context reply after → IfSome (report_in e reply) (λ told. IsLimited told.1)

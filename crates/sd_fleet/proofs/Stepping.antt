@@ -12,6 +12,7 @@ use Rattle.sd_sched.specs.Spelled.{is_within}
 use Rattle.sd_topo.specs.Network.{Network}
 use Rattle.sd_fleet.specs.FleetState.membership.Memberships as membership
 use Rattle.sd_fleet.specs.History.Steps as steps
+use Rattle.sd_fleet.specs.History.Steps.{act_by}
 use Rattle.sd_fleet.specs.History.World.{Setting}
 use Rattle.sd_fleet.specs.History.Nodes.{NodeStep, IsRun, steps_of, node_in}
 use Rattle.sd_fleet.specs.declared.Reply.{Reply}
@@ -28,7 +29,9 @@ use Rattle.sd_fleet.proofs.Outcoming.{outcome_is}
 use Rattle.sd_fleet.specs.declared.nodes.CallContext.{CallContext}
 use Rattle.sd_fleet.specs.Nodes.{node_at, CanAct, CallsAt, Acts}
 use Rattle.sd_fleet.specs.Bounds.{AreNodes, context_of}
-use Rattle.sd_fleet.proofs.Applying.{GoesOn, can_do, accepted_next}
+use Rattle.sd_fleet.proofs.FabricActing.{act_is}
+use Rattle.sd_fleet.proofs.Following.{Shows, shows, next, goes_on, nodes_stand}
+use Rattle.sd_fleet.proofs.Applying.{GoesOn, can_do}
 
 pub goes_further : {N : Type 0} (g : Ghosts N) (r new : Registers) (e : Event) (nodes given after left : List (Option N)) (context : CallContext)
     (reply : Reply) (outcome : Outcome) → given ≡ nodes → Acts g given (act_in r e) context reply after → left ≡ after → AreNodes g r nodes
@@ -36,9 +39,20 @@ pub goes_further : {N : Type 0} (g : Ghosts N) (r new : Registers) (e : Event) (
     → IsRun g setting run → Stands r setting (steps_of run) → ((d : ℕ) → d < length setting.net.devices → node_at nodes d ≡ node_in run d)
     → GoesOn g new left setting run e outcome
 goes_further g r new e nodes given after left context reply outcome same acts ends are_nodes accepted tells step comes setting run earlier stands kept =
-    accepted_next g r new e nodes given after left context (act_in r e) reply outcome setting run same refl acts ends are_nodes.places accepted earlier stands kept
-    (λ told says. stands_next setting r (steps_of run) stands e reply told accepted says tells new step)
-    (λ told says. comes ∙ outcome_is setting r (steps_of run) stands e reply told accepted says tells)
+    let shown : Shows g given after (act_by setting (steps_of run) e) reply =
+    subst (λ (x : steps.Act). Shows g given after x reply) (act_is setting r (steps_of run) stands e accepted)
+    (shows g given after (act_in r e) context reply acts)
+    in
+    let size : length given ≡ length setting.net.devices = ap length same ∙ are_nodes.places ∙ ap (λ (n : Network). length n.devices) stands.net in
+    let before : (d : ℕ) → d < length setting.net.devices → node_at given d ≡ node_in run d = λ d within. ap (λ ns. node_at ns d) same ∙ kept d within in
+    record {
+      step = next g setting run r e reply given after earlier stands size before accepted shown;
+      happens = refl;
+      comes = comes ∙ outcome_is setting r (steps_of run) stands e reply shown.told accepted shown.says tells;
+      is_run = goes_on g setting run r e reply given after earlier stands size before accepted shown;
+      stands = stands_next setting r (steps_of run) stands e reply shown.told accepted shown.says tells new step;
+      nodes = λ d within. ap (λ ns. node_at ns d) ends ∙ nodes_stand g setting run r e reply given after earlier stands size before accepted shown d within;
+    }
 
 -- a context is within the limits
 pub context_few : (r : Registers) (e : Event) (context : CallContext) → context ≡ context_of r e → IsSound r → context.events ≤ 2 ^ 26

@@ -46,11 +46,6 @@ abbrev pub CanMake : Making → Type 0
 CanMake (calls.Started duty counter clock eps) = IsDuty duty × IsEstimate counter clock eps
 CanMake (calls.Joined rates counter clock eps) = IsRates rates × IsEstimate counter clock eps
 
--- the counter that a new node has read
-abbrev pub counter_made : Making → ℕ
-counter_made (calls.Started duty counter clock eps) = counter
-counter_made (calls.Joined rates counter clock eps) = counter
-
 -- what a node's latest reading is, once it is called
 abbrev pub reading_after : Call → ℕ → ℕ
 reading_after (calls.Tick counter) reading = counter

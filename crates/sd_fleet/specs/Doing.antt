@@ -12,27 +12,16 @@ use Rattle.sd_sched.specs.declared.Event.{Event}
 use Rattle.sd_sched.specs.declared.Event.TheVariants as event
 use Rattle.sd_history.specs.Steps as steps
 use Rattle.sd_history.specs.Steps.{Makes, Calls, Asks, Passes}
-use Rattle.sd_fleet.specs.declared.Making.{Making}
-use Rattle.sd_fleet.specs.declared.Making.TheVariants as making
 use Rattle.sd_fleet.specs.declared.Call.{Call}
 use Rattle.sd_fleet.specs.declared.Call.TheVariants as call
-use Rattle.sd_fleet.specs.declared.Act.{Act}
-use Rattle.sd_fleet.specs.declared.Act.TheVariants as act
 use Rattle.sd_fleet_state.specs.declared.membership.AnswerSummary.{AnswerSummary}
 use Rattle.sd_fleet_state.specs.membership.Standing.{summary}
 use Rattle.sd_fleet.specs.declared.Reply.{Reply}
 use Rattle.sd_fleet_state.specs.membership.Plans.{row_numbered}
 use Rattle.sd_fleet.specs.Registers.{Registers}
-use Rattle.sd_sched.specs.Events.{device_of}
+use Rattle.sd_sched.specs.Events.{device_of, is_ask}
 use Rattle.sd_fleet_state.specs.membership.Memberships.{staged_number, live_at}
 use Rattle.sd_fleet.specs.Causes.{flight_at}
-
--- the words of histories for what the types of the code say
-
--- a making, in the words of histories
-abbrev pub making_seen : Making → calls.Making
-making_seen (making.Started duty counter clock eps) = calls.Started duty.now counter clock eps
-making_seen (making.Joined rates counter clock eps) = calls.Joined rates counter clock eps
 
 -- a call, in the words of histories
 abbrev pub call_seen : Call → calls.Call
@@ -42,13 +31,6 @@ call_seen (call.Fix counter clock eps) = calls.Fix counter clock eps
 call_seen (call.Give duty) = calls.Give duty.now
 call_seen (call.Commit counter) = calls.Commit counter
 call_seen call.Seal = calls.Seal
-
--- an act, in the words of histories
-abbrev pub act_seen : Act → steps.Act
-act_seen (act.Makes device made) = Makes device (making_seen made)
-act_seen (act.Calls device called) = Calls device (call_seen called)
-act_seen (act.Asks device counter) = Asks device counter
-act_seen act.Passes = Passes
 
 -- the reply says what the device told
 pub record MatchesTold (reply : Reply) (told : steps.Told) : Type 0 where
@@ -68,11 +50,6 @@ may_send (event.Tick reference device counter) = true
 may_send (event.Recv reference device counter message) = true
 may_send _ = false
 
--- the event asks its device for a report
-abbrev pub asks : Event → Bool
-asks (event.Ask reference device counter) = true
-asks _ = false
-
 -- the event makes or calls its device
 abbrev pub changes : Event → Bool
 changes (event.Start reference device counter clock eps) = true
@@ -89,7 +66,7 @@ changes _ = false
 pub record IsReplyTo (e : Event) (reply : Reply) : Type 0 where
   pub effect : may_send e ≡ false → reply.effect ≡ Quiet
   pub answers : is_some reply.answers ≡ changes e
-  pub report : is_some reply.report ≡ asks e
+  pub report : is_some reply.report ≡ is_ask e
 
 -- the number of the plan whose duty the named device holds as given
 abbrev pub given_in : Registers → Event → Option ℕ
@@ -106,20 +83,16 @@ abbrev pub receipt : Result Flight TakeFault → ℕ → ℕ → steps.Act
 receipt (Ok f) d counter = Calls d (calls.Receive f.link f.message counter)
 receipt (Err e) d counter = Passes
 
--- a call of the device
-abbrev pub call_in : Registers → Event → steps.Act
-call_in r (event.Tick reference device counter) = Calls device (calls.Tick counter)
-call_in r (event.Recv reference device counter message) = receipt (flight_at r message) device counter
-call_in r (event.Fix reference device counter clock eps) = Calls device (calls.Fix counter clock eps)
-call_in r (event.Give reference device) = with_duty r (staged_number r.membership) device (λ duty. Calls device (calls.Give duty))
-call_in r (event.Commit reference device counter) = Calls device (calls.Commit counter)
-call_in r (event.Seal reference device) = Calls device calls.Seal
-call_in r _ = Passes
-
 -- what an event does to its device
 abbrev pub act_in : Registers → Event → steps.Act
 act_in r (event.Start reference device counter clock eps) =
     with_duty r r.membership.world.epoch device (λ duty. Makes device (calls.Started duty counter clock eps))
 act_in r (event.Join reference device counter clock eps) = Makes device (calls.Joined (rates_of r.net device) counter clock eps)
+act_in r (event.Tick reference device counter) = Calls device (calls.Tick counter)
+act_in r (event.Recv reference device counter message) = receipt (flight_at r message) device counter
+act_in r (event.Fix reference device counter clock eps) = Calls device (calls.Fix counter clock eps)
+act_in r (event.Give reference device) = with_duty r (staged_number r.membership) device (λ duty. Calls device (calls.Give duty))
+act_in r (event.Commit reference device counter) = Calls device (calls.Commit counter)
+act_in r (event.Seal reference device) = Calls device calls.Seal
 act_in r (event.Ask reference device counter) = Asks device counter
-act_in r e = call_in r e
+act_in r _ = Passes

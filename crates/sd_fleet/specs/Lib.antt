@@ -12,6 +12,7 @@ pub mod Room
 pub mod Stepping
 pub mod Calling
 pub mod Nodes
+pub mod Hearing
 pub mod Bounds
 pub mod Standing
 pub mod Devices

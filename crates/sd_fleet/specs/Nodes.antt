@@ -10,11 +10,12 @@ use Rattle.sd_fleet.specs.FleetState.membership.Standing.{summary}
 use Rattle.sd_core.specs.Calls.{Making}
 use Rattle.sd_core.specs.Calls.{Call}
 use Rattle.sd_core.specs.Calls as calls
+use Rattle.sd_core.specs.Words.{making_counter}
 use Rattle.sd_fleet.specs.History.Steps.{Act}
 use Rattle.sd_fleet.specs.History.Steps as steps
 use Rattle.sd_fleet.specs.declared.Reply.{Reply}
 use Rattle.sd_fleet.specs.declared.nodes.CallContext.{CallContext}
-use Rattle.sd_fleet.specs.Calling.{IsNode, IsMessage, CanMake, CanCall, GivenAfter, MaySend, counter_made, reading_after, rise}
+use Rattle.sd_fleet.specs.Calling.{IsNode, IsMessage, CanMake, CanCall, GivenAfter, MaySend, reading_after, rise}
 
 -- the node at a place
 abbrev pub node_at : {N : Type 0} → List (Option N) → ℕ → Option N
@@ -25,7 +26,7 @@ pub record MakesAt {N : Type 0} (g : Ghosts N) (old : List (Option N)) (d : ℕ)
   pub node : N
   pub made : g.makes making node
   pub given : g.given node ≡ None
-  pub numbers : (events : ℕ) → IsNode g (events + 1) (counter_made making) node
+  pub numbers : (events : ℕ) → IsNode g (events + 1) (making_counter making) node
   pub replied : reply ≡ record { effect = Quiet; answers = Some (summary (answers_of g node)); report = None }
   pub placed : new ≡ slice_set old d (Some node)
 

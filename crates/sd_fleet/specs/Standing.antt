@@ -1,5 +1,5 @@
 -- For which run a fleet stands.
-use Rattle.std.specs.Prelude.{◌≡◌, ◌⊎◌, ℕ, ◌<◌, ◌≤◌, List, ◌∷◌, length, Some, None, IsTrue}
+use Rattle.std.specs.Prelude.{◌≡◌, ◌⊎◌, ℕ, ◌<◌, ◌≤◌, List, ◌∷◌, length, Some, None, IfSome, IsTrue}
 use Rattle.sd_core.specs.declared.node.Node.{Ghosts}
 use Rattle.sd_sched.specs.declared.Event.{Event}
 use Rattle.sd_fleet.specs.History.declared.ApplyFault.{ApplyFault}
@@ -13,6 +13,7 @@ use Rattle.sd_fleet.specs.Registers.{Registers}
 use Rattle.sd_fleet.specs.Causes.{refusal_in}
 use Rattle.sd_fleet.specs.Room.{most_sent_in}
 use Rattle.sd_fleet.specs.Doing.{may_send}
+use Rattle.sd_fleet.specs.Calling.{IsLimited}
 use Rattle.sd_fleet.specs.Outcomes.{outcome_of}
 use Rattle.sd_fleet.specs.FabricStanding as fabric
 use Rattle.sd_fleet.specs.declared.fleet.Fleet.{Fleet}
@@ -36,6 +37,12 @@ pub record IsAccepted {N : Type 0} (g : Ghosts N) (fleet : Fleet N g) (setting :
   pub happens : next.step.seen.event ≡ e
   pub comes : outcome ≡ outcome_of next.step
   pub stands : StandsFor g fleet setting (next ∷ run)
+
+-- the event happened to the fleet, and came to this
+pub record HasHappened {N : Type 0} (g : Ghosts N) (old new : Fleet N g) (e : Event) (outcome : Outcome) : Type 0 where
+  pub accepted : (setting : Setting) (run : List (NodeStep N)) → StandsFor g old setting run → IsAccepted g new setting run e outcome
+  pub limited : IfSome outcome.report (λ told. IsLimited told.1)
+  pub few : outcome.sent ≤ most_sent_in old.fabric e
 
 -- the fault is that of the history; or memory ran out, at a tick or a receipt that the history accepts
 abbrev pub IsFault : ApplyFault → Setting → List Step → Event → Type 0

@@ -1,14 +1,15 @@
 //! What a fabric keeps, and what it answers of the present.
-ghost use Rattle.std.specs.Prelude.{◌≡◌, ◌≤◌, ◌<◌, ◌^◌, ℕ, List, [], length, IfOk, IfSome, Option, Some, None, option_and_then};
+ghost use Rattle.std.specs.Prelude.{◌≡◌, ◌≤◌, ◌<◌, ◌^◌, ℕ, List, [], length, IfOk, IfSome, IsTrue, Option, Some, None, option_map, option_and_then};
 ghost use Rattle.sd_topo.specs.Topologies.{network};
+ghost use Rattle.sd_topo.specs.Network.{rates_of};
 ghost use Rattle.sd_msg.specs.Books.{found};
 ghost use Rattle.sd_sched.specs.Events.{device_of};
 ghost use Rattle.sd_history.specs.World.{Setting};
 ghost use Rattle.sd_history.specs.Steps.{Step};
 ghost use Rattle.sd_history.specs.flights.Flights.{look_in};
 ghost use Rattle.sd_fleet_state.specs.world.Registers.{up_at, is_open};
-ghost use Rattle.sd_fleet_state.specs.membership.Plans.{AreSound};
-ghost use Rattle.sd_fleet_state.specs.membership.Memberships.{live_at, is_counted_at};
+ghost use Rattle.sd_fleet_state.specs.membership.Plans.{AreSound, row_numbered};
+ghost use Rattle.sd_fleet_state.specs.membership.Memberships.{live_at, is_counted_at, is_in_force, is_in_staged, staged_number};
 ghost use Rattle.sd_fleet.specs.Sound.{IsSound};
 ghost use Rattle.sd_fleet.specs.FabricStanding.{Stands};
 ghost use Rattle.sd_fleet.specs.Doing.{given_in};
@@ -17,8 +18,8 @@ use crate::AnswerSummary;
 use sd_fleet_state::membership::Membership;
 use sd_fleet_state::world::World;
 use sd_msg::{Flight, FlightBook, TakeFault};
-use sd_num::NoMemory;
-use sd_plan::Plan;
+use sd_num::{NoMemory, Rates};
+use sd_plan::{Duty, Plan};
 use sd_sched::Event;
 use sd_topo::Topology;
 use std::alloc::Global;
@@ -106,6 +107,34 @@ impl Fabric {
         ensures { result ≡ is_counted_at self.now.membership d }
     {
         self.membership.is_counted(d)
+    }
+
+    /// What the plan in force tells a member.
+    pub fn duty(&self, d: u32) -> &Duty
+        requires { IsTrue (is_in_force self.now.membership d) }
+        ensures { option_map (λ row. row.duty)
+            (row_numbered self.now.membership.plans self.now.membership.world.epoch d)
+            ≡ Some result.now }
+    {
+        self.membership.duty(self.membership.world().epoch(), d)
+    }
+
+    /// What the staged plan tells a member.
+    pub fn staged_duty(&self, d: u32) -> &Duty
+        requires { IsTrue (is_in_staged self.now.membership d) }
+        ensures { option_map (λ row. row.duty)
+            (row_numbered self.now.membership.plans (staged_number self.now.membership) d)
+            ≡ Some result.now }
+    {
+        self.membership.duty(self.membership.world().epoch() + 1, d)
+    }
+
+    /// The rates of a device's own oscillator.
+    pub fn rates(&self, d: u32) -> Rates
+        requires { d < length self.now.net.devices }
+        ensures { result ≡ rates_of self.now.net d }
+    {
+        self.topology.rates(d)
     }
 
     /// The number of the plan whose duty was given to the named device and is not taken up yet.

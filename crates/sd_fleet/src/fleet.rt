@@ -12,14 +12,18 @@ ghost use Rattle.sd_fleet.specs.History.flights.Flights.{look_in};
 ghost use Rattle.sd_fleet.specs.FleetState.world.Registers.{is_open};
 ghost use Rattle.sd_fleet.specs.FleetState.membership.Plans.{AreSound};
 ghost use Rattle.sd_fleet.specs.Causes.{refusal_in};
+ghost use Rattle.sd_fleet.specs.Doing.{act_in};
+ghost use Rattle.sd_fleet.specs.Nodes.{Acts};
 ghost use Rattle.sd_fleet.specs.Room.{most_sent_of, most_sent_in};
 ghost use Rattle.sd_fleet.specs.Sound.{IsSound};
 ghost use Rattle.sd_fleet.specs.Stepping.{OnlyRoomGrew, outcome_resting};
+ghost use Rattle.sd_fleet.specs.Hearing.{outcome_hearing};
 ghost use Rattle.sd_fleet.specs.Calling.{IsLimited};
 ghost use Rattle.sd_fleet.specs.Bounds.{AreNodes, context_of};
 
-use crate::nodes::{CallContext, perform, rests_at, step_at, unanswered};
-use crate::{ApplyFault, Call, Fabric, Outcome};
+use crate::hears::{hear_at, is_settled_at};
+use crate::nodes::{CallContext, ask_at, call_at, place, rests_at, step_at, unanswered};
+use crate::{ApplyFault, Call, Fabric, Outcome, Reply};
 use sd_core::Node;
 use sd_msg::{Flight, TakeFault};
 use sd_num::NoMemory;
@@ -86,6 +90,91 @@ fn context_of_call(fabric: &Fabric, d: u32) -> CallContext
     }
 }
 
+/// Makes, calls or asks the device that an event names, and tells what it replies.
+fn address<N: Node>(fabric: &Fabric, nodes: &mut [Option<N>], event: &Event) -> Reply
+    requires within { IsTrue (is_within event.now) }
+    requires accepted { refusal_in fabric.now event.now ≡ None }
+    requires nodes { AreNodes N.Node fabric.now nodes.old }
+    ensures acts { Acts N.Node nodes.old (act_in fabric.now event.now)
+        (context_of fabric.now event.now) result nodes.new }
+    ensures sound { IsSound fabric.now }
+{
+    let context = context_at(fabric, event);
+    match *event {
+        Event::Start {
+            device,
+            counter,
+            clock,
+            eps,
+            ..
+        } => {
+            let duty = fabric.duty(device);
+            place(nodes, device, N::start(*duty, counter, clock, eps))
+        }
+        Event::Join {
+            device,
+            counter,
+            clock,
+            eps,
+            ..
+        } => {
+            let rates = fabric.rates(device);
+            place(nodes, device, N::join(rates, counter, clock, eps))
+        }
+        Event::Tick {
+            device,
+            counter,
+            ..
+        } => call_at(nodes, device, &Call::Tick { counter }, &context),
+        Event::Recv {
+            device,
+            counter,
+            message,
+            ..
+        } => {
+            let Ok(flight) = fabric.flight(message) else {
+                return Reply::nothing();
+            };
+            let call = Call::Receive {
+                link: flight.link,
+                message: &flight.message,
+                counter,
+            };
+            call_at(nodes, device, &call, &context)
+        }
+        Event::Fix {
+            device,
+            counter,
+            clock,
+            eps,
+            ..
+        } => {
+            let call = Call::Fix {
+                counter,
+                clock,
+                eps,
+            };
+            call_at(nodes, device, &call, &context)
+        }
+        Event::Give { device, .. } => {
+            let duty = fabric.staged_duty(device);
+            call_at(nodes, device, &Call::Give { duty }, &context)
+        }
+        Event::Commit {
+            device,
+            counter,
+            ..
+        } => call_at(nodes, device, &Call::Commit { counter }, &context),
+        Event::Seal { device, .. } => call_at(nodes, device, &Call::Seal, &context),
+        Event::Ask {
+            device,
+            counter,
+            ..
+        } => ask_at(nodes, device, counter, &context),
+        _ => Reply::nothing(),
+    }
+}
+
 /// No flight is left there.
 // A flight is large, and most ticks come after a tick: it is written where there is one alone.
 #[inline(always)]
@@ -98,7 +187,7 @@ fn forget(taken: &mut Option<Flight>)
 }
 
 impl<N: Node> Fleet<N> {
-    ghost use Rattle.sd_fleet.specs.Standing.{StandsFor, IsPrepared, IsAccepted, IsFault};
+    ghost use Rattle.sd_fleet.specs.Standing.{StandsFor, IsPrepared, IsAccepted, HasHappened, IsFault};
 
     /// A fleet before any event, with the first plan in force.
     pub fn new(alloc: Global, topo: &Topology, plans: &[Plan]) -> Result<Fleet<N>, NoMemory>
@@ -199,11 +288,7 @@ impl<N: Node> Fleet<N> {
     pub fn happen(&mut self, event: &Event, outcome: &mut Outcome)
         requires within { IsTrue (is_within event.now) }
         requires prepared { IsPrepared self.old.fabric event.now }
-        ensures accepted { (setting : Setting) (run : List (NodeStep N))
-            → StandsFor N.Node self.old setting run
-            → IsAccepted N.Node self.new setting run event.now outcome.new }
-        ensures limited { IfSome outcome.new.report (λ told. IsLimited told.1) }
-        ensures few { outcome.new.sent ≤ most_sent_in self.old.fabric event.now }
+        ensures { HasHappened N.Node self.old self.new event.now outcome.new }
     {
         if self.fabric.has_window() {
             return self.happen_any(event, outcome);
@@ -244,6 +329,36 @@ impl<N: Node> Fleet<N> {
         }
         self.fabric.rest(reference, d, counter);
         true
+    }
+
+    /// A receipt happens, if it is one by a device that was given nothing and has nobody below it:
+    /// its flight is taken, and the device answers as before. It is for `apply` where it is
+    /// another, is refused, or a window is open.
+    // No answers and no outcome are written.
+    #[inline(always)]
+    pub fn hear(&mut self, reference: u64, d: u32, counter: u64, message: u64) -> Option<Flight>
+        requires within { IsTrue (is_within (events_of.Recv reference d counter message)) }
+        ensures accepted { IfSome result (λ flight. (setting : Setting) (run : List (NodeStep N))
+            → StandsFor N.Node self.old setting run
+            → IsAccepted N.Node self.new setting run
+            (events_of.Recv reference d counter message)
+            (outcome_hearing self.old.fabric d flight)) }
+        ensures same { result ≡ None → self.new ≡ self.old }
+    {
+        if !self.fabric.admits_alone(reference, d, counter) {
+            return None;
+        }
+        if !is_settled_at(&self.nodes, d) {
+            return None;
+        }
+        if !self.fabric.is_on_time(reference, d, message) {
+            return None;
+        }
+        let context = context_of_call(&self.fabric, d);
+        let flight = self.fabric.receive(reference, d, message);
+        let _effect = hear_at(&mut self.nodes, d, counter, &flight, &context);
+        self.fabric.rest(reference, d, counter);
+        Some(flight)
     }
 
     /// A tick happens while no window is open.
@@ -302,16 +417,10 @@ impl<N: Node> Fleet<N> {
     fn happen_any(&mut self, event: &Event, outcome: &mut Outcome)
         requires within { IsTrue (is_within event.now) }
         requires prepared { IsPrepared self.old.fabric event.now }
-        ensures accepted { (setting : Setting) (run : List (NodeStep N))
-            → StandsFor N.Node self.old setting run
-            → IsAccepted N.Node self.new setting run event.now outcome.new }
-        ensures limited { IfSome outcome.new.report (λ told. IsLimited told.1) }
-        ensures few { outcome.new.sent ≤ most_sent_in self.old.fabric event.now }
+        ensures { HasHappened N.Node self.old self.new event.now outcome.new }
     {
-        let act = self.fabric.act(event);
-        let context = context_at(&self.fabric, event);
-        let reply = perform(&mut self.nodes, &act, &context);
-        self.fabric.step(event, &reply, outcome);
+        let reply = address(&self.fabric, &mut self.nodes, event);
+        self.fabric.note(event, &reply, outcome);
     }
 
     /// The flight of a number, or why there is none: `Unknown` or `Spent`.

@@ -8,15 +8,14 @@
 ghost use Rattle.std.specs.Prelude.{◌≡◌, Some, None, false};
 ghost use Rattle.sd_core.specs.declared.Effect.TheVariants as effects;
 
-mod acts;
 mod causes;
 mod deliveries;
 mod events;
 mod fabric;
 mod fleet;
+mod hears;
 mod messages;
 mod nodes;
-mod parent_table;
 mod refusals;
 mod rests;
 mod steps;
@@ -29,27 +28,7 @@ use sd_core::Effect;
 pub use sd_fleet_state::membership::AnswerSummary;
 pub use sd_history::ApplyFault;
 use sd_msg::{Flight, Message};
-use sd_num::Rates;
 use sd_plan::Duty;
-
-/// How a device is made. Counters, clocks and uncertainties are in ps.
-#[derive(Clone, Copy, Debug)]
-pub enum Making<'a> {
-    /// With its duty of the plan in force.
-    Started {
-        duty: &'a Duty,
-        counter: u64,
-        clock: u64,
-        eps: u64,
-    },
-    /// Without a duty, while a new plan is brought in.
-    Joined {
-        rates: Rates,
-        counter: u64,
-        clock: u64,
-        eps: u64,
-    },
-}
 
 /// A call of a device that is made. What is large is lent.
 #[derive(Clone, Copy, Debug)]
@@ -76,17 +55,6 @@ pub enum Call<'a> {
     Seal,
 }
 
-/// What an event does to the device that it names.
-#[derive(Clone, Copy, Debug)]
-pub enum Act<'a> {
-    Makes { device: u32, making: Making<'a> },
-    Calls { device: u32, call: Call<'a> },
-    /// It asks the device for a report at this counter.
-    Asks { device: u32, counter: u64 },
-    /// It leaves all devices alone.
-    Passes,
-}
-
 /// What a device tells at an event.
 #[derive(Clone, Copy, Debug, PartialEq, Eq)]
 pub struct Reply {
@@ -109,18 +77,7 @@ impl Reply {
         }
     }
 
-    /// Of a device that was made.
-    pub fn made(answers: AnswerSummary) -> Reply
-        ensures { result ≡ record {
-          effect = effects.Quiet;
-          answers = Some answers;
-          report = None;
-        } }
-    {
-        Reply::called(Effect::Quiet, answers)
-    }
-
-    /// Of a device that was called.
+    /// Of a device that was made or called.
     pub fn called(effect: Effect, answers: AnswerSummary) -> Reply
         ensures { result ≡ record { effect = effect; answers = Some answers; report = None } }
     {

@@ -1,15 +1,18 @@
-//! The nodes of a fleet, each at the place of its device: what an act does to one of them, and what
-//! it replies.
+//! The nodes of a fleet, each at the place of its device: how one of them is made, called and asked,
+//! and what it replies.
 ghost use Rattle.std.specs.Prelude.{◌≡◌, ◌≢◌, ◌<◌, ◌≤◌, ◌+◌, ◌^◌, ℕ, length, Option, Some, None, IsTrue};
 ghost use Rattle.sd_plan.specs.declared.Duty.{Duty};
+ghost use Rattle.sd_core.specs.Calls.{Making};
 ghost use Rattle.sd_core.specs.Limits.{IfSent};
+ghost use Rattle.sd_core.specs.Words.{making_counter};
+ghost use Rattle.sd_fleet.specs.History.Steps.{Calls};
 ghost use Rattle.sd_fleet.specs.History.Nodes.{answers_of as node_answers};
 ghost use Rattle.sd_fleet.specs.FleetState.membership.Standing.{summary};
-ghost use Rattle.sd_fleet.specs.Doing.{making_seen, call_seen, act_seen, replied};
-ghost use Rattle.sd_fleet.specs.Calling.{IsMessage, IsNode, CanMake, CanCall, GivenAfter, MaySend, counter_made, reading_after};
-ghost use Rattle.sd_fleet.specs.Nodes.{node_at, MakesAt, IsCallable, CallsAt, AsksAt, RestsAt, CanAct, Acts};
+ghost use Rattle.sd_fleet.specs.Doing.{call_seen, replied};
+ghost use Rattle.sd_fleet.specs.Calling.{IsMessage, IsNode, CanCall, GivenAfter, MaySend, reading_after};
+ghost use Rattle.sd_fleet.specs.Nodes.{node_at, MakesAt, IsCallable, CallsAt, AsksAt, RestsAt, CanAct};
 
-use crate::{Act, AnswerSummary, Call, Making, Reply};
+use crate::{AnswerSummary, Call, Reply};
 use sd_core::{Effect, Node};
 
 /// When a node is called.
@@ -23,49 +26,28 @@ pub(crate) struct CallContext {
     pub reading: u64,
 }
 
-/// Does what an event does to its device, and tells what the device replies.
-#[inline(always)]
-pub(crate) fn perform<N: Node>(
-    nodes: &mut [Option<N>],
-    act: &Act<'_>,
-    context: &CallContext,
-) -> Reply
-    requires events { context.now.events ≤ 2 ^ 26 }
-    requires can { CanAct N.Node nodes.old context.now (act_seen act.now) }
-    ensures { Acts N.Node nodes.old (act_seen act.now) context.now result nodes.new }
-{
-    match act {
-        Act::Makes { device, making } => make_at(nodes, *device, making),
-        Act::Calls { device, call } => call_at(nodes, *device, call, context),
-        Act::Asks { device, counter } => ask_at(nodes, *device, *counter, context),
-        Act::Passes => Reply::nothing(),
-    }
-}
-
-/// Makes a node at the place of a device.
-fn make_at<N: Node>(nodes: &mut [Option<N>], d: u32, making: &Making<'_>) -> Reply
+/// Puts a node that was made at the place of its device.
+pub(crate) fn place<N: Node>(nodes: &mut [Option<N>], d: u32, node: N) -> Reply
     requires place { d < length nodes.old }
-    requires can { CanMake (making_seen making.now) }
-    ensures { MakesAt N.Node nodes.old d (making_seen making.now) result nodes.new }
+    requires given { N.given node ≡ None }
+    ensures { (making : Making) → N.makes making node
+        → ((events : ℕ) → IsNode N.Node (events + 1) (making_counter making) node)
+        → MakesAt N.Node nodes.old d making result nodes.new }
 {
-    let node = made::<N>(making);
     let answers = answers_of(&node, None);
     nodes[d as usize] = Some(node);
-    Reply::made(answers)
+    Reply::called(Effect::Quiet, answers)
 }
 
 /// Calls the node of a device.
-fn call_at<N: Node>(
+pub(crate) fn call_at<N: Node>(
     nodes: &mut [Option<N>],
     d: u32,
     called: &Call<'_>,
     context: &CallContext,
 ) -> Reply
     requires events { context.now.events ≤ 2 ^ 26 }
-    requires place { d < length nodes.old }
-    requires there { node_at nodes.old d ≢ None }
-    requires callable { (n : N) → node_at nodes.old d ≡ Some n
-        → IsCallable N.Node context.now (call_seen called.now) n }
+    requires can { CanAct N.Node nodes.old context.now (Calls d (call_seen called.now)) }
     ensures { CallsAt N.Node nodes.old d (call_seen called.now) context.now result nodes.new }
 {
     let mut answers = unanswered();
@@ -127,7 +109,12 @@ pub(crate) fn rests_at<N: Node>(nodes: &[Option<N>], d: u32, counter: u64) -> bo
 }
 
 /// Asks the node of a device for a report.
-fn ask_at<N: Node>(nodes: &[Option<N>], d: u32, counter: u64, context: &CallContext) -> Reply
+pub(crate) fn ask_at<N: Node>(
+    nodes: &[Option<N>],
+    d: u32,
+    counter: u64,
+    context: &CallContext,
+) -> Reply
     requires events { context.now.events ≤ 2 ^ 26 }
     requires place { d < length nodes.now }
     requires there { node_at nodes.now d ≢ None }
@@ -140,30 +127,6 @@ fn ask_at<N: Node>(nodes: &[Option<N>], d: u32, counter: u64, context: &CallCont
     match &nodes[d as usize] {
         Some(node) => Reply::reported(node.report(counter)),
         None => unreachable!(),
-    }
-}
-
-/// Makes a node.
-fn made<N: Node>(making: &Making<'_>) -> N
-    requires { CanMake (making_seen making.now) }
-    ensures made { N.makes (making_seen making.now) result }
-    ensures given { N.given result ≡ None }
-    ensures numbers { (events : ℕ)
-        → IsNode N.Node (events + 1) (counter_made (making_seen making.now)) result }
-{
-    match *making {
-        Making::Started {
-            duty,
-            counter,
-            clock,
-            eps,
-        } => N::start(*duty, counter, clock, eps),
-        Making::Joined {
-            rates,
-            counter,
-            clock,
-            eps,
-        } => N::join(rates, counter, clock, eps),
     }
 }
 

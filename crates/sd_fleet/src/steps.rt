@@ -1,23 +1,20 @@
-//! One step: what an accepted event makes of a fabric, once its device has told its part.
-ghost use Rattle.std.specs.Prelude.{◌≡◌, ◌≢◌, ◌≤◌, ◌<◌, ◌+◌, ◌&&◌, not, ℕ, List, ◌∷◌, None, IsTrue, length, OnOk, OnErr, if◌then◌else◌};
+//! One step: what an accepted event makes of a fabric, once its device has replied.
+ghost use Rattle.std.specs.Prelude.{◌≡◌, ◌≢◌, ◌≤◌, ◌<◌, ◌+◌, ◌&&◌, not, None, IsTrue, IfSome, length, OnOk, OnErr, if◌then◌else◌};
 ghost use Rattle.sd_sched.specs.Events.{is_end_event};
 ghost use Rattle.sd_sched.specs.Spelled.{is_within};
-ghost use Rattle.sd_history.specs.World.{Setting};
-ghost use Rattle.sd_history.specs.Steps.{Step, Told, step_of};
-ghost use Rattle.sd_fleet_state.specs.membership.Memberships.{ends_below};
+ghost use Rattle.sd_fleet_state.specs.membership.Memberships as memberships;
+ghost use Rattle.sd_fleet_state.specs.membership.Memberships.{acts_at as acts_of, can_close_in, ends_below};
 ghost use Rattle.sd_fleet.specs.Causes.{refusal_in};
-ghost use Rattle.sd_fleet.specs.Doing.{MatchesTold, IsReplyTo};
-ghost use Rattle.sd_fleet.specs.Outcomes.{outcome_of};
+ghost use Rattle.sd_fleet.specs.Doing.{IsReplyTo};
 ghost use Rattle.sd_fleet.specs.Room.{ends_in, most_sent_in};
 ghost use Rattle.sd_fleet.specs.Sound.{IsSound};
-ghost use Rattle.sd_fleet.specs.FabricStanding.{Stands};
-ghost use Rattle.sd_fleet.specs.Stepping.{IsAfter, outcome_in, report_in, OnlyRoomGrew};
+ghost use Rattle.sd_fleet.specs.Stepping.{IsAfter, outcome_in, report_in, OnlyRoomGrew, acts_named, is_new_named, closed_if_can};
 
 use crate::deliveries::{deliver, sweep};
 use crate::messages::send;
-use crate::parent_table::{acts, close, is_new};
 use crate::{Fabric, Outcome, Reply};
 use sd_clock::Report;
+use sd_fleet_state::membership::Membership;
 use sd_num::NoMemory;
 use sd_sched::Event;
 use std::alloc::Global;
@@ -90,9 +87,9 @@ impl Fabric {
         }
     }
 
-    /// An event that is not refused, of which its device told this. What comes of it is written
-    /// into an outcome that the caller lends.
-    pub fn step(&mut self, event: &Event, reply: &Reply, outcome: &mut Outcome)
+    /// Notes an event that is not refused, to which its device replied this. What comes of it is
+    /// written into an outcome that the caller lends.
+    pub fn note(&mut self, event: &Event, reply: &Reply, outcome: &mut Outcome)
         requires accepted { refusal_in self.old event.now ≡ None }
         requires within { IsTrue (is_within event.now) }
         requires tells { IsReplyTo event.now reply.now }
@@ -100,14 +97,6 @@ impl Fabric {
         ensures after { IsAfter self.old event.now reply.now self.new }
         ensures comes { outcome.new ≡ outcome_in self.old event.now reply.now }
         ensures sound { IsSound self.new }
-        ensures stands { (setting : Setting) (steps : List Step) (told : Told)
-            → MatchesTold reply.now told
-            → Stands self.old setting steps
-            → Stands self.new setting (step_of setting steps event.now told ∷ steps) }
-        ensures outcome { (setting : Setting) (steps : List Step) (told : Told)
-            → MatchesTold reply.now told
-            → Stands self.old setting steps
-            → outcome.new ≡ outcome_of (step_of setting steps event.now told) }
     {
         let device = event.device();
         outcome.acted = acts(&self.membership, device);
@@ -144,4 +133,52 @@ fn ends(event: &Event) -> bool
     ensures { result ≡ is_end_event event.now }
 {
     matches!(event, Event::End { .. })
+}
+
+/// Whether the device acts as root.
+fn acts(membership: &Membership, device: Option<u32>) -> bool
+    requires { IfSome device (λ d. d < length membership.now.answers) }
+    ensures { result ≡ acts_named membership.now device }
+{
+    match device {
+        Some(d) => acts_at(membership, d),
+        None => false,
+    }
+}
+
+/// The same of the device with a number.
+#[inline(always)]
+pub(crate) fn acts_at(membership: &Membership, d: u32) -> bool
+    requires { d < length membership.now.answers }
+    ensures { result ≡ acts_of membership.now d }
+{
+    match membership.answered(d) {
+        Some(answered) => answered.acts,
+        None => false,
+    }
+}
+
+/// Whether a plan is staged that the device follows.
+fn is_new(membership: &Membership, device: Option<u32>) -> bool
+    requires { IfSome device (λ d. d < length membership.now.answers) }
+    ensures { result ≡ is_new_named membership.now device }
+{
+    let Some(d) = device else {
+        return false;
+    };
+    membership.world().window().is_open() && membership.follows(membership.world().epoch() + 1, d)
+}
+
+/// Closes the window where it can close, and says whether it did.
+fn close(membership: &mut Membership) -> bool
+    requires { memberships.IsSound membership.old }
+    ensures closed { result ≡ can_close_in membership.old }
+    ensures membership { membership.new ≡ closed_if_can membership.old }
+    ensures sound { memberships.IsSound membership.new }
+{
+    if !membership.can_close() {
+        return false;
+    }
+    membership.close();
+    true
 }

@@ -11,7 +11,7 @@ ghost use Rattle.sd_fleet.specs.Sound.{IsSound};
 ghost use Rattle.sd_fleet.specs.Stepping.{IsAfter, IsWithout, outcome_with};
 
 use crate::messages::send_by;
-use crate::parent_table::acts_at;
+use crate::steps::acts_at;
 use crate::{AnswerSummary, Fabric, Outcome};
 use sd_core::Effect;
 use sd_msg::Flight;

@@ -9,8 +9,9 @@ use Rattle.sd_msg.specs.declared.Flight.{Flight}
 use Rattle.sd_sched.specs.Events.{reference_of, ticked}
 use Rattle.sd_history.specs.World.{Setting, Seen, makes, latest_reference}
 use Rattle.sd_history.specs.Premises.{reaching_flights, latest_tick}
+use Rattle.sd_history.proofs.Shared.{time_rises}
 use Rattle.sd_premise_loss.specs.rounds.Order as rounds
-use Rattle.sd_premise_loss.proofs.rounds.InOrder.{le_greatest, time_rises}
+use Rattle.sd_premise_loss.proofs.rounds.InOrder.{le_greatest}
 use Rattle.sd_premise.specs.Order.{IsSentAt, CanFollow, ComesInOrder}
 
 -- for the monitor of loss

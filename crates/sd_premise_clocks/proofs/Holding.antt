@@ -4,6 +4,7 @@ use Rattle.std.specs.Prelude.{slice_get}
 use Rattle.std.proofs.Math.ListN.{length-set}
 use Rattle.std.proofs.lemmas.Bool.{and_parts, and_from, leb-true, le-leb, cases_eq}
 use Rattle.std.proofs.lemmas.Option.{same_Some}
+use Rattle.sd_history.proofs.Shared.{time_rises}
 use Rattle.sd_num.proofs.Places.{at_written, at_unwritten}
 use Rattle.sd_num.specs.declared.Rates.{Rates}
 use Rattle.sd_num.proofs.Shared.{all_imply}
@@ -17,7 +18,7 @@ use Rattle.sd_premise_clocks.specs.declared.offsets.Reading.{Reading}
 use Rattle.sd_premise_clocks.specs.declared.drift.Life.{Life}
 use Rattle.sd_premise_clocks.specs.Readings.{pair_of, keeps_rates_with, is_after_each, least_offsets}
 use Rattle.sd_premise_clocks.specs.Drifts.{DriftKept, IsLifeOf, DriftStands, reading_of}
-use Rattle.sd_premise_clocks.proofs.Seeing.{time_rises, counter_rises}
+use Rattle.sd_premise_clocks.proofs.Seeing.{counter_rises}
 use Rattle.sd_premise_clocks.proofs.Lives.{Reads, readings_here, readings_elsewhere, readings_unread, latest_here, latest_elsewhere, latest_unread, honest_here, honest_unread}
 
 -- readings before a moment lie before a later one

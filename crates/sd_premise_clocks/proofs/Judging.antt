@@ -7,6 +7,7 @@ use Rattle.std.proofs.lemmas.Bool.Decides.{same_from_decides}
 use Rattle.std.proofs.lemmas.List.{get_or_default}
 use Rattle.std.proofs.lemmas.List.Folds.{list_all-append}
 use Rattle.std.proofs.lemmas.List.Sums.{AllPass-from_list_all, list_all-from_AllPass}
+use Rattle.sd_history.proofs.Shared.{up_made}
 use Rattle.sd_num.specs.Lists.{below, map_or}
 use Rattle.sd_num.proofs.Shared.{all_below}
 use Rattle.sd_topo.specs.Network.{device_numbers}
@@ -39,16 +40,6 @@ all_filter test keep (x ∷ xs) = by (keep x) (all_filter test keep xs)
     by false rest = rest
 
 -- A device that is up was made
-
-up_made : (seen : List Seen) (d : ℕ) → is_up seen d ≡ true → was_made seen d ≡ true
-up_made [] d up = cc
-up_made (s ∷ earlier) d up = by (makes d s.event) (fails (thing.Device d) s.event) up (up_made earlier d)
-  where
-    by : (makes fails : Bool) → map_or (cond makes (Some true) (cond fails (Some false) None)) (is_up earlier d) (λ up. up) ≡ true
-        → (is_up earlier d ≡ true → was_made earlier d ≡ true) → (makes || was_made earlier d) ≡ true
-    by true fails up before = refl
-    by false true up before = cc
-    by false false up before = before up
 
 pub untouched_down : (seen : List Seen) (d : ℕ) → is_untouched seen d ≡ true → is_up seen d ≡ false
 untouched_down seen d untouched = by (is_up seen d) refl

@@ -33,9 +33,6 @@ neither_falls setting earlier e may =
     (started_twice setting earlier e) (no_plan_left setting earlier e) (window_order_seen setting earlier e) (after_end earlier) (not_failed earlier e)
     (not_member setting earlier e) (too_many earlier) may
 
-pub time_rises : (setting : Setting) (earlier : List Seen) (e : Event) → may_be_seen setting earlier e ≡ true → latest_reference earlier ≤ reference_of e
-time_rises setting earlier e may = ltb-false (reference_of e) (latest_reference earlier) (neither_falls setting earlier e may).0
-
 -- the counter of an event that makes no device
 pub counter_rises : (setting : Setting) (earlier : List Seen) (e : Event) (d c : ℕ) → may_be_seen setting earlier e ≡ true → makes_some e ≡ false
     → device_of e ≡ Some d → counter_of e ≡ Some c → latest_reading earlier d ≤ c

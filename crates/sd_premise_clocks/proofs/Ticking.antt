@@ -5,6 +5,7 @@ use Rattle.std.proofs.Math.ListN.{length-set}
 use Rattle.std.proofs.lemmas.Bool.{eq-eqb, ne_eqb, cases_eq}
 use Rattle.std.proofs.lemmas.Option.{same_Some}
 use Rattle.std.proofs.lemmas.List.Sums.{sum_by-cons}
+use Rattle.sd_history.proofs.Shared.{epoch_kept}
 use Rattle.sd_num.specs.Lists.{map_or, same_number}
 use Rattle.sd_topo.specs.declared.Thing.TheVariants as thing
 use Rattle.sd_plan.specs.Plans.{is_member}
@@ -77,15 +78,6 @@ up_kept s earlier d unmade unfailed =
     ∙ ap (λ (b : Bool). up_then false b (is_up earlier d)) unfailed
 
 -- An event with which no plan comes in or goes out
-
-pub epoch_kept : (s : Seen) (earlier : List Seen) → s.closed ≡ false → epoch_in_force (s ∷ earlier) ≡ epoch_in_force earlier
-epoch_kept s earlier stays =
-    ap (λ (n : ℕ). n + 1) (sum_by-cons (λ (x : Seen). cond x.closed 1 0) s earlier)
-    ∙ ap (λ (b : Bool). cond b 1 0 + count_by (λ (x : Seen). x.closed) earlier + 1) stays
-    ∙ ap (λ (n : ℕ). n + 1) (zero_first (count_by (λ (x : Seen). x.closed) earlier))
-  where
-    zero_first : (n : ℕ) → 0 + n ≡ n
-    zero_first n = omega arith
 
 pub window_kept : (s : Seen) (earlier : List Seen) → s.closed ≡ false → is_stage s.event ≡ false
     → window (s ∷ earlier) ≡ option_map (λ w. s ∷ w) (window earlier)

@@ -2,6 +2,7 @@
 use Rattle.std.proofs.Common.{◌≡◌, ℕ, ◌<◌, Bool, true, false, not, ◌&&◌, ◌||◌, List, ◌∷◌, length, nat_eq, nat_le, [], Option, Some, None, is_some, option_map, refl, sym, ap, ◌∙◌, subst}
 use Rattle.std.specs.Prelude.{if◌then◌else◌}
 use Rattle.std.proofs.lemmas.Bool.{or_parts, not-true, leb-false}
+use Rattle.sd_history.proofs.Shared.{epoch_kept}
 use Rattle.sd_num.specs.Lists.{map_or}
 use Rattle.sd_sched.specs.declared.Event.{Event}
 use Rattle.sd_sched.specs.Events.{device_of, joined, given, is_stage, is_commit, is_seal}
@@ -9,7 +10,7 @@ use Rattle.sd_fleet_state.specs.History.Things.{mended}
 use Rattle.sd_fleet_state.specs.History.World.{Setting, Seen, window, window_is_open, has_commit, epoch_in_force, staged}
 use Rattle.sd_fleet_state.specs.History.Refusals.{unknown_device, unknown_link, dead_device, dead_link, time_falls, counter_falls, not_started, started_twice, no_plan_left, past_preparing, window_order_seen, after_end, not_failed, not_member, too_many}
 use Rattle.sd_fleet_state.specs.History.Open.{may_be_seen}
-use Rattle.sd_premise_clocks.proofs.Ticking.{epoch_kept, window_kept}
+use Rattle.sd_premise_clocks.proofs.Ticking.{window_kept}
 use Rattle.sd_premise_renewal.specs.Renewals.{IsPlanned}
 
 -- three of fourteen causes that do not hold

@@ -11,13 +11,12 @@ use Rattle.sd_msg.specs.Observed.{ReportAt}
 use Rattle.sd_msg.specs.Observing.{report_at}
 use Rattle.sd_msg.specs.declared.observer.Observer as observers
 use Rattle.sd_sched.specs.declared.Event.{Event}
-use Rattle.sd_sched.specs.Events.{reference_of}
+use Rattle.sd_sched.specs.Events.{reference_of, is_ask}
 use Rattle.sd_history.specs.World.{Setting}
 use Rattle.sd_history.specs.Steps.{Step}
 use Rattle.sd_history.specs.Nodes.{NodeStep, steps_of}
 use Rattle.sd_history.specs.Lines.{lines_of, asked_report, reports}
 use Rattle.sd_fleet.specs.declared.Outcome.{Outcome}
-use Rattle.sd_fleet.specs.Doing.{asks}
 use Rattle.sd_fleet.specs.declared.fleet.Fleet.{Fleet}
 use Rattle.sd_fleet.specs.Standing as fleets
 use Rattle.sd_replay.specs.lines.Printed.{printed}
@@ -87,14 +86,14 @@ module _ {N V : Type 0} (g : Ghosts N) (o : observers.Ghosts V) (before : Fleet 
       subst (λ net. IsOf net found) (sym has.stands.tells.net) (of has.setting has.steps (accepts has.setting has.steps has.stands.made) has.stands.has_seen)))
 
   -- where there is a report, the observer has room for it
-  pub ready_merely : (told : ℕ × Report) → outcome.report ≡ Some told → (IsTrue (asks e) → 1 ≤ o.room observer)
+  pub ready_merely : (told : ℕ × Report) → outcome.report ≡ Some told → (IsTrue (is_ask e) → 1 ≤ o.room observer)
       → ∥ HasRun g o before monitors event_output observer ∥₁ → 1 ≤ o.room observer
   ready_merely told is ready there = ∥∥₁_elim there (search props) (λ has. made has)
     where
       made : HasRun g o before monitors event_output observer → 1 ≤ o.room observer
       made has =
           let accepted : fleets.IsAccepted g after has.setting has.steps e outcome = accepts has.setting has.steps has.stands.made in
-          ready (ap asks (sym accepted.happens) ∙ asks_by_report accepted.next.step told (ap (λ (out : Outcome). out.report) (sym accepted.comes) ∙ is))
+          ready (ap is_ask (sym accepted.happens) ∙ asks_by_report accepted.next.step told (ap (λ (out : Outcome). out.report) (sym accepted.comes) ∙ is))
 
 -- Standing on
 

@@ -11,6 +11,7 @@ pub mod Flights
 pub mod Looking
 pub mod Observing
 pub mod Resting
+pub mod Hearing
 pub mod Going
 pub mod Happening
 -- Handed on: what crates above name of those below.

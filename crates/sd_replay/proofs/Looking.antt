@@ -11,7 +11,7 @@ use Rattle.sd_msg.specs.declared.Flight.{Flight}
 use Rattle.sd_watch.specs.Watch.{two_least}
 use Rattle.sd_sched.specs.declared.Event.{Event}
 use Rattle.sd_sched.specs.declared.Event.TheVariants as event
-use Rattle.sd_sched.specs.Events.{reference_of, device_of}
+use Rattle.sd_sched.specs.Events.{reference_of, device_of, is_ask}
 use Rattle.sd_history.specs.declared.BrokenSet.{BrokenSet}
 use Rattle.sd_history.specs.World.{Setting}
 use Rattle.sd_history.specs.Steps.{Step, seen_of, flight_count}
@@ -23,7 +23,6 @@ use Rattle.sd_history.proofs.flights.Counts.{numbers_few}
 use Rattle.sd_history.proofs.flights.Sending.{counted}
 use Rattle.sd_fleet.specs.declared.Outcome.{Outcome}
 use Rattle.sd_fleet.specs.Outcomes.{first_number, outcome_of}
-use Rattle.sd_fleet.specs.Doing.{asks}
 use Rattle.sd_fleet.proofs.Shared.{sent_reach}
 use Rattle.sd_replay.specs.declared.lines.findings.Findings.{Findings}
 use Rattle.sd_replay.specs.lines.Findings.{IsOf, found_lines, loop_found, roots_found}
@@ -148,11 +147,11 @@ module _ (setting : Setting) (s : Step) (earlier : List Step) (found : Findings)
       asked_within (Some told) within = within told refl
 
 -- an event of which there is a report asks for one
-pub asks_by_report : (s : Step) (told : ℕ × Report) → asked_report s ≡ Some told → asks s.seen.event ≡ true
+pub asks_by_report : (s : Step) (told : ℕ × Report) → asked_report s ≡ Some told → is_ask s.seen.event ≡ true
 asks_by_report s told is = by s.seen.event is
   where
     by : (e : Event) → elim e [ event.Ask reference device counter ↦ option_map (λ report. (device, report)) s.told.report | _ ↦ None ] ≡ Some told
-        → asks e ≡ true
+        → is_ask e ≡ true
     by (event.Ask reference device counter) same = refl
     by _ same = cc
 

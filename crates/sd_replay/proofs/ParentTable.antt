@@ -6,11 +6,11 @@ use Rattle.std.proofs.lemmas.Bool.{cases_lt, cases_Bool, eqb-true, eqb-false, ne
 use Rattle.std.proofs.lemmas.List.{length-set, length-replicate}
 use Rattle.std.proofs.lemmas.List.Elements.{filter-append}
 use Rattle.std.proofs.lemmas.Option.{same_Some}
-use Rattle.sd_num.specs.Lists.{below, map_or, at_place, same_number}
+use Rattle.sd_num.specs.Lists.{below, map_or, at_place, same_number, follow}
 use Rattle.sd_num.proofs.Places.{at_written, at_unwritten}
 use Rattle.sd_num.proofs.Shared.{no_acting}
 use Rattle.sd_topo.specs.Network.{device_numbers}
-use Rattle.sd_watch.specs.Watch.{parent_in, follow, IsOnLoop, HasNoLoop, IsFirstOnLoop, acting_devices, two_least}
+use Rattle.sd_watch.specs.Watch.{parent_in, IsOnLoop, HasNoLoop, IsFirstOnLoop, acting_devices, two_least}
 use Rattle.sd_watch.proofs.Settling.{only_within}
 use Rattle.sd_sched.specs.Events.{device_of}
 use Rattle.sd_history.specs.World.{Setting}
@@ -215,7 +215,7 @@ newly_is before now told_before told_now was is =
 -- the least device on a loop, by the parents of counted devices
 abbrev first_by : Setting → (ℕ → Option ℕ) → Option ℕ
 first_by setting parent =
-    find (λ d. list_any (λ n. same_number (lines.follow parent (n + 1) d) d) (device_numbers setting.net)) (device_numbers setting.net)
+    find (λ d. list_any (λ n. same_number (follow parent (n + 1) d) d) (device_numbers setting.net)) (device_numbers setting.net)
 
 -- what is kept stands for the steps, and for those with one more
 module _ (kept : parent_table.Kept) (setting : Setting) (s : Step) (earlier : List Step) (before : IsParentTable kept setting earlier)

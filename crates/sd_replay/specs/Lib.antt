@@ -1,5 +1,4 @@
 -- For which runs a replay stands, and what is promised of every history. In reading order.
-pub mod Settings
 pub mod Tallies
 pub mod Promises
 pub mod Counting

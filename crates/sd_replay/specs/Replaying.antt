@@ -4,12 +4,13 @@ use Rattle.sd_core.specs.declared.node.Node.{Ghosts}
 use Rattle.sd_msg.specs.declared.observer.Observer as observers
 use Rattle.sd_sched.specs.declared.Event.{Event}
 use Rattle.sd_sched.specs.Lines.{event_of_line}
+use Rattle.sd_sched.specs.Events.{is_ask}
 use Rattle.sd_history.specs.World.{Setting}
 use Rattle.sd_history.specs.Steps.{Step}
 use Rattle.sd_history.specs.Nodes.{NodeStep}
 use Rattle.sd_history.specs.Refusals.{refusal}
 use Rattle.sd_fleet.specs.declared.Outcome.{Outcome}
-use Rattle.sd_fleet.specs.Doing.{may_send, asks}
+use Rattle.sd_fleet.specs.Doing.{may_send}
 use Rattle.sd_fleet.specs.Outcomes.{outcome_of}
 use Rattle.sd_replay.specs.declared.replay.Replay.{Replay}
 use Rattle.sd_replay.specs.declared.faults.ReplayFault.{ReplayFault}
@@ -52,7 +53,7 @@ pub record IsRested {N V : Type 0} (g : Ghosts N) (o : observers.Ghosts V) (repl
 
 -- only a tick, a receipt and an ask take memory
 abbrev pub may_take : Event → Bool
-may_take e = may_send e || asks e
+may_take e = may_send e || is_ask e
 
 -- the fault is that of the history; or memory ran out at an event that the history accepts
 abbrev pub IsFault : ReplayFault → Setting → List Step → Event → Type 0

@@ -6,9 +6,10 @@ use Rattle.sd_replay.specs.lines.Printed.{printed}
 use Rattle.sd_topo.specs.Topologies.{network}
 use Rattle.sd_watch.specs.Watch.{parent_in, two_least}
 use Rattle.sd_core.specs.declared.node.Node.{Ghosts}
+use Rattle.sd_msg.specs.declared.Flight.{Flight}
 use Rattle.sd_msg.specs.declared.observer.Observer as observers
 use Rattle.sd_sched.specs.declared.Event.{Event}
-use Rattle.sd_sched.specs.declared.Event.TheVariants.{Tick}
+use Rattle.sd_sched.specs.declared.Event.TheVariants.{Tick, Recv}
 use Rattle.sd_sched.specs.Events.{device_of}
 use Rattle.sd_history.specs.World.{Setting, is_counted}
 use Rattle.sd_history.specs.Steps.{Step, seen_of, acts_in}
@@ -20,6 +21,7 @@ use Rattle.sd_fleet.specs.declared.Outcome.{Outcome}
 use Rattle.sd_fleet.specs.declared.fleet.Fleet.{Fleet}
 use Rattle.sd_fleet.specs.Registers.{Registers}
 use Rattle.sd_fleet.specs.Stepping.{outcome_resting}
+use Rattle.sd_fleet.specs.Hearing.{outcome_hearing}
 use Rattle.sd_fleet.specs.Standing as fleets
 use Rattle.sd_watch.specs.parent_table.ParentTable as parent_table
 use Rattle.sd_watch.specs.declared.parent_table.ParentRow.{ParentRow}
@@ -92,6 +94,12 @@ pub record HasStep {N : Type 0} (g : Ghosts N) (monitors : Monitors) (fleet : Fl
 pub record HasRested {N : Type 0} (g : Ghosts N) (monitors : Monitors) (fleet : Fleet N g) (reference device counter : ℕ) : Type 0 where
   pub kept : Registers
   pub step : HasStep g monitors fleet (Tick reference device counter) (outcome_resting kept device)
+
+-- and the step is the receipt of this flight by a device that answers as before
+pub record HasHeard {N : Type 0} (g : Ghosts N) (monitors : Monitors) (fleet : Fleet N g) (reference device counter : ℕ) (flight : Flight) : Type 0 where
+  pub message : ℕ
+  pub kept : Registers
+  pub step : HasStep g monitors fleet (Recv reference device counter message) (outcome_hearing kept device flight)
 
 -- the event output tells of these steps
 pub record HasPrinted (event_output : EventOutput) (setting : Setting) (steps : List Step) : Type 0 where

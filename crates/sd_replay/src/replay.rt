@@ -6,9 +6,9 @@ ghost use Rattle.sd_plan.specs.Plans.{Fits};
 ghost use Rattle.sd_proof_safety.specs.Checker.Verdicts.{IsAccepted};
 ghost use Rattle.sd_sched.specs.Lines.{event_of_line};
 ghost use Rattle.sd_sched.specs.Spelled.{is_within};
+ghost use Rattle.sd_sched.specs.Events.{is_ask};
 ghost use Rattle.sd_history.specs.World.{Setting};
 ghost use Rattle.sd_msg.specs.Observed.{ReportAt};
-ghost use Rattle.sd_fleet.specs.Doing.{asks};
 ghost use Rattle.sd_fleet.specs.Room.{most_sent_in};
 ghost use Rattle.sd_fleet.specs.Standing as fleets;
 ghost use Rattle.sd_premise.specs.FleetState.membership.Plans.{AreSound};
@@ -158,6 +158,9 @@ impl<N: Node, V: Observer> Replay<N, V> {
         if self.rest(event) {
             return Ok(());
         }
+        if self.hear(event) {
+            return Ok(());
+        }
         self.advance(alloc, event)
     }
 
@@ -229,6 +232,38 @@ impl<N: Node, V: Observer> Replay<N, V> {
         true
     }
 
+    /// A receipt by a device that answers as before and has nobody below it happens, if the event
+    /// is one, as most receipts are. It is for `advance` where it is another or is refused, or a
+    /// window is open.
+    #[inline(always)]
+    fn hear(&mut self, event: &Event) -> bool
+        requires within { IsTrue (is_within event.now) }
+        ensures accepted { IsTrue result → (setting : Setting) (run : List (NodeStep N))
+            → StandsFor N.Node V.Observer self.old setting run
+            → IsStepped N.Node V.Observer self.new setting run event.now }
+        ensures stands { result ≡ false → (setting : Setting) (run : List (NodeStep N))
+            → StandsFor N.Node V.Observer self.old setting run
+            → StandsFor N.Node V.Observer self.new setting run }
+    {
+        let Event::Recv {
+            reference,
+            device,
+            counter,
+            message,
+        } = *event
+        else {
+            return false;
+        };
+        let Some(flight) = self.fleet.hear(reference, device, counter, message) else {
+            return false;
+        };
+        let trouble = self
+            .monitors
+            .hear(&self.fleet, reference, device, counter, &flight);
+        self.event_output.note(&trouble, &None, reference, false);
+        true
+    }
+
     /// As `rest`. Where the event happens, what it came to is written into an outcome that the
     /// caller lends.
     #[inline(always)]
@@ -293,7 +328,7 @@ impl<N: Node, V: Observer> Replay<N, V> {
     fn ready(&mut self, alloc: Global, event: &Event, most: usize) -> Result<(), NoMemory>
         requires most { most ≡ most_sent_in self.old.fleet.fabric event.now }
         ensures room { OnOk result (most ≤ room_of self.new.monitors) }
-        ensures observer { OnOk result (IsTrue (asks event.now) → 1 ≤ V.room self.new.observer) }
+        ensures observer { OnOk result (IsTrue (is_ask event.now) → 1 ≤ V.room self.new.observer) }
         ensures memory { OnErr result (IsTrue (may_take event.now)) }
         ensures fleet { self.new.fleet ≡ self.old.fleet }
         ensures event_output { self.new.event_output ≡ self.old.event_output }

@@ -7,6 +7,7 @@ use Rattle.sd_topo.specs.declared.Thing.TheVariants as thing
 use Rattle.sd_sched.specs.declared.Event.{Event}
 use Rattle.sd_sched.specs.Events.{device_of, joined, counter_of, is_stage, is_end_event}
 use Rattle.sd_history.specs.World.{Setting, Seen, makes, fails, up_after, failed_after, epoch_in_force}
+use Rattle.sd_history.proofs.Shared.{epoch_kept}
 use Rattle.sd_fleet_state.specs.world.Registers.{Registers, device_at, registers_after, registers_closed}
 use Rattle.sd_fleet_state.specs.world.Standing.{Stands, StandsAt}
 use Rattle.sd_fleet_state.proofs.world.Changes.{Changes, changes_named, changes_other}
@@ -59,14 +60,6 @@ windows_next : (n : ℕ) (s : Seen) (seen : List Seen) → n ≡ count_by (λ x.
     → (if is_stage s.event then n + 1 else n) ≡ count_by (λ x. is_stage x.event) (s ∷ seen)
 windows_next n s seen same = add_one (is_stage s.event) n (count_by (λ x. is_stage x.event) seen) same ∙ sym (count_next (λ x. is_stage x.event) s seen)
 
-epoch_stays : (s : Seen) (seen : List Seen) → s.closed ≡ false → epoch_in_force (s ∷ seen) ≡ epoch_in_force seen
-epoch_stays s seen stays =
-    ap (λ (n : ℕ). n + 1) (count_next (λ x. x.closed) s seen) ∙ ap (λ (b : Bool). cond b 1 0 + count_by (λ x. x.closed) seen + 1) stays
-    ∙ none_more (count_by (λ x. x.closed) seen)
-  where
-    none_more : (n : ℕ) → 0 + n + 1 ≡ n + 1
-    none_more n = omega arith
-
 epoch_moves : (s : Seen) (seen : List Seen) → epoch_in_force (record s { closed = true } ∷ seen) ≡ epoch_in_force seen + 1
 epoch_moves s seen = ap (λ (n : ℕ). n + 1) (count_next (λ x. x.closed) (record s { closed = true }) seen) ∙ one_more (count_by (λ x. x.closed) seen)
   where
@@ -93,7 +86,7 @@ stands_after r setting seen s stays stands =
       open_window = opens r.window s seen stays stands.open_window;
       commit = commits r.window s seen stays stands.open_window stands.commit;
       windows = windows_next r.windows s seen stands.windows;
-      epoch = stands.epoch ∙ sym (epoch_stays s seen stays);
+      epoch = stands.epoch ∙ sym (epoch_kept s seen stays);
     }
 
 -- the latest event closed the window
@@ -122,5 +115,5 @@ stands_closed r setting seen s stays stands =
       open_window = refl;
       commit = refl;
       windows = stands.windows ∙ count_next (λ x. is_stage x.event) s seen ∙ sym (count_next (λ x. is_stage x.event) (record s { closed = true }) seen);
-      epoch = ap (λ (n : ℕ). n + 1) (stands.epoch ∙ epoch_stays s seen stays) ∙ sym (epoch_moves s seen);
+      epoch = ap (λ (n : ℕ). n + 1) (stands.epoch ∙ epoch_kept s seen stays) ∙ sym (epoch_moves s seen);
     }

@@ -8,8 +8,8 @@ use Rattle.sd_num.proofs.Shared.{all_below, and_true}
 use Rattle.sd_msg.specs.declared.Stamp.{Stamp}
 use Rattle.sd_history.specs.World.{Setting, Seen}
 use Rattle.sd_history.specs.Premises.{spoiled_rounds, is_round, all_from, loss_holds}
+use Rattle.sd_history.specs.Rounds.{is_spoiled}
 use Rattle.sd_premise_loss.specs.flights.Runs.{HasLongRun}
-use Rattle.sd_premise_loss.specs.rounds.Loss.{is_spoiled}
 
 -- Tests of all and of some
 

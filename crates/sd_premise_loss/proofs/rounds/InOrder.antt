@@ -4,7 +4,6 @@ use Rattle.std.specs.List.{Contains, list_any}
 use Rattle.std.proofs.lemmas.Bool.{or_parts, or_cases, or_from, not-true, and_parts, ltb-false, le-ltb, leb-true, eqb-true, eq-eqb, ne_eqb}
 use Rattle.std.proofs.lemmas.List.Folds.{list_any_at}
 use Rattle.sd_num.specs.Lists.{map_or, ascends}
-use Rattle.sd_num.proofs.Shared.{or_first}
 use Rattle.sd_msg.specs.declared.Flight.{Flight}
 use Rattle.sd_sched.specs.declared.Event.{Event}
 use Rattle.sd_sched.specs.Events.{reference_of}
@@ -12,31 +11,17 @@ use Rattle.sd_history.specs.World.{Setting, Seen, latest_reference}
 use Rattle.sd_history.specs.Refusals.{unknown_device, unknown_link, time_falls}
 use Rattle.sd_history.specs.Open.{may_be_seen}
 use Rattle.sd_history.specs.Premises.{reaching_flights, is_overdue, was_received}
+use Rattle.sd_history.proofs.Shared.{seen_parts, time_rises}
 use Rattle.sd_premise_loss.specs.rounds.Order.{last_sent, IsInOrder}
 use Rattle.sd_premise_loss.proofs.rounds.Sending.{greatest_of}
 
 -- An event that may be seen
-
-parts : (a b c d e f g h i j k l m n : Bool) → not (a || b || c || d || e || f || g || h || i || j || k || l || m || n) ≡ true
-    → (a ≡ false) × (b ≡ false) × (e ≡ false)
-parts a b c d e f g h i j k l m n all =
-    let five : (a || b || c || d || e) ≡ false =
-    or_first _ f (or_first _ g (or_first _ h (or_first _ i (or_first _ j (or_first _ k (or_first _ l (or_first _ m (or_first _ n (not-true _ all))))))))) in
-    let two : (a || b) ≡ false = or_first _ c (or_first _ d (or_first _ e five)) in
-    ((or_parts a b two).0, (or_parts a b two).1, (or_parts (a || b || c || d) e five).1)
-
-seen_parts : (setting : Setting) (earlier : List Seen) (e : Event) → may_be_seen setting earlier e ≡ true
-    → (unknown_device setting e ≡ false) × (unknown_link setting e ≡ false) × (time_falls earlier e ≡ false)
-seen_parts setting earlier e allowed = parts _ _ _ _ _ _ _ _ _ _ _ _ _ _ allowed
 
 pub device_known : (setting : Setting) (earlier : List Seen) (e : Event) → may_be_seen setting earlier e ≡ true → unknown_device setting e ≡ false
 device_known setting earlier e allowed = (seen_parts setting earlier e allowed).0
 
 pub link_known : (setting : Setting) (earlier : List Seen) (e : Event) → may_be_seen setting earlier e ≡ true → unknown_link setting e ≡ false
 link_known setting earlier e allowed = (seen_parts setting earlier e allowed).1
-
-pub time_rises : (setting : Setting) (earlier : List Seen) (e : Event) → may_be_seen setting earlier e ≡ true → latest_reference earlier ≤ reference_of e
-time_rises setting earlier e allowed = ltb-false (reference_of e) (latest_reference earlier) (seen_parts setting earlier e allowed).2
 
 -- Numbers
 

@@ -14,11 +14,12 @@ use Rattle.sd_history.specs.Things.{failure_of}
 use Rattle.sd_history.specs.World.{Setting, Seen, fails}
 use Rattle.sd_history.specs.Refusals.{unknown_device, unknown_link}
 use Rattle.sd_history.specs.Premises.{loss_holds}
+use Rattle.sd_history.specs.Rounds.{is_spoiled}
 use Rattle.sd_premise_loss.specs.declared.flights.interruptions.Interruptions.{Interruptions}
 use Rattle.sd_premise_loss.specs.rounds.Order.{last_sent, Follows, IsInOrder}
 use Rattle.sd_premise_loss.specs.flights.Interrupted.{is_interrupted}
 use Rattle.sd_premise_loss.specs.flights.Runs.{HasLongRun}
-use Rattle.sd_premise_loss.specs.rounds.Loss.{AreWaiting, mark_in, is_spoiled, is_round_of, IsLost, HasOnlyLost, AddsLost}
+use Rattle.sd_premise_loss.specs.rounds.Loss.{AreWaiting, mark_in, is_round_of, IsLost, HasOnlyLost, AddsLost}
 use Rattle.sd_premise_loss.specs.flights.InterruptionsView.{mark_of, last_number, device_places, link_places, has_place}
 use Rattle.sd_premise_loss.proofs.rounds.InOrder.{device_known, link_known}
 use Rattle.sd_premise_loss.proofs.flights.LongRuns.{long_kept}

@@ -8,8 +8,9 @@ use Rattle.sd_sched.specs.Events.{reference_of}
 use Rattle.sd_history.specs.World.{Setting, Seen}
 use Rattle.sd_history.specs.Premises.{reaching_flights, is_overdue, was_received, was_interrupted, spoils, is_round}
 use Rattle.sd_history.proofs.Shared.{spoiled_is_overdue, stays_spoiled}
+use Rattle.sd_history.specs.Rounds.{is_spoiled}
 use Rattle.sd_premise_loss.specs.rounds.Order.{Follows, IsInOrder}
-use Rattle.sd_premise_loss.specs.rounds.Loss.{Waits, AreWaiting, mark_in, is_spoiled, is_round_of, IsLost, HasOnlyLost}
+use Rattle.sd_premise_loss.specs.rounds.Loss.{Waits, AreWaiting, mark_in, is_round_of, IsLost, HasOnlyLost}
 use Rattle.sd_premise_loss.proofs.rounds.Marks.{was_interrupted_by}
 use Rattle.sd_premise_loss.proofs.rounds.Waits.{LeavesTaken, received_now, left_parts, sent_waits}
 

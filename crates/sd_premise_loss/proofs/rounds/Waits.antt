@@ -9,9 +9,10 @@ use Rattle.sd_msg.specs.declared.Flight.{Flight}
 use Rattle.sd_sched.specs.Events.{reference_of}
 use Rattle.sd_history.specs.World.{Setting, Seen, latest_reference}
 use Rattle.sd_history.specs.Premises.{reaching_flights, is_overdue, was_received}
+use Rattle.sd_history.proofs.Shared.{time_rises}
 use Rattle.sd_premise_loss.specs.rounds.Order.{last_sent, Follows, IsInOrder}
 use Rattle.sd_premise_loss.specs.rounds.Loss.{number_taken, Waits, AreWaiting, with_sent, if_in_time}
-use Rattle.sd_premise_loss.proofs.rounds.InOrder.{time_rises, le_greatest, sent_above, not_overdue, taken_low, received_low}
+use Rattle.sd_premise_loss.proofs.rounds.InOrder.{le_greatest, sent_above, not_overdue, taken_low, received_low}
 
 -- the same flights wait
 pub waiting_same : (seen : List Seen) (old new : ℕ → Option Flight) → ((n : ℕ) → new n ≡ old n) → AreWaiting seen old → AreWaiting seen new

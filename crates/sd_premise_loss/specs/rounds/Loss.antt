@@ -1,11 +1,10 @@
 -- What is kept of the flights that were seen: those that wait, up to which number a failure interrupted them, and the rounds that are spoiled.
 use Rattle.std.specs.Prelude.{◌≡◌, ℕ, ◌<◌, Bool, true, false, ◌⊎◌, List, [], ◌∷◌, Contains, Option, Some, None, option_map, nat_eq, nat_le, if◌then◌else◌}
-use Rattle.std.specs.List.{list_any}
 use Rattle.sd_num.specs.Lists.{map_or}
 use Rattle.sd_topo.specs.declared.Thing.{Thing}
 use Rattle.sd_msg.specs.declared.Flight.{Flight}
 use Rattle.sd_history.specs.World.{Seen, fails}
-use Rattle.sd_history.specs.Premises.{reaching_flights, is_overdue, was_received, spoiled_rounds, is_round}
+use Rattle.sd_history.specs.Premises.{reaching_flights, is_overdue, was_received, is_round}
 use Rattle.sd_premise_loss.specs.flights.Interrupted.{is_interrupted}
 use Rattle.sd_premise_loss.specs.rounds.Order.{last_sent}
 
@@ -43,10 +42,6 @@ mark_in [] x = 0
 mark_in (s ∷ earlier) x = if fails x s.event then last_sent earlier else mark_in earlier x
 
 -- Spoiled rounds
-
--- some message of the round was spoiled
-abbrev pub is_spoiled : List Seen → ℕ → ℕ → Bool
-is_spoiled seen term round = list_any (λ other. is_round other term round) (spoiled_rounds seen)
 
 -- a waiting flight is overdue at the reference, and was not interrupted
 pub record IsLost (waiting : ℕ → Option Flight) (marks : Thing → ℕ) (reference : ℕ) (f : Flight) : Type 0 where

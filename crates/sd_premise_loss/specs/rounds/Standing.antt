@@ -6,8 +6,9 @@ use Rattle.sd_sched.specs.Events.{reference_of}
 use Rattle.sd_history.specs.Things.{failure_of}
 use Rattle.sd_history.specs.World.{Setting, Seen}
 use Rattle.sd_history.specs.Premises.{loss_holds}
+use Rattle.sd_history.specs.Rounds.{is_spoiled}
 use Rattle.sd_premise_loss.specs.rounds.Order.{last_sent, IsInOrder}
-use Rattle.sd_premise_loss.specs.rounds.Loss.{number_taken, AreWaiting, mark_in, is_spoiled}
+use Rattle.sd_premise_loss.specs.rounds.Loss.{number_taken, AreWaiting, mark_in}
 use Rattle.sd_premise_loss.specs.flights.RunsView.{has_round, room_of as room_of_runs}
 use Rattle.sd_premise_loss.specs.flights.WaitingView.{waiting_at, count_of, room_for}
 use Rattle.sd_premise_loss.specs.flights.InterruptionsView.{mark_of, last_number, device_places, link_places}

@@ -12,9 +12,8 @@ use Rattle.sd_fleet.specs.Stepping.{IsAfter, acts_named, is_new_named, entered_i
 use Rattle.sd_fleet.specs.declared.Outcome.{Outcome}
 use Rattle.sd_fleet.proofs.Finishing.{Parts, is_after, sent_same, room_after, entered_by}
 use Rattle.sd_fleet.proofs.FabricKeeping.{sound_next}
-use Rattle.sd_fleet.proofs.Outcoming.{same_outcome, outcome_is}
-use Rattle.sd_fleet.proofs.FabricStepping.{stands_next}
-use Rattle.sd_fleet.proofs.fabric.Fabric.step.Goals as goal
+use Rattle.sd_fleet.proofs.Outcoming.{same_outcome}
+use Rattle.sd_fleet.proofs.fabric.Fabric.note.Goals as goal
 
 pub send-sent-requires-clause-room : goal.send-sent-requires-clause-room
 send-sent-requires-clause-room c =
@@ -107,11 +106,3 @@ returns-clause-comes c = outcome c
 
 pub returns-clause-sound : goal.returns-clause-sound
 returns-clause-sound c = sound c
-
-pub returns-clause-stands : goal.returns-clause-stands
-returns-clause-stands c = λ setting steps told says stands.
-    stands_next setting c.args.self.now steps stands c.args.event.now c.args.reply.now told c.requires.accepted says c.requires.tells (new c) (after c)
-
-pub returns-clause-outcome : goal.returns-clause-outcome
-returns-clause-outcome c = λ setting steps told says stands. outcome c
-    ∙ outcome_is setting c.args.self.now steps stands c.args.event.now c.args.reply.now told c.requires.accepted says c.requires.tells

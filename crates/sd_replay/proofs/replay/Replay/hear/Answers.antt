@@ -1,0 +1,98 @@
+-- The fleet has made the step, the monitors look at it, and it is noted; nothing is told.
+use Rattle.std.proofs.Common.{◌∙◌, None, refl, sym, subst}
+use Rattle.std.proofs.Math.Logic.{∥∥₁_map}
+use Rattle.sd_sched.specs.declared.Event.TheVariants.{Recv}
+use Rattle.sd_fleet.specs.Standing as fleets
+use Rattle.sd_fleet.specs.Hearing.{outcome_hearing}
+use Rattle.sd_replay.specs.Troubles.{found_by}
+use Rattle.sd_replay.proofs.Going.{with_fleet, stands_prepared}
+use Rattle.sd_replay.proofs.Happening.{IsDone, has_step, tally_merely, devices_merely, stands_on, run_on}
+use Rattle.sd_replay.proofs.replay.Replay.hear.Given.{Over}
+use Rattle.sd_replay.proofs.replay.Replay.hear.Goals.{After-note}
+use Rattle.sd_replay.proofs.replay.Replay.hear.Goals as goal
+
+pub invariant_of-self : goal.invariant_of-self
+invariant_of-self g c =
+    record {
+      run =
+          ∥∥₁_map c.args.self.now.run
+          (with_fleet g.N.Node g.V.Observer c.args.self.now.fleet c.hear.new.self c.args.self.now.monitors c.args.self.now.event_output
+          c.args.self.now.observer (λ setting run. subst (λ f. fleets.StandsFor g.N.Node f setting run) (sym (c.hear.ensures.same c.in_default-hear.is))));
+    }
+
+pub hear-trouble-requires : goal.hear-trouble-requires
+hear-trouble-requires g c =
+    record {
+      step =
+          ∥∥₁_map c.args.self.now.run
+          (λ has.
+          record {
+            message = c.in-Recv.message;
+            kept = c.args.self.now.fleet.fabric;
+            step =
+                has_step g.N.Node g.V.Observer c.args.self.now.fleet c.args.self.now.monitors c.args.self.now.event_output c.args.self.now.observer
+                c.hear.new.self (Recv c.in-Recv.reference c.in-Recv.device c.in-Recv.counter c.in-Recv.message)
+                (outcome_hearing c.args.self.now.fleet.fabric c.in-Recv.device c.in-Some.flight) (c.in-Some.ensures.accepted) has;
+          });
+    }
+
+pub note-requires-clause-room : goal.note-requires-clause-room
+note-requires-clause-room g c =
+    tally_merely g.N.Node g.V.Observer c.args.self.now.fleet c.args.self.now.monitors c.args.self.now.event_output c.args.self.now.observer c.hear.new.self
+    (Recv c.in-Recv.reference c.in-Recv.device c.in-Recv.counter c.in-Recv.message) (outcome_hearing c.args.self.now.fleet.fabric c.in-Recv.device c.in-Some.flight)
+    (c.in-Some.ensures.accepted) c.args.self.now.run
+
+pub note-requires-clause-devices : goal.note-requires-clause-devices
+note-requires-clause-devices g c =
+    devices_merely g.N.Node g.V.Observer c.args.self.now.fleet c.args.self.now.monitors c.args.self.now.event_output c.args.self.now.observer c.hear.new.self
+    (Recv c.in-Recv.reference c.in-Recv.device c.in-Recv.counter c.in-Recv.message) (outcome_hearing c.args.self.now.fleet.fabric c.in-Recv.device c.in-Some.flight)
+    (c.in-Some.ensures.accepted) (found_by c.hear-trouble.result None c.in-Recv.reference)
+    (c.hear-trouble.ensures.devices c.in-Recv.message c.args.self.now.fleet.fabric) c.args.self.now.run
+
+-- what was done
+done : (g : Over) (c : After-note g)
+    → IsDone g.N.Node g.V.Observer c.args.self.now.fleet c.hear.new.self c.args.self.now.monitors c.hear-trouble.new.self c.args.self.now.event_output
+    c.note.new.self c.args.self.now.observer c.args.self.now.observer (Recv c.in-Recv.reference c.in-Recv.device c.in-Recv.counter c.in-Recv.message)
+    (outcome_hearing c.args.self.now.fleet.fabric c.in-Recv.device c.in-Some.flight) (found_by c.hear-trouble.result None c.in-Recv.reference)
+done g c =
+    record {
+      accepts = c.in-Some.ensures.accepted;
+      has_seen = c.hear-trouble.ensures.stands c.in-Recv.message c.args.self.now.fleet.fabric;
+      finds = c.hear-trouble.ensures.found c.in-Recv.message c.args.self.now.fleet.fabric;
+      report = refl;
+      topology = c.note.ensures.topology;
+      tally = c.note.ensures.tally;
+      lines = c.note.ensures.lines;
+      ended = c.note.ensures.ended;
+      tells = refl;
+    }
+
+pub invariant_of-self-2 : goal.invariant_of-self-2
+invariant_of-self-2 g c =
+    record {
+      run =
+          ∥∥₁_map c.args.self.now.run
+          (run_on g.N.Node g.V.Observer c.args.self.now.fleet c.hear.new.self c.args.self.now.monitors c.hear-trouble.new.self c.args.self.now.event_output
+          c.note.new.self c.args.self.now.observer c.args.self.now.observer (Recv c.in-Recv.reference c.in-Recv.device c.in-Recv.counter c.in-Recv.message)
+          (outcome_hearing c.args.self.now.fleet.fabric c.in-Recv.device c.in-Some.flight) (found_by c.hear-trouble.result None c.in-Recv.reference) (done g c));
+    }
+
+pub returns-in_default-hear-clause-stands : goal.returns-in_default-hear-clause-stands
+returns-in_default-hear-clause-stands g c = λ no setting run.
+    stands_prepared g.N.Node g.V.Observer c.args.self.now.fleet c.hear.new.self c.args.self.now.monitors c.args.self.now.event_output
+    c.args.self.now.observer setting run (λ s r. subst (λ f. fleets.StandsFor g.N.Node f s r) (sym (c.hear.ensures.same c.in_default-hear.is)))
+
+pub returns-clause-accepted : goal.returns-clause-accepted
+unfolding done
+returns-clause-accepted g c = λ yes setting run stands.
+    let accepted = c.in-Some.ensures.accepted setting run stands.made in
+    record {
+      next = accepted.next;
+      happens = accepted.happens ∙ sym c.in-Recv.is;
+      stands =
+          stands_on g.N.Node g.V.Observer c.args.self.now.fleet c.hear.new.self c.args.self.now.monitors c.hear-trouble.new.self
+          c.args.self.now.event_output c.note.new.self c.args.self.now.observer c.args.self.now.observer
+          (Recv c.in-Recv.reference c.in-Recv.device c.in-Recv.counter c.in-Recv.message)
+          (outcome_hearing c.args.self.now.fleet.fabric c.in-Recv.device c.in-Some.flight)
+          (found_by c.hear-trouble.result None c.in-Recv.reference) (done g c.before) setting run stands;
+    }
